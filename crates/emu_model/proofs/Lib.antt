@@ -1,0 +1,13 @@
+pub mod Later
+pub mod Growth
+pub mod ControlRoot
+pub mod ComponentFacts
+pub mod Ends
+pub mod LossRate
+pub mod Prefixes
+pub mod Sums
+pub mod Keeping
+pub mod PipeKeeping
+pub mod Conserved
+pub mod Numbers
+pub mod Single

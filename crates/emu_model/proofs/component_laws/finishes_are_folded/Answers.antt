@@ -1,0 +1,5 @@
+use Rattle.emu_model.proofs.ComponentFacts as law
+use Rattle.emu_model.proofs.component_laws.finishes_are_folded.Goals as goal
+
+pub returns : goal.returns
+returns c = law.finishes_are_folded

@@ -1,0 +1,127 @@
+-- What a command does (own, in the words of ipfw(8)).
+use Rattle.std.specs.Prelude.{ℕ, ◌+◌, ◌-◌, ◌^◌, min, Bool, true, false, ◌||◌, ◌==◌, nat_lt, if◌then◌else◌, Option, Some, None, is_some, List, [], ◌∷◌, ◌++◌, map, length, flat_map}
+use Rattle.std.specs.List.{list_any}
+use Rattle.std.specs.Option.{option_map_or}
+use Rattle.emu_model.specs.Lists.{remove_first}
+use Rattle.emu_model.specs.Types.{Plain, PipeConfig, Command, Add, Delete, Config, PipeDelete, PipeShow, Show, Inject, Train, Flow, Stop, OnePass, End, TrainSpec, FlowSpec, Deleted, Refusal, NoSuchPipe, MaskFixed, FlowThere, NoFlow, TooManyPipes, TooManyFlows, Record, CommandDone, CommandRefused, RuleLine, PipeLine, InstanceLine}
+use Rattle.emu_model.specs.Rules.{add_refusal, delete_refusal, book_with, book_without}
+use Rattle.emu_model.specs.DropTail.{bytes_of}
+use Rattle.emu_model.specs.Reno.{opening_sender}
+use Rattle.emu_model.specs.Pipes.{Instance, PipeState, is_fixed, pipe_configure, pipe_packets}
+use Rattle.emu_model.specs.Net.{Net, Setting, FlowState, note, note_all, note_drops, find_pipe, put_pipe, find_flow, put_flow, make}
+
+abbrev pub rule_lines : Net → List Record
+rule_lines n = map (λ c. RuleLine c.rule c.packets c.bytes) n.book.rules
+
+-- how many loss words were drawn, as a line shows it: 64 bits hold more than any budget of steps draws
+abbrev pub shown_words : ℕ → ℕ
+shown_words drawn = min drawn (2 ^ 64 - 1)
+
+abbrev pub instance_line : ℕ → ℕ → Instance → Record
+instance_line pipe k i =
+    InstanceLine pipe k (length i.waiting) (bytes_of i.waiting) (is_some i.service)
+    (length i.line.flight) (shown_words i.drawn)
+
+abbrev pub instance_lines : ℕ → ℕ → List Instance → List Record
+instance_lines pipe k [] = []
+instance_lines pipe k (i ∷ is) = instance_line pipe k i ∷ instance_lines pipe (k + 1) is
+
+abbrev pub pipe_lines : PipeState → List Record
+pipe_lines p = PipeLine p.number p.config ∷ instance_lines p.number 0 p.instances
+
+-- pipes stand by number
+abbrev pub with_pipe : PipeState → List PipeState → List PipeState
+with_pipe p [] = p ∷ []
+with_pipe p (q ∷ qs) = if nat_lt p.number q.number then p ∷ q ∷ qs else q ∷ with_pipe p qs
+
+abbrev pub new_pipe_refusal : Net → Option Refusal
+new_pipe_refusal n = if nat_lt (length n.pipes) 64 then None else Some TooManyPipes
+
+abbrev pub mask_refusal : PipeConfig → PipeState → Option Refusal
+mask_refusal config p = if is_fixed config p then Some MaskFixed else None
+
+abbrev pub config_refusal : ℕ → PipeConfig → Net → Option Refusal
+config_refusal k config n =
+    option_map_or (mask_refusal config) (find_pipe k n) (new_pipe_refusal n)
+
+abbrev pub new_pipe : ℕ → PipeConfig → Net → Net
+new_pipe k config n =
+    record n { pipes = with_pipe (record { number = k; config = config; instances = [] }) n.pipes }
+
+abbrev pub configure : ℕ → PipeConfig → Net → Net
+configure k config n =
+    option_map_or (λ p. put_pipe k (pipe_configure config p) n) (find_pipe k n) (new_pipe k config n)
+
+abbrev pub without_pipe : ℕ → Net → Net
+without_pipe k n = record n { pipes = remove_first (λ q. q.number == k) n.pipes }
+
+-- a pipe goes, and all that it held is dropped
+abbrev pub delete_pipe : ℕ → ℕ → Net → PipeState → Net
+delete_pipe now k n p =
+    note_drops now (map (λ q. record { packet = q; cause = Deleted }) (pipe_packets p))
+    (without_pipe k n)
+
+-- flows and trains share one set of numbers
+abbrev pub is_in_use : ℕ → Net → Bool
+is_in_use k n =
+    list_any (λ f. f.number == k) n.flows || list_any (λ t. t.number == k) n.trains
+
+abbrev pub source_refusal : ℕ → Net → Option Refusal
+source_refusal k n =
+    if is_in_use k n then Some FlowThere
+    else (if nat_lt (length n.flows + length n.trains) 256 then None else Some TooManyFlows)
+
+abbrev pub start_flow : ℕ → FlowSpec → Net → Net
+start_flow k f n = record n {
+  flows = n.flows ++ record {
+    number = k;
+    flow = f;
+    sender = opening_sender f;
+    stopped = false;
+    came = [];
+  } ∷ [];
+}
+
+abbrev pub start_train : ℕ → ℕ → TrainSpec → Net → Net
+start_train now k t n = record n {
+  trains = n.trains ++ record { number = k; train = t; start = now; sent = 0 } ∷ [];
+}
+
+abbrev pub stop_flow : Net → FlowState → Net
+stop_flow n f = put_flow (record f { stopped = true }) n
+
+-- why a command is refused, if it is
+abbrev pub refusal_of : Command → Net → Option Refusal
+refusal_of (Add r) n = add_refusal r n.book
+refusal_of (Delete k) n = delete_refusal k n.book
+refusal_of (Config k config) n = config_refusal k config n
+refusal_of (PipeDelete k) n = if is_some (find_pipe k n) then None else Some NoSuchPipe
+refusal_of (Train k t) n = source_refusal k n
+refusal_of (Flow k f) n = source_refusal k n
+refusal_of (Stop k) n = if is_some (find_flow k n) then None else Some NoFlow
+refusal_of _ n = None
+
+-- what a command does that isn't refused
+abbrev pub effect_of : Setting → Command → Net → Net
+effect_of at (Add r) n = record n { book = book_with r n.book }
+effect_of at (Delete k) n = record n { book = book_without k n.book }
+effect_of at (Config k config) n = configure k config n
+effect_of at (PipeDelete k) n = option_map_or (delete_pipe at.now k n) (find_pipe k n) n
+effect_of at PipeShow n = note_all (flat_map pipe_lines n.pipes) n
+effect_of at Show n = note_all (rule_lines n) n
+effect_of at (Inject send) n = make at Plain send n
+effect_of at (Train k t) n = start_train at.now k t n
+effect_of at (Flow k f) n = start_flow k f n
+effect_of at (Stop k) n = option_map_or (stop_flow n) (find_flow k n) n
+effect_of at (OnePass b) n = record n { one_pass = b }
+effect_of at End n = n
+
+-- the command numbered k is done, or refused
+abbrev pub obey : Setting → ℕ → Command → Net → Net
+obey at k c n =
+    option_map_or (λ r. note (CommandRefused at.now k r) n) (refusal_of c n)
+    (effect_of at c (note (CommandDone at.now k) n))
+
+abbrev pub is_end : Command → Bool
+is_end End = true
+is_end _ = false

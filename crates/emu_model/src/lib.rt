@@ -1,0 +1,183 @@
+//! The data of an emulated link: what a scenario commands, what a report records, and the
+//! definitions, in `specs/`, of what an experiment does. Each type keeps its ranges in itself.
+#![tactic(auto)]
+
+mod commands;
+mod component_laws;
+mod laws;
+mod packets;
+mod pipes;
+mod ranged;
+mod records;
+mod rules;
+mod sources;
+
+pub use commands::{Budget, Command, Spec, Timed};
+pub use component_laws::{
+    accepts_within_limit, codel_keeps_order, codel_spares_the_quick, control_step_is_greatest,
+    exits_are_folded, exits_never_fall, finishes_are_folded, finishes_round_once,
+    loss_has_its_extremes,
+};
+pub use laws::{budget_ends, dues_differ, later_commands_wait, packets_add_up, records_grow};
+pub use packets::{Load, Packet, Place, Protocol};
+pub use pipes::{Discipline, Mask, PipeConfig, QueueLimit};
+pub use ranged::{
+    Amount, Bandwidth, CodelTime, Delay, FlowNumber, Gap, KByteLimit, LossRate, PacketBudget,
+    PipeNumber, PrefixLength, RangedU8, RangedU16, RangedU32, RangedU64, RuleNumber, SegmentSize,
+    Size, SlotLimit, StepBudget, Threshold, Timeout, Window,
+};
+pub use records::{Counters, DropCause, Ending, Record, Refusal};
+pub use rules::{Action, PortRange, Prefix, ProtocolMatch, Rule, Verdict};
+pub use sources::{Class, FlowSpec, SendSpec, Source, Timing, TrainSpec};
+
+// Lists hold many of these.
+const _: () = prove!(size_of::<Record>() <= 72);
+
+const _: () = prove!(size_of::<Timed>() <= 80);
+
+#[cfg(test)]
+mod tests {
+    use super::*;
+
+    // Each range of a scenario: what its maker takes at both ends and next to them. Where the
+    // integer holds nothing below or above the range, an end stands twice.
+    #[test]
+    fn makers_keep_their_ranges(rt: HostRuntime) {
+        let inside = [false, true, true, false];
+        let from_zero = [true, true, true, false];
+        let to_the_last = [false, true, true, true];
+        for (name, taken, wanted) in [
+            (
+                "size",
+                [39, 40, 1500, 1501].map(|n| Size::new(n).is_some()),
+                inside,
+            ),
+            (
+                "rule number",
+                [0, 1, 99999, 100000].map(|n| RuleNumber::new(n).is_some()),
+                from_zero,
+            ),
+            (
+                "prefix length",
+                [0, 1, 32, 33].map(|n| PrefixLength::new(n).is_some()),
+                from_zero,
+            ),
+            (
+                "pipe number",
+                [0, 1, 65534, 65535].map(|n| PipeNumber::new(n).is_some()),
+                to_the_last,
+            ),
+            (
+                "flow number",
+                [0, 1, 65534, 65535].map(|n| FlowNumber::new(n).is_some()),
+                to_the_last,
+            ),
+            (
+                "bandwidth",
+                [0, 1, 10000000000, 10000000001].map(|n| Bandwidth::new(n).is_some()),
+                from_zero,
+            ),
+            (
+                "delay",
+                [0, 1, 60000, 60001].map(|n| Delay::new(n).is_some()),
+                from_zero,
+            ),
+            (
+                "slots",
+                [0, 1, 1000, 1001].map(|n| SlotLimit::new(n).is_some()),
+                inside,
+            ),
+            (
+                "KBytes",
+                [0, 1, 1024, 1025].map(|n| KByteLimit::new(n).is_some()),
+                inside,
+            ),
+            (
+                "loss rate",
+                [0, 1, 1000000, 1000001].map(|n| LossRate::new(n).is_some()),
+                from_zero,
+            ),
+            (
+                "target or interval",
+                [999, 1000, 60000000000, 60000000001].map(|n| CodelTime::new(n).is_some()),
+                inside,
+            ),
+            (
+                "segment size",
+                [63, 64, 1460, 1461].map(|n| SegmentSize::new(n).is_some()),
+                inside,
+            ),
+            (
+                "segments or count",
+                [0, 1, 1000000, 1000001].map(|n| Amount::new(n).is_some()),
+                inside,
+            ),
+            (
+                "gap",
+                [0, 1, 1000000000000, 1000000000001].map(|n| Gap::new(n).is_some()),
+                from_zero,
+            ),
+            (
+                "ssthresh",
+                [0, 1, 1000000000, 1000000001].map(|n| Threshold::new(n).is_some()),
+                inside,
+            ),
+            (
+                "window",
+                [0, 1, 65534, 65535].map(|n| Window::new(n).is_some()),
+                to_the_last,
+            ),
+            (
+                "rto",
+                [0, 1, 60000, 60001].map(|n| Timeout::new(n).is_some()),
+                inside,
+            ),
+            (
+                "packets",
+                [0, 1, 65534, 65535].map(|n| PacketBudget::new(n).is_some()),
+                to_the_last,
+            ),
+            (
+                "steps",
+                [0, 1, 10000000, 10000001].map(|n| StepBudget::new(n).is_some()),
+                inside,
+            ),
+        ] {
+            assert_eq!(rt; taken, wanted, "{name}");
+        }
+    }
+
+    #[test]
+    fn ports_stand_in_order(rt: HostRuntime) {
+        for (first, last, wanted) in [(10, 20, true), (20, 20, true), (20, 10, false)] {
+            let made = PortRange::new(first, last);
+            assert_eq!(rt; made.is_some(), wanted, "{first}-{last}");
+        }
+    }
+
+    // 10.1.2.3, with as many of its bits as the length has.
+    #[test]
+    fn prefix_clears_what_is_past_its_length(rt: HostRuntime) {
+        for (len, wanted) in [
+            (0, 0),
+            (8, 0x0a000000),
+            (15, 0x0a000000),
+            (16, 0x0a010000),
+            (31, 0x0a010202),
+            (32, 0x0a010203),
+        ] {
+            let Some(length) = PrefixLength::new(len) else {
+                return assert!(rt; false, "{len} is a length");
+            };
+            let prefix = Prefix::new(0x0a010203, length);
+            assert_eq!(rt; prefix.address(), wanted, "/{len}");
+            assert_eq!(rt; prefix.length().get(), len);
+        }
+    }
+
+    #[test]
+    fn records_are_small(rt: HostRuntime) {
+        assert!(rt; size_of::<Record>() <= 72);
+        assert!(rt; size_of::<Timed>() <= 80);
+    }
+}

@@ -1,0 +1,214 @@
+//! Whole numbers that keep their range, one struct for each width. A contract sees the number itself. Own.
+
+ghost use Rattle.std.specs.Prelude.{◌≡◌, ℕ, ◌≤◌};
+ghost use Rattle.std.specs.Option.{SomeIff};
+
+use std::marker::Model;
+
+/// A whole number from LOW to HIGH that one byte holds.
+#[derive(Clone, Copy, PartialEq)]
+pub struct RangedU8<const LOW: u8, const HIGH: u8> {
+    value: u8,
+}
+
+impl<const LOW: u8, const HIGH: u8> Model for RangedU8<LOW, HIGH> {
+    ghost Value = { ℕ };
+
+    ghost view = { λ r. r.value };
+
+    ghost invariant = { (λ r. (LOW ≤ r.value) × (r.value ≤ HIGH)) };
+
+    ghost inverse = { λ n. record { value = n } };
+}
+
+impl<const LOW: u8, const HIGH: u8> RangedU8<LOW, HIGH> {
+    /// None outside the range.
+    pub fn new(value: u8) -> Option<Self>
+        ensures { SomeIff result ((LOW ≤ value) × (value ≤ HIGH)) value }
+    {
+        if LOW <= value && value <= HIGH {
+            Some(RangedU8 { value })
+        } else {
+            None
+        }
+    }
+
+    pub fn get(self) -> u8
+        ensures value { result ≡ self.entry }
+        ensures low { LOW ≤ result }
+        ensures high { result ≤ HIGH }
+    {
+        let RangedU8 { value } = self;
+        value
+    }
+}
+
+/// A whole number from LOW to HIGH that two bytes hold.
+#[derive(Clone, Copy, PartialEq)]
+pub struct RangedU16<const LOW: u16, const HIGH: u16> {
+    value: u16,
+}
+
+impl<const LOW: u16, const HIGH: u16> Model for RangedU16<LOW, HIGH> {
+    ghost Value = { ℕ };
+
+    ghost view = { λ r. r.value };
+
+    ghost invariant = { (λ r. (LOW ≤ r.value) × (r.value ≤ HIGH)) };
+
+    ghost inverse = { λ n. record { value = n } };
+}
+
+impl<const LOW: u16, const HIGH: u16> RangedU16<LOW, HIGH> {
+    /// None outside the range.
+    pub fn new(value: u16) -> Option<Self>
+        ensures { SomeIff result ((LOW ≤ value) × (value ≤ HIGH)) value }
+    {
+        if LOW <= value && value <= HIGH {
+            Some(RangedU16 { value })
+        } else {
+            None
+        }
+    }
+
+    pub fn get(self) -> u16
+        ensures value { result ≡ self.entry }
+        ensures low { LOW ≤ result }
+        ensures high { result ≤ HIGH }
+    {
+        let RangedU16 { value } = self;
+        value
+    }
+}
+
+/// A whole number from LOW to HIGH that four bytes hold.
+#[derive(Clone, Copy, PartialEq)]
+pub struct RangedU32<const LOW: u32, const HIGH: u32> {
+    value: u32,
+}
+
+impl<const LOW: u32, const HIGH: u32> Model for RangedU32<LOW, HIGH> {
+    ghost Value = { ℕ };
+
+    ghost view = { λ r. r.value };
+
+    ghost invariant = { (λ r. (LOW ≤ r.value) × (r.value ≤ HIGH)) };
+
+    ghost inverse = { λ n. record { value = n } };
+}
+
+impl<const LOW: u32, const HIGH: u32> RangedU32<LOW, HIGH> {
+    /// None outside the range.
+    pub fn new(value: u32) -> Option<Self>
+        ensures { SomeIff result ((LOW ≤ value) × (value ≤ HIGH)) value }
+    {
+        if LOW <= value && value <= HIGH {
+            Some(RangedU32 { value })
+        } else {
+            None
+        }
+    }
+
+    pub fn get(self) -> u32
+        ensures value { result ≡ self.entry }
+        ensures low { LOW ≤ result }
+        ensures high { result ≤ HIGH }
+    {
+        let RangedU32 { value } = self;
+        value
+    }
+}
+
+/// A whole number from LOW to HIGH that eight bytes hold.
+#[derive(Clone, Copy, PartialEq)]
+pub struct RangedU64<const LOW: u64, const HIGH: u64> {
+    value: u64,
+}
+
+impl<const LOW: u64, const HIGH: u64> Model for RangedU64<LOW, HIGH> {
+    ghost Value = { ℕ };
+
+    ghost view = { λ r. r.value };
+
+    ghost invariant = { (λ r. (LOW ≤ r.value) × (r.value ≤ HIGH)) };
+
+    ghost inverse = { λ n. record { value = n } };
+}
+
+impl<const LOW: u64, const HIGH: u64> RangedU64<LOW, HIGH> {
+    /// None outside the range.
+    pub fn new(value: u64) -> Option<Self>
+        ensures { SomeIff result ((LOW ≤ value) × (value ≤ HIGH)) value }
+    {
+        if LOW <= value && value <= HIGH {
+            Some(RangedU64 { value })
+        } else {
+            None
+        }
+    }
+
+    pub fn get(self) -> u64
+        ensures value { result ≡ self.entry }
+        ensures low { LOW ≤ result }
+        ensures high { result ≤ HIGH }
+    {
+        let RangedU64 { value } = self;
+        value
+    }
+}
+
+/// The bytes of a packet.
+pub type Size = RangedU16<40, 1500>;
+
+/// The number of a rule as a command writes it. What is no rule's number is refused by a reply.
+pub type RuleNumber = RangedU32<0, 99999>;
+
+/// How many bits of an address a prefix compares.
+pub type PrefixLength = RangedU8<0, 32>;
+
+pub type PipeNumber = RangedU16<1, 65535>;
+
+/// The number of a flow or of a train.
+pub type FlowNumber = RangedU16<1, 65535>;
+
+/// Bits a second; 0 is unlimited.
+pub type Bandwidth = RangedU64<0, 10000000000>;
+
+/// Milliseconds.
+pub type Delay = RangedU16<0, 60000>;
+
+/// How many packets may wait.
+pub type SlotLimit = RangedU16<1, 1000>;
+
+/// How many times 1024 bytes may wait.
+pub type KByteLimit = RangedU16<1, 1024>;
+
+/// Millionths.
+pub type LossRate = RangedU32<0, 1000000>;
+
+/// Nanoseconds.
+pub type CodelTime = RangedU64<1000, 60000000000>;
+
+/// The bytes of a segment, SMSS.
+pub type SegmentSize = RangedU16<64, 1460>;
+
+/// How many segments a flow sends, or packets a train.
+pub type Amount = RangedU32<1, 1000000>;
+
+/// Nanoseconds between two packets of a train.
+pub type Gap = RangedU64<0, 1000000000000>;
+
+/// Bytes: the first slow start threshold.
+pub type Threshold = RangedU32<1, 1000000000>;
+
+/// Bytes: what the receiver offers.
+pub type Window = RangedU16<1, 65535>;
+
+/// Milliseconds.
+pub type Timeout = RangedU16<1, 60000>;
+
+/// How many packets an experiment may hold.
+pub type PacketBudget = RangedU16<1, 65535>;
+
+/// How many steps an experiment may take.
+pub type StepBudget = RangedU32<1, 10000000>;

@@ -1,0 +1,121 @@
+//! What a report records (own).
+
+use crate::packets::Load;
+use crate::pipes::PipeConfig;
+use crate::ranged::{FlowNumber, PipeNumber};
+use crate::rules::Rule;
+
+/// Why a packet was dropped.
+#[derive(Clone, Copy, PartialEq)]
+pub enum DropCause {
+    Denied = 1,
+    NoPipe = 2,
+    NoInstance = 3,
+    Lost = 4,
+    Full = 5,
+    Codel = 6,
+    Deleted = 7,
+    Budget = 8,
+}
+
+/// Why a command was refused.
+#[derive(Clone, Copy, PartialEq)]
+pub enum Refusal {
+    BadNumber = 10,
+    BadSkip = 11,
+    RulesFull = 12,
+    NoRule = 13,
+    NoSuchPipe = 20,
+    MaskFixed = 21,
+    FlowThere = 22,
+    NoFlow = 23,
+    TooManyPipes = 24,
+    TooManyFlows = 25,
+}
+
+/// A line of a report but for its first and its last.
+#[derive(Clone, Copy, PartialEq)]
+pub enum Record {
+    CommandDone {
+        moment: u64,
+        command: u64,
+    },
+    CommandRefused {
+        moment: u64,
+        command: u64,
+        refusal: Refusal,
+    },
+    PacketFinished {
+        moment: u64,
+        packet: u64,
+        pipe: PipeNumber,
+        instance: u8,
+    },
+    PacketDelivered {
+        moment: u64,
+        packet: u64,
+        load: Load,
+    },
+    PacketPassed {
+        moment: u64,
+        packet: u64,
+        pipe: PipeNumber,
+        instance: u8,
+    },
+    PacketDropped {
+        moment: u64,
+        packet: u64,
+        load: Load,
+        cause: DropCause,
+    },
+    AckTaken {
+        moment: u64,
+        flow: FlowNumber,
+        cwnd: u64,
+        ssthresh: u64,
+    },
+    TimerExpired {
+        moment: u64,
+        flow: FlowNumber,
+        cwnd: u64,
+        ssthresh: u64,
+    },
+    StepsSpent {
+        moment: u64,
+    },
+    RuleLine {
+        rule: Rule,
+        packets: u64,
+        bytes: u64,
+    },
+    PipeLine {
+        pipe: PipeNumber,
+        config: PipeConfig,
+    },
+    InstanceLine {
+        pipe: PipeNumber,
+        instance: u8,
+        waiting: u64,
+        bytes: u64,
+        busy: bool,
+        flight: u64,
+        drawn: u64,
+    },
+}
+
+/// The packets of an experiment; the drops by cause.
+#[derive(Clone, Copy)]
+pub struct Counters {
+    pub made: u64,
+    pub delivered: u64,
+    pub held: u64,
+    pub drops: [u64; 8],
+}
+
+/// How an experiment ended: by its command, by its budget of steps, or for want of memory.
+#[derive(Clone, Copy)]
+pub enum Ending {
+    Ended,
+    Spent,
+    Halted,
+}

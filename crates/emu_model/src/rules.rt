@@ -1,0 +1,142 @@
+//! Rules, and what a search among them answers (ipfw(8)).
+
+ghost use Rattle.std.specs.Prelude.{◌≡◌, ◌≤◌};
+ghost use Rattle.std.specs.Option.{SomeIff};
+ghost use Rattle.emu_model.specs.Spans.{address_span};
+
+use crate::packets::Place;
+use crate::ranged::{PipeNumber, PrefixLength, RuleNumber};
+use std::marker::Model;
+
+/// What a rule does with a packet that it matches: `allow`, `deny`, `count`, `skipto`, `pipe`.
+#[derive(Clone, Copy, PartialEq)]
+pub enum Action {
+    Permit,
+    Forbid,
+    Count,
+    SkipTo(RuleNumber),
+    SendTo(PipeNumber),
+}
+
+#[derive(Clone, Copy, PartialEq)]
+pub enum ProtocolMatch {
+    AnyProtocol,
+    OnlyTcp,
+    OnlyUdp,
+}
+
+/// The addresses whose first `len` bits are those of `address`, of which all other bits are 0;
+/// length 0 is any address.
+#[derive(Clone, Copy, PartialEq)]
+pub struct Prefix {
+    address: u32,
+    len: PrefixLength,
+}
+
+impl Model for Prefix {
+    ghost use Rattle.std.specs.Prelude.{◌≡◌, ◌-◌, ◌%◌, ◌^◌};
+    ghost use Rattle.emu_model.specs.Spans.{AddressSpan};
+
+    ghost Value = { AddressSpan };
+
+    ghost view = { λ p. record { address = p.address; len = p.len } };
+
+    ghost invariant = { λ p. p.address % 2 ^ (32 - p.len) ≡ 0 };
+
+    ghost inverse = { λ s. record { address = s.address; len = s.len } };
+}
+
+impl Prefix {
+    /// The bits of the address past the length are cleared.
+    pub fn new(address: u32, len: PrefixLength) -> Self
+        ensures { result ≡ address_span address len }
+    {
+        let unit = 1u64 << (32 - len.get());
+        let address = u64::from(address) / unit * unit;
+        Prefix {
+            address: address as u32,
+            len,
+        }
+    }
+
+    pub fn address(self) -> u32
+        ensures { result ≡ self.address }
+    {
+        let Prefix { address, .. } = self;
+        address
+    }
+
+    pub fn length(self) -> PrefixLength
+        ensures { result ≡ self.len }
+    {
+        let Prefix { len, .. } = self;
+        len
+    }
+}
+
+/// The ports from `first` to `last`.
+#[derive(Clone, Copy, PartialEq)]
+pub struct PortRange {
+    first: u16,
+    last: u16,
+}
+
+impl Model for PortRange {
+    ghost use Rattle.std.specs.Prelude.{◌≤◌};
+    ghost use Rattle.emu_model.specs.Spans.{PortSpan};
+
+    ghost Value = { PortSpan };
+
+    ghost view = { λ r. record { first = r.first; last = r.last } };
+
+    ghost invariant = { λ r. r.first ≤ r.last };
+
+    ghost inverse = { λ r. record { first = r.first; last = r.last } };
+}
+
+impl PortRange {
+    /// None where the first port is above the last.
+    pub fn new(first: u16, last: u16) -> Option<Self>
+        ensures { SomeIff result (first ≤ last) (record { first = first; last = last }) }
+    {
+        if first <= last {
+            Some(PortRange { first, last })
+        } else {
+            None
+        }
+    }
+
+    pub fn first(self) -> u16
+        ensures { result ≡ self.first }
+    {
+        let PortRange { first, .. } = self;
+        first
+    }
+
+    pub fn last(self) -> u16
+        ensures { result ≡ self.last }
+    {
+        let PortRange { last, .. } = self;
+        last
+    }
+}
+
+/// A rule; without ports it matches every port.
+#[derive(Clone, Copy, PartialEq)]
+pub struct Rule {
+    pub number: RuleNumber,
+    pub action: Action,
+    pub proto: ProtocolMatch,
+    pub src: Prefix,
+    pub sports: Option<PortRange>,
+    pub dst: Prefix,
+    pub dports: Option<PortRange>,
+}
+
+/// What a search among the rules answers; with a pipe, the place of the rule that sends there.
+#[derive(Clone, Copy)]
+pub enum Verdict {
+    Allow,
+    Deny,
+    Pipe(PipeNumber, Place),
+}
