@@ -55,7 +55,7 @@ abbrev pub ExitsNeverFall : Type 0
 ExitsNeverFall = (last : ℕ) (es : List (ℕ × ℕ)) → NeverFalls last (exits last es)
 
 -- the step of the control law is the greatest whole number d with d * d * count at most
--- interval * interval (RFC 8289, section 5.5: interval / sqrt(count); its rounding is own)
+-- interval * interval (RFC 8289, section 5: interval / sqrt(count); its rounding is own)
 abbrev pub ControlStepIsGreatest : Type 0
 ControlStepIsGreatest = (interval count : ℕ) → interval < 2 ^ 36 → 1 ≤ count →
     IsControlStep interval count (control_step interval count)

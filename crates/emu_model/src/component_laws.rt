@@ -23,7 +23,7 @@ pub fn exits_never_fall()
     ensures { ExitsNeverFall }
 {}
 
-/// The control law's step is the greatest whole number that fits (RFC 8289, section 5.5).
+/// The control law's step is the greatest whole number that fits (RFC 8289, section 5).
 pub fn control_step_is_greatest()
     ensures { ControlStepIsGreatest }
 {}
