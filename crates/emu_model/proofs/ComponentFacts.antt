@@ -1,26 +1,34 @@
 -- The laws of the components.
-use Rattle.std.proofs.Common.{◌≡◌, ℕ, zero, suc, ◌+◌, ◌-◌, ◌*◌, ◌^◌, ◌%◌, ◌≤◌, ◌<◌, List, [], ◌∷◌, ◌++◌, Bool, true, false, refl, sym, ◌∙◌, ap, Option, Some, None, append_assoc, append-nil, zero-add, add-one, length, take, arith}
-use Rattle.std.specs.Prelude.{if◌then◌else◌, not, ◌&&◌, ◌||◌, nat_lt, nat_le, map, sum, All, slice_get, option_to_list}
+use Rattle.std.proofs.Common.{◌≡◌, ℕ, zero, suc, ◌+◌, ◌-◌, ◌^◌, ◌≤◌, ◌<◌, List, [], ◌∷◌, ◌++◌, Bool, true, false, refl, sym, ◌∙◌, ap, Some, append_assoc, append-nil, zero-add, add-one, length, take, arith}
+use Rattle.std.specs.Prelude.{if◌then◌else◌, not, ◌&&◌, ◌||◌, nat_lt, map, sum, All, slice_get, option_to_list}
 use Rattle.std.proofs.lemmas.Bool.{leb-true, lt-ltb, ltb-true, ltb-false}
 use Rattle.std.proofs.lemmas.List.{length-append, map-append}
 use Rattle.std.proofs.lemmas.List.Elements.{All-nil, All-cons}
 use Rattle.std.proofs.lemmas.List.Sums.{sum-map, sum_by-append, sum_by-cons}
 use Rattle.std.proofs.lemmas.Nat.{mod_below}
-use Rattle.rand_chacha.specs.Block.{block_word, add32}
-use Rattle.emu_model.specs.Types.{Packet, QueueLimit, Slots, KBytes}
-use Rattle.emu_model.specs.Loss.{is_lost, is_below_rate, loss_word}
-use Rattle.emu_model.specs.DropTail.{Waiting, bytes_of, accepts}
+use Rattle.rand_chacha.specs.Block.{block_word}
+use Rattle.emu_model.specs.Types.{Packet, Slots, KBytes}
+use Rattle.emu_model.specs.Loss.{loss_word}
+use Rattle.emu_model.specs.DropTail.{Waiting, bytes_of}
 use Rattle.emu_model.specs.Codel.{Times, Control, Dequeued, is_droppable, look, look_empty, drop_on, drop_first, count_up, set_next, codel_dequeue, after_drop, give, give_none, stop_dropping}
-use Rattle.emu_model.specs.Rate.{Period, follow, finish_at, finishes}
-use Rattle.emu_model.specs.Delay.{Line, Leaving, enter, exit_after, exits}
-use Rattle.emu_model.specs.ComponentLaws.{idle_period, served, FinishesAreFolded, FinishesRoundOnce, Entry, enter_all, exits_of, ExitsAreFolded, NeverFalls, ExitsNeverFall, LossHasItsExtremes, IsWithin, AcceptsWithinLimit, CodelKeepsOrder, CodelSparesTheQuick}
+use Rattle.emu_model.specs.Rate.{finish_at, finishes}
+use Rattle.emu_model.specs.Delay.{enter, exit_after, exits}
+use Rattle.emu_model.specs.ComponentLaws.{served, FinishesAreFolded, FinishesRoundOnce, exits_of, ExitsAreFolded, ExitsNeverFall, LossHasItsExtremes, AcceptsWithinLimit, CodelKeepsOrder, CodelSparesTheQuick}
+
+-- at rate 0 no finish rests on a sum
+unsummed : (start m n : ℕ) (zs : List ℕ) → finishes 0 start m zs ≡ finishes 0 start n zs
+unsummed start m n [] = refl
+unsummed start m n (z ∷ zs) = ap (λ fs. start ∷ fs) (unsummed start (m + z) (n + z) zs)
 
 served-is : (bw start sum finish : ℕ) (zs : List ℕ) →
     served bw (record { start = start; sum = sum; finish = finish }) zs ≡ finishes bw start sum zs
 served-is bw start sum finish [] = refl
-served-is bw start sum finish (z ∷ zs) =
-    ap (λ fs. finish_at bw start (sum + z) ∷ fs)
-    (served-is bw start (sum + z) (finish_at bw start (sum + z)) zs)
+served-is zero start sum finish (z ∷ zs) =
+    ap (λ fs. start ∷ fs)
+    (served-is zero start sum start zs ∙ unsummed start sum (sum + z) zs)
+served-is (suc bw) start sum finish (z ∷ zs) =
+    ap (λ fs. finish_at (suc bw) start (sum + z) ∷ fs)
+    (served-is (suc bw) start (sum + z) (finish_at (suc bw) start (sum + z)) zs)
 
 pub finishes_are_folded : FinishesAreFolded
 finishes_are_folded bw start zs = served-is bw start 0 start zs
