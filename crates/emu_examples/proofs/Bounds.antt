@@ -1,10 +1,11 @@
 -- Bounds: what the definitions say at the ends of a range, where no worked example goes. Each number
 -- is worked out by hand from the rule in its comment.
-use Rattle.std.specs.Prelude.{◌≡◌, refl, ℕ, ◌-◌, ◌^◌, true, false, Some, None, List, [], ◌∷◌, replicate}
+use Rattle.std.specs.Prelude.{◌≡◌, refl, ℕ, ◌-◌, ◌^◌, true, false, Option, Some, None, List, [], ◌∷◌, replicate, map}
+use Rattle.emu_model.specs.Spans.{PortSpan}
 use Rattle.emu_model.specs.declared.pipes.QueueLimit.TheVariants.{Slots, KBytes}
 use Rattle.emu_model.specs.declared.sources.FlowSpec.{FlowSpec}
 use Rattle.emu_model.specs.declared.sources.Timing.TheVariants.{Fixed}
-use Rattle.emu_model.specs.Rules.{counted_up, is_behind, default_rule}
+use Rattle.emu_model.specs.Rules.{port_matches, counted_up, is_behind, default_rule}
 use Rattle.emu_model.specs.FlowIds.{FlowId, new_instance}
 use Rattle.emu_model.specs.Loss.{is_below_rate, stream_of}
 use Rattle.emu_model.specs.DropTail.{Waiting, accepts}
@@ -102,6 +103,13 @@ nearly_full_count = refl
 
 full_rule_counter : counted_up (2 ^ 64 - 1) 1500 ≡ 2 ^ 64 - 1
 full_rule_counter = refl
+
+-- ports 10-20 are those from 10 to 20
+abbrev ten_to_twenty : Option PortSpan
+ten_to_twenty = Some (record { first = 10; last = 20 })
+
+ports : map (port_matches ten_to_twenty) (9 ∷ 10 ∷ 20 ∷ 21 ∷ []) ≡ false ∷ true ∷ true ∷ false ∷ []
+ports = refl
 
 -- a rule isn't behind its own place, and the next one added to its number is
 not_behind_itself :
