@@ -1,13 +1,13 @@
-pub mod Later
-pub mod Growth
-pub mod ControlRoot
-pub mod ComponentFacts
-pub mod Ends
-pub mod LossRate
-pub mod Prefixes
-pub mod Sums
-pub mod Keeping
-pub mod PipeKeeping
-pub mod Conserved
-pub mod Numbers
-pub mod Single
+mod Later
+mod Growth
+mod ControlRoot
+mod ComponentFacts
+mod Ends
+mod LossRate
+mod Prefixes
+mod Sums
+mod Keeping
+mod PipeKeeping
+mod Conserved
+mod Numbers
+mod Single

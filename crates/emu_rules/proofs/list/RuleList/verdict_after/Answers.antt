@@ -1,0 +1,31 @@
+use Rattle.std.proofs.Common.{◌≡◌, ◌∙◌, sym, subst, ap}
+use Rattle.std.proofs.lemmas.List.{with_items_is}
+use Rattle.emu_model.specs.Rules.{the_rules, matched_places, counted_rules, start_behind}
+use Rattle.emu_rules.specs.Walk.{IsSound}
+use Rattle.emu_rules.proofs.Order.{IsSound-counted, book}
+use Rattle.emu_rules.proofs.list.RuleList.verdict_after.Goals as goal
+
+pub invariant_of-self : goal.invariant_of-self
+invariant_of-self c =
+    let old = c.self.inside.rules in
+    let p = c.args.packet.now in
+    let new = c.judge_and_count.new.rules in
+    let start = c.first_behind-start.result in
+    let is = with_items_is old new (c.judge_and_count.auto.rules ∙ c.deref_mut.ensures.len) ∙ c.judge_and_count.ensures.rules ∙ ap (counted_rules start p) c.deref_mut.ensures.value in
+    subst (λ cs. IsSound cs c.self.inside.jumps.items c.self.inside.added) (sym is)
+    (IsSound-counted (matched_places start p (the_rules old.items)) p old.items c.self.inside.jumps.items c.self.inside.added c.self.invariant)
+
+pub returns-clause-counted : goal.returns-clause-counted
+returns-clause-counted c =
+    let old = c.self.inside.rules in
+    let p = c.args.packet.now in
+    let place = c.args.place in
+    let new = c.judge_and_count.new.rules in
+    let start : c.first_behind-start.result ≡ start_behind place old.items =
+    c.first_behind-start.ensures ∙ ap (start_behind place) c.deref.ensures.value in
+    let is =
+    with_items_is old new (c.judge_and_count.auto.rules ∙ c.deref_mut.ensures.len)
+    ∙ c.judge_and_count.ensures.rules
+    ∙ ap (counted_rules c.first_behind-start.result p) c.deref_mut.ensures.value
+    ∙ ap (λ s. counted_rules s p old.items) start in
+    rw (← c.self.view_is) (ap (λ cs. book cs c.self.inside.added) is)

@@ -1,0 +1,10 @@
+use Rattle.std.proofs.Common.{◌-◌, length}
+use Rattle.emu_model.specs.Rules.{verdict}
+use Rattle.emu_rules.proofs.Walking.{Answers}
+use Rattle.emu_rules.proofs.search.judge.Given as goal
+
+abbrev pub invariant-loop-place : goal.invariant-loop-place
+invariant-loop-place l = Answers l.packet l.rules l.from (verdict l.start l.packet l.rules)
+
+abbrev pub decreases-loop-place : goal.decreases-loop-place
+decreases-loop-place l = length l.rules - l.from

@@ -1,0 +1,80 @@
+use Rattle.std.proofs.Common.{sym, ap, ◌∙◌, subst, ◌≡◌, ◌<◌, ◌-◌, length, slice_index, set, arith}
+use Rattle.std.proofs.lemmas.List.{length-map, length-set}
+use Rattle.emu_model.specs.Rules.{Counted, the_rules, verdict, counted_rules, count_packet}
+use Rattle.emu_rules.specs.Walk.{AreJumps}
+use Rattle.emu_rules.proofs.Walking.{matched_read, least_match-within, Answers-none}
+use Rattle.emu_rules.proofs.Counting.{counting_ends, counting_goes, jump-counted, Leaves-none}
+use Rattle.emu_rules.proofs.search.judge_and_count.Goals as goal
+
+pub returns-in-Some-decision-clause-verdict : goal.returns-in-Some-decision-clause-verdict
+returns-in-Some-decision-clause-verdict c =
+    let cs = c.loop-place.rules in
+    let p = c.args.packet.now in
+    let old = c.args.rules.now in
+    let e = sym c.in-Some.ensures in
+    (counting_ends p cs c.loop-place.from (verdict c.args.start p old) (counted_rules c.args.start p old) c.in-Some.place c.index-rules-place.result c.count.new.self c.in-Some-decision.verdict
+    c.loop-place.invariant.answers c.loop-place.invariant.leaves e
+    (matched_read p cs c.loop-place.from c.in-Some.place c.index-rules-place.result e c.index-rules-place.is)
+    (c.count.ensures ∙ ap (count_packet p) (sym c.index-rules-place.is))
+    (sym c.decision.ensures ∙ c.in-Some-decision.is)).0
+
+pub returns-in-Some-decision-clause-rules : goal.returns-in-Some-decision-clause-rules
+returns-in-Some-decision-clause-rules c =
+    let cs = c.loop-place.rules in
+    let p = c.args.packet.now in
+    let old = c.args.rules.now in
+    let e = sym c.in-Some.ensures in
+    (counting_ends p cs c.loop-place.from (verdict c.args.start p old) (counted_rules c.args.start p old) c.in-Some.place c.index-rules-place.result c.count.new.self c.in-Some-decision.verdict
+    c.loop-place.invariant.answers c.loop-place.invariant.leaves e
+    (matched_read p cs c.loop-place.from c.in-Some.place c.index-rules-place.result e c.index-rules-place.is)
+    (c.count.ensures ∙ ap (count_packet p) (sym c.index-rules-place.is))
+    (sym c.decision.ensures ∙ c.in-Some-decision.is)).1
+
+pub loop-place-smaller : goal.loop-place-smaller
+loop-place-smaller c =
+    let cs = c.loop-place.rules in
+    let p = c.args.packet.now in
+    let e = sym c.in-Some.ensures in
+    let jumps = c.args.jumps.now in
+    let up : c.in-Some.place < slice_index jumps c.in-Some.place =
+    jump-counted p cs jumps c.in-Some.place c.index-rules-place.result c.count.new.self
+    (subst (λ rs. AreJumps rs jumps) (sym c.loop-place.invariant.same) c.requires)
+    (matched_read p cs c.loop-place.from c.in-Some.place c.index-rules-place.result e c.index-rules-place.is)
+    (c.count.ensures ∙ ap (count_packet p) (sym c.index-rules-place.is))
+    (sym c.decision.ensures ∙ c.in_default-decision.is) in
+    let b = least_match-within p (the_rules cs) c.loop-place.from c.in-Some.place e in
+    let falls : length (set cs c.in-Some.place c.count.new.self) - slice_index jumps c.in-Some.place < length cs - c.loop-place.from =
+    omega (arith, b.0, b.1, length-map cs (λ (c : Counted). c.rule), length-set cs c.in-Some.place c.count.new.self) in
+    falls
+
+pub loop-place-preserved : goal.loop-place-preserved
+loop-place-preserved c =
+    let cs = c.loop-place.rules in
+    let p = c.args.packet.now in
+    let old = c.args.rules.now in
+    let e = sym c.in-Some.ensures in
+    let jumps = c.args.jumps.now in
+    let on =
+    counting_goes p cs jumps c.loop-place.from (verdict c.args.start p old) (counted_rules c.args.start p old) c.in-Some.place c.index-rules-place.result c.count.new.self
+    (subst (λ rs. AreJumps rs jumps) (sym c.loop-place.invariant.same) c.requires)
+    c.loop-place.invariant.answers c.loop-place.invariant.leaves e
+    (matched_read p cs c.loop-place.from c.in-Some.place c.index-rules-place.result e c.index-rules-place.is)
+    (c.count.ensures ∙ ap (count_packet p) (sym c.index-rules-place.is))
+    (sym c.decision.ensures ∙ c.in_default-decision.is) in
+    record {
+      same = on.same ∙ c.loop-place.invariant.same;
+      answers = on.answers;
+      leaves = on.leaves;
+    }
+
+pub returns-clause-verdict : goal.returns-clause-verdict
+returns-clause-verdict c =
+    let p = c.args.packet.now in
+    let old = c.args.rules.now in
+    Answers-none p c.loop-place.rules c.loop-place.from (verdict c.args.start p old) c.loop-place.invariant.answers (sym c.next_match.ensures ∙ c.in_default.is)
+
+pub returns-clause-rules : goal.returns-clause-rules
+returns-clause-rules c =
+    let p = c.args.packet.now in
+    let old = c.args.rules.now in
+    Leaves-none p c.loop-place.rules c.loop-place.from (counted_rules c.args.start p old) c.loop-place.invariant.leaves (sym c.next_match.ensures ∙ c.in_default.is)

@@ -1,0 +1,50 @@
+-- What a rule list keeps beside its rules, and the verdict of one rule.
+use Rattle.std.specs.Prelude.{◌≡◌, ℕ, ◌<◌, ◌≤◌, ⊤, Option, Some, None, List, [], ◌∷◌, length, All, slice_index}
+use Rattle.emu_model.specs.declared.rules.Action.{Action}
+use Rattle.emu_model.specs.declared.rules.Action.TheVariants.{Permit, Forbid, Count, SkipTo, SendTo}
+use Rattle.emu_model.specs.declared.rules.Rule.{Rule}
+use Rattle.emu_model.specs.declared.rules.Verdict.{Verdict}
+use Rattle.emu_model.specs.declared.rules.Verdict.TheVariants.{Allow, Deny, Pipe}
+use Rattle.emu_model.specs.Rules.{Counted, RuleBook, the_rules, place_of, goes_on, action_at}
+
+-- the verdict of a rule that ends the search
+abbrev pub decision : Action → Counted → Option Verdict
+decision Permit c = Some Allow
+decision Forbid c = Some Deny
+decision Count c = None
+decision (SkipTo n) c = None
+decision (SendTo n) c = Some (Pipe n (place_of c))
+
+-- the number to which a rule jumps
+abbrev pub target_of : Action → Option ℕ
+target_of (SkipTo n) = Some n
+target_of _ = None
+
+-- a jump goes to a greater number
+abbrev pub GoesForward : ℕ → Action → Type 0
+GoesForward own (SkipTo n) = own < n
+GoesForward own _ = ⊤
+
+-- a rule stands before or with another by number, and in one number by the order of adding
+pub record Precedes (a b : Counted) : Type 0 where
+  pub number : a.rule.number ≤ b.rule.number
+  pub order : a.rule.number ≡ b.rule.number → a.order ≤ b.order
+
+abbrev pub Ascends : List Counted → Type 0
+Ascends [] = ⊤
+Ascends (c ∷ cs) = All (Precedes c) cs × Ascends cs
+
+-- each place from which a search goes on has its jump, which goes forward
+pub record AreJumps (rules : List Rule) (jumps : List ℕ) : Type 0 where
+  pub same : length jumps ≡ length rules
+  pub there : (k j : ℕ) → goes_on rules k (action_at rules k) ≡ Some j → slice_index jumps k ≡ j
+  pub forward : (k j : ℕ) → goes_on rules k (action_at rules k) ≡ Some j → k < j
+
+pub record IsOrdered (rules : List Counted) : Type 0 where
+  pub ascends : Ascends rules
+  pub forward : All (λ c. GoesForward c.rule.number c.rule.action) rules
+
+pub record IsSound (rules : List Counted) (jumps : List ℕ) (added : ℕ) : Type 0 where
+  pub ordered : IsOrdered rules
+  pub older : All (λ c. c.order ≤ added) rules
+  pub jumps_are : AreJumps (the_rules rules) jumps

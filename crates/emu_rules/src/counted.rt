@@ -1,0 +1,133 @@
+//! A rule with its counters.
+
+ghost use Rattle.std.specs.Prelude.{◌≡◌, ◌≤◌};
+ghost use Rattle.emu_model.specs.Rules.{place_of, rule_matches, count_packet, new_rule, default_rule};
+ghost use Rattle.emu_rules.specs.Walk.{decision, target_of as jump_target};
+
+use crate::matching::matches;
+use emu_model::{
+    Action, Packet, Place, Prefix, PrefixLength, ProtocolMatch, Rule, RuleNumber, Verdict,
+};
+use std::marker::Model;
+
+/// A rule, how many rules were added before it, and how many packets and bytes it matched; each of
+/// the two counters stays at 2^64 - 1.
+#[derive(Clone, Copy)]
+pub struct CountedRule {
+    rule: Rule,
+    order: u64,
+    packets: u64,
+    bytes: u64,
+}
+
+impl Model for CountedRule {
+    ghost use Rattle.emu_model.specs.Rules.{Counted};
+
+    ghost Value = { Counted };
+
+    ghost view = { λ c. record { rule = c.rule; order = c.order; packets = c.packets; bytes = c.bytes } };
+
+    ghost inverse = { λ c. record { rule = c.rule; order = c.order; packets = c.packets; bytes = c.bytes } };
+}
+
+impl CountedRule {
+    pub(crate) fn new(rule: Rule, order: u64) -> Self
+        ensures { result ≡ new_rule order rule }
+    {
+        CountedRule {
+            rule,
+            order,
+            packets: 0,
+            bytes: 0,
+        }
+    }
+
+    /// Rule 65535: `deny ip from any to any`.
+    pub(crate) fn last() -> Self
+        ensures { result ≡ default_rule }
+    {
+        let any = Prefix::new(0, PrefixLength::new(0).unwrap());
+        let rule = Rule {
+            number: RuleNumber::new(65535).unwrap(),
+            action: Action::Forbid,
+            proto: ProtocolMatch::AnyProtocol,
+            src: any,
+            sports: None,
+            dst: any,
+            dports: None,
+        };
+        CountedRule::new(rule, 0)
+    }
+
+    pub fn rule(&self) -> Rule
+        ensures { result ≡ self.now.rule }
+    {
+        self.rule // as it was added
+    }
+
+    /// How many packets it matched.
+    pub fn packets(&self) -> u64
+        ensures { result ≡ self.now.packets }
+    {
+        self.packets // at most 2^64 - 1
+    }
+
+    /// The bytes of the packets that it matched.
+    pub fn bytes(&self) -> u64
+        ensures { result ≡ self.now.bytes }
+    {
+        self.bytes // at most 2^64 - 1
+    }
+
+    /// Its number, and how many rules were added before it.
+    pub fn place(&self) -> Place
+        ensures { result ≡ place_of self.now }
+    {
+        Place {
+            number: self.rule.number,
+            order: self.order,
+        }
+    }
+
+    pub(crate) fn number(&self) -> u32
+        ensures number { result ≡ self.now.rule.number }
+        ensures high { result ≤ 99999 }
+    {
+        self.rule.number.get()
+    }
+
+    pub(crate) fn matches(&self, packet: &Packet) -> bool
+        ensures { result ≡ rule_matches packet.now self.now.rule }
+    {
+        matches(&self.rule, packet)
+    }
+
+    pub(crate) fn count(&mut self, packet: &Packet)
+        ensures { self.new ≡ count_packet packet.now self.old }
+    {
+        self.packets = self.packets.saturating_add(1);
+        self.bytes = self.bytes.saturating_add(u64::from(packet.size.get()));
+    }
+
+    /// The verdict, if the search ends at this rule.
+    pub(crate) fn decision(&self) -> Option<Verdict>
+        ensures { result ≡ decision self.now.rule.action self.now }
+    {
+        match self.rule.action {
+            Action::Permit => Some(Verdict::Allow),
+            Action::Forbid => Some(Verdict::Deny),
+            Action::Count | Action::SkipTo(_) => None,
+            Action::SendTo(pipe) => Some(Verdict::Pipe(pipe, self.place())),
+        }
+    }
+}
+
+/// The number to which a rule jumps.
+pub(crate) fn target_of(action: Action) -> Option<u32>
+    ensures { result ≡ jump_target action }
+{
+    match action {
+        Action::SkipTo(number) => Some(number.get()),
+        Action::Permit | Action::Forbid | Action::Count | Action::SendTo(_) => None,
+    }
+}

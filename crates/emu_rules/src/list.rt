@@ -1,0 +1,180 @@
+//! The rule list.
+
+ghost use Rattle.std.specs.Prelude.{◌≡◌, Some, None, IfOk, OnOk, OnErr, MatchResult};
+ghost use Rattle.emu_model.specs.Rules.{opening_book, add_refusal, book_with, delete_refusal, book_without, verdict, counted_book, start_behind, is_rule_number};
+ghost use Rattle.emu_rules.specs.Errors.{refusal_of};
+
+use crate::counted::{CountedRule, target_of};
+use crate::search::{aim, first_behind, first_from, judge, judge_and_count};
+use emu_model::{Packet, Place, Refusal, Rule, RuleNumber, Verdict};
+use std::alloc::{AllocError, Global};
+use std::marker::Model;
+
+/// Why a rule wasn't added.
+#[derive(Clone, Copy, PartialEq)]
+pub enum AddError {
+    Refused(Refusal),
+    NoMemory,
+}
+
+/// Rules by number, those of one number in the order in which they were added; the last is
+/// rule 65535, `deny ip from any to any`.
+#[derive(Drop)]
+pub struct RuleList {
+    rules: Vec<CountedRule>,
+    /// Where a search goes on that matched at each place.
+    jumps: Vec<usize>,
+    added: u64,
+}
+
+impl Model for RuleList {
+    ghost use Rattle.emu_model.specs.Rules.{RuleBook};
+    ghost use Rattle.emu_rules.specs.Walk.{IsSound};
+
+    ghost Value = { RuleBook };
+
+    ghost view = { λ l. record { rules = l.rules.items; added = l.added } };
+
+    ghost invariant = { λ l. IsSound l.rules.items l.jumps.items l.added };
+}
+
+impl RuleList {
+    /// The default alone.
+    pub fn new(alloc: Global) -> Result<Self, AllocError>
+        ensures { IfOk result (λ list. list ≡ opening_book) }
+    {
+        let mut rules = Vec::with_capacity(alloc, 1)?;
+        let mut jumps = Vec::with_capacity(alloc, 1)?;
+        rules.push_reserved(CountedRule::last());
+        jumps.push_reserved(1);
+        Ok(RuleList {
+            rules,
+            jumps,
+            added: 0,
+        })
+    }
+
+    /// Adds a rule behind those of its number; in this order `BadNumber` outside 1 to 65534,
+    /// `BadSkip` for a jump that goes to its own number, backward or above 65535, `RulesFull` at
+    /// 256 rules or 2^64 - 1 addings, `NoMemory`. After an error the list is as it was.
+    pub fn add(&mut self, rule: Rule) -> Result<(), AddError>
+        ensures ok { OnOk result (self.new ≡ book_with rule self.old) }
+        ensures err { OnErr result (self.new ≡ self.old) }
+        ensures refusal { MatchResult result
+            (λ _. add_refusal rule self.old ≡ None)
+            (λ e. add_refusal rule self.old ≡ refusal_of e) }
+    {
+        if let Some(refusal) = self.refusal(&rule) {
+            return Err(AddError::Refused(refusal));
+        }
+        let counted = CountedRule::new(rule, self.added);
+        if self.rules.reserve(1).is_err() || self.jumps.reserve(1).is_err() {
+            return Err(AddError::NoMemory);
+        }
+        let place = first_from(&self.rules, counted.number() + 1);
+        let Ok(()) = self.rules.insert(place, counted) else {
+            unreachable!()
+        };
+        self.jumps.push_reserved(0);
+        aim(&self.rules, &mut self.jumps);
+        self.added += 1;
+        Ok(())
+    }
+
+    /// Why a rule isn't added, but for want of memory.
+    fn refusal(&self, rule: &Rule) -> Option<Refusal>
+        ensures { result ≡ add_refusal rule.now self.now }
+    {
+        let number = rule.number.get();
+        if !is_rule_number(rule.number) {
+            return Some(Refusal::BadNumber);
+        }
+        if let Some(target) = target_of(rule.action)
+            && (target <= number || target > DEFAULT)
+        {
+            return Some(Refusal::BadSkip);
+        }
+        if self.rules.len() > MOST_RULES || self.added == u64::MAX {
+            return Some(Refusal::RulesFull);
+        }
+        None
+    }
+
+    /// Deletes all rules of a number; `BadNumber` outside 1 to 65534, then `NoRule` where there is
+    /// none, and the list is as it was. Takes no memory.
+    pub fn delete(&mut self, number: RuleNumber) -> Result<(), Refusal>
+        ensures ok { OnOk result (self.new ≡ book_without number self.old) }
+        ensures err { OnErr result (self.new ≡ self.old) }
+        ensures refusal { MatchResult result
+            (λ _. delete_refusal number self.old ≡ None)
+            (λ e. delete_refusal number self.old ≡ Some e) }
+    {
+        if !is_rule_number(number) {
+            return Err(Refusal::BadNumber);
+        }
+        let number = number.get();
+        if !self.rules.iter().any(|counted| counted.number() == number) {
+            return Err(Refusal::NoRule);
+        }
+        self.rules.retain(|counted| counted.number() != number);
+        self.jumps.truncate(self.rules.len());
+        aim(&self.rules, &mut self.jumps);
+        Ok(())
+    }
+
+    /// The verdict on a packet, which each rule that matches counts. Takes no memory.
+    pub fn verdict(&mut self, packet: &Packet) -> Verdict
+        ensures verdict { result ≡ verdict 0 packet.now self.old.rules }
+        ensures counted { self.new ≡ counted_book 0 packet.now self.old }
+    {
+        judge_and_count(&mut self.rules, &self.jumps, 0, packet)
+    }
+
+    /// The same verdict; nothing is counted.
+    pub fn find(&self, packet: &Packet) -> Verdict
+        ensures { result ≡ verdict 0 packet.now self.now.rules }
+    {
+        judge(&self.rules, &self.jumps, 0, packet)
+    }
+
+    /// The verdict of a search that begins behind the place of a rule, which may be gone: the
+    /// packet has left the pipe to which that rule sent it (ipfw(8), one_pass).
+    pub fn verdict_after(&mut self, place: Place, packet: &Packet) -> Verdict
+        ensures verdict { let start = start_behind place self.old.rules in
+            result ≡ verdict start packet.now self.old.rules }
+        ensures counted { let start = start_behind place self.old.rules in
+            self.new ≡ counted_book start packet.now self.old }
+    {
+        let start = first_behind(&self.rules, place);
+        judge_and_count(&mut self.rules, &self.jumps, start, packet)
+    }
+
+    /// The same verdict; nothing is counted.
+    pub fn find_after(&self, place: Place, packet: &Packet) -> Verdict
+        ensures { let start = start_behind place self.now.rules in
+            result ≡ verdict start packet.now self.now.rules }
+    {
+        let start = first_behind(&self.rules, place);
+        judge(&self.rules, &self.jumps, start, packet)
+    }
+
+    /// The rules in order with their counters, the default last.
+    pub fn list(&self) -> &[CountedRule]
+        ensures { result.now ≡ self.now.rules }
+    {
+        self.rules.as_slice()
+    }
+}
+
+/// The number of the default.
+const DEFAULT: u32 = 65535;
+
+/// How many rules there may be besides the default.
+const MOST_RULES: usize = 256;
+
+/// Whether a rule may be added or deleted under a number.
+fn is_rule_number(number: RuleNumber) -> bool
+    ensures { result ≡ is_rule_number number }
+{
+    1 <= number.get() && number.get() < DEFAULT
+}

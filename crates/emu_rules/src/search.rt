@@ -1,0 +1,101 @@
+//! The search among the rules: one walk over those that can match, by jumps that are kept.
+
+ghost use Rattle.std.specs.Prelude.{◌≡◌, ◌≤◌, length};
+ghost use Rattle.emu_model.specs.Rules.{the_rules, least_match, place_of_number, start_behind, verdict, counted_rules};
+ghost use Rattle.emu_rules.specs.Walk.{IsOrdered, AreJumps};
+
+use crate::counted::{CountedRule, target_of};
+use emu_model::{Packet, Place, Verdict};
+
+/// The least place at or after `from` whose rule matches.
+fn next_match(rules: &[CountedRule], from: usize, packet: &Packet) -> Option<usize>
+    ensures { result ≡ least_match packet.now (the_rules rules.now) from }
+{
+    for place in from..rules.len() {
+        let counted = &rules[place];
+        if counted.matches(packet) {
+            return Some(place);
+        }
+    }
+    None
+}
+
+/// The verdict of a search that begins at `start`.
+pub(crate) fn judge(
+    rules: &[CountedRule],
+    jumps: &[usize],
+    start: usize,
+    packet: &Packet,
+) -> Verdict
+    requires { AreJumps (the_rules rules.now) jumps.now }
+    ensures { result ≡ verdict start packet.now rules.now }
+{
+    let mut from = start;
+    while let Some(place) = next_match(rules, from, packet) {
+        let rule = &rules[place];
+        if let Some(answer) = rule.decision() {
+            return answer;
+        }
+        from = jumps[place];
+    }
+    Verdict::Deny
+}
+
+/// The same; each rule that matches counts the packet.
+pub(crate) fn judge_and_count(
+    rules: &mut [CountedRule],
+    jumps: &[usize],
+    start: usize,
+    packet: &Packet,
+) -> Verdict
+    requires { AreJumps (the_rules rules.old) jumps.now }
+    ensures verdict { result ≡ verdict start packet.now rules.old }
+    ensures rules { rules.new ≡ counted_rules start packet.now rules.old }
+{
+    let mut from = start;
+    while let Some(place) = next_match(rules, from, packet) {
+        let counted = &mut rules[place];
+        counted.count(packet);
+        if let Some(verdict) = counted.decision() {
+            return verdict;
+        }
+        from = jumps[place];
+    }
+    Verdict::Deny
+}
+
+/// The first place numbered `number` or higher.
+pub(crate) fn first_from(rules: &[CountedRule], number: u32) -> usize
+    requires { IsOrdered rules.now }
+    ensures within { result ≤ length rules.now }
+    ensures first { result ≡ place_of_number number (the_rules rules.now) }
+{
+    rules.partition_point(|counted| counted.number() < number)
+}
+
+/// The first place behind that of a rule, which may be gone.
+pub(crate) fn first_behind(rules: &[CountedRule], place: Place) -> usize
+    requires { IsOrdered rules.now }
+    ensures { result ≡ start_behind place rules.now }
+{
+    rules.partition_point(|counted| {
+        let own = counted.place();
+        own.number.get() < place.number.get()
+            || (own.number.get() == place.number.get() && own.order <= place.order)
+    })
+}
+
+/// Writes to each place where a search goes on that matched there.
+pub(crate) fn aim(rules: &[CountedRule], jumps: &mut [usize])
+    requires same { length jumps.old ≡ length rules.now }
+    requires ordered { IsOrdered rules.now }
+    ensures { AreJumps (the_rules rules.now) jumps.new }
+{
+    for place in 0..rules.len() {
+        let counted = &rules[place];
+        jumps[place] = match target_of(counted.rule().action) {
+            Some(number) => first_from(rules, number),
+            None => place + 1,
+        };
+    }
+}

@@ -1,0 +1,106 @@
+//! The instances of one pipe, by their flow identifiers.
+ghost use Rattle.std.specs.Prelude.{◌≡◌, ◌+◌, ◌<◌, ◌≤◌, ◌↔◌, [], ◌∷◌, length, position, Some, None, true, false, is_some, IsOk, IfOk, IfErr, OnOk, OnErr, IsSome};
+ghost use Rattle.std.specs.List.{list_any};
+ghost use Rattle.emu_model.specs.FlowIds.{same_flow, different, instance_of};
+
+use crate::FlowId;
+use indexmap::IndexSet;
+use std::alloc::{AllocError, Global};
+use std::marker::Model;
+
+/// Why there is no instance for an identifier.
+#[derive(Clone, Copy, PartialEq)]
+pub enum InstanceError {
+    /// The pipe has 256 instances, and none of them is the identifier's.
+    TooMany,
+    NoMemory = 99,
+}
+
+/// The different identifiers that came, in the order of their first coming. The place of one is the
+/// number of its instance.
+#[derive(Drop)]
+pub struct Instances {
+    ids: IndexSet<FlowId>,
+}
+
+impl Model for Instances {
+    ghost use Rattle.std.specs.Prelude.{length, ◌≤◌};
+    ghost use Rattle.indexmap.specs.IndexSet.{spare};
+    ghost use Rattle.flow_mask.specs.Made.{Made};
+
+    ghost Value = { Made };
+
+    ghost view = { λ s. record { ids = s.ids.keys; spare = spare s.ids } };
+
+    ghost invariant = { λ s. length s.ids.keys ≤ 256 };
+}
+
+impl Instances {
+    // How many instances a pipe may have.
+    const MOST: usize = 256;
+
+    /// No instance. Takes no memory.
+    pub fn new(alloc: Global) -> Self
+        ensures { result.ids ≡ [] }
+    {
+        Instances {
+            ids: IndexSet::new(alloc),
+        }
+    }
+
+    /// How many instances there are, 256 at most.
+    pub fn len(&self) -> usize
+        ensures len { result ≡ length self.now.ids }
+        ensures most { result ≤ 256 }
+    {
+        self.ids.len()
+    }
+
+    /// The number of the identifier's instance, if it came before.
+    pub fn find(&self, id: FlowId) -> Option<u8>
+        ensures index { result ≡ position (same_flow id) self.now.ids }
+        ensures found { is_some result ≡ list_any (same_flow id) self.now.ids }
+    {
+        let index = self.ids.get_index_of(&id)?;
+        Some(index as u8)
+    }
+
+    /// Makes the growth that `find_or_make` of this identifier needs, and changes nothing else.
+    pub fn find_or_make_ready(&mut self, id: FlowId) -> Result<(), AllocError>
+        ensures ready { OnOk result (list_any (same_flow id) self.old.ids ≡ false → length self.old.ids < 256 → 0 < self.new.spare) }
+        ensures ids { self.new.ids ≡ self.old.ids }
+        ensures spare { self.old.spare ≤ self.new.spare }
+        ensures succeeds { 0 < self.old.spare → IsOk result }
+        ensures known { list_any (same_flow id) self.old.ids ≡ true → IsOk result }
+        ensures full { 256 ≤ length self.old.ids → IsOk result }
+    {
+        if self.len() == Self::MOST || self.find(id).is_some() {
+            return Ok(());
+        }
+        self.ids.reserve(1)
+    }
+
+    /// The number of the identifier's instance, which is made where it did not come before.
+    pub fn find_or_make(&mut self, id: FlowId) -> Result<u8, InstanceError>
+        ensures ok { IfOk result (λ index. instance_of self.old.ids id ≡ Some index) }
+        ensures made { OnOk result (self.new.ids ≡ different self.old.ids (id ∷ [])) }
+        ensures too_many { (result ≡ Err InstanceError.TooMany) ↔ (instance_of self.old.ids id ≡ None) }
+        ensures known { list_any (same_flow id) self.old.ids ≡ true → IsOk result }
+        ensures succeeds { 0 < self.old.spare → IsSome (instance_of self.old.ids id) → IsOk result }
+        ensures err { OnErr result (self.new.ids ≡ self.old.ids) }
+        ensures spare { OnOk result (self.old.spare ≤ self.new.spare + 1) }
+        ensures spare_err { OnErr result (self.old.spare ≤ self.new.spare) }
+    {
+        if let Some(index) = self.find(id) {
+            return Ok(index);
+        }
+        let next = self.len();
+        if next == Self::MOST {
+            return Err(InstanceError::TooMany);
+        }
+        if self.ids.insert(id).is_err() {
+            return Err(InstanceError::NoMemory);
+        }
+        Ok(next as u8)
+    }
+}

@@ -1,0 +1,11 @@
+//! Masks of flow identifiers, and the numbers of a pipe's instances (ipfw(8), mask; at most 256
+//! instances is own).
+#![tactic(auto)]
+
+mod ids;
+mod instances;
+#[cfg(test)]
+mod tests;
+
+pub use ids::{ApplyMask, FlowId};
+pub use instances::{InstanceError, Instances};

@@ -1,0 +1,5 @@
+pub mod Server
+pub mod Served
+pub mod Lane
+pub mod Flight
+pub mod LinkLaws

@@ -1,0 +1,106 @@
+//! A delay line (own): what has finished leaves after its delay, in order.
+
+ghost use Rattle.std.specs.Prelude.{◌≡◌, ◌+◌, ◌*◌, ◌^◌, ◌<◌, ◌≤◌, length, IsOk, OnOk, OnErr};
+ghost use Rattle.emu_model.specs.Delay.{enter as entered, leave as left, empty_line, first_exit, first_item, delay_ns};
+
+use emu_model::Delay;
+use std::alloc::{AllocError, Global};
+use std::collections::VecDeque;
+use std::marker::Model;
+
+const NANOSECONDS_PER_MILLISECOND: u64 = 1_000_000;
+
+/// What is on its way, and when it leaves.
+#[derive(Drop)]
+struct Underway<A> {
+    item: A,
+    exit: u64,
+}
+
+/// Keeps what has finished until it leaves: after its delay, and never before what entered earlier.
+/// A contract sees the line, and for how many entries there is room.
+#[derive(Drop)]
+pub struct DelayLine<A> {
+    flight: VecDeque<Underway<A>>,
+    last: u64,
+}
+
+impl<A> Model for DelayLine<A> {
+    ghost use Rattle.std.specs.Prelude.{◌-◌};
+    ghost use Rattle.std.specs.VecDeque.{deque_len, deque_capacity};
+    ghost use Rattle.link_core.specs.Lane.{Lane};
+
+    ghost Value = { Lane A };
+
+    ghost use Rattle.link_core.specs.Flight.{flight_of};
+
+    ghost view = { λ l. record {
+      line = record { flight = flight_of l.flight.items; last = l.last };
+      spare = deque_capacity l.flight - deque_len l.flight;
+    } };
+}
+
+impl<A: Drop> DelayLine<A> {
+    /// An empty line, which takes no memory yet.
+    pub fn new(alloc: Global) -> Self
+        ensures { result.line ≡ empty_line }
+    {
+        DelayLine {
+            flight: VecDeque::new(alloc),
+            last: 0,
+        }
+    }
+
+    /// Puts an item on its way that finished at `finish` (ns): it leaves after its delay (ms), at
+    /// least 1 ns later, and not before what entered earlier. Where memory is refused the line
+    /// stays.
+    pub fn enter(&mut self, item: A, finish: u64, delay: Delay) -> Result<(), AllocError>
+        requires { finish < 2 * 10 ^ 15 }
+        ensures ok { OnOk result (self.new.line ≡ entered item finish (delay_ns delay) self.old.line) }
+        ensures err { OnErr result (self.new.line ≡ self.old.line) }
+        ensures succeeds { 0 < self.old.spare → IsOk result }
+        ensures room { self.old.spare ≤ self.new.spare + 1 }
+    {
+        self.flight.reserve(1)?;
+        let wait = (u64::from(delay.get()) * NANOSECONDS_PER_MILLISECOND).max(1);
+        let exit = self.last.max(finish + wait);
+        self.flight.push_back_reserved(Underway { item, exit });
+        self.last = exit;
+        Ok(())
+    }
+
+    /// Makes the growth of an `enter` of the same arguments, which then isn't refused until
+    /// something else enters.
+    pub fn enter_ready(&mut self, _finish: u64, _delay: Delay) -> Result<(), AllocError>
+        ensures ready { OnOk result (0 < self.new.spare) }
+        ensures refused { OnErr result (self.old.spare ≡ 0) }
+        ensures line { self.new.line ≡ self.old.line }
+        ensures room { self.old.spare ≤ self.new.spare }
+    {
+        self.flight.reserve(1)
+    }
+
+    /// Takes out what leaves first; None where nothing is on its way.
+    pub fn leave(&mut self) -> Option<A>
+        ensures item { result ≡ first_item self.old.line.flight }
+        ensures line { self.new.line ≡ left self.old.line }
+        ensures room { self.old.spare ≤ self.new.spare }
+    {
+        let gone = self.flight.pop_front()?;
+        Some(gone.item)
+    }
+
+    /// When the first item leaves (ns).
+    pub fn due(&self) -> Option<u64>
+        ensures { result ≡ first_exit self.now.line.flight }
+    {
+        self.flight.front().map(|first| first.exit)
+    }
+
+    /// How many items are on their way.
+    pub fn flight(&self) -> usize
+        ensures { result ≡ length self.now.line.flight }
+    {
+        self.flight.len()
+    }
+}

@@ -1,0 +1,13 @@
+//! What makes a link slow: a server that sends at a rate, and a line that delays (own).
+#![tactic(auto)]
+
+mod delay;
+mod laws;
+mod rate;
+
+pub use delay::DelayLine;
+pub use laws::{configuration_begins_anew, periods_are_rounded_once};
+pub use rate::RateServer;
+
+#[cfg(test)]
+mod tests;

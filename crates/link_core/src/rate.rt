@@ -1,0 +1,140 @@
+//! A rate server (own): each busy period is rounded up once, as a whole.
+
+ghost use Rattle.std.specs.Prelude.{◌≡◌, ℕ, ◌*◌, ◌^◌, ◌<◌, Some, None, option_map};
+ghost use Rattle.std.specs.Option.{ForSome};
+ghost use Rattle.emu_model.specs.Rate.{begin as begun, follow as followed, cut_period};
+ghost use Rattle.link_core.specs.Server.{period_at};
+ghost use Rattle.link_core.specs.Served.{period_of, Tells};
+
+use emu_model::{Bandwidth, Size};
+use std::marker::Model;
+
+/// What one byte takes at one bit a second: 8 bits, in nanoseconds.
+const BYTE_WORK: u64 = 8_000_000_000;
+
+/// A busy period: where it began, the bytes served in it with the packet in service, and how far
+/// these reach, in whole nanoseconds and a remainder below the rate.
+#[derive(Clone, Copy)]
+struct Busy {
+    start: u64,
+    sum: u64,
+    reached: u64,
+    left_over: u64,
+}
+
+impl Busy {
+    /// A period in which nothing is served yet.
+    fn at(start: u64) -> Self
+        ensures period { period_of result ≡ period_at start }
+        ensures tells { (bw : ℕ) → Tells bw result }
+    {
+        Busy {
+            start,
+            sum: 0,
+            reached: start,
+            left_over: 0,
+        }
+    }
+
+    /// A nanosecond that has begun counts whole.
+    fn finish(self) -> u64
+        requires { (period_of self).finish < 2 ^ 64 }
+        ensures { result ≡ (period_of self).finish }
+    {
+        self.reached + self.left_over.min(1)
+    }
+
+    /// The period with one packet more: what is left over is served with it.
+    fn followed(self, bw: Bandwidth, size: Size) -> Self
+        requires tells { Tells bw self }
+        requires early { (period_of self).finish < 2 * 10 ^ 15 }
+        ensures period { period_of result ≡ followed bw size (period_of self) }
+        ensures tells { Tells bw result }
+    {
+        let rate = bw.get();
+        if rate == 0 {
+            return self;
+        }
+        let size = u64::from(size.get());
+        let work = BYTE_WORK * size + self.left_over;
+        Busy {
+            start: self.start,
+            sum: self.sum + size,
+            reached: self.reached + work / rate,
+            left_over: work % rate,
+        }
+    }
+}
+
+/// Serves one packet after the other at a rate. The finishes of a busy period are those of its
+/// summed bytes, so no rounding adds up; a step divides the work of one packet alone.
+#[derive(Drop)]
+pub struct RateServer {
+    bw: Bandwidth,
+    busy: Option<Busy>,
+}
+
+impl Model for RateServer {
+    ghost use Rattle.std.specs.Prelude.{option_map};
+    ghost use Rattle.link_core.specs.Server.{Server};
+
+    ghost Value = { Server };
+
+    ghost use Rattle.link_core.specs.Served.{period_of, TellsIfBusy};
+
+    ghost view = { λ s. record { bw = s.bw; busy = option_map period_of s.busy } };
+
+    ghost invariant = { λ s. TellsIfBusy s.bw s.busy };
+}
+
+impl RateServer {
+    /// A server at rest.
+    pub fn new(bw: Bandwidth) -> Self
+        ensures { result ≡ record { bw = bw; busy = None } }
+    {
+        RateServer { bw, busy: None }
+    }
+
+    /// Begins a busy period at `now` (ns) with a packet.
+    pub fn start(&mut self, now: u64, size: Size)
+        requires { now < 2 * 10 ^ 15 }
+        ensures { self.new ≡ record self.old { busy = Some (begun self.old.bw now size) } }
+    {
+        self.busy = Some(Busy::at(now).followed(self.bw, size));
+    }
+
+    /// Takes the next packet into service at the finish of the one before. At rest it does nothing.
+    pub fn follow(&mut self, size: Size)
+        requires { ForSome self.old.busy (λ p. p.finish < 2 * 10 ^ 15) }
+        ensures { self.new ≡ record self.old { busy = option_map (followed self.old.bw size) self.old.busy } }
+    {
+        if let Some(busy) = self.busy {
+            self.busy = Some(busy.followed(self.bw, size));
+        }
+    }
+
+    /// Ends the busy period.
+    pub fn rest(&mut self)
+        ensures { self.new ≡ record self.old { busy = None } }
+    {
+        self.busy = None;
+    }
+
+    /// Changes the rate. A packet in service keeps its finish, at which the next one begins a new
+    /// period.
+    pub fn configure(&mut self, bw: Bandwidth)
+        ensures { self.new ≡ record { bw = bw; busy = option_map cut_period self.old.busy } }
+    {
+        self.bw = bw;
+        if let Some(busy) = self.busy {
+            self.busy = Some(Busy::at(busy.finish()));
+        }
+    }
+
+    /// The finish (ns) of the packet in service.
+    pub fn due(&self) -> Option<u64>
+        ensures { result ≡ option_map (λ p. p.finish) self.now.busy }
+    {
+        self.busy.map(|busy| busy.finish())
+    }
+}

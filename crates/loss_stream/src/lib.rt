@@ -1,0 +1,9 @@
+//! Seeded loss (own): which packets an instance of a pipe loses, by the words of ChaCha20.
+#![tactic(auto)]
+
+mod stream;
+
+pub use stream::LossStream;
+
+#[cfg(test)]
+mod tests;

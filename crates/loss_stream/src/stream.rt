@@ -1,0 +1,78 @@
+//! The stream of loss words of one instance.
+
+ghost use Rattle.std.specs.Prelude.{◌≡◌, ◌+◌, ◌-◌, ◌^◌, min};
+ghost use Rattle.emu_model.specs.Loss.{is_lost};
+
+use emu_model::{LossRate, PipeNumber};
+use rand_chacha::ChaCha20Rng;
+use rand_core::SeedableRng;
+use rand_core::utils::NextWord;
+use std::marker::Model;
+
+/// How many instances' streams each pipe has room for.
+const STREAMS_PER_PIPE: u64 = 65536;
+
+/// The loss words of one instance of a pipe, of which each packet takes one. A contract sees whose
+/// they are, and how many were drawn.
+#[derive(Drop)]
+pub struct LossStream {
+    seed: u64,
+    pipe: PipeNumber,
+    instance: u8,
+    drawn: u128,
+    words: ChaCha20Rng,
+}
+
+impl Model for LossStream {
+    ghost use Rattle.std.specs.Prelude.{◌≡◌};
+    ghost use Rattle.loss_stream.specs.Draws.{Draws, words_of};
+
+    ghost Value = { Draws };
+
+    ghost view = { λ s. record { seed = s.seed; pipe = s.pipe; instance = s.instance; drawn = s.drawn } };
+
+    ghost invariant = { λ s. s.words ≡ words_of s.seed s.pipe s.instance s.drawn };
+}
+
+impl LossStream {
+    /// The stream of an experiment's seed, a pipe's number and an instance's, from its first word.
+    pub fn new(seed: u64, pipe: PipeNumber, instance: u8) -> Self
+        ensures { result ≡ record { seed = seed; pipe = pipe; instance = instance; drawn = 0 } }
+    {
+        let s = seed.to_le_bytes();
+        let key = [
+            s[0], s[1], s[2], s[3], s[4], s[5], s[6], s[7], 0, 0, 0, 0, 0, 0, 0, 0, 0, 0, 0, 0, 0,
+            0, 0, 0, 0, 0, 0, 0, 0, 0, 0, 0,
+        ];
+        let mut words = ChaCha20Rng::from_seed(key);
+        words.set_stream(u64::from(pipe.get() - 1) * STREAMS_PER_PIPE + u64::from(instance));
+        LossStream {
+            seed,
+            pipe,
+            instance,
+            drawn: 0,
+            words,
+        }
+    }
+
+    /// Draws the word of the next packet, at every rate, and answers whether it loses the packet.
+    /// The count stays at 2^128 - 1.
+    pub fn lose(&mut self, plr: LossRate) -> bool
+        ensures answer { result ≡ is_lost self.old.seed self.old.pipe self.old.instance self.old.drawn plr }
+        ensures drawn { self.new ≡ record self.old { drawn = min (self.old.drawn + 1) (2 ^ 128 - 1) } }
+    {
+        let word = u64::from(self.words.next_word());
+        match self.drawn.checked_add(1) {
+            Some(drawn) => self.drawn = drawn,
+            None => self.words.set_word_pos(self.drawn),
+        }
+        word * 1_000_000 < u64::from(plr.get()) * 0x1_0000_0000
+    }
+
+    /// How many words were drawn, which is the place of the next one.
+    pub fn drawn(&self) -> u128
+        ensures { result ≡ self.now.drawn }
+    {
+        self.drawn
+    }
+}

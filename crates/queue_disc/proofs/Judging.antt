@@ -1,0 +1,112 @@
+-- The judge goes along what waits, and says what the definition's recursion drops.
+use Rattle.std.proofs.Common.{◌≡◌, ℕ, ◌+◌, ◌-◌, ◌<◌, ◌∙◌, ap, sym, refl, Bool, true, false, List, [], ◌∷◌, length, drop, arith}
+use Rattle.std.specs.Prelude.{nat_lt, nat_le, not, ◌&&◌, ◌||◌, ◌==◌, if◌then◌else◌}
+use Rattle.emu_model.specs.DropTail.{Waiting, bytes_of}
+use Rattle.emu_model.specs.Codel.{Times, Control, Dequeued, is_short, is_droppable, look, look_empty, stop_dropping, count_up, set_next, give, give_none, after_drop, drop_on, drop_first, codel_dequeue}
+use Rattle.queue_disc.specs.declared.verdict.Verdict.{Verdict}
+use Rattle.queue_disc.specs.Judged.{verdict, verdict_of, after, drops_on}
+
+-- so many were judged to go, and these bytes are behind the next
+pub record IsJudged {A : Type 0} (times : Times) (now : ℕ) (seen : Control) (ws : List (Waiting A)) (drops left : ℕ) (control : Control) : Type 0 where
+  pub inside : drops < length ws
+  pub behind : left ≡ bytes_of (drop (drops + 1) ws)
+  pub so_far : drops_on times now seen (drop 1 ws)
+      ≡ after drops (drops_on times now control (drop (drops + 1) ws))
+
+after_drop-is : {A : Type 0} (w : Waiting A) (d : Dequeued A) →
+    verdict_of (after_drop w d) ≡ after 1 (verdict_of d)
+after_drop-is w d =
+    let more : length (w ∷ d.dropped) ≡ 1 + length d.dropped = omega arith in
+    ap (λ n. verdict n d.control) more
+
+-- the judge's rule is the definition's, whatever the head
+pub drops_on-is : {A : Type 0} (times : Times) (now : ℕ) (c : Control) (w : Waiting A) (rest : List (Waiting A)) →
+    verdict_of (drop_on times now c w rest) ≡ drops_on times now c rest
+drops_on-is {A = A} times now c w [] = by (nat_lt now c.drop_next)
+  where
+    by : (b : Bool) →
+        verdict_of (if b then give c w [] else after_drop w (give_none (stop_dropping (look_empty (count_up c)))))
+        ≡ (if b then verdict 0 c else verdict 1 (stop_dropping (look_empty (count_up c))))
+    by true = refl
+    by false = refl
+drops_on-is {A = A} times now c w (v ∷ rest) =
+    by (nat_lt now c.drop_next) (is_droppable times now c v rest) _ _
+    (drops_on-is times now (set_next times counted.drop_next counted) v rest)
+  where
+    counted : Control
+    counted = look times now (count_up c) v rest
+
+    by : (b d : Bool) (later : Dequeued A) (judged : Verdict) → verdict_of later ≡ judged →
+        verdict_of (if b then give c w (v ∷ rest)
+        else (if d then after_drop w later else after_drop w (give (stop_dropping counted) v rest)))
+        ≡ (if b then verdict 0 c else (if d then after 1 judged else verdict 1 (stop_dropping counted)))
+    by true d later judged e = refl
+    by false true later judged e = after_drop-is w later ∙ ap (λ t. after 1 t) e
+    by false false later judged e = refl
+
+-- a head that may be dropped, while dropping
+pub codel_dequeue-dropping : {A : Type 0} (times : Times) (now : ℕ) (c : Control) (w : Waiting A) (rest : List (Waiting A)) →
+    is_droppable times now c w rest ≡ true → c.dropping ≡ true →
+    verdict_of (codel_dequeue times now c (w ∷ rest)) ≡ drops_on times now (look times now c w rest) rest
+codel_dequeue-dropping {A = A} times now c w rest may on =
+    by (is_droppable times now c w rest) c.dropping may on
+  where
+    seen : Control
+    seen = look times now c w rest
+
+    by : (b d : Bool) → b ≡ true → d ≡ true →
+        verdict_of (if not b then give (stop_dropping seen) w rest
+        else (if d then drop_on times now seen w rest else drop_first times now seen w rest))
+        ≡ drops_on times now seen rest
+    by true true e f = drops_on-is times now seen w rest
+    by true false e f = absurd (cc)
+    by false d e f = absurd (cc)
+
+-- one step of the judge: the moment hasn't come
+pub drops_on-not_due : {A : Type 0} (times : Times) (now : ℕ) (c : Control) (ws : List (Waiting A)) →
+    nat_lt now c.drop_next ≡ true → drops_on times now c ws ≡ verdict 0 c
+drops_on-not_due times now c [] e = rw e
+drops_on-not_due times now c (v ∷ rest) e = rw e
+
+-- the last goes
+pub drops_on-last : {A : Type 0} (times : Times) (now : ℕ) (c : Control) (ws : List (Waiting A)) →
+    nat_lt now c.drop_next ≡ false → ws ≡ [] →
+    drops_on times now c ws ≡ verdict 1 (stop_dropping (look_empty (count_up c)))
+drops_on-last times now c ws e f = rw (f, e)
+
+-- one goes, and the next may stay
+pub drops_on-ends : {A : Type 0} (times : Times) (now : ℕ) (c : Control) (v : Waiting A) (ws rest : List (Waiting A)) →
+    nat_lt now c.drop_next ≡ false → ws ≡ v ∷ rest → is_droppable times now c v rest ≡ false →
+    drops_on times now c ws ≡ verdict 1 (stop_dropping (look times now (count_up c) v rest))
+drops_on-ends times now c v ws rest e f may = rw (f, e, may)
+
+-- one goes, and the next may go too
+pub drops_on-more : {A : Type 0} (times : Times) (now : ℕ) (c : Control) (v : Waiting A) (ws rest : List (Waiting A)) →
+    nat_lt now c.drop_next ≡ false → ws ≡ v ∷ rest → is_droppable times now c v rest ≡ true →
+    (counted : Control) → counted ≡ look times now (count_up c) v rest →
+    drops_on times now c ws ≡ after 1 (drops_on times now (set_next times counted.drop_next counted) rest)
+drops_on-more times now c v ws rest e f may counted g = rw (f, e, may, g)
+
+-- the judge's end
+pub drops_on-all : {A : Type 0} (times : Times) (now : ℕ) (seen c : Control) (ws : List (Waiting A)) (drops left : ℕ) →
+    IsJudged times now seen ws drops left c → nat_lt now c.drop_next ≡ true →
+    verdict drops c ≡ drops_on times now seen (drop 1 ws)
+drops_on-all times now seen c ws drops left h e =
+    let none : drops + 0 ≡ drops = omega arith in
+    sym (h.so_far ∙ ap (λ v. after drops v) (drops_on-not_due times now c _ e) ∙ ap (λ n. verdict n c) none)
+
+-- the judge's beginning
+pub judged_dropping : {A : Type 0} (times : Times) (now : ℕ) (c : Control) (head : Waiting A) (ws rest : List (Waiting A)) (left : ℕ) (short : Bool) (seen : Control) →
+    ws ≡ head ∷ rest → left ≡ bytes_of rest →
+    short ≡ (nat_lt (now - head.stamp) times.target || nat_le left 1500) →
+    seen ≡ record c { first_above = if short then 0 else (if c.first_above == 0 then now + times.interval else c.first_above) } →
+    (not short && nat_lt 0 c.first_above && nat_le c.first_above now) ≡ true → c.dropping ≡ true →
+    drops_on times now seen rest ≡ verdict_of (codel_dequeue times now c ws)
+judged_dropping times now c head ws rest left short seen e l s f may on =
+    let stay : short ≡ is_short times now head rest =
+    s ∙ ap (λ n. nat_lt (now - head.stamp) times.target || nat_le n 1500) l in
+    rw (e, f, stay) (sym (codel_dequeue-dropping times now c head rest (rw stay at may) on))
+
+pub not_true : (b : Bool) → false ≡ not b → b ≡ true
+not_true true e = refl
+not_true false e = absurd (cc)

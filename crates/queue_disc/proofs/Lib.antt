@@ -1,0 +1,4 @@
+pub mod Roots
+pub mod Counted
+pub mod Judging
+pub mod Cuts

@@ -1,0 +1,180 @@
+//! A queue under CoDel (RFC 8289, section 5).
+
+ghost use Rattle.std.specs.Prelude.{◌≡◌, ◌≢◌, ◌+◌, ◌*◌, ◌^◌, ◌<◌, ◌≤◌, true, false, [], ◌∷◌, ◌++◌, length, drop, IfErr, IfOk, OnOk, OnErr, IsOk, MatchOption};
+ghost use Rattle.emu_model.specs.DropTail.{bytes_of, accepts};
+ghost use Rattle.emu_model.specs.Codel.{codel_dequeue, opening_control};
+
+use crate::entries::{EnqueueError, NoMemory, Refused, Waiting};
+use crate::state::{Control, Times};
+use crate::tail::DropTail;
+use crate::verdict::{Verdict, judge};
+use emu_model::{CodelTime, QueueLimit, Size};
+use std::alloc::Global;
+use std::marker::Model;
+
+/// A queue with a limit, whose head is dropped while what waits has waited for long.
+#[derive(Drop)]
+pub struct Codel<A> {
+    queue: DropTail<A>,
+    times: Times,
+    control: Control,
+}
+
+impl<A> Model for Codel<A> {
+    ghost use Rattle.queue_disc.specs.Queues.{CodelQueue};
+
+    ghost Value = { CodelQueue A };
+
+    ghost view = { λ q. record { times = q.times; limit = q.queue.limit; control = q.control; waiting = q.queue.waiting; capacity = q.queue.capacity } };
+}
+
+/// What a dequeue dropped, in order, and what it gave to the server.
+#[derive(Drop)]
+pub struct Dequeued<A> {
+    pub dropped: Vec<Waiting<A>>,
+    pub given: Option<Waiting<A>>,
+}
+
+impl<A> Codel<A> {
+    /// An empty queue in CoDel's opening state. Takes no memory. `target` and `interval` are in
+    /// nanoseconds.
+    pub fn new(alloc: Global, limit: QueueLimit, target: CodelTime, interval: CodelTime) -> Self
+        ensures times { result.times ≡ record { target = target; interval = interval } }
+        ensures limit { result.limit ≡ limit }
+        ensures control { result.control ≡ opening_control }
+        ensures empty { result.waiting ≡ [] }
+    {
+        Codel::over(DropTail::new(alloc, limit), target, interval)
+    }
+
+    /// A queue that stood under its limit alone.
+    pub(crate) fn over(queue: DropTail<A>, target: CodelTime, interval: CodelTime) -> Self
+        ensures { result ≡ record {
+          times = record { target = target; interval = interval };
+          limit = queue.limit;
+          control = opening_control;
+          waiting = queue.waiting;
+          capacity = queue.capacity;
+        } }
+    {
+        Codel {
+            queue,
+            times: Times { target, interval },
+            control: Control::opening(),
+        }
+    }
+
+    /// The same under its limit alone. Takes no memory.
+    pub fn into_drop_tail(self) -> DropTail<A>
+        ensures { result ≡ record { limit = self.limit; waiting = self.waiting; capacity = self.capacity } }
+    {
+        let Codel {
+            queue,
+            times: _,
+            control: _,
+        } = self;
+        queue
+    }
+
+    /// Puts an item of `size` bytes last, stamped with `now`. Refused, the queue is as before and the
+    /// item comes back: `Full` by the limit, `NoMemory` where a growth was refused.
+    pub fn enqueue(&mut self, item: A, size: Size, now: u64) -> Result<(), Refused<A>>
+        ensures ok { OnOk result (self.new ≡ record self.old {
+          waiting = self.old.waiting ++ record { item = item; size = size; stamp = now } ∷ [];
+          capacity = self.new.capacity;
+        }) }
+        ensures accepted { OnOk result (accepts self.old.limit self.old.waiting size ≡ true) }
+        ensures grows { self.old.capacity ≤ self.new.capacity }
+        ensures in_place { OnOk result (length self.old.waiting < self.old.capacity → self.new.capacity ≡ self.old.capacity) }
+        ensures unchanged { OnErr result (self.new ≡ self.old) }
+        ensures returned { IfErr result (λ e. e.item ≡ item) }
+        ensures full { IfErr result (λ e. e.cause ≡ EnqueueError.Full → accepts self.old.limit self.old.waiting size ≡ false) }
+        ensures no_memory { IfErr result (λ e. e.cause ≡ EnqueueError.NoMemory →
+            (accepts self.old.limit self.old.waiting size ≡ true) × (self.old.capacity ≤ length self.old.waiting)) }
+    {
+        self.queue.enqueue(item, size, now)
+    }
+
+    /// Makes the growth that `enqueue` of these can need.
+    pub fn enqueue_ready(&mut self, size: Size, now: u64) -> Result<(), NoMemory>
+        ensures ok { OnOk result (self.new ≡ record self.old { capacity = self.new.capacity }) }
+        ensures room { OnOk result (accepts self.old.limit self.old.waiting size ≡ true → length self.new.waiting < self.new.capacity) }
+        ensures grows { self.old.capacity ≤ self.new.capacity }
+        ensures unchanged { OnErr result (self.new ≡ self.old) }
+        ensures full { OnErr result ((accepts self.old.limit self.old.waiting size ≡ true) × (self.old.capacity ≤ length self.old.waiting)) }
+    {
+        self.queue.enqueue_ready(size, now)
+    }
+
+    /// `dequeue` of RFC 8289 at the moment `now`, in nanoseconds. It takes memory only where it drops.
+    /// Refused, the queue is as before.
+    pub fn dequeue(&mut self, now: u64) -> Result<Dequeued<A>, NoMemory>
+        requires { now < 2 * 10 ^ 15 }
+        ensures ok { IfOk result (λ d. record { dropped = d.dropped.items; given = d.given; rest = self.new.waiting; control = self.new.control }
+            ≡ codel_dequeue self.old.times now self.old.control self.old.waiting) }
+        ensures same { self.new ≡ record self.old { control = self.new.control; waiting = self.new.waiting } }
+        ensures unchanged { OnErr result (self.new ≡ self.old) }
+        ensures no_drop { (codel_dequeue self.old.times now self.old.control self.old.waiting).dropped ≡ [] → IsOk result }
+        ensures lone { length self.old.waiting ≤ 1 → IsOk result }
+    {
+        let Verdict { drops, control } = judge(&self.queue, self.times, self.control, now);
+        let Ok(mut dropped) = Vec::with_capacity(self.queue.allocator(), drops) else {
+            return Err(NoMemory);
+        };
+        self.queue.take_into(drops, &mut dropped);
+        let given = self.queue.dequeue();
+        self.control = control;
+        Ok(Dequeued { dropped, given })
+    }
+
+    /// Takes the head as it is, past CoDel's law. Takes no memory.
+    pub fn take(&mut self) -> Option<Waiting<A>>
+        ensures given { MatchOption result (self.old.waiting ≡ []) (λ w. self.old.waiting ≡ w ∷ self.new.waiting) }
+        ensures rest { self.new ≡ record self.old { waiting = drop 1 self.old.waiting } }
+    {
+        self.queue.dequeue()
+    }
+
+    /// Whether the limit lets an item of `size` bytes wait beside what waits (ipfw(8), queue).
+    pub fn accepts(&self, size: Size) -> bool
+        ensures { result ≡ accepts self.now.limit self.now.waiting size }
+    {
+        self.queue.accepts(size)
+    }
+
+    /// How many wait.
+    pub fn waiting(&self) -> usize
+        ensures { result ≡ length self.now.waiting }
+    {
+        self.queue.waiting()
+    }
+
+    /// The bytes of what waits.
+    pub fn bytes(&self) -> u64
+        ensures bytes { result ≡ bytes_of self.now.waiting }
+        ensures few { result ≤ 1500000 }
+    {
+        self.queue.bytes()
+    }
+
+    /// Changes the limit. What waits stays, also where it is more than the limit.
+    pub fn set_limit(&mut self, limit: QueueLimit)
+        ensures { self.new ≡ record self.old { limit = limit } }
+    {
+        self.queue.set_limit(limit);
+    }
+
+    /// Changes the times, in nanoseconds. CoDel's state stays.
+    pub fn set_times(&mut self, target: CodelTime, interval: CodelTime)
+        ensures { self.new ≡ record self.old { times = record { target = target; interval = interval } } }
+    {
+        self.times = Times { target, interval };
+    }
+
+    /// Puts CoDel back to its opening state. What waits stays.
+    pub fn reset_control(&mut self)
+        ensures { self.new ≡ record self.old { control = opening_control } }
+    {
+        self.control = Control::opening();
+    }
+}

@@ -1,0 +1,173 @@
+//! CoDel's state, one small function for each step of RFC 8289's `dodequeue` and `dequeue`.
+
+ghost use Rattle.std.specs.Prelude.{◌≡◌, ◌+◌, ◌-◌, ◌*◌, ◌^◌, ◌<◌, ◌≤◌, ◌==◌, ◌&&◌, ◌||◌, not, nat_lt, nat_le, if◌then◌else◌};
+ghost use Rattle.emu_model.specs.Codel.{opening_control, look_empty, stop_dropping, count_up, set_next, begin_dropping};
+
+use crate::law::control_law;
+use emu_model::CodelTime;
+use std::marker::Model;
+
+/// The greatest packet, in bytes: no more than that left behind is a short queue (own).
+const GREATEST_PACKET: u64 = 1500;
+
+/// Dropping began a short while ago within so many intervals.
+const RECENT_INTERVALS: u64 = 16;
+
+#[derive(Clone, Copy)]
+pub(crate) struct Times {
+    pub(crate) target: CodelTime,
+    pub(crate) interval: CodelTime,
+}
+
+impl Model for Times {
+    ghost use Rattle.emu_model.specs.Codel.{Times as CodelTimes};
+
+    ghost Value = { CodelTimes };
+
+    ghost view = { λ t. record { target = t.target; interval = t.interval } };
+
+    ghost inverse = { λ t. record { target = t.target; interval = t.interval } };
+}
+
+impl Times {
+    /// Whether a stay since `stamp` is short, or no more than one greatest packet is left behind.
+    pub(crate) fn is_short(self, now: u64, stamp: u64, left: u64) -> bool
+        ensures { result ≡ (nat_lt (now - stamp) self.target || nat_le left 1500) }
+    {
+        now.saturating_sub(stamp) < self.target.get() || left <= GREATEST_PACKET
+    }
+}
+
+#[derive(Clone, Copy)]
+pub(crate) struct Control {
+    first_above: u64,
+    drop_next: u64,
+    count: u32,
+    last_count: u32,
+    dropping: bool,
+}
+
+impl Model for Control {
+    ghost use Rattle.std.specs.Prelude.{◌+◌, ◌*◌, ◌^◌, ◌≤◌};
+    ghost use Rattle.emu_model.specs.Codel.{Control as CodelControl};
+
+    ghost Value = { CodelControl };
+
+    ghost view = { λ c. record { first_above = c.first_above; drop_next = c.drop_next; count = c.count; last_count = c.last_count; dropping = c.dropping } };
+
+    ghost invariant = { λ c. c.drop_next ≤ 2 * 10 ^ 15 + 6 * 10 ^ 10 };
+
+    ghost inverse = { λ c. record { first_above = c.first_above; drop_next = c.drop_next; count = c.count; last_count = c.last_count; dropping = c.dropping } };
+}
+
+impl Control {
+    pub(crate) fn opening() -> Self
+        ensures { result ≡ opening_control }
+    {
+        Control {
+            first_above: 0,
+            drop_next: 0,
+            count: 0,
+            last_count: 0,
+            dropping: false,
+        }
+    }
+
+    pub(crate) fn is_dropping(self) -> bool
+        ensures { result ≡ self.dropping }
+    {
+        self.dropping
+    }
+
+    /// Whether the moment of the next drop has come.
+    pub(crate) fn is_due(self, now: u64) -> bool
+        ensures { result ≡ not (nat_lt now self.drop_next) }
+    {
+        self.drop_next <= now
+    }
+
+    /// Whether a head may be dropped: the stay has been long for an interval.
+    pub(crate) fn is_droppable(self, now: u64, short: bool) -> bool
+        ensures { result ≡ (not short && nat_lt 0 self.first_above && nat_le self.first_above now) }
+    {
+        !short && 0 < self.first_above && self.first_above <= now
+    }
+
+    /// Once a head was looked at.
+    pub(crate) fn look(self, times: Times, now: u64, short: bool) -> Self
+        requires { now < 2 * 10 ^ 15 }
+        ensures { result ≡ record self {
+          first_above = if short then 0
+              else (if self.first_above == 0 then now + times.interval else self.first_above);
+        } }
+    {
+        let first_above = if short {
+            0
+        } else if self.first_above == 0 {
+            now + times.interval.get()
+        } else {
+            self.first_above
+        };
+        Control {
+            first_above,
+            ..self
+        }
+    }
+
+    /// Once the queue was found empty.
+    pub(crate) fn look_empty(self) -> Self
+        ensures { result ≡ look_empty self }
+    {
+        Control {
+            first_above: 0,
+            ..self
+        }
+    }
+
+    pub(crate) fn stop_dropping(self) -> Self
+        ensures { result ≡ stop_dropping self }
+    {
+        Control {
+            dropping: false,
+            ..self
+        }
+    }
+
+    pub(crate) fn count_up(self) -> Self
+        ensures { result ≡ count_up self }
+    {
+        Control {
+            count: self.count.saturating_add(1),
+            ..self
+        }
+    }
+
+    /// Sets the moment of the next drop after the last one.
+    pub(crate) fn set_next(self, times: Times) -> Self
+        requires some { 1 ≤ self.count }
+        requires early { self.drop_next < 2 * 10 ^ 15 }
+        ensures { result ≡ set_next times self.drop_next self }
+    {
+        Control {
+            drop_next: control_law(self.drop_next, self.count, times.interval),
+            ..self
+        }
+    }
+
+    /// Begins dropping, with a higher count where it ended a short while ago.
+    pub(crate) fn begin_dropping(self, times: Times, now: u64) -> Self
+        requires { now < 2 * 10 ^ 15 }
+        ensures { result ≡ begin_dropping times now self }
+    {
+        let since = self.count.saturating_sub(self.last_count);
+        let recent = self.drop_next + RECENT_INTERVALS * times.interval.get();
+        let count = if since > 1 && now < recent { since } else { 1 };
+        Control {
+            dropping: true,
+            count,
+            last_count: count,
+            drop_next: control_law(now, count, times.interval),
+            ..self
+        }
+    }
+}

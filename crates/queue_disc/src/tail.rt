@@ -1,0 +1,205 @@
+//! Drop-tail (ipfw(8), queue).
+
+ghost use Rattle.std.specs.Prelude.{◌≡◌, ◌+◌, ◌-◌, ◌*◌, ◌^◌, ◌<◌, ◌≤◌, true, false, [], ◌∷◌, ◌++◌, length, drop, IfErr, OnOk, OnErr, IsTrue, MatchOption, take, vec_len, vec_capacity};
+ghost use Rattle.emu_model.specs.DropTail.{bytes_of, accepts};
+ghost use Rattle.emu_model.specs.Codel.{opening_control};
+
+use crate::controlled::Codel;
+use crate::entries::{EnqueueError, NoMemory, Refused, Waiting};
+use emu_model::{CodelTime, QueueLimit, Size};
+use std::alloc::Global;
+use std::collections::VecDeque;
+use std::marker::Model;
+
+/// A queue with a limit, first in first out.
+#[derive(Drop)]
+pub struct DropTail<A> {
+    limit: QueueLimit,
+    waiting: VecDeque<Waiting<A>>,
+    bytes: u64,
+}
+
+impl<A> Model for DropTail<A> {
+    ghost use Rattle.std.specs.Prelude.{◌≡◌, ◌≤◌};
+    ghost use Rattle.std.specs.VecDeque.{deque_capacity};
+    ghost use Rattle.queue_disc.specs.Queues.{TailQueue, IsCounted};
+
+    ghost Value = { TailQueue A };
+
+    ghost view = { λ q. record { limit = q.limit; waiting = q.waiting.items; capacity = deque_capacity q.waiting } };
+
+    ghost invariant = { λ q. IsCounted q.bytes q.waiting.items };
+}
+
+impl<A> DropTail<A> {
+    /// An empty queue. Takes no memory.
+    pub fn new(alloc: Global, limit: QueueLimit) -> Self
+        ensures limit { result.limit ≡ limit }
+        ensures empty { result.waiting ≡ [] }
+    {
+        DropTail {
+            limit,
+            waiting: VecDeque::new(alloc),
+            bytes: 0,
+        }
+    }
+
+    /// Puts an item of `size` bytes last, stamped with `now`. Refused, the queue is as before and the
+    /// item comes back: `Full` by the limit, `NoMemory` where a growth was refused.
+    pub fn enqueue(&mut self, item: A, size: Size, now: u64) -> Result<(), Refused<A>>
+        ensures ok { OnOk result (self.new ≡ record self.old {
+          waiting = self.old.waiting ++ record { item = item; size = size; stamp = now } ∷ [];
+          capacity = self.new.capacity;
+        }) }
+        ensures accepted { OnOk result (accepts self.old.limit self.old.waiting size ≡ true) }
+        ensures grows { self.old.capacity ≤ self.new.capacity }
+        ensures in_place { OnOk result (length self.old.waiting < self.old.capacity → self.new.capacity ≡ self.old.capacity) }
+        ensures unchanged { OnErr result (self.new ≡ self.old) }
+        ensures returned { IfErr result (λ e. e.item ≡ item) }
+        ensures full { IfErr result (λ e. e.cause ≡ EnqueueError.Full → accepts self.old.limit self.old.waiting size ≡ false) }
+        ensures no_memory { IfErr result (λ e. e.cause ≡ EnqueueError.NoMemory →
+            (accepts self.old.limit self.old.waiting size ≡ true) × (self.old.capacity ≤ length self.old.waiting)) }
+    {
+        if !self.accepts(size) {
+            return Err(Refused {
+                item,
+                cause: EnqueueError::Full,
+            });
+        }
+        let Ok(()) = self.reserve() else {
+            return Err(Refused {
+                item,
+                cause: EnqueueError::NoMemory,
+            });
+        };
+        self.bytes += u64::from(size.get());
+        self.waiting.push_back_reserved(Waiting {
+            item,
+            size,
+            stamp: now,
+        });
+        Ok(())
+    }
+
+    /// Makes the growth that `enqueue` of these can need.
+    pub fn enqueue_ready(&mut self, size: Size, _now: u64) -> Result<(), NoMemory>
+        ensures ok { OnOk result (self.new ≡ record self.old { capacity = self.new.capacity }) }
+        ensures room { OnOk result (accepts self.old.limit self.old.waiting size ≡ true → length self.new.waiting < self.new.capacity) }
+        ensures grows { self.old.capacity ≤ self.new.capacity }
+        ensures unchanged { OnErr result (self.new ≡ self.old) }
+        ensures full { OnErr result ((accepts self.old.limit self.old.waiting size ≡ true) × (self.old.capacity ≤ length self.old.waiting)) }
+    {
+        if self.accepts(size) {
+            self.reserve()
+        } else {
+            Ok(())
+        }
+    }
+
+    /// Takes the head. Takes no memory.
+    pub fn dequeue(&mut self) -> Option<Waiting<A>>
+        ensures given { MatchOption result (self.old.waiting ≡ []) (λ w. self.old.waiting ≡ w ∷ self.new.waiting) }
+        ensures rest { self.new ≡ record self.old { waiting = drop 1 self.old.waiting } }
+    {
+        let head = self.waiting.pop_front()?;
+        self.bytes -= u64::from(head.size.get());
+        Some(head)
+    }
+
+    /// How many wait.
+    pub fn waiting(&self) -> usize
+        ensures { result ≡ length self.now.waiting }
+    {
+        self.waiting.len()
+    }
+
+    /// The bytes of what waits.
+    pub fn bytes(&self) -> u64
+        ensures bytes { result ≡ bytes_of self.now.waiting }
+        ensures few { result ≤ 1500000 }
+    {
+        self.bytes
+    }
+
+    /// Changes the limit. What waits stays, also where it is more than the limit.
+    pub fn set_limit(&mut self, limit: QueueLimit)
+        ensures { self.new ≡ record self.old { limit = limit } }
+    {
+        self.limit = limit;
+    }
+
+    /// The same under CoDel, in its opening state. Takes no memory.
+    pub fn into_codel(self, target: CodelTime, interval: CodelTime) -> Codel<A>
+        ensures { result ≡ record {
+          times = record { target = target; interval = interval };
+          limit = self.limit;
+          control = opening_control;
+          waiting = self.waiting;
+          capacity = self.capacity;
+        } }
+    {
+        Codel::over(self, target, interval)
+    }
+
+    /// What waits at a place, the head at 0.
+    pub(crate) fn get(&self, index: usize) -> Option<&Waiting<A>>
+        ensures item { MatchOption result (drop index self.now.waiting ≡ [])
+            (λ w. drop index self.now.waiting ≡ w.now ∷ drop (index + 1) self.now.waiting) }
+        ensures fits { length self.now.waiting < 2 ^ 63 }
+    {
+        self.waiting.get(index)
+    }
+
+    /// Takes so many from the head to the end of a list that has room for them.
+    pub(crate) fn take_into(&mut self, count: usize, list: &mut Vec<Waiting<A>>)
+        requires enough { count ≤ length self.old.waiting }
+        requires room { vec_len list.old + count ≤ vec_capacity list.old }
+        ensures taken { list.new.items ≡ list.old.items ++ take count self.old.waiting }
+        ensures rest { self.new ≡ record self.old { waiting = drop count self.old.waiting } }
+    {
+        for _ in 0..count {
+            if let Some(head) = self.dequeue() {
+                list.push_reserved(head);
+            }
+        }
+    }
+
+    pub(crate) fn allocator(&self) -> Global {
+        *self.waiting.allocator()
+    }
+
+    /// Whether the limit lets an item of `size` bytes wait beside what waits (ipfw(8), queue).
+    pub fn accepts(&self, size: Size) -> bool
+        ensures value { result ≡ accepts self.now.limit self.now.waiting size }
+        ensures few { IsTrue result → bytes_of self.now.waiting + size ≤ 1500000 }
+    {
+        match self.limit {
+            QueueLimit::Slots(slots) => self.waiting.len() < usize::from(slots.get()),
+            QueueLimit::KBytes(kbytes) => {
+                self.bytes + u64::from(size.get()) <= 1024 * u64::from(kbytes.get())
+            }
+        }
+    }
+
+    /// Makes room for one more: twice as many places where none is free.
+    fn reserve(&mut self) -> Result<(), NoMemory>
+        ensures ok { OnOk result (self.new ≡ record self.old { capacity = self.new.capacity }) }
+        ensures room { OnOk result (length self.new.waiting < self.new.capacity) }
+        ensures grows { self.old.capacity ≤ self.new.capacity }
+        ensures in_place { length self.old.waiting < self.old.capacity → self.new ≡ self.old }
+        ensures unchanged { OnErr result (self.new ≡ self.old) }
+        ensures full { OnErr result (self.old.capacity ≤ length self.old.waiting) }
+    {
+        let waiting = self.waiting.len();
+        if waiting < self.waiting.capacity() {
+            return Ok(());
+        }
+        match self.waiting.reserve_exact(waiting.max(LEAST_GROWTH)) {
+            Ok(()) => Ok(()),
+            Err(_) => Err(NoMemory),
+        }
+    }
+}
+
+/// The places of the first growth.
+const LEAST_GROWTH: usize = 4;

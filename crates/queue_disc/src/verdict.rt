@@ -1,0 +1,99 @@
+//! What CoDel's dequeue will drop, told before anything is taken.
+
+ghost use Rattle.std.specs.Prelude.{◌≡◌, ◌+◌, ◌*◌, ◌^◌, ◌<◌, ◌≤◌, length, drop};
+ghost use Rattle.emu_model.specs.DropTail.{bytes_of};
+ghost use Rattle.emu_model.specs.Codel.{codel_dequeue};
+ghost use Rattle.queue_disc.specs.Judged.{verdict_of, drops_first, drops_on};
+
+use crate::state::{Control, Times};
+use crate::tail::DropTail;
+
+/// How many are dropped from the head, and the state after the dequeue.
+pub(crate) struct Verdict {
+    pub(crate) drops: usize,
+    pub(crate) control: Control,
+}
+
+pub(crate) fn judge<A>(queue: &DropTail<A>, times: Times, control: Control, now: u64) -> Verdict
+    requires { now < 2 * 10 ^ 15 }
+    ensures { result ≡ verdict_of (codel_dequeue times now control queue.now.waiting) }
+{
+    let Some(head) = queue.get(0) else {
+        return Verdict {
+            drops: 0,
+            control: control.look_empty().stop_dropping(),
+        };
+    };
+    let left = queue.bytes() - u64::from(head.size.get());
+    let short = times.is_short(now, head.stamp, left);
+    let seen = control.look(times, now, short);
+    if !control.is_droppable(now, short) {
+        return Verdict {
+            drops: 0,
+            control: seen.stop_dropping(),
+        };
+    }
+    if control.is_dropping() {
+        return judge_dropping(queue, times, seen, now, left);
+    }
+    judge_first(queue, times, seen, now, left)
+}
+
+/// Where the head may be dropped and dropping begins; `left` bytes are behind it.
+fn judge_first<A>(queue: &DropTail<A>, times: Times, seen: Control, now: u64, left: u64) -> Verdict
+    requires early { now < 2 * 10 ^ 15 }
+    requires left { left ≡ bytes_of (drop 1 queue.now.waiting) }
+    ensures { result ≡ drops_first times now seen (drop 1 queue.now.waiting) }
+{
+    let looked = match queue.get(1) {
+        Some(next) => {
+            let behind = left - u64::from(next.size.get());
+            let short = times.is_short(now, next.stamp, behind);
+            seen.look(times, now, short)
+        }
+        None => seen.look_empty(),
+    };
+    Verdict {
+        drops: 1,
+        control: looked.begin_dropping(times, now),
+    }
+}
+
+/// Where the head may be dropped, while dropping; `left` bytes are behind it.
+fn judge_dropping<A>(
+    queue: &DropTail<A>,
+    times: Times,
+    seen: Control,
+    now: u64,
+    mut left: u64,
+) -> Verdict
+    requires early { now < 2 * 10 ^ 15 }
+    requires some { 0 < length queue.now.waiting }
+    requires fits { length queue.now.waiting < 2 ^ 63 }
+    requires left { left ≡ bytes_of (drop 1 queue.now.waiting) }
+    ensures { result ≡ drops_on times now seen (drop 1 queue.now.waiting) }
+{
+    let mut control = seen;
+    let mut drops = 0;
+    while control.is_due(now) {
+        drops += 1;
+        let counted = control.count_up();
+        let Some(next) = queue.get(drops) else {
+            return Verdict {
+                drops,
+                control: counted.look_empty().stop_dropping(),
+            };
+        };
+        left -= u64::from(next.size.get());
+        let short = times.is_short(now, next.stamp, left);
+        let looked = counted.look(times, now, short);
+        if !control.is_droppable(now, short) {
+            return Verdict {
+                drops,
+                control: looked.stop_dropping(),
+            };
+        }
+        control = looked.set_next(times);
+    }
+    Verdict { drops, control }
+}

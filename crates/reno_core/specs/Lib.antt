@@ -1,0 +1,4 @@
+pub mod Kept
+pub mod Sending
+pub mod Sound
+pub mod States

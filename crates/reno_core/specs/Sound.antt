@@ -1,0 +1,49 @@
+-- What holds of every sender.
+use Rattle.std.specs.Prelude.{◌≡◌, ℕ, ◌+◌, ◌*◌, ◌%◌, ◌^◌, ◌<◌, ◌≤◌, ⊤, Option, Some, None, true, false}
+use Rattle.emu_model.specs.declared.sources.FlowSpec.{FlowSpec}
+use Rattle.emu_model.specs.Reno.{Sender, Sample, Estimate, total_bytes, opening_timeout, longest, greatest_word}
+
+-- the ranges of a flow
+pub record IsFlow (f : FlowSpec) : Type 0 where
+  pub least : 1 ≤ f.smss
+  pub most : f.smss ≤ 1460
+  pub few : f.segments ≤ 1000000
+  pub threshold : 1 ≤ f.ssthresh
+  pub bounded : f.ssthresh ≤ 1000000000
+  pub quick : 1000000 ≤ opening_timeout f
+  pub slow : opening_timeout f ≤ longest
+
+-- round trips are below 2 * 10^15 ns, as all moments are
+abbrev pub IsEstimate : Option Estimate → Type 0
+IsEstimate None = ⊤
+IsEstimate (Some e) = (e.srtt < 2 * 10 ^ 15) × (e.rttvar < 2 * 10 ^ 15)
+
+-- what is timed was sent
+abbrev pub IsSent : ℕ → Option Sample → Type 0
+IsSent nxt None = ⊤
+IsSent nxt (Some m) = m.end ≤ nxt
+
+pub record IsSound (f : FlowSpec) (s : Sender) : Type 0 where
+  pub flow : IsFlow f
+  -- the bytes that are acknowledged were sent, and are whole segments
+  pub acknowledged : s.una ≤ s.nxt
+  pub sent : s.nxt ≤ s.top
+  pub within : s.top ≤ total_bytes f
+  pub una_whole : s.una % f.smss ≡ 0
+  pub nxt_whole : s.nxt % f.smss ≡ 0
+  -- the window holds a segment, and recovery ends with two
+  pub window : f.smss ≤ s.cwnd
+  pub window_fits : s.cwnd ≤ greatest_word
+  pub threshold : 1 ≤ s.ssthresh
+  pub threshold_fits : s.ssthresh ≤ 1000000000
+  pub recovers : s.recovery ≡ true → 2 * f.smss ≤ s.ssthresh
+  pub duplicates_fit : s.duplicates ≤ greatest_word
+  -- what is to be sent again wasn't acknowledged
+  pub resends : s.resend ≡ true → s.una < s.top
+  -- the time is never shorter than the first, nor above 60 s
+  pub quick : opening_timeout f ≤ s.timeout
+  pub slow : s.timeout ≤ longest
+  pub estimated : IsEstimate s.estimate
+  -- what is timed was sent once
+  pub timed_sent : IsSent s.nxt s.sample
+  pub timed_once : s.resend ≡ true → s.sample ≡ None

@@ -1,0 +1,104 @@
+//! A Reno sender.
+
+ghost use Rattle.std.specs.Prelude.{◌≡◌, ◌+◌, ◌*◌, ◌%◌, ◌^◌, ◌<◌, ◌≤◌, true};
+ghost use Rattle.emu_model.specs.Reno.{total_bytes, opening_sender, ack as acknowledged, expire as expired, emit as sent, emitted, may_emit};
+ghost use Rattle.reno_core.specs.Sound.{IsSound};
+
+use crate::state::State;
+use emu_model::FlowSpec;
+use std::marker::Model;
+
+/// Sends the segments of a flow by RFC 5681, with a fixed retransmission time or those of RFC 6298.
+/// Positions and windows are in bytes, moments in nanoseconds. Takes no memory.
+#[derive(Drop)]
+pub struct Sender {
+    flow: FlowSpec,
+    state: State,
+}
+
+impl Model for Sender {
+    ghost use Rattle.reno_core.specs.Sending.{Sending};
+
+    ghost Value = { Sending };
+
+    ghost use Rattle.reno_core.specs.States.{sender_of};
+    ghost use Rattle.reno_core.specs.Sound.{IsSound};
+
+    ghost view = { λ s. record { flow = s.flow; sender = sender_of s.state } };
+
+    ghost invariant = { λ s. IsSound s.flow (sender_of s.state) };
+}
+
+impl Sender {
+    /// A sender that sent nothing yet.
+    pub fn new(flow: FlowSpec) -> Self
+        ensures { result ≡ record { flow = flow; sender = opening_sender flow } }
+    {
+        let state = State::opening(&flow);
+        Sender { flow, state }
+    }
+
+    /// The flow whose segments it sends.
+    pub fn flow(&self) -> FlowSpec
+        ensures flow { result ≡ self.now.flow }
+        ensures sound { IsSound self.now.flow self.now.sender }
+    {
+        self.flow
+    }
+
+    /// Takes an acknowledgement of all bytes below `upto` at the moment `now`.
+    pub fn ack(&mut self, now: u64, upto: u64)
+        requires { now < 2 * 10 ^ 15 }
+        ensures { self.new ≡ record self.old { sender = acknowledged self.old.flow now upto self.old.sender } }
+    {
+        self.state.ack(&self.flow, now, upto);
+    }
+
+    /// Its timer came due at the moment `now`.
+    pub fn expire(&mut self, now: u64)
+        requires { now < 2 * 10 ^ 15 }
+        ensures { self.new ≡ record self.old { sender = expired self.old.flow now self.old.sender } }
+    {
+        self.state.expire(&self.flow, now);
+    }
+
+    /// Sends one segment at the moment `now`, and answers its first byte.
+    pub fn emit(&mut self, now: u64) -> u64
+        requires now { now < 2 * 10 ^ 15 }
+        requires may { may_emit self.old.flow self.old.sender ≡ true }
+        ensures sender { self.new ≡ record self.old { sender = sent self.old.flow now self.old.sender } }
+        ensures first { result ≡ emitted self.old.sender }
+        ensures whole { result % self.old.flow.smss ≡ 0 }
+        ensures within { result < total_bytes self.old.flow }
+    {
+        self.state.emit(&self.flow, now)
+    }
+
+    /// A segment may be sent now: one that is to be sent again, or one that the windows let through.
+    pub fn may_emit(&self) -> bool
+        ensures { result ≡ may_emit self.now.flow self.now.sender }
+    {
+        self.state.resend || self.state.has_room(&self.flow)
+    }
+
+    /// When its timer is due (ns), if it runs.
+    pub fn due(&self) -> Option<u64>
+        ensures { result ≡ self.now.sender.timer }
+    {
+        self.state.timer
+    }
+
+    /// The congestion window in bytes.
+    pub fn cwnd(&self) -> u64
+        ensures { result ≡ self.now.sender.cwnd }
+    {
+        self.state.cwnd
+    }
+
+    /// The slow start threshold in bytes.
+    pub fn ssthresh(&self) -> u64
+        ensures { result ≡ self.now.sender.ssthresh }
+    {
+        self.state.ssthresh
+    }
+}

@@ -1,0 +1,270 @@
+//! What a sender knows, and how each event changes it: one function for each rule.
+
+ghost use Rattle.std.specs.Prelude.{◌≡◌, ℕ, ◌+◌, ◌-◌, ◌*◌, ◌^◌, ◌<◌, ◌≤◌, true, false, Some, None, option_map, min, max, if◌then◌else◌};
+ghost use Rattle.emu_model.specs.Reno.{opening_sender, longest, greatest_word, opening_timeout, total_bytes, has_room, started_timer, started_sample, half_flight, bounded, grown_window, round_trip, timeout_after, sample_after, estimate_after, ack_new, ack_duplicate, enter_recovery, is_new, is_duplicate, ack, expire, emit, emitted, may_emit};
+ghost use Rattle.reno_core.specs.States.{sender_of, sample_of, estimate_of};
+ghost use Rattle.reno_core.specs.Sound.{IsSound, IsFlow, IsEstimate};
+
+use crate::times::{Estimate, LONGEST, SHORTEST, Sample, nanoseconds};
+use emu_model::{FlowSpec, Timing};
+
+/// Where cwnd and duplicates stay (own).
+const GREATEST_WORD: u64 = 4_294_967_295;
+
+/// The least segment size for which a sender begins with three segments and not four (RFC 5681,
+/// section 3.1).
+const LARGE_SEGMENT: u64 = 1096;
+
+/// The bytes below `una` are acknowledged, `nxt` is the next to be sent, and all below `top` were
+/// sent once (RFC 5681). Moments and times are in nanoseconds.
+#[derive(Clone, Copy)]
+pub(crate) struct State {
+    pub(crate) una: u64,
+    pub(crate) nxt: u64,
+    pub(crate) top: u64,
+    pub(crate) cwnd: u64,
+    pub(crate) ssthresh: u64,
+    pub(crate) duplicates: u64,
+    pub(crate) recovery: bool,
+    pub(crate) resend: bool,
+    // The last timer expired, and no new data was acknowledged since.
+    pub(crate) timed: bool,
+    pub(crate) timeout: u64,
+    pub(crate) timer: Option<u64>,
+    pub(crate) sample: Option<Sample>,
+    pub(crate) estimate: Option<Estimate>,
+}
+
+/// The bytes of a segment.
+pub(crate) fn segment_bytes(flow: &FlowSpec) -> u64
+    ensures value { result ≡ flow.now.smss }
+    ensures least { 1 ≤ result }
+    ensures most { result ≤ 1460 }
+{
+    u64::from(flow.smss.get())
+}
+
+/// The bytes of all segments.
+pub(crate) fn total_bytes(flow: &FlowSpec) -> u64
+    ensures value { result ≡ total_bytes flow.now }
+    ensures most { result ≤ 1460000000 }
+{
+    u64::from(flow.segments.get()) * segment_bytes(flow)
+}
+
+impl State {
+    /// Nothing is sent yet (RFC 5681, section 3.1).
+    pub(crate) fn opening(flow: &FlowSpec) -> Self
+        ensures sender { sender_of result ≡ opening_sender flow.now }
+        ensures flow { IsFlow flow.now }
+    {
+        let smss = segment_bytes(flow);
+        let _total = flow.segments.get();
+        State {
+            una: 0,
+            nxt: 0,
+            top: 0,
+            cwnd: if smss < LARGE_SEGMENT {
+                4 * smss
+            } else {
+                3 * smss
+            },
+            ssthresh: u64::from(flow.ssthresh.get()),
+            duplicates: 0,
+            recovery: false,
+            resend: false,
+            timed: false,
+            timeout: match flow.timing {
+                Timing::Fixed(time) => nanoseconds(time),
+                Timing::Adaptive => SHORTEST,
+            },
+            timer: None,
+            sample: None,
+            estimate: None,
+        }
+    }
+
+    /// A segment at `nxt` is left, and fits the lesser of both windows.
+    pub(crate) fn has_room(&self, flow: &FlowSpec) -> bool
+        requires { IsSound flow.now (sender_of self.now) }
+        ensures { result ≡ has_room flow.now (sender_of self.now) }
+    {
+        let window = self.cwnd.min(u64::from(flow.window.get()));
+        self.nxt < total_bytes(flow) && self.nxt + segment_bytes(flow) - self.una <= window
+    }
+
+    /// Half of what is under way, and at least two segments (RFC 5681, equation 4).
+    fn half_flight(&self, flow: &FlowSpec) -> u64
+        requires { self.now.una ≤ self.now.top }
+        ensures { result ≡ half_flight flow.now (sender_of self.now) }
+    {
+        ((self.top - self.una) / 2).max(2 * segment_bytes(flow))
+    }
+
+    /// The window after an acknowledgement of `count` new bytes: at recovery's end, in slow start, or
+    /// in congestion avoidance (RFC 5681, sections 3.1 and 3.2).
+    fn grown_window(&self, flow: &FlowSpec, count: u64) -> u64
+        requires { IsSound flow.now (sender_of self.now) }
+        ensures { result ≡ grown_window flow.now count (sender_of self.now) }
+    {
+        if self.recovery {
+            return self.ssthresh;
+        }
+        let smss = segment_bytes(flow);
+        if self.cwnd < self.ssthresh {
+            return (self.cwnd + count.min(smss)).min(GREATEST_WORD);
+        }
+        (self.cwnd + (smss * smss / self.cwnd).max(1)).min(GREATEST_WORD)
+    }
+
+    /// The round trip that an acknowledgement of all bytes below `upto` completes.
+    fn round_trip(&self, now: u64, upto: u64) -> Option<u64>
+        ensures { result ≡ round_trip now upto (option_map sample_of self.now.sample) }
+    {
+        match self.sample {
+            Some(sample) if sample.end <= upto => Some(now.saturating_sub(sample.sent)),
+            _ => None,
+        }
+    }
+
+    /// Completes a sample, and takes the time that holds after new data was acknowledged: restored
+    /// where it is fixed, else estimated anew.
+    fn take_round_trip(&mut self, flow: &FlowSpec, now: u64, upto: u64)
+        requires now { now < 2 * 10 ^ 15 }
+        requires estimate { IsEstimate (sender_of self.old).estimate }
+        ensures { let r = round_trip now upto (sender_of self.old).sample in
+            sender_of self.new ≡ record (sender_of self.old) {
+              timeout = timeout_after flow.now.timing r (sender_of self.old);
+              sample = sample_after r (sender_of self.old).sample;
+              estimate = estimate_after r (sender_of self.old).estimate;
+            } }
+    {
+        if let Some(time) = self.round_trip(now, upto) {
+            let estimate = Estimate::after(time, self.estimate);
+            self.sample = None;
+            self.estimate = Some(estimate);
+            self.timeout = estimate.timeout();
+        }
+        if let Timing::Fixed(time) = flow.timing {
+            self.timeout = nanoseconds(time);
+        }
+    }
+
+    /// An acknowledgement of new data (RFC 5681, sections 3.1 and 3.2; RFC 6298, 5.2 and 5.3).
+    fn ack_new(&mut self, flow: &FlowSpec, now: u64, upto: u64)
+        requires now { now < 2 * 10 ^ 15 }
+        requires sound { IsSound flow.now (sender_of self.old) }
+        requires new { is_new flow.now upto (sender_of self.old) ≡ true }
+        ensures { sender_of self.new ≡ ack_new flow.now now upto (sender_of self.old) }
+    {
+        self.cwnd = self.grown_window(flow, upto - self.una);
+        self.take_round_trip(flow, now, upto);
+        self.una = upto;
+        self.nxt = self.nxt.max(upto);
+        self.duplicates = 0;
+        self.recovery = false;
+        self.resend = false;
+        self.timed = false;
+        self.timer = if upto < self.top {
+            Some(now + self.timeout)
+        } else {
+            None
+        };
+    }
+
+    /// The third duplicate: the segment at `una` is sent again (RFC 5681, section 3.2, steps 2 and 3).
+    fn enter_recovery(&mut self, flow: &FlowSpec)
+        requires sound { IsSound flow.now (sender_of self.old) }
+        ensures { sender_of self.new ≡ enter_recovery flow.now (sender_of self.old) }
+    {
+        self.ssthresh = self.half_flight(flow);
+        self.cwnd = (self.ssthresh + 3 * segment_bytes(flow)).min(GREATEST_WORD);
+        self.resend = true;
+        self.recovery = true;
+        self.sample = None;
+    }
+
+    /// A duplicate is counted, and inflates the window in recovery (RFC 5681, section 3.2, step 4).
+    fn ack_duplicate(&mut self, flow: &FlowSpec)
+        requires sound { IsSound flow.now (sender_of self.old) }
+        ensures { sender_of self.new ≡ ack_duplicate flow.now (sender_of self.old) }
+    {
+        self.duplicates = (self.duplicates + 1).min(GREATEST_WORD);
+        if self.recovery {
+            self.cwnd = (self.cwnd + segment_bytes(flow)).min(GREATEST_WORD);
+        } else if self.duplicates == 3 {
+            self.enter_recovery(flow);
+        }
+    }
+
+    fn is_new(&self, flow: &FlowSpec, upto: u64) -> bool
+        ensures { result ≡ is_new flow.now upto (sender_of self.now) }
+    {
+        self.una < upto && upto <= self.top && upto % segment_bytes(flow) == 0
+    }
+
+    fn is_duplicate(&self, upto: u64) -> bool
+        ensures { result ≡ is_duplicate upto (sender_of self.now) }
+    {
+        upto == self.una && self.una < self.top
+    }
+
+    /// An acknowledgement of all bytes below `upto`. One that is neither of new data nor a duplicate
+    /// changes nothing.
+    pub(crate) fn ack(&mut self, flow: &FlowSpec, now: u64, upto: u64)
+        requires now { now < 2 * 10 ^ 15 }
+        requires sound { IsSound flow.now (sender_of self.old) }
+        ensures { sender_of self.new ≡ ack flow.now now upto (sender_of self.old) }
+    {
+        if self.is_new(flow, upto) {
+            self.ack_new(flow, now, upto);
+        } else if self.is_duplicate(upto) {
+            self.ack_duplicate(flow);
+        }
+    }
+
+    /// The timer came due (RFC 5681, section 3.1; doubling: RFC 6298, section 5.5).
+    pub(crate) fn expire(&mut self, flow: &FlowSpec, now: u64)
+        requires now { now < 2 * 10 ^ 15 }
+        requires sound { IsSound flow.now (sender_of self.old) }
+        ensures { sender_of self.new ≡ expire flow.now now (sender_of self.old) }
+    {
+        if !self.timed {
+            self.ssthresh = self.half_flight(flow);
+        }
+        self.cwnd = segment_bytes(flow);
+        self.nxt = self.una;
+        self.duplicates = 0;
+        self.recovery = false;
+        self.resend = false;
+        self.timed = true;
+        self.timeout = (2 * self.timeout).min(LONGEST);
+        self.timer = Some(now + self.timeout);
+        self.sample = None;
+    }
+
+    /// Sends one segment, and answers its first byte.
+    pub(crate) fn emit(&mut self, flow: &FlowSpec, now: u64) -> u64
+        requires now { now < 2 * 10 ^ 15 }
+        requires sound { IsSound flow.now (sender_of self.old) }
+        ensures sender { sender_of self.new ≡ emit flow.now now (sender_of self.old) }
+        ensures first { result ≡ emitted (sender_of self.old) }
+    {
+        if self.timer.is_none() {
+            self.timer = Some(now + self.timeout);
+        }
+        if self.resend {
+            self.resend = false;
+            return self.una;
+        }
+        let first = self.nxt;
+        let end = first + segment_bytes(flow);
+        // What was sent before is not timed (RFC 6298, section 3, Karn).
+        if self.sample.is_none() && first == self.top {
+            self.sample = Some(Sample { end, sent: now });
+        }
+        self.nxt = end;
+        self.top = self.top.max(end);
+        first
+    }
+}

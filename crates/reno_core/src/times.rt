@@ -1,0 +1,69 @@
+//! Retransmission times: fixed, or from round trips (RFC 6298).
+
+ghost use Rattle.std.specs.Prelude.{◌≡◌, ◌*◌, ◌^◌, ◌<◌, ◌≤◌, option_map};
+ghost use Rattle.emu_model.specs.Reno.{longest, new_estimate, estimated_timeout, opening_timeout, timeout_at};
+ghost use Rattle.reno_core.specs.States.{estimate_of};
+ghost use Rattle.reno_core.specs.Sound.{IsEstimate};
+
+use emu_model::Timeout;
+
+const NANOSECONDS_PER_MILLISECOND: u64 = 1_000_000;
+
+/// The shortest adaptive time and the first one, in nanoseconds (RFC 6298, sections 2.1 and 2.4).
+pub(crate) const SHORTEST: u64 = 1_000_000_000;
+
+/// The longest time, in nanoseconds (RFC 6298, section 2.5).
+pub(crate) const LONGEST: u64 = 60_000_000_000;
+
+/// A segment whose acknowledgement is timed: its end, and the moment (ns) at which it was sent.
+#[derive(Clone, Copy)]
+pub(crate) struct Sample {
+    pub(crate) end: u64,
+    pub(crate) sent: u64,
+}
+
+/// What the samples so far say of the round trip, in nanoseconds (RFC 6298, section 2).
+#[derive(Clone, Copy)]
+pub(crate) struct Estimate {
+    pub(crate) srtt: u64,
+    pub(crate) rttvar: u64,
+}
+
+impl Estimate {
+    /// After a round trip; quotients are rounded down (sections 2.2 and 2.3).
+    pub(crate) fn after(round_trip: u64, before: Option<Estimate>) -> Self
+        requires trip { round_trip < 2 * 10 ^ 15 }
+        requires before { IsEstimate (option_map estimate_of before) }
+        ensures { estimate_of result ≡ new_estimate round_trip (option_map estimate_of before) }
+    {
+        match before {
+            None => Estimate {
+                srtt: round_trip,
+                rttvar: round_trip / 2,
+            },
+            Some(Estimate { srtt, rttvar }) => Estimate {
+                srtt: (7 * srtt + round_trip) / 8,
+                rttvar: (3 * rttvar + srtt.abs_diff(round_trip)) / 4,
+            },
+        }
+    }
+
+    /// The time (ns), with a granularity of 1 ns.
+    pub(crate) fn timeout(self) -> u64
+        requires srtt { self.srtt < 2 * 10 ^ 15 }
+        requires rttvar { self.rttvar < 2 * 10 ^ 15 }
+        ensures { result ≡ estimated_timeout (estimate_of self) }
+    {
+        let time = self.srtt + (4 * self.rttvar).max(1);
+        time.max(SHORTEST).min(LONGEST)
+    }
+}
+
+/// A fixed time in nanoseconds.
+pub(crate) fn nanoseconds(time: Timeout) -> u64
+    ensures value { result ≡ time * 10 ^ 6 }
+    ensures least { 1000000 ≤ result }
+    ensures most { result ≤ longest }
+{
+    u64::from(time.get()) * NANOSECONDS_PER_MILLISECOND
+}

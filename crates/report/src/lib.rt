@@ -1,0 +1,10 @@
+//! The text of a report, and of the listings in it (own).
+#![tactic(auto)]
+
+mod lines;
+mod pieces;
+mod report;
+mod words;
+
+pub use lines::{write_counters, write_heading, write_record};
+pub use report::{pipe_listing, report_text, rule_listing};

@@ -1,0 +1,56 @@
+//! What every line is made of. Each call finds the room that it needs.
+
+ghost use Rattle.std.specs.Prelude.{◌≡◌, ◌+◌, ◌≤◌, ◌++◌, length, decimal};
+ghost use Rattle.report.specs.Room.{spare};
+ghost use Rattle.report.specs.Words.{places};
+
+use itoa::Buffer;
+
+#[tactic(auto, unfolding(crate::specs::Room::spare))]
+#[inline]
+pub fn append(out: &mut Vec<u8>, bytes: &[u8])
+    requires { length bytes.now ≤ spare out.old }
+    ensures items { out.new.items ≡ out.old.items ++ bytes.now }
+    ensures room { spare out.old ≤ spare out.new + length bytes.now }
+{
+    let Ok(()) = out.extend_from_slice(bytes) else {
+        unreachable!()
+    };
+}
+
+#[inline]
+pub fn append_number(out: &mut Vec<u8>, number: u64)
+    requires { 20 ≤ spare out.old }
+    ensures items { out.new.items ≡ out.old.items ++ decimal number }
+    ensures room { spare out.old ≤ spare out.new + 20 }
+{
+    let mut buffer = Buffer::new();
+    append(out, buffer.format(number).as_bytes());
+}
+
+/// A number behind its label.
+#[inline]
+pub fn append_labelled(out: &mut Vec<u8>, label: &[u8], number: u64)
+    requires { length label.now + 20 ≤ spare out.old }
+    ensures items { out.new.items ≡ out.old.items ++ label.now ++ decimal number }
+    ensures room { spare out.old ≤ spare out.new + length label.now + 20 }
+{
+    append(out, label);
+    append_number(out, number);
+}
+
+/// The lowest digits of a number, zeros in front.
+#[tactic(auto, unfolding(crate::specs::Words::places))]
+pub fn append_places(out: &mut Vec<u8>, base: u32, count: u32, number: u32)
+    requires base { (2 ≤ base) × (base ≤ 16) }
+    requires room { count ≤ spare out.old }
+    ensures items { out.new.items ≡ out.old.items ++ places base count number }
+    ensures room { spare out.old ≤ spare out.new + count }
+{
+    if count == 0 {
+        return;
+    }
+    append_places(out, base, count - 1, number / base);
+    let digit = b"0123456789abcdef"[(number % base) as usize];
+    append(out, &[digit]);
+}

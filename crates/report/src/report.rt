@@ -1,0 +1,52 @@
+//! Whole reports and listings.
+
+ghost use Rattle.std.specs.Prelude.{◌≡◌, IfOk};
+ghost use Rattle.report.specs.Lines.{report_of, rules_of, pipes_of};
+
+use crate::lines::{write_counters, write_heading, write_record};
+use emu_model::{Counters, Record};
+use std::alloc::{AllocError, Global};
+
+/// The report of an experiment: its name, a line for each record, its counters.
+pub fn report_text(
+    alloc: Global,
+    name: &[u8],
+    records: &[Record],
+    counters: &Counters,
+) -> Result<Vec<u8>, AllocError>
+    ensures { IfOk result (λ text. text.items ≡ report_of name.now records.now counters.now) }
+{
+    let mut text = Vec::new(alloc);
+    write_heading(&mut text, name)?;
+    for line in records {
+        write_record(&mut text, line)?;
+    }
+    write_counters(&mut text, counters)?;
+    Ok(text)
+}
+
+/// The lines of the rules that were listed.
+pub fn rule_listing(alloc: Global, records: &[Record]) -> Result<Vec<u8>, AllocError>
+    ensures { IfOk result (λ text. text.items ≡ rules_of records.now) }
+{
+    let mut text = Vec::new(alloc);
+    for line in records {
+        if let Record::RuleLine { .. } = line {
+            write_record(&mut text, line)?;
+        }
+    }
+    Ok(text)
+}
+
+/// The lines of the pipes and instances that were listed.
+pub fn pipe_listing(alloc: Global, records: &[Record]) -> Result<Vec<u8>, AllocError>
+    ensures { IfOk result (λ text. text.items ≡ pipes_of records.now) }
+{
+    let mut text = Vec::new(alloc);
+    for line in records {
+        if let Record::PipeLine { .. } | Record::InstanceLine { .. } = line {
+            write_record(&mut text, line)?;
+        }
+    }
+    Ok(text)
+}

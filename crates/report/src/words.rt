@@ -1,0 +1,186 @@
+//! The parts of a line that are more than a number.
+
+ghost use Rattle.std.specs.Prelude.{◌≡◌, ◌+◌, ◌≤◌, ◌++◌};
+ghost use Rattle.report.specs.Room.{spare};
+ghost use Rattle.report.specs.Words.{instance_name, load_of, cause_of, code_of, action_of, protocol_of, dotted, prefix_of, ports_of, end_of, queue_of, mask_of, discipline_of};
+
+use crate::pieces::{append, append_labelled, append_number, append_places};
+use emu_model::{
+    Action, Discipline, DropCause, Load, Mask, PipeNumber, PortRange, Prefix, ProtocolMatch,
+    QueueLimit, Refusal,
+};
+
+#[inline]
+pub fn append_instance(out: &mut Vec<u8>, pipe: PipeNumber, instance: u8)
+    requires { 41 ≤ spare out.old }
+    ensures items { out.new.items ≡ out.old.items ++ instance_name pipe instance }
+    ensures room { spare out.old ≤ spare out.new + 41 }
+{
+    append_number(out, u64::from(pipe.get()));
+    append_labelled(out, b".", u64::from(instance));
+}
+
+#[inline]
+pub fn append_load(out: &mut Vec<u8>, load: Load)
+    requires { 46 ≤ spare out.old }
+    ensures items { out.new.items ≡ out.old.items ++ load_of load }
+    ensures room { spare out.old ≤ spare out.new + 46 }
+{
+    match load {
+        Load::Plain => append(out, b"plain"),
+        Load::Seg { flow, first } => {
+            append_labelled(out, b"data ", u64::from(flow.get()));
+            append_labelled(out, b" ", first);
+        }
+        Load::Ack { flow, upto } => {
+            append_labelled(out, b"ack ", u64::from(flow.get()));
+            append_labelled(out, b" ", upto);
+        }
+    }
+}
+
+pub fn append_cause(out: &mut Vec<u8>, cause: DropCause)
+    requires { 10 ≤ spare out.old }
+    ensures items { out.new.items ≡ out.old.items ++ cause_of cause }
+    ensures room { spare out.old ≤ spare out.new + 10 }
+{
+    match cause {
+        DropCause::Denied => append(out, b"denied"),
+        DropCause::NoPipe => append(out, b"nopipe"),
+        DropCause::NoInstance => append(out, b"noinstance"),
+        DropCause::Lost => append(out, b"lost"),
+        DropCause::Full => append(out, b"full"),
+        DropCause::Codel => append(out, b"codel"),
+        DropCause::Deleted => append(out, b"deleted"),
+        DropCause::Budget => append(out, b"budget"),
+    }
+}
+
+pub fn refusal_code(refusal: Refusal) -> u64
+    ensures { result ≡ code_of refusal }
+{
+    u64::from(refusal as u8)
+}
+
+pub fn append_action(out: &mut Vec<u8>, action: Action)
+    requires { 27 ≤ spare out.old }
+    ensures items { out.new.items ≡ out.old.items ++ action_of action }
+    ensures room { spare out.old ≤ spare out.new + 27 }
+{
+    match action {
+        Action::Permit => append(out, b"allow"),
+        Action::Forbid => append(out, b"deny"),
+        Action::Count => append(out, b"count"),
+        Action::SkipTo(number) => append_labelled(out, b"skipto ", u64::from(number.get())),
+        Action::SendTo(pipe) => append_labelled(out, b"pipe ", u64::from(pipe.get())),
+    }
+}
+
+pub fn append_protocol(out: &mut Vec<u8>, proto: ProtocolMatch)
+    requires { 3 ≤ spare out.old }
+    ensures items { out.new.items ≡ out.old.items ++ protocol_of proto }
+    ensures room { spare out.old ≤ spare out.new + 3 }
+{
+    match proto {
+        ProtocolMatch::AnyProtocol => append(out, b"ip"),
+        ProtocolMatch::OnlyTcp => append(out, b"tcp"),
+        ProtocolMatch::OnlyUdp => append(out, b"udp"),
+    }
+}
+
+fn append_dotted(out: &mut Vec<u8>, address: u32)
+    requires { 83 ≤ spare out.old }
+    ensures items { out.new.items ≡ out.old.items ++ dotted address }
+    ensures room { spare out.old ≤ spare out.new + 83 }
+{
+    append_number(out, u64::from(address >> 24));
+    append_labelled(out, b".", u64::from((address >> 16) % 256));
+    append_labelled(out, b".", u64::from((address >> 8) % 256));
+    append_labelled(out, b".", u64::from(address % 256));
+}
+
+fn append_prefix(out: &mut Vec<u8>, prefix: Prefix)
+    requires { 104 ≤ spare out.old }
+    ensures items { out.new.items ≡ out.old.items ++ prefix_of prefix }
+    ensures room { spare out.old ≤ spare out.new + 104 }
+{
+    let len = prefix.length().get();
+    if len == 0 {
+        return append(out, b"any");
+    }
+    append_dotted(out, prefix.address());
+    if len == 32 {
+        return;
+    }
+    append_labelled(out, b"/", u64::from(len));
+}
+
+fn append_ports(out: &mut Vec<u8>, ports: PortRange)
+    requires { 41 ≤ spare out.old }
+    ensures items { out.new.items ≡ out.old.items ++ ports_of ports }
+    ensures room { spare out.old ≤ spare out.new + 41 }
+{
+    append_number(out, u64::from(ports.first()));
+    if ports.first() == ports.last() {
+        return;
+    }
+    append_labelled(out, b"-", u64::from(ports.last()));
+}
+
+/// Where a packet comes from or goes to.
+pub fn append_end(out: &mut Vec<u8>, prefix: Prefix, ports: Option<PortRange>)
+    requires { 146 ≤ spare out.old }
+    ensures items { out.new.items ≡ out.old.items ++ end_of prefix ports }
+    ensures room { spare out.old ≤ spare out.new + 146 }
+{
+    append_prefix(out, prefix);
+    let Some(ports) = ports else {
+        return;
+    };
+    append(out, b" ");
+    append_ports(out, ports);
+}
+
+pub fn append_queue(out: &mut Vec<u8>, queue: QueueLimit)
+    requires { 26 ≤ spare out.old }
+    ensures items { out.new.items ≡ out.old.items ++ queue_of queue }
+    ensures room { spare out.old ≤ spare out.new + 26 }
+{
+    match queue {
+        QueueLimit::Slots(limit) => append_number(out, u64::from(limit.get())),
+        QueueLimit::KBytes(limit) => {
+            append_number(out, u64::from(limit.get()));
+            append(out, b"KBytes");
+        }
+    }
+}
+
+pub fn append_mask(out: &mut Vec<u8>, mask: Mask)
+    requires { 30 ≤ spare out.old }
+    ensures items { out.new.items ≡ out.old.items ++ mask_of mask }
+    ensures room { spare out.old ≤ spare out.new + 30 }
+{
+    append_places(out, 16, 2, u32::from(mask.proto));
+    append(out, b"/");
+    append_places(out, 16, 8, mask.src);
+    append(out, b"/");
+    append_places(out, 16, 8, mask.dst);
+    append(out, b"/");
+    append_places(out, 16, 4, u32::from(mask.sport));
+    append(out, b"/");
+    append_places(out, 16, 4, u32::from(mask.dport));
+}
+
+pub fn append_discipline(out: &mut Vec<u8>, discipline: Discipline)
+    requires { 63 ≤ spare out.old }
+    ensures items { out.new.items ≡ out.old.items ++ discipline_of discipline }
+    ensures room { spare out.old ≤ spare out.new + 63 }
+{
+    match discipline {
+        Discipline::TailDrop => append(out, b"droptail"),
+        Discipline::ControlledDelay { target, interval } => {
+            append_labelled(out, b"codel target ", target.get());
+            append_labelled(out, b" interval ", interval.get());
+        }
+    }
+}
