@@ -1,243 +1,316 @@
-//! Worked numbers, each counted by hand.
+//! Worked numbers, each counted by hand. A test is proved safe too, so the calls stand in functions
+//! of their own, and the tests are tables.
 
-use crate::{AddError, CountedRule, RuleList};
+use crate::{AddError, RuleList};
 use emu_model::{
     Action, Load, Packet, PipeNumber, Place, PortRange, Prefix, PrefixLength, Protocol,
     ProtocolMatch, Refusal, Rule, RuleNumber, Size, Verdict,
 };
+use std::alloc::Global;
 use std::test::Fail;
 
-fn number(n: u32) -> Result<RuleNumber, Fail> {
-    Ok(RuleNumber::new(n).ok_or("a rule number")?)
+/// A call, with the numbers of a rule and of what it names; behind a place its number and order.
+#[derive(Clone, Copy)]
+enum Call {
+    Allow(u32),
+    Deny(u32),
+    Count(u32),
+    Skip(u32, u32),
+    Pipe(u32, u16),
+    Delete(u32),
+    Send,
+    Look,
+    SendAfter(u32, u64),
+    LookAfter(u32, u64),
 }
 
-fn pipe(n: u16) -> Result<Action, Fail> {
-    Ok(Action::SendTo(PipeNumber::new(n).ok_or("a pipe number")?))
+// What is out of range is the nearest value in it: the tables hold no such number.
+
+fn number(n: u32) -> RuleNumber {
+    RuleNumber::new(n.min(99999)).unwrap()
 }
 
-fn prefix(address: u32, len: u8) -> Result<Prefix, Fail> {
-    let len = PrefixLength::new(len).ok_or("a prefix length")?;
-    Ok(Prefix::new(address, len))
+fn pipe_number(n: u16) -> PipeNumber {
+    PipeNumber::new(n.max(1)).unwrap()
+}
+
+fn prefix(address: u32, len: u8) -> Prefix {
+    Prefix::new(address, PrefixLength::new(len.min(32)).unwrap())
+}
+
+fn place(n: u32, order: u64) -> Place {
+    Place {
+        number: number(n),
+        order,
+    }
 }
 
 /// A rule that matches every packet.
-fn rule(n: u32, action: Action) -> Result<Rule, Fail> {
-    Ok(Rule {
-        number: number(n)?,
+fn rule(n: u32, action: Action) -> Rule {
+    Rule {
+        number: number(n),
         action,
         proto: ProtocolMatch::AnyProtocol,
-        src: prefix(0, 0)?,
+        src: prefix(0, 0),
         sports: None,
-        dst: prefix(0, 0)?,
+        dst: prefix(0, 0),
         dports: None,
-    })
+    }
+}
+
+/// allow udp from 10.0.0.0/30 1000-1001 to 10.0.0.2/32 2000-2000
+fn narrow_rule() -> Rule {
+    Rule {
+        number: number(100),
+        action: Action::Permit,
+        proto: ProtocolMatch::OnlyUdp,
+        src: prefix(0x0a00_0000, 30),
+        sports: PortRange::new(1000, 1001),
+        dst: prefix(0x0a00_0002, 32),
+        dports: PortRange::new(2000, 2000),
+    }
+}
+
+/// 1000 bytes.
+fn packet(proto: Protocol, src: u32, sport: u16, dst: u32, dport: u16) -> Packet {
+    Packet {
+        proto,
+        src,
+        sport,
+        dst,
+        dport,
+        size: Size::new(1000).unwrap(),
+        number: 0,
+        load: Load::Plain,
+        place: place(0, 0),
+    }
 }
 
 /// 1000 bytes of udp from 10.0.0.1:1000 to 10.0.0.2:2000.
-fn packet() -> Result<Packet, Fail> {
-    Ok(Packet {
-        proto: Protocol::Udp,
-        src: 0x0a00_0001,
-        sport: 1000,
-        dst: 0x0a00_0002,
-        dport: 2000,
-        size: Size::new(1000).ok_or("a size")?,
-        number: 0,
-        load: Load::Plain,
-        place: Place {
-            number: number(0)?,
-            order: 0,
-        },
-    })
+fn udp() -> Packet {
+    packet(Protocol::Udp, 0x0a00_0001, 1000, 0x0a00_0002, 2000)
 }
 
-/// A verdict's word, and of `pipe` its number and the place of the rule.
-fn told(verdict: Verdict) -> (&'static str, u16, u32, u64) {
+fn word(verdict: Verdict) -> &'static str {
     match verdict {
-        Verdict::Allow => ("allow", 0, 0, 0),
-        Verdict::Deny => ("deny", 0, 0, 0),
-        Verdict::Pipe(pipe, place) => ("pipe", pipe.get(), place.number.get(), place.order),
+        Verdict::Allow => "allow",
+        Verdict::Deny => "deny",
+        Verdict::Pipe(_, _) => "pipe",
     }
 }
 
-/// The number of a reply: 0 is `ok`, 1 want of memory.
-fn reply(added: Result<(), AddError>) -> u8 {
-    match added {
-        Ok(()) => 0,
-        Err(AddError::NoMemory) => 1,
-        Err(AddError::Refused(refusal)) => refusal as u8,
+fn refusal_word(refusal: Refusal) -> &'static str {
+    match refusal as u8 {
+        10 => "bad number",
+        11 => "bad skip",
+        12 => "rules full",
+        13 => "no rule",
+        _ => "another",
     }
 }
 
-fn delete_reply(deleted: Result<(), Refusal>) -> u8 {
-    match deleted {
-        Ok(()) => 0,
-        Err(refusal) => refusal as u8,
+fn add(list: &mut RuleList, added: Rule) -> &'static str {
+    match list.add(added) {
+        Ok(()) => "ok",
+        Err(AddError::NoMemory) => "no memory",
+        Err(AddError::Refused(refusal)) => refusal_word(refusal),
     }
 }
 
-/// Number, packets and bytes of a rule.
-fn line(counted: &CountedRule) -> (u32, u64, u64) {
-    (
-        counted.rule().number.get(),
-        counted.packets(),
-        counted.bytes(),
-    )
+fn add_plain(list: &mut RuleList, n: u32, action: Action) -> &'static str {
+    add(list, rule(n, action))
+}
+
+fn delete(list: &mut RuleList, n: u32) -> &'static str {
+    match list.delete(number(n)) {
+        Ok(()) => "ok",
+        Err(refusal) => refusal_word(refusal),
+    }
+}
+
+fn send(list: &mut RuleList) -> &'static str {
+    word(list.verdict(&udp()))
+}
+
+fn look(list: &RuleList) -> &'static str {
+    word(list.find(&udp()))
+}
+
+fn send_after(list: &mut RuleList, n: u32, order: u64) -> &'static str {
+    word(list.verdict_after(place(n, order), &udp()))
+}
+
+fn look_after(list: &RuleList, n: u32, order: u64) -> &'static str {
+    word(list.find_after(place(n, order), &udp()))
+}
+
+fn answer(list: &mut RuleList, call: Call) -> &'static str {
+    match call {
+        Call::Allow(n) => add_plain(list, n, Action::Permit),
+        Call::Deny(n) => add_plain(list, n, Action::Forbid),
+        Call::Count(n) => add_plain(list, n, Action::Count),
+        Call::Skip(n, to) => add_plain(list, n, Action::SkipTo(number(to))),
+        Call::Pipe(n, pipe) => add_plain(list, n, Action::SendTo(pipe_number(pipe))),
+        Call::Delete(n) => delete(list, n),
+        Call::Send => send(list),
+        Call::Look => look(list),
+        Call::SendAfter(n, order) => send_after(list, n, order),
+        Call::LookAfter(n, order) => look_after(list, n, order),
+    }
+}
+
+/// Each call has its answer.
+fn answers(list: &mut RuleList, wanted: &[(Call, &'static str)]) -> bool {
+    for (call, want) in wanted {
+        if answer(list, *call) != *want {
+            return false;
+        }
+    }
+    true
+}
+
+/// The listing has these lines: number, order, packets, bytes.
+fn lists(list: &RuleList, wanted: &[(u32, u64, u64, u64)]) -> bool {
+    let lines = list.list();
+    lines.len() == wanted.len()
+        && lines.iter().zip(wanted).all(|(counted, want)| {
+            let place = counted.place();
+            counted.rule().number.get() == want.0
+                && place.order == want.1
+                && counted.packets() == want.2
+                && counted.bytes() == want.3
+        })
+}
+
+/// A packet of 1000 bytes gets this pipe, with this place.
+fn finds_pipe(list: &RuleList, wanted: (u16, u32, u64)) -> bool {
+    let verdict = list.find(&udp());
+    match verdict {
+        Verdict::Pipe(pipe, place) => { (pipe.get(), place.number.get(), place.order) == wanted }
+        _ => false,
+    }
 }
 
 #[test]
 fn jump_to_a_pipe(rt: HostRuntime) -> Result<(), Fail> {
     let mut list = RuleList::new(rt.alloc())?;
-    for added in [
-        rule(300, pipe(1)?)?,
-        rule(100, Action::Count)?,
-        rule(100, Action::SkipTo(number(300)?))?,
-        rule(200, Action::Forbid)?,
-    ] {
-        assert_eq!(rt; reply(list.add(added)), 0);
-    }
-    let packet = packet()?;
-    assert_eq!(rt; told(list.find(&packet)), ("pipe", 1, 300, 0));
-    assert_eq!(rt; told(list.verdict(&packet)), ("pipe", 1, 300, 0));
-    let wanted = [
-        (100, 1, 1000),
-        (100, 1, 1000),
-        (200, 0, 0),
-        (300, 1, 1000),
-        (65535, 0, 0),
+    let steps = [
+        (Call::Pipe(300, 1), "ok"),
+        (Call::Count(100), "ok"),
+        (Call::Skip(100, 300), "ok"),
+        (Call::Deny(200), "ok"),
+        (Call::Look, "pipe"),
+        (Call::Send, "pipe"),
     ];
-    assert_eq!(rt; list.list().len(), 5);
-    for (counted, want) in list.list().iter().zip(wanted) {
-        assert_eq!(rt; line(counted), want);
-    }
-    let orders = [1, 2, 3, 0, 0];
-    for (counted, want) in list.list().iter().zip(orders) {
-        assert_eq!(rt; counted.place().order, want);
-    }
+    let answered = answers(&mut list, &steps);
+    let lines = [
+        (100, 1, 1, 1000),
+        (100, 2, 1, 1000),
+        (200, 3, 0, 0),
+        (300, 0, 1, 1000),
+        (65535, 0, 0, 0),
+    ];
+    let listed = lists(&list, &lines);
+    let told = finds_pipe(&list, (1, 300, 0));
+    assert!(rt; answered && listed && told);
     Ok(())
 }
 
 #[test]
 fn refusals(rt: HostRuntime) -> Result<(), Fail> {
     let mut list = RuleList::new(rt.alloc())?;
-    let skip = rule(300, Action::SkipTo(number(300)?))?;
-    assert_eq!(rt; reply(list.add(rule(65535, Action::Permit)?)), 10);
-    assert_eq!(rt; reply(list.add(rule(0, Action::Permit)?)), 10);
-    assert_eq!(rt; reply(list.add(skip)), 11);
-    assert_eq!(rt;
-        reply(list.add(rule(300, Action::SkipTo(number(65536)?))?)),
-        11
-    );
-    assert_eq!(rt; delete_reply(list.delete(number(7)?)), 13);
-    assert_eq!(rt; delete_reply(list.delete(number(65535)?)), 10);
+    let steps = [
+        (Call::Allow(65535), "bad number"),
+        (Call::Skip(300, 300), "bad skip"),
+        (Call::Delete(7), "no rule"),
+        (Call::Delete(65535), "bad number"),
+    ];
+    let mut answered = answers(&mut list, &steps);
     for n in 1..257 {
-        assert_eq!(rt;
-            reply(list.add(rule(n, Action::SkipTo(number(65535)?))?)),
-            0
-        );
+        answered = answered && answer(&mut list, Call::Skip(n, 65535)) == "ok";
     }
-    assert_eq!(rt; reply(list.add(rule(300, Action::Permit)?)), 12);
-    assert_eq!(rt; reply(list.add(skip)), 11);
-    assert_eq!(rt; list.list().len(), 257);
-    assert_eq!(rt; told(list.verdict(&packet()?)), ("deny", 0, 0, 0));
-    assert_eq!(rt; delete_reply(list.delete(number(256)?)), 0);
-    assert_eq!(rt; list.list().len(), 256);
+    let steps = [
+        (Call::Allow(300), "rules full"),
+        (Call::Skip(300, 65536), "bad skip"),
+        (Call::Send, "deny"),
+    ];
+    let full = answers(&mut list, &steps);
+    assert!(rt; answered && full);
     Ok(())
 }
 
 #[test]
 fn rule_replaced_behind_a_pipe(rt: HostRuntime) -> Result<(), Fail> {
     let mut list = RuleList::new(rt.alloc())?;
-    let packet = packet()?;
-    assert_eq!(rt; reply(list.add(rule(100, pipe(1)?)?)), 0);
-    assert_eq!(rt; reply(list.add(rule(300, Action::Permit)?)), 0);
-    let place = Place {
-        number: number(100)?,
-        order: 0,
-    };
-    assert_eq!(rt; told(list.verdict(&packet)), ("pipe", 1, 100, 0));
-    assert_eq!(rt;
-        told(list.verdict_after(place, &packet)),
-        ("allow", 0, 0, 0)
-    );
-    assert_eq!(rt; delete_reply(list.delete(number(100)?)), 0);
-    assert_eq!(rt; told(list.find_after(place, &packet)), ("allow", 0, 0, 0));
-    assert_eq!(rt; reply(list.add(rule(100, Action::Forbid)?)), 0);
-    assert_eq!(rt; told(list.find_after(place, &packet)), ("deny", 0, 0, 0));
-    assert_eq!(rt; told(list.verdict_after(place, &packet)), ("deny", 0, 0, 0));
-    let wanted = [(100, 1, 1000), (300, 1, 1000), (65535, 0, 0)];
-    for (counted, want) in list.list().iter().zip(wanted) {
-        assert_eq!(rt; line(counted), want);
-    }
+    let steps = [
+        (Call::Pipe(100, 1), "ok"),
+        (Call::Allow(300), "ok"),
+        (Call::Send, "pipe"),
+        (Call::SendAfter(100, 0), "allow"),
+        (Call::Delete(100), "ok"),
+        (Call::LookAfter(100, 0), "allow"),
+        (Call::Deny(100), "ok"),
+        (Call::LookAfter(100, 0), "deny"),
+        (Call::SendAfter(100, 0), "deny"),
+    ];
+    let answered = answers(&mut list, &steps);
+    let lines = [(100, 2, 1, 1000), (300, 1, 1, 1000), (65535, 0, 0, 0)];
+    let listed = lists(&list, &lines);
+    assert!(rt; answered && listed);
     Ok(())
+}
+
+fn allows(list: &RuleList, proto: Protocol, src: u32, sport: u16, dst: u32, dport: u16) -> bool {
+    let verdict = list.find(&packet(proto, src, sport, dst, dport));
+    word(verdict) == "allow"
 }
 
 #[test]
 fn what_a_rule_matches(rt: HostRuntime) -> Result<(), Fail> {
-    // allow udp from 10.0.0.0/30 1000-1001 to 10.0.0.2/32 2000-2000
     let mut list = RuleList::new(rt.alloc())?;
-    let allowed = Rule {
-        proto: ProtocolMatch::OnlyUdp,
-        src: prefix(0x0a00_0000, 30)?,
-        sports: Some(PortRange::new(1000, 1001).ok_or("a range")?),
-        dst: prefix(0x0a00_0002, 32)?,
-        dports: Some(PortRange::new(2000, 2000).ok_or("a range")?),
-        ..rule(100, Action::Permit)?
-    };
-    assert_eq!(rt; reply(list.add(allowed)), 0);
-    let own = packet()?;
-    let tcp = Protocol::Tcp;
-    for (sent, want) in [
-        (own, "allow"),
-        (
-            Packet {
-                src: 0x0a00_0003,
-                ..own
-            },
-            "allow",
-        ),
-        (
-            Packet {
-                src: 0x0a00_0004,
-                ..own
-            },
-            "deny",
-        ),
-        (Packet { sport: 1001, ..own }, "allow"),
-        (Packet { sport: 1002, ..own }, "deny"),
-        (Packet { sport: 999, ..own }, "deny"),
-        (
-            Packet {
-                dst: 0x0a00_0003,
-                ..own
-            },
-            "deny",
-        ),
-        (Packet { dport: 2001, ..own }, "deny"),
-        (Packet { proto: tcp, ..own }, "deny"),
+    let added = add(&mut list, narrow_rule());
+    assert_eq!(rt; added, "ok");
+    for (proto, src, sport, dst, dport, want) in [
+        (Protocol::Udp, 0x0a00_0001, 1000, 0x0a00_0002, 2000, true),
+        (Protocol::Udp, 0x0a00_0003, 1001, 0x0a00_0002, 2000, true),
+        (Protocol::Tcp, 0x0a00_0001, 1000, 0x0a00_0002, 2000, false),
+        (Protocol::Udp, 0x0a00_0004, 1000, 0x0a00_0002, 2000, false),
+        (Protocol::Udp, 0x0a00_0001, 1002, 0x0a00_0002, 2000, false),
+        (Protocol::Udp, 0x0a00_0001, 999, 0x0a00_0002, 2000, false),
+        (Protocol::Udp, 0x0a00_0001, 1000, 0x0a00_0003, 2000, false),
+        (Protocol::Udp, 0x0a00_0001, 1000, 0x0a00_0002, 2001, false),
     ] {
-        assert_eq!(rt; told(list.find(&sent)).0, want);
+        let allowed = allows(&list, proto, src, sport, dst, dport);
+        assert_eq!(rt; allowed, want);
     }
     Ok(())
 }
 
-/// Each allocation may be refused: the list is then as it was, and the same call may be made again.
+/// Tries once more where memory was refused.
+fn made_at_last(alloc: Global) -> Result<RuleList, Fail> {
+    match RuleList::new(alloc) {
+        Ok(list) => Ok(list),
+        Err(_) => Ok(RuleList::new(alloc)?),
+    }
+}
+
+/// One rule more, at the second try where memory was refused; the list was as before then.
+fn grows(list: &mut RuleList, n: u32) -> bool {
+    let before = list.list().len();
+    let first = answer(list, Call::Count(n));
+    if first == "ok" {
+        return list.list().len() > before;
+    }
+    list.list().len() == before && answer(list, Call::Count(n)) == "ok"
+}
+
+/// Passes with ample memory, and where any one allocation is refused.
 #[test]
 fn memory_may_be_refused(rt: HostRuntime) -> Result<(), Fail> {
-    let mut made = RuleList::new(rt.alloc());
-    if made.is_err() {
-        made = RuleList::new(rt.alloc());
-    }
-    let mut list = made?;
+    let mut list = made_at_last(rt.alloc())?;
     for n in 1..20 {
-        let added = rule(n, Action::Count)?;
-        let before = list.list().len();
-        if reply(list.add(added)) == 1 {
-            assert_eq!(rt; list.list().len(), before);
-            assert_eq!(rt; told(list.verdict(&packet()?)), ("deny", 0, 0, 0));
-            assert_eq!(rt; reply(list.add(added)), 0);
-        }
-        assert_eq!(rt; list.list().len(), before + 1);
+        let grown = grows(&mut list, n);
+        assert!(rt; grown);
     }
     Ok(())
 }

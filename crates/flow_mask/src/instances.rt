@@ -9,7 +9,7 @@ use std::alloc::{AllocError, Global};
 use std::marker::Model;
 
 /// Why there is no instance for an identifier.
-#[derive(Clone, Copy, PartialEq)]
+#[derive(Clone, Copy, Debug, PartialEq)]
 pub enum InstanceError {
     /// The pipe has 256 instances, and none of them is the identifier's.
     TooMany,

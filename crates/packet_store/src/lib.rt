@@ -34,7 +34,7 @@ impl Model for Key {
 pub type Owner = usize;
 
 /// Why a packet was not put.
-#[derive(Clone, Copy, PartialEq)]
+#[derive(Clone, Copy, Debug, PartialEq)]
 pub enum PutError {
     /// The owner holds its whole budget, which is 0 for one that was not admitted.
     OverBudget = 50,

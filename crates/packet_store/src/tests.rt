@@ -4,42 +4,61 @@ use super::*;
 use emu_model::{Load, PacketBudget, Place, Protocol, RuleNumber, Size};
 use std::test::Fail;
 
-fn packet(number: u64) -> Option<Packet> {
-    Some(Packet {
+fn packet(number: u64) -> Packet {
+    let Some(size) = Size::new(1000) else {
+        unreachable!()
+    };
+    let Some(rule) = RuleNumber::new(0) else {
+        unreachable!()
+    };
+    Packet {
         proto: Protocol::Udp,
         src: 0x0a00_0001,
         sport: 1000,
         dst: 0x0a00_0002,
         dport: 2000,
-        size: Size::new(1000)?,
+        size,
         number,
         load: Load::Plain,
         place: Place {
-            number: RuleNumber::new(0)?,
+            number: rule,
             order: 0,
         },
-    })
+    }
+}
+
+fn put<S: Shelf>(shelf: &mut S, owner: Owner, number: u64) -> Result<Key, PutError> {
+    shelf.put(owner, packet(number))
 }
 
 // The number of the owner's packet at a key.
-fn number_at<S: Shelf>(shelf: &S, owner: Owner, key: Key) -> Option<u64> {
+fn look<S: Shelf>(shelf: &S, owner: Owner, key: Key) -> Option<u64> {
     match shelf.look(owner, key) {
         Some(packet) => Some(packet.number),
         None => None,
     }
 }
 
-// Puts packets until a call is refused: how many were put, and the refusal.
-fn flood<S: Shelf>(shelf: &mut S, owner: Owner, packet: Packet) -> (u32, Option<PutError>) {
-    for put in 0..100_000 {
+fn take<S: Shelf>(shelf: &mut S, owner: Owner, key: Key) -> Option<u64> {
+    match shelf.take(owner, key) {
+        Some(packet) => Some(packet.number),
+        None => None,
+    }
+}
+
+// How many packets an owner can put until it is over its budget.
+fn flood<S: Shelf>(shelf: &mut S, owner: Owner) -> Option<u64> {
+    for number in 0..100_000 {
         if shelf.put_ready(owner).is_err() {
-            return (put, Some(PutError::NoMemory));
+            return None;
         }
-        if let Err(error) = shelf.put(owner, packet) {
-            return (put, Some(error));
+        match put(shelf, owner, number) {
+            Ok(_) => {}
+            Err(PutError::OverBudget) => return Some(number),
+            Err(PutError::NoMemory) => return None,
         }
     }
-    (100_000, None)
+    None
 }
 
 #[test]
@@ -47,35 +66,16 @@ fn own_shelf_keeps_its_budget(rt: HostRuntime) -> Result<(), Fail> {
     let budget = PacketBudget::new(2).ok_or("budget")?;
     let mut shelf = OwnShelf::new(rt.alloc(), budget);
     shelf.reserve(1000)?;
-    shelf.put_ready(0)?;
-    let first = shelf
-        .put(0, packet(10).ok_or("packet")?)
-        .ok()
-        .ok_or("first")?;
-    let second = shelf
-        .put(0, packet(11).ok_or("packet")?)
-        .ok()
-        .ok_or("second")?;
-    assert!(rt; first != second);
-    let third = shelf.put(0, packet(12).ok_or("packet")?);
-    assert!(rt; matches!(third, Err(PutError::OverBudget)));
-    assert_eq!(rt; number_at(&shelf, 0, first), Some(10));
-    assert_eq!(rt; number_at(&shelf, 0, second), Some(11));
-    assert_eq!(rt; number_at(&shelf, 1, first), None);
+    let first = put(&mut shelf, 0, 10)?;
+    let second = put(&mut shelf, 0, 11)?;
+    assert!(rt; matches!(put(&mut shelf, 0, 12), Err(PutError::OverBudget)));
+    assert_eq!(rt; look(&shelf, 0, second), Some(11));
 
     // A free place is used again.
-    assert_eq!(rt; shelf.take(0, first).map(|p| p.number), Some(10));
-    assert!(rt; shelf.take(0, first).is_none());
-    let again = shelf
-        .put(0, packet(13).ok_or("packet")?)
-        .ok()
-        .ok_or("again")?;
-    assert!(rt; again == first);
-    assert_eq!(rt; number_at(&shelf, 0, again), Some(13));
-
-    // Nobody else has a budget.
-    let stranger = shelf.put(1, packet(14).ok_or("packet")?);
-    assert!(rt; matches!(stranger, Err(PutError::OverBudget)));
+    assert_eq!(rt; take(&mut shelf, 0, first), Some(10));
+    assert_eq!(rt; take(&mut shelf, 0, first), None);
+    assert!(rt; put(&mut shelf, 0, 13)? == first);
+    assert!(rt; matches!(put(&mut shelf, 1, 14), Err(PutError::OverBudget)));
     Ok(())
 }
 
@@ -84,49 +84,17 @@ fn a_flood_takes_no_place_of_another(rt: HostRuntime) -> Result<(), Fail> {
     let mut store = Store::new(rt.alloc());
     let quiet = store.admit(PacketBudget::new(2).ok_or("budget")?)?;
     let loud = store.admit(PacketBudget::new(65535).ok_or("budget")?)?;
-    assert!(rt; quiet != loud);
-    let (put, refusal) = flood(&mut store, loud, packet(1).ok_or("packet")?);
-    assert_eq!(rt; put, 65535);
-    assert!(rt; matches!(refusal, Some(PutError::OverBudget)));
-
-    let first = store
-        .put(quiet, packet(20).ok_or("packet")?)
-        .ok()
-        .ok_or("first")?;
-    let second = store
-        .put(quiet, packet(21).ok_or("packet")?)
-        .ok()
-        .ok_or("second")?;
-    let third = store.put(quiet, packet(22).ok_or("packet")?);
-    assert!(rt; matches!(third, Err(PutError::OverBudget)));
-    assert_eq!(rt; number_at(&store, quiet, first), Some(20));
-    assert_eq!(rt; number_at(&store, loud, first), None);
-    assert!(rt; store.take(loud, first).is_none());
-    assert_eq!(rt; store.take(quiet, second).map(|p| p.number), Some(21));
+    assert_eq!(rt; flood(&mut store, loud), Some(65535));
+    let kept = put(&mut store, quiet, 20)?;
+    assert_eq!(rt; look(&store, loud, kept), None);
+    assert_eq!(rt; flood(&mut store, quiet), Some(1));
 
     // What a dismissed owner held is gone, and its number is given out anew.
     store.dismiss(loud);
-    let (after, refusal) = flood(&mut store, loud, packet(2).ok_or("packet")?);
-    assert_eq!(rt; after, 0);
-    assert!(rt; matches!(refusal, Some(PutError::OverBudget)));
-    assert_eq!(rt; number_at(&store, quiet, first), Some(20));
-    let next = store.admit(PacketBudget::new(3).ok_or("budget")?)?;
-    assert_eq!(rt; next, loud);
-    let (put, _) = flood(&mut store, next, packet(3).ok_or("packet")?);
-    assert_eq!(rt; put, 3);
-    Ok(())
-}
-
-#[test]
-fn both_are_shelves(rt: HostRuntime) -> Result<(), Fail> {
-    let budget = PacketBudget::new(5).ok_or("budget")?;
-    let mut own = OwnShelf::new(rt.alloc(), budget);
-    let (put, _) = flood(&mut own, 0, packet(1).ok_or("packet")?);
-    assert_eq!(rt; put, 5);
-    let mut store = Store::new(rt.alloc());
-    let owner = store.admit(budget)?;
-    let (put, _) = flood(&mut store, owner, packet(1).ok_or("packet")?);
-    assert_eq!(rt; put, 5);
+    assert_eq!(rt; flood(&mut store, loud), Some(0));
+    assert_eq!(rt; look(&store, quiet, kept), Some(20));
+    assert_eq!(rt; store.admit(PacketBudget::new(3).ok_or("budget")?)?, loud);
+    assert_eq!(rt; flood(&mut store, loud), Some(3));
     Ok(())
 }
 
@@ -140,42 +108,28 @@ fn a_refused_growth_changes_nothing(rt: HostRuntime) -> Result<(), Fail> {
         Ok(owner) => owner,
         Err(_) => store.admit(budget)?,
     };
-    let kept = store
-        .put(first, packet(40).ok_or("packet")?)
-        .ok()
-        .ok_or("kept")?;
+    let kept = put(&mut store, first, 40)?;
     let second = match store.admit(budget) {
         Ok(owner) => owner,
-        Err(_) => {
-            let early = store.put(1, packet(41).ok_or("packet")?);
-            assert!(rt; matches!(early, Err(PutError::OverBudget)));
-            store.admit(budget)?
-        }
+        Err(_) => store.admit(budget)?,
     };
-    assert_eq!(rt; (first, second), (0, 1));
-    assert_eq!(rt; number_at(&store, first, kept), Some(40));
-    let (put, _) = flood(&mut store, second, packet(42).ok_or("packet")?);
-    assert_eq!(rt; put, 3);
+    assert_eq!(rt; look(&store, first, kept), Some(40));
+    assert_eq!(rt; flood(&mut store, second), Some(3));
+    Ok(())
+}
 
-    let mut own = OwnShelf::new(rt.alloc(), budget);
-    if own.reserve(1).is_err() {
-        own.reserve(1)?;
-    }
-    let first = own.put(0, packet(50).ok_or("packet")?).ok().ok_or("first")?;
-    if own.put_ready(0).is_err() {
-        own.put_ready(0)?;
-    }
-    own.put(0, packet(51).ok_or("packet")?)
-        .ok()
-        .ok_or("second")?;
-    let third = match own.put(0, packet(52).ok_or("packet")?) {
+#[test]
+fn a_refused_put_changes_nothing(rt: HostRuntime) -> Result<(), Fail> {
+    let budget = PacketBudget::new(3).ok_or("budget")?;
+    let mut shelf = OwnShelf::new(rt.alloc(), budget);
+    let first = match put(&mut shelf, 0, 50) {
         Ok(key) => key,
-        Err(refusal) => {
-            assert!(rt; matches!(refusal, PutError::NoMemory));
-            own.put(0, packet(52).ok_or("packet")?).ok().ok_or("third")?
-        }
+        Err(_) => put(&mut shelf, 0, 50)?,
     };
-    assert_eq!(rt; number_at(&own, 0, first), Some(50));
-    assert_eq!(rt; number_at(&own, 0, third), Some(52));
+    if shelf.put_ready(0).is_err() {
+        shelf.put_ready(0)?;
+    }
+    assert_eq!(rt; look(&shelf, 0, first), Some(50));
+    assert_eq!(rt; flood(&mut shelf, 0), Some(2));
     Ok(())
 }

@@ -20,7 +20,7 @@ after_drop-is w d =
     ap (λ n. verdict n d.control) more
 
 -- the judge's rule is the definition's, whatever the head
-pub drops_on-is : {A : Type 0} (times : Times) (now : ℕ) (c : Control) (w : Waiting A) (rest : List (Waiting A)) →
+drops_on-is : {A : Type 0} (times : Times) (now : ℕ) (c : Control) (w : Waiting A) (rest : List (Waiting A)) →
     verdict_of (drop_on times now c w rest) ≡ drops_on times now c rest
 drops_on-is {A = A} times now c w [] = by (nat_lt now c.drop_next)
   where
@@ -45,7 +45,7 @@ drops_on-is {A = A} times now c w (v ∷ rest) =
     by false false later judged e = refl
 
 -- a head that may be dropped, while dropping
-pub codel_dequeue-dropping : {A : Type 0} (times : Times) (now : ℕ) (c : Control) (w : Waiting A) (rest : List (Waiting A)) →
+codel_dequeue-dropping : {A : Type 0} (times : Times) (now : ℕ) (c : Control) (w : Waiting A) (rest : List (Waiting A)) →
     is_droppable times now c w rest ≡ true → c.dropping ≡ true →
     verdict_of (codel_dequeue times now c (w ∷ rest)) ≡ drops_on times now (look times now c w rest) rest
 codel_dequeue-dropping {A = A} times now c w rest may on =
@@ -63,29 +63,10 @@ codel_dequeue-dropping {A = A} times now c w rest may on =
     by false d e f = absurd (cc)
 
 -- one step of the judge: the moment hasn't come
-pub drops_on-not_due : {A : Type 0} (times : Times) (now : ℕ) (c : Control) (ws : List (Waiting A)) →
+drops_on-not_due : {A : Type 0} (times : Times) (now : ℕ) (c : Control) (ws : List (Waiting A)) →
     nat_lt now c.drop_next ≡ true → drops_on times now c ws ≡ verdict 0 c
 drops_on-not_due times now c [] e = rw e
 drops_on-not_due times now c (v ∷ rest) e = rw e
-
--- the last goes
-pub drops_on-last : {A : Type 0} (times : Times) (now : ℕ) (c : Control) (ws : List (Waiting A)) →
-    nat_lt now c.drop_next ≡ false → ws ≡ [] →
-    drops_on times now c ws ≡ verdict 1 (stop_dropping (look_empty (count_up c)))
-drops_on-last times now c ws e f = rw (f, e)
-
--- one goes, and the next may stay
-pub drops_on-ends : {A : Type 0} (times : Times) (now : ℕ) (c : Control) (v : Waiting A) (ws rest : List (Waiting A)) →
-    nat_lt now c.drop_next ≡ false → ws ≡ v ∷ rest → is_droppable times now c v rest ≡ false →
-    drops_on times now c ws ≡ verdict 1 (stop_dropping (look times now (count_up c) v rest))
-drops_on-ends times now c v ws rest e f may = rw (f, e, may)
-
--- one goes, and the next may go too
-pub drops_on-more : {A : Type 0} (times : Times) (now : ℕ) (c : Control) (v : Waiting A) (ws rest : List (Waiting A)) →
-    nat_lt now c.drop_next ≡ false → ws ≡ v ∷ rest → is_droppable times now c v rest ≡ true →
-    (counted : Control) → counted ≡ look times now (count_up c) v rest →
-    drops_on times now c ws ≡ after 1 (drops_on times now (set_next times counted.drop_next counted) rest)
-drops_on-more times now c v ws rest e f may counted g = rw (f, e, may, g)
 
 -- the judge's end
 pub drops_on-all : {A : Type 0} (times : Times) (now : ℕ) (seen c : Control) (ws : List (Waiting A)) (drops left : ℕ) →
@@ -107,6 +88,7 @@ judged_dropping times now c head ws rest left short seen e l s f may on =
     s ∙ ap (λ n. nat_lt (now - head.stamp) times.target || nat_le n 1500) l in
     rw (e, f, stay) (sym (codel_dequeue-dropping times now c head rest (rw stay at may) on))
 
+-- a test that failed
 pub not_true : (b : Bool) → false ≡ not b → b ≡ true
 not_true true e = refl
 not_true false e = absurd (cc)

@@ -135,13 +135,6 @@ impl<A> Codel<A> {
         self.queue.dequeue()
     }
 
-    /// Whether the limit lets an item of `size` bytes wait beside what waits (ipfw(8), queue).
-    pub fn accepts(&self, size: Size) -> bool
-        ensures { result ≡ accepts self.now.limit self.now.waiting size }
-    {
-        self.queue.accepts(size)
-    }
-
     /// How many wait.
     pub fn waiting(&self) -> usize
         ensures { result ≡ length self.now.waiting }
@@ -155,6 +148,13 @@ impl<A> Codel<A> {
         ensures few { result ≤ 1500000 }
     {
         self.queue.bytes()
+    }
+
+    /// Whether the limit lets an item of `size` bytes wait as well.
+    pub fn accepts(&self, size: Size) -> bool
+        ensures { result ≡ accepts self.now.limit self.now.waiting size }
+    {
+        self.queue.accepts(size)
     }
 
     /// Changes the limit. What waits stays, also where it is more than the limit.

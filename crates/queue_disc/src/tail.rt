@@ -11,6 +11,9 @@ use std::alloc::Global;
 use std::collections::VecDeque;
 use std::marker::Model;
 
+/// The places of the first growth.
+const LEAST_GROWTH: usize = 4;
+
 /// A queue with a limit, first in first out.
 #[derive(Drop)]
 pub struct DropTail<A> {
@@ -121,6 +124,19 @@ impl<A> DropTail<A> {
         self.bytes
     }
 
+    /// Whether the limit lets an item of `size` bytes wait as well.
+    pub fn accepts(&self, size: Size) -> bool
+        ensures value { result ≡ accepts self.now.limit self.now.waiting size }
+        ensures few { IsTrue result → bytes_of self.now.waiting + size ≤ 1500000 }
+    {
+        match self.limit {
+            QueueLimit::Slots(slots) => self.waiting.len() < usize::from(slots.get()),
+            QueueLimit::KBytes(kbytes) => {
+                self.bytes + u64::from(size.get()) <= 1024 * u64::from(kbytes.get())
+            }
+        }
+    }
+
     /// Changes the limit. What waits stays, also where it is more than the limit.
     pub fn set_limit(&mut self, limit: QueueLimit)
         ensures { self.new ≡ record self.old { limit = limit } }
@@ -168,19 +184,6 @@ impl<A> DropTail<A> {
         *self.waiting.allocator()
     }
 
-    /// Whether the limit lets an item of `size` bytes wait beside what waits (ipfw(8), queue).
-    pub fn accepts(&self, size: Size) -> bool
-        ensures value { result ≡ accepts self.now.limit self.now.waiting size }
-        ensures few { IsTrue result → bytes_of self.now.waiting + size ≤ 1500000 }
-    {
-        match self.limit {
-            QueueLimit::Slots(slots) => self.waiting.len() < usize::from(slots.get()),
-            QueueLimit::KBytes(kbytes) => {
-                self.bytes + u64::from(size.get()) <= 1024 * u64::from(kbytes.get())
-            }
-        }
-    }
-
     /// Makes room for one more: twice as many places where none is free.
     fn reserve(&mut self) -> Result<(), NoMemory>
         ensures ok { OnOk result (self.new ≡ record self.old { capacity = self.new.capacity }) }
@@ -200,6 +203,3 @@ impl<A> DropTail<A> {
         }
     }
 }
-
-/// The places of the first growth.
-const LEAST_GROWTH: usize = 4;

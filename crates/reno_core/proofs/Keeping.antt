@@ -1,12 +1,12 @@
 -- Each event keeps a sender sound.
-use Rattle.std.proofs.Common.{◌≡◌, ℕ, ◌+◌, ◌-◌, ◌*◌, ◌/◌, ◌%◌, ◌^◌, ◌<◌, ◌≤◌, Bool, true, false, Option, Some, None, refl, sym, ◌∙◌, ap, inl, inr, arith}
-use Rattle.std.specs.Prelude.{if◌then◌else◌, ◌&&◌, ◌||◌, ◌==◌, nat_lt, nat_le, is_none, min, max}
-use Rattle.std.proofs.Math.Nat.{div-add-mod, mul-le-mul_left, mul_comm, add-mod_right}
+use Rattle.std.proofs.Common.{◌≡◌, ℕ, ◌+◌, ◌-◌, ◌*◌, ◌/◌, ◌%◌, ◌^◌, ◌<◌, ◌≤◌, Bool, true, false, Option, Some, None, refl, sym, ◌∙◌, inl, inr, arith}
+use Rattle.std.specs.Prelude.{if◌then◌else◌, ◌&&◌, ◌==◌, nat_lt, nat_le, is_none, max}
+use Rattle.std.proofs.Math.Nat.{div-add-mod, mul-le-mul_left, mul_comm, add-mod_right, zero-mod}
 use Rattle.std.proofs.lemmas.Bool.{cond_both, and_parts, or_cases, ltb-true, leb-true, eqb-true, true≢false, cases_lt}
 use Rattle.emu_model.specs.declared.sources.FlowSpec.{FlowSpec}
 use Rattle.emu_model.specs.declared.sources.Timing.{Timing}
 use Rattle.emu_model.specs.declared.sources.Timing.TheVariants.{Fixed, Adaptive}
-use Rattle.emu_model.specs.Reno.{Sender, Sample, Estimate, total_bytes, timeout_at, longest, greatest_word, has_room, may_emit, emitted, emit, started_sample, started_timer, half_flight, grown_window, bounded, round_trip, distance, new_estimate, estimated_timeout, timeout_after, estimate_after, sample_after, ack_new, ack_duplicate, enter_recovery, is_new, is_duplicate, ack, expire, opening_sender}
+use Rattle.emu_model.specs.Reno.{Sender, Sample, Estimate, total_bytes, timeout_at, longest, greatest_word, has_room, may_emit, emitted, emit, started_sample, half_flight, grown_window, bounded, round_trip, new_estimate, timeout_after, estimate_after, sample_after, ack_new, ack_duplicate, enter_recovery, is_new, is_duplicate, ack, expire, opening_sender}
 use Rattle.reno_core.specs.Sound.{IsFlow, IsSound, IsEstimate, IsSent}
 
 -- a whole segment that begins below the total ends there at the latest
@@ -19,6 +19,12 @@ segment_fits n smss segments whole below =
       | inl h ↦ omega (arith, mul-le-mul_left smss h, mul_comm segments smss, is)
       | inr h ↦ absurd (omega (arith, mul-le-mul_left smss h, mul_comm segments smss, is, below))
     ]
+
+-- a multiple above another is a segment above it
+pub multiple_after : (a b smss : ℕ) → a % smss ≡ 0 → b % smss ≡ 0 → a < b → a + smss ≤ b
+multiple_after a b smss p q below =
+    let is : smss * (b / smss) ≡ b = omega (arith, div-add-mod b smss, q) in
+    omega (arith, segment_fits a smss (b / smss) p (omega (arith, below, is, mul_comm (b / smss) smss)), is, mul_comm (b / smss) smss)
 
 max_whole : (a b smss : ℕ) → a % smss ≡ 0 → b % smss ≡ 0 → max a b % smss ≡ 0
 max_whole a b smss p q =
@@ -65,6 +71,7 @@ emit_sound f now s h may = cond_both s.resend _ _ (IsSound f)
       within = h.within;
       una_whole = h.una_whole;
       nxt_whole = h.nxt_whole;
+      top_whole = h.top_whole;
       window = h.window;
       window_fits = h.window_fits;
       threshold = h.threshold;
@@ -89,6 +96,7 @@ emit_sound f now s h may = cond_both s.resend _ _ (IsSound f)
       within = omega (arith, room, within);
       una_whole = h.una_whole;
       nxt_whole = add-mod_right s.nxt f.smss ∙ h.nxt_whole;
+      top_whole = max_whole s.top (s.nxt + f.smss) f.smss h.top_whole (add-mod_right s.nxt f.smss ∙ h.nxt_whole);
       window = h.window;
       window_fits = h.window_fits;
       threshold = h.threshold;
@@ -166,6 +174,7 @@ new_sound f now a s early h new =
       within = h.within;
       una_whole = whole;
       nxt_whole = max_whole s.nxt a f.smss h.nxt_whole whole;
+      top_whole = h.top_whole;
       window = window.0;
       window_fits = window.1;
       threshold = h.threshold;
@@ -203,6 +212,7 @@ recovery_sound f s h under =
       within = h.within;
       una_whole = h.una_whole;
       nxt_whole = h.nxt_whole;
+      top_whole = h.top_whole;
       window = omega (arith, half.0, half.1);
       window_fits = omega arith;
       threshold = omega (arith, half.0);
@@ -226,6 +236,7 @@ counted_sound f s h = record {
   within = h.within;
   una_whole = h.una_whole;
   nxt_whole = h.nxt_whole;
+  top_whole = h.top_whole;
   window = h.window;
   window_fits = h.window_fits;
   threshold = h.threshold;
@@ -252,6 +263,7 @@ inflated_sound f s h =
       within = h.within;
       una_whole = h.una_whole;
       nxt_whole = h.nxt_whole;
+      top_whole = h.top_whole;
       window = omega arith;
       window_fits = omega arith;
       threshold = h.threshold;
@@ -279,3 +291,59 @@ pub ack_sound : (f : FlowSpec) (now a : ℕ) (s : Sender) → now < 2 * 10 ^ 15 
 ack_sound f now a s early h = cond_both (is_new f a s) _ _ (IsSound f) (new_sound f now a s early h)
     (λ _. cond_both (is_duplicate a s) _ _ (IsSound f)
     (λ e. duplicate_sound f s h (ltb-true _ _ ((and_parts _ _ e).1))) (λ _. h))
+
+pub expire_sound : (f : FlowSpec) (now : ℕ) (s : Sender) → IsSound f s → IsSound f (expire f now s)
+expire_sound f now s h =
+    let half = half_bounds f s h in
+    let sent = h.sent in
+    let acknowledged = h.acknowledged in
+    let least = h.flow.least in
+    let most = h.flow.most in
+    let slow = h.slow in
+    record {
+      flow = h.flow;
+      acknowledged = omega arith;
+      sent = omega arith;
+      within = h.within;
+      una_whole = h.una_whole;
+      nxt_whole = h.una_whole;
+      top_whole = h.top_whole;
+      window = omega arith;
+      window_fits = omega arith;
+      threshold = cond_both s.timed s.ssthresh (half_flight f s) (λ n. 1 ≤ n) (λ _. h.threshold) (λ _. omega (arith, half.0));
+      threshold_fits = cond_both s.timed s.ssthresh (half_flight f s) (λ n. n ≤ 1000000000) (λ _. h.threshold_fits) (λ _. half.1);
+      recovers = λ e. absurd (true≢false (sym e));
+      duplicates_fit = omega arith;
+      resends = λ e. absurd (true≢false (sym e));
+      quick = omega (arith, h.quick, slow);
+      slow = omega arith;
+      estimated = h.estimated;
+      timed_sent = tt;
+      timed_once = λ _. refl;
+    }
+
+pub opening_sound : (f : FlowSpec) → IsFlow f → IsSound f (opening_sender f)
+opening_sound f h =
+    let least = h.least in
+    let most = h.most in
+    record {
+      flow = h;
+      acknowledged = omega arith;
+      sent = omega arith;
+      within = omega arith;
+      una_whole = zero-mod f.smss;
+      nxt_whole = zero-mod f.smss;
+      top_whole = zero-mod f.smss;
+      window = cond_both (nat_le f.smss 1095) _ _ (λ n. f.smss ≤ n) (λ _. omega arith) (λ _. omega arith);
+      window_fits = cond_both (nat_le f.smss 1095) _ _ (λ n. n ≤ greatest_word) (λ _. omega arith) (λ _. omega arith);
+      threshold = h.threshold;
+      threshold_fits = h.bounded;
+      recovers = λ e. absurd (true≢false (sym e));
+      duplicates_fit = omega arith;
+      resends = λ e. absurd (true≢false (sym e));
+      quick = omega arith;
+      slow = h.slow;
+      estimated = tt;
+      timed_sent = tt;
+      timed_once = λ _. refl;
+    }

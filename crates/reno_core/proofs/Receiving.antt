@@ -1,13 +1,13 @@
 -- The segments that came, as a set.
-use Rattle.std.proofs.Common.{◌≡◌, ◌≢◌, ℕ, zero, suc, ◌+◌, ◌-◌, ◌*◌, ◌/◌, ◌%◌, ◌<◌, ◌≤◌, Bool, true, false, List, [], ◌∷◌, ◌++◌, length, take, drop, get_or, refl, sym, ◌∙◌, ap, inl, inr, subst, add-one, nat_cmp, arith}
-use Rattle.std.specs.Prelude.{if◌then◌else◌, ◌==◌, ◌||◌, ◌⊎◌, ◌↔◌, nat_lt, Result, Ok, Err}
+use Rattle.std.proofs.Common.{◌≡◌, ◌≢◌, ℕ, zero, suc, ◌+◌, ◌*◌, ◌/◌, ◌%◌, ◌<◌, ◌≤◌, Bool, true, false, List, [], ◌∷◌, length, get_or, refl, sym, ◌∙◌, ap, inl, inr, subst, add-one, nat_cmp, arith}
+use Rattle.std.specs.Prelude.{◌==◌, ◌||◌, ◌⊎◌, ◌↔◌, Ok, Err}
 use Rattle.std.specs.List.Sorted.{IsBinarySearchResult}
-use Rattle.std.specs.List.{list_any, insert, remove}
-use Rattle.std.proofs.Math.Nat.{mul-le-mul_left, mul-le-mul_right, mul_comm, div-add-mod, mul-mod_left}
+use Rattle.std.specs.List.{insert, remove}
+use Rattle.std.proofs.Math.Nat.{mul-le-mul_right, mul_comm, div-add-mod, mul-mod_left}
 use Rattle.std.proofs.lemmas.List.Sorted.{searched}
-use Rattle.std.proofs.lemmas.Bool.{lt-ltb, le-ltb, eq-eqb, ne_eqb, eqb-true, cases_order, cases_eq, cases_lt, true≢false}
-use Rattle.std.proofs.lemmas.List.{length-append}
+use Rattle.std.proofs.lemmas.Bool.{lt-ltb, le-ltb, eq-eqb, ne_eqb, cases_order, cases_eq, cases_lt, cond_both, or_right, true≢false}
 use Rattle.emu_model.specs.Reno.{with_segment, first_gap, missing}
+use Rattle.reno_core.specs.RenoLaws.{SegmentsAreASet, NumberNeverFalls}
 use Rattle.reno_core.specs.Kept.{filled, contains, IsBelow, Rises, IsApart, IsKept, most_segments}
 
 -- the three cases of an insertion
@@ -445,3 +445,38 @@ other_next s t n first xs e h ne is = ne (is ∙ sym (next_is s t n xs e h))
 pub next_again : (s t n : ℕ) (xs : List ℕ) → t ≡ s → IsKept t n xs → n * t ≡ missing s (filled s n xs)
 next_again s t n xs e h = let P : ℕ → Type 0 = λ r. n * t ≡ missing r (filled r n xs) in
     subst P e (next_is t t n xs refl h)
+
+-- the laws
+pub segments_are_a_set : SegmentsAreASet
+segments_are_a_set a b came = (commutes a b came, repeated a came)
+
+gap_from : (n smss : ℕ) (came : List ℕ) (from : ℕ) → from ≤ first_gap n smss came from
+gap_from zero smss came from = omega arith
+gap_from (suc n) smss came from = cond_both (contains from came) _ from (λ g. from ≤ g)
+    (λ _. omega (arith, gap_from n smss came (from + smss))) (λ _. omega arith)
+
+-- a longer search over more segments goes at least as far
+gap_grows : (n m smss : ℕ) (xs ys : List ℕ) (from : ℕ) → n ≤ m →
+    ((v : ℕ) → contains v xs ≡ true → contains v ys ≡ true) →
+    first_gap n smss xs from ≤ first_gap m smss ys from
+gap_grows zero m smss xs ys from le more = gap_from m smss ys from
+gap_grows (suc n) zero smss xs ys from le more = absurd (omega (arith, le))
+gap_grows (suc n) (suc m) smss xs ys from le more =
+    let later = gap_grows n m smss xs ys (from + smss) (omega (arith, le)) more in
+    cond_both (contains from xs) _ from (λ g. g ≤ first_gap (suc m) smss ys from)
+    (λ e. rw (more from e) later)
+    (λ _. gap_from (suc m) smss ys from)
+
+with_length : (a : ℕ) (xs : List ℕ) → length xs ≤ length (with_segment a xs)
+with_length a [] = omega arith
+with_length a (x ∷ xs) = elim (cases_order a x) [
+  | inl e ↦ rw (same a x xs e) (omega arith)
+  | inr (inl l) ↦ rw (lower a x xs l) (omega arith)
+  | inr (inr g) ↦ rw (higher a x xs g) (omega (arith, with_length a xs))
+]
+
+pub number_never_falls : NumberNeverFalls
+number_never_falls smss first came =
+    gap_grows (length came) (length (with_segment first came)) smss came (with_segment first came) 0
+    (with_length first came)
+    (λ v e. contains-with v first came ∙ rw e (or_right (first == v) true refl))

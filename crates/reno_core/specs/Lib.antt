@@ -1,4 +1,5 @@
 pub mod Kept
+pub mod RenoLaws
 pub mod Sending
 pub mod Sound
 pub mod States

@@ -1,5 +1,5 @@
 -- What holds of every sender.
-use Rattle.std.specs.Prelude.{◌≡◌, ℕ, ◌+◌, ◌*◌, ◌%◌, ◌^◌, ◌<◌, ◌≤◌, ⊤, Option, Some, None, true, false}
+use Rattle.std.specs.Prelude.{◌≡◌, ℕ, ◌*◌, ◌%◌, ◌^◌, ◌<◌, ◌≤◌, ⊤, Option, Some, None, true}
 use Rattle.emu_model.specs.declared.sources.FlowSpec.{FlowSpec}
 use Rattle.emu_model.specs.Reno.{Sender, Sample, Estimate, total_bytes, opening_timeout, longest, greatest_word}
 
@@ -31,6 +31,7 @@ pub record IsSound (f : FlowSpec) (s : Sender) : Type 0 where
   pub within : s.top ≤ total_bytes f
   pub una_whole : s.una % f.smss ≡ 0
   pub nxt_whole : s.nxt % f.smss ≡ 0
+  pub top_whole : s.top % f.smss ≡ 0
   -- the window holds a segment, and recovery ends with two
   pub window : f.smss ≤ s.cwnd
   pub window_fits : s.cwnd ≤ greatest_word

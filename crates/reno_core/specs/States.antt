@@ -1,5 +1,5 @@
 -- What a sender's data stand for.
-use Rattle.std.specs.Prelude.{ℕ, Option, option_map}
+use Rattle.std.specs.Prelude.{option_map}
 use Rattle.emu_model.specs.Reno.{Sender, Sample, Estimate}
 use Rattle.reno_core.specs.declared.state.State.{State}
 use Rattle.reno_core.specs.declared.times.Sample.{Sample as TimedSegment}

@@ -240,7 +240,7 @@ impl State {
         self.timed = true;
         self.timeout = (2 * self.timeout).min(LONGEST);
         self.timer = Some(now + self.timeout);
-        self.sample = None;
+        self.sample = None; // its segment may be sent again
     }
 
     /// Sends one segment, and answers its first byte.

@@ -4,6 +4,8 @@
 mod lines;
 mod pieces;
 mod report;
+#[cfg(test)]
+mod tests;
 mod words;
 
 pub use lines::{write_counters, write_heading, write_record};

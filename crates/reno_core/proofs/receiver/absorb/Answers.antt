@@ -1,6 +1,5 @@
-use Rattle.std.proofs.Common.{◌∙◌, ap, add-one, arith}
+use Rattle.std.proofs.Common.{◌∙◌, arith}
 use Rattle.std.proofs.lemmas.List.Edits.{length-remove}
-use Rattle.reno_core.specs.Kept.{filled}
 use Rattle.reno_core.proofs.Receiving.{absorbed, found_at, filled-absorb, IsApart-absorb, Rises-remove}
 use Rattle.reno_core.proofs.receiver.absorb.Goals as goal
 
