@@ -1,4 +1,5 @@
-//! The lines.
+//! The lines of a report, each appended to a text (own). Moments are in ns. Where memory is refused,
+//! the text stays as it was.
 
 ghost use Rattle.std.specs.Prelude.{◌≡◌, ◌+◌, ◌≤◌, ◌++◌, length, codes, decimal, OnOk, OnErr};
 ghost use Rattle.report.specs.Room.{spare};
@@ -169,7 +170,7 @@ fn append_fields(out: &mut Vec<u8>, line: &Record)
     }
 }
 
-/// Appends the line of one record.
+/// Appends the line of one record; `AllocError` leaves the text as it was.
 #[tactic(auto, unfolding(crate::specs::Room::spare))]
 pub fn write_record(out: &mut Vec<u8>, line: &Record) -> Result<(), AllocError>
     ensures ok { OnOk result (out.new.items ≡ out.old.items ++ line_of line.now) }
@@ -181,7 +182,8 @@ pub fn write_record(out: &mut Vec<u8>, line: &Record) -> Result<(), AllocError>
     Ok(())
 }
 
-/// Appends the line of an experiment's name, the first of its report.
+/// Appends the line of an experiment's name, the first of its report; `AllocError` leaves the text
+/// as it was.
 #[tactic(auto, unfolding(crate::specs::Room::spare))]
 pub fn write_heading(out: &mut Vec<u8>, name: &[u8]) -> Result<(), AllocError>
     ensures ok { OnOk result (out.new.items ≡ out.old.items ++ heading_of name.now) }
@@ -204,7 +206,7 @@ fn append_drops(out: &mut Vec<u8>, drops: &[u64; 8])
     }
 }
 
-/// Appends the line of the counters, the last of a report.
+/// Appends the line of the counters, the last of a report; `AllocError` leaves the text as it was.
 #[tactic(auto, unfolding(crate::specs::Room::spare))]
 pub fn write_counters(out: &mut Vec<u8>, counters: &Counters) -> Result<(), AllocError>
     ensures ok { OnOk result (out.new.items ≡ out.old.items ++ counters_of counters.now) }
