@@ -1,0 +1,4 @@
+pub mod Scenario
+pub mod Answer
+pub mod Steps
+pub mod Builder

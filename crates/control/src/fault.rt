@@ -1,0 +1,96 @@
+//! Why a text is no scenario.
+
+ghost use Rattle.std.specs.Prelude.{◌≡◌};
+ghost use Rattle.control.specs.Steps.{cause_in_line, error_at};
+ghost use Rattle.control.specs.declared.fault.LineError.TheVariants.{Memory};
+
+use control_words::LineFault;
+use std::alloc::{AllocError, AllocFailed};
+
+/// What is wrong. Of several in one line, the first in this order is named.
+#[derive(Clone, Copy, Debug, PartialEq, Eq)]
+pub enum Cause {
+    /// The text has more than 16777216 bytes; line 0.
+    TooBig,
+    /// The last line has no line feed.
+    Cut,
+    /// A line has more than 512 bytes.
+    TooLong,
+    /// A byte isn't one of 32 to 126.
+    BadByte,
+    /// The words aren't those of a line, whatever the numbers are.
+    BadWord,
+    /// A number is outside its range.
+    OutOfRange,
+    /// An experiment begins, or the text ends, while the experiment before has no end.
+    NoEnd,
+    /// The 257th experiment begins.
+    TooMany,
+    /// A name stood before.
+    SameName,
+    /// A command stands before any experiment.
+    NoExperiment,
+    /// A command stands after its experiment's end.
+    AfterEnd,
+    /// A moment is below the one before in its experiment.
+    Backwards,
+}
+
+/// The first faulty line, counted from 1, and its first cause.
+#[derive(Clone, Copy, Debug, PartialEq, Eq)]
+pub struct Fault {
+    pub line: u64,
+    pub cause: Cause,
+}
+
+/// Why a text was not read.
+#[derive(Debug, Drop)]
+pub enum ParseError {
+    Fault(Fault),
+    NoMemory,
+}
+
+/// Why a line was not taken.
+#[derive(Debug, Drop)]
+pub enum LineError {
+    Memory,
+    Cause(Cause),
+}
+
+impl From<AllocError> for LineError {
+    ghost from_gives = { λ _ e. e ≡ Memory };
+
+    fn from(_e: AllocError) -> LineError {
+        LineError::Memory
+    }
+}
+
+impl<T: Drop> From<AllocFailed<T>> for LineError {
+    ghost from_gives = { λ _ e. e ≡ Memory };
+
+    fn from(_e: AllocFailed<T>) -> LineError {
+        LineError::Memory
+    }
+}
+
+/// The cause that is a line's own.
+pub fn in_line(fault: LineFault) -> Cause
+    ensures { result ≡ cause_in_line fault }
+{
+    match fault {
+        LineFault::TooLong => Cause::TooLong,
+        LineFault::BadByte => Cause::BadByte,
+        LineFault::BadWord => Cause::BadWord,
+        LineFault::OutOfRange => Cause::OutOfRange,
+    }
+}
+
+/// The error of the line with this number.
+pub fn at_line(error: LineError, line: u64) -> ParseError
+    ensures { result ≡ error_at error line }
+{
+    match error {
+        LineError::Memory => ParseError::NoMemory,
+        LineError::Cause(cause) => ParseError::Fault(Fault { line, cause }),
+    }
+}

@@ -1,0 +1,176 @@
+//! Reading a scenario, line by line.
+
+ghost use Rattle.std.specs.Prelude.{◌≡◌, List, IfOk, IfErr};
+ghost use Rattle.std.specs.List.{list_any};
+ghost use Rattle.control.specs.Scenario.{is_end, Spells, HasFault};
+ghost use Rattle.control.specs.Steps.{has_name};
+ghost use Rattle.control.specs.Answer.{IsFaultOf, IsReadAs, IsFaultedAs, IsReading};
+ghost use Rattle.control.specs.declared.fault.Fault.{Fault as FaultValue};
+ghost use Rattle.control.specs.declared.scenario.Experiment.{Experiment as ExperimentValue};
+
+use crate::fault::{Cause, Fault, LineError, ParseError, at_line, in_line};
+use crate::scenario::{CommandList, Experiment, ExperimentName, Scenario};
+use control_words::{LineEntry, first_line, read_line};
+use emu_model::{Command, Spec, Timed};
+use std::alloc::Global;
+
+const MAX_BYTES: usize = 16_777_216;
+
+const MAX_EXPERIMENTS: usize = 256;
+
+/// The experiments so far: those that have their end, and the one that hasn't, with the moment of
+/// its last command.
+#[derive(Drop)]
+struct Builder {
+    done: Vec<Experiment>,
+    running: Option<Experiment>,
+    latest: u64,
+}
+
+fn is_named(experiments: &[Experiment], name: &[u8]) -> bool
+    ensures { result ≡ list_any (has_name name.now) experiments.now }
+{
+    for e in experiments {
+        if e.name.as_bytes() == name {
+            return true;
+        }
+    }
+    false
+}
+
+fn ends(command: &Command) -> bool
+    ensures { result ≡ is_end command.now }
+{
+    match command {
+        Command::End => true,
+        _ => false,
+    }
+}
+
+impl Builder {
+    ghost use Rattle.std.specs.Prelude.{◌≡◌};
+    ghost use Rattle.control_words.specs.Entries.{view_entry};
+    ghost use Rattle.control.specs.Steps.{begin as begin_of, add as add_of, step};
+    ghost use Rattle.control.specs.Builder.{sofar, GivesStep, OnMemory, Taken};
+    ghost use Rattle.control.specs.Scenario.{Grows};
+
+    #[tactic(auto, unfolding(crate::specs::Steps::begin))]
+    fn begin(&mut self, alloc: Global, name: &[u8], spec: &Spec) -> Result<(), LineError>
+        ensures { GivesStep (sofar self.new) result (begin_of (sofar self.old) name.now spec.now) }
+    {
+        if self.running.is_some() {
+            return Err(LineError::Cause(Cause::NoEnd));
+        }
+        if self.done.len() >= MAX_EXPERIMENTS {
+            return Err(LineError::Cause(Cause::TooMany));
+        }
+        if is_named(&self.done, name) {
+            return Err(LineError::Cause(Cause::SameName));
+        }
+        self.running = Some(Experiment {
+            name: ExperimentName::new(alloc, name)?,
+            spec: *spec,
+            commands: CommandList::new(alloc),
+        });
+        self.latest = 0;
+        Ok(())
+    }
+
+    #[tactic(auto, unfolding(crate::specs::Steps::add))]
+    fn add(&mut self, command: &Timed) -> Result<(), LineError>
+        ensures { GivesStep (sofar self.new) result (add_of (sofar self.old) command.now) }
+    {
+        let Some(mut experiment) = self.running.take() else {
+            if self.done.is_empty() {
+                return Err(LineError::Cause(Cause::NoExperiment));
+            }
+            return Err(LineError::Cause(Cause::AfterEnd));
+        };
+        let moment = command.moment;
+        if moment < self.latest {
+            return Err(LineError::Cause(Cause::Backwards));
+        }
+        let is_last = ends(&command.command);
+        experiment.commands.push(command)?;
+        self.latest = moment;
+        if is_last {
+            self.done.push(experiment)?;
+        } else {
+            self.running = Some(experiment);
+        }
+        Ok(())
+    }
+
+    fn take_entry(&mut self, alloc: Global, entry: &LineEntry) -> Result<(), LineError>
+        ensures step { GivesStep (sofar self.new) result (step (sofar self.old) (view_entry entry.now)) }
+        ensures grows { OnMemory result (Grows (view_entry entry.now)) }
+    {
+        match entry {
+            LineEntry::Nothing => Ok(()),
+            LineEntry::Begins { name, spec } => self.begin(alloc, name, spec),
+            LineEntry::Does(command) => self.add(command),
+        }
+    }
+
+    fn take_line(&mut self, alloc: Global, line: &[u8]) -> Result<(), LineError>
+        ensures { Taken (sofar self.old) line.now result (sofar self.new) }
+    {
+        match read_line(line) {
+            Ok(entry) => self.take_entry(alloc, &entry),
+            Err(fault) => Err(LineError::Cause(in_line(fault))),
+        }
+    }
+}
+
+fn fault_at<T>(line: u64, cause: Cause) -> Result<T, ParseError>
+    ensures { result ≡ Err (ParseError.Fault (record { line = line; cause = cause })) }
+{
+    Err(ParseError::Fault(Fault { line, cause }))
+}
+
+/// The scenario that the bytes spell, or the first faulty line's first cause. `NoMemory` only
+/// where a name or a command was to be kept before any fault. One pass over the bytes.
+pub fn parse_scenario(alloc: Global, bytes: &[u8]) -> Result<Scenario, ParseError>
+    // What is read is what the bytes spell.
+    ensures spelled { IfOk result (λ s. Spells bytes.now s) }
+    // Whatever spells a scenario is read as just that one, and never refused but for memory.
+    ensures only { (s : List ExperimentValue) → Spells bytes.now s → IsReadAs s result }
+    // A fault is the bytes' own: the first faulty line's, and in it the first that stands.
+    // Memory is wanted only where a line without fault, behind lines without fault, adds something.
+    ensures fault { IfErr result (λ e. IsFaultOf bytes.now e) }
+    // Faulty bytes are refused with just that fault, or for memory.
+    ensures faulty { (f : FaultValue) → HasFault bytes.now f → IsFaultedAs f result }
+{
+    read_all(alloc, bytes)
+}
+
+fn read_all(alloc: Global, bytes: &[u8]) -> Result<Scenario, ParseError>
+    ensures { IsReading bytes.now result }
+{
+    if bytes.len() > MAX_BYTES {
+        return fault_at(0, Cause::TooBig);
+    }
+    let mut builder = Builder {
+        done: Vec::new(alloc),
+        running: None,
+        latest: 0,
+    };
+    let mut rest = bytes;
+    let mut number = 1u64;
+    while let Some((line, after)) = first_line(rest) {
+        match builder.take_line(alloc, line) {
+            Ok(()) => {}
+            Err(error) => return Err(at_line(error, number)),
+        }
+        rest = after;
+        number += 1;
+    }
+    if !rest.is_empty() {
+        return fault_at(number, Cause::Cut);
+    }
+    if builder.running.is_some() {
+        return fault_at(number, Cause::NoEnd);
+    }
+    let scenario = Scenario::new(builder.done);
+    Ok(scenario)
+}

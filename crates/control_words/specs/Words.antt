@@ -1,0 +1,37 @@
+-- Reading words from the left.
+use Rattle.std.specs.Prelude.{ℕ, Bool, List, [], ◌∷◌, Option, Some, None, if◌then◌else◌, option_and_then}
+use Rattle.std.specs.Str.{bytes_eq}
+
+abbrev pub Words : Type 0
+Words = List (List ℕ)
+
+infixl 10 ◌>>=◌
+abbrev pub ◌>>=◌ : {A B : Type 0} → Option A → (A → Option B) → Option B
+o >>= f = option_and_then f o
+
+abbrev pub next : Words → Option (List ℕ × Words)
+next [] = None
+next (w ∷ ws) = Some (w, ws)
+
+-- no word is left
+abbrev pub none_left : Words → Option Words
+none_left [] = Some []
+none_left (w ∷ ws) = None
+
+-- the words after this one
+abbrev pub after : List ℕ → Words → Option Words
+after text [] = None
+after text (w ∷ ws) = if bytes_eq w text then Some ws else None
+
+-- what the next word says
+abbrev pub value : {A : Type 0} → (List ℕ → Option A) → Words → Option (A × Words)
+value says ws = do
+  word ← next ws
+  a ← says word.0
+  Some (a, word.1)
+
+-- what the next word says, as a thing
+abbrev pub said : {A B : Type 0} → (List ℕ → Option A) → (A → B) → Words → Option (B × Words)
+said says thing ws = do
+  a ← value says ws
+  Some (thing a.0, a.1)

@@ -1,0 +1,112 @@
+//! Lines and words.
+
+ghost use Rattle.std.specs.Prelude.{◌≡◌, ◌∷◌, [], length, position, ◌==◌, ◌<◌, MatchOption, IfSome};
+ghost use Rattle.std.specs.List.{prefix_len, position_or_len};
+ghost use Rattle.std.specs.Str.{bytes_eq};
+ghost use Rattle.control_words.specs.Text.{parts, lines, words};
+
+/// Whether the word is this text.
+pub fn is(word: &[u8], text: &str) -> bool
+    ensures { result ≡ bytes_eq word.now text.now }
+{
+    word == text.as_bytes()
+}
+
+fn place_of(bytes: &[u8], separator: u8) -> Option<usize>
+    ensures { result ≡ position (λ b. b == separator) bytes.now }
+{
+    bytes.iter().position(|b| *b == separator)
+}
+
+/// What stands before the first separator, and what follows it. `None` where there is none.
+pub fn cut(bytes: &[u8], separator: u8) -> Option<(&[u8], &[u8])>
+    ensures value { MatchOption result (parts separator bytes.now ≡ bytes.now ∷ []) (λ x. parts separator bytes.now ≡ x.0.now ∷ parts separator x.1.now) }
+    ensures shorter { IfSome result (λ x. length x.1.now < length bytes.now) }
+{
+    let end = place_of(bytes, separator)?;
+    Some((&bytes[..end], &bytes[end + 1..]))
+}
+
+/// The first line, without its line feed, and what follows it. `None` where there is no line feed.
+pub fn first_line(bytes: &[u8]) -> Option<(&[u8], &[u8])>
+    ensures value { MatchOption result (lines bytes.now ≡ bytes.now ∷ []) (λ x. lines bytes.now ≡ x.0.now ∷ lines x.1.now) }
+    ensures shorter { IfSome result (λ x. length x.1.now < length bytes.now) }
+{
+    cut(bytes, b'\n')
+}
+
+fn leading_spaces(bytes: &[u8]) -> usize
+    ensures value { result ≡ prefix_len (λ b. b == 32) bytes.now }
+{
+    let mut count = 0;
+    for b in bytes {
+        if *b != b' ' {
+            break;
+        }
+        count += 1;
+    }
+    count
+}
+
+fn word_end(bytes: &[u8]) -> usize
+    ensures { result ≡ position_or_len (λ b. b == 32) bytes.now }
+{
+    let mut count = 0;
+    for b in bytes {
+        if *b == b' ' {
+            break;
+        }
+        count += 1;
+    }
+    count
+}
+
+/// The first word, and what follows it. `None` where only spaces stand.
+fn first_word(bytes: &[u8]) -> Option<(&[u8], &[u8])>
+    ensures { MatchOption result (words bytes.now ≡ []) (λ x. words bytes.now ≡ x.0.now ∷ words x.1.now) }
+{
+    let (_, bytes) = bytes.split_at(leading_spaces(bytes));
+    if bytes.is_empty() {
+        return None;
+    }
+    Some(bytes.split_at(word_end(bytes)))
+}
+
+/// The words of a line that are left.
+#[derive(Clone, Copy)]
+pub struct Words<'a> {
+    pub rest: &'a [u8],
+}
+
+impl<'a> Words<'a> {
+    ghost use Rattle.control_words.specs.Numbers.{number_of};
+    ghost use Rattle.control_words.specs.Words.{next, after, none_left, value};
+    ghost use Rattle.std.specs.Prelude.{◌≡◌, [], option_map};
+    ghost use Rattle.control_words.specs.Text.{words};
+
+    /// The next word.
+    pub fn next_word(&mut self) -> Option<&'a [u8]>
+        ensures { option_map (λ w. (w.now, words self.new.rest.now)) result ≡ next (words self.old.rest.now) }
+    {
+        let (word, rest) = first_word(self.rest)?;
+        self.rest = rest;
+        Some(word)
+    }
+
+    /// Whether the next word is this text.
+    pub fn expect_word(&mut self, text: &str) -> Option<()>
+        ensures { option_map (λ _. words self.new.rest.now) result ≡ after text.now (words self.old.rest.now) }
+    {
+        is(self.next_word()?, text).then_some(())
+    }
+
+    /// Whether no word is left.
+    pub fn finished(&mut self) -> Option<()>
+        ensures { option_map (λ _. []) result ≡ none_left (words self.old.rest.now) }
+    {
+        match self.next_word() {
+            None => Some(()),
+            Some(_) => None,
+        }
+    }
+}
