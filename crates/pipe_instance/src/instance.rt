@@ -1,7 +1,7 @@
 //! One instance of a pipe, over the keys of its packets. Its arrival, finish and exit do to the keys
 //! what the definitions do to the packets, however the keys are named.
 
-ghost use Rattle.std.specs.Prelude.{◌≡◌, ℕ, ◌+◌, ◌-◌, ◌*◌, ◌^◌, ◌<◌, ◌≤◌, true, [], Some, None, option_map, is_some, IsSome, length, IfOk, OnOk, OnErr, IsOk, map};
+ghost use Rattle.std.specs.Prelude.{min, ◌≡◌, ℕ, ◌+◌, ◌-◌, ◌*◌, ◌^◌, ◌<◌, ◌≤◌, true, [], Some, None, option_map, is_some, IsSome, length, IfOk, OnOk, OnErr, IsOk, map};
 ghost use Rattle.emu_model.specs.declared.packets.Packet.{Packet};
 ghost use Rattle.emu_model.specs.declared.pipes.PipeConfig.{PipeConfig as Config};
 ghost use Rattle.emu_model.specs.FlowIds.{FlowId};
@@ -88,11 +88,13 @@ impl Instance {
         }
     }
 
-    /// Draws the loss word of the packet that comes, at every rate: whether it is lost.
+    /// Draws the loss word of the packet that comes, at every rate: whether it is lost. The count of
+    /// words stays at 2^128 - 1.
     pub fn lose(&mut self, plr: LossRate) -> bool
-        requires { self.old.draws.drawn < 2 ^ 128 - 1 }
         ensures answer { result ≡ is_lost self.old.draws.seed self.old.draws.pipe self.old.draws.instance self.old.draws.drawn plr }
-        ensures drawn { self.new ≡ record self.old { draws = record self.old.draws { drawn = self.old.draws.drawn + 1 } } }
+        ensures drawn { self.new ≡ record self.old {
+          draws = record self.old.draws { drawn = min (self.old.draws.drawn + 1) (2 ^ 128 - 1) };
+        } }
     {
         self.stream.lose(plr)
     }
