@@ -1,0 +1,3 @@
+mod Sources
+mod Order
+mod Rows
