@@ -1,3 +1,0 @@
-pub mod UseCounts
-pub mod Dequeues
-pub mod Shows

@@ -1,3 +1,0 @@
-mod Sources
-mod Order
-mod Rows
