@@ -80,5 +80,10 @@ pub trait Shelf {
         ensures some { OnSome result (pocket self.new owner ≡ without (pocket self.old owner) key) }
         ensures none { IfNone result (pocket self.new owner ≡ pocket self.old owner) }
         ensures others { (o : ℕ) → o ≢ owner → pocket self.new o ≡ pocket self.old o }
-        ensures room { (o : ℕ) → room self.old o ≤ room self.new o };
+        ensures room { (o : ℕ) → room self.old o ≤ room self.new o }
+        ensures freed { OnSome result (0 < room self.new owner) };
+
+    /// How many packets the owner has.
+    fn count(&self, owner: Owner) -> usize
+        ensures { result ≡ (pocket self.now owner).count };
 }

@@ -106,4 +106,12 @@ impl Shelf for OwnShelf {
             None => None,
         }
     }
+
+    fn count(&self, owner: Owner) -> usize {
+        if owner == 0 {
+            self.slab.len()
+        } else {
+            0
+        }
+    }
 }

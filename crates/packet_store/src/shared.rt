@@ -91,20 +91,10 @@ impl Store {
         ensures others { (o : ℕ) → o ≢ owner → pocket_of self.new o ≡ pocket_of self.old o }
     {
         for place in 0..self.slab.capacity() {
-            if self.held(owner) == 0 {
+            if self.count(owner) == 0 {
                 return;
             }
             self.take(owner, Key { place });
-        }
-    }
-
-    // How many packets the owner has.
-    fn held(&self, owner: Owner) -> usize
-        ensures { result ≡ (pocket_of self.now owner).count }
-    {
-        match self.accounts.get(owner) {
-            Some(account) => account.used,
-            None => 0,
         }
     }
 }
@@ -151,5 +141,12 @@ impl Shelf for Store {
         prove!(self.reserved < capacity);
         self.reserved += 1;
         Some(packet)
+    }
+
+    fn count(&self, owner: Owner) -> usize {
+        match self.accounts.get(owner) {
+            Some(account) => account.used,
+            None => 0,
+        }
     }
 }

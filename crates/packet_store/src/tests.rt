@@ -72,7 +72,10 @@ fn own_shelf_keeps_its_budget(rt: HostRuntime) -> Result<(), Fail> {
     assert_eq!(rt; look(&shelf, 0, second), Some(11));
 
     // A free place is used again.
+    assert_eq!(rt; shelf.count(0), 2);
     assert_eq!(rt; take(&mut shelf, 0, first), Some(10));
+    assert_eq!(rt; shelf.count(0), 1);
+    assert_eq!(rt; shelf.count(1), 0);
     assert_eq!(rt; take(&mut shelf, 0, first), None);
     assert!(rt; put(&mut shelf, 0, 13)? == first);
     assert!(rt; matches!(put(&mut shelf, 1, 14), Err(PutError::OverBudget)));
@@ -88,6 +91,8 @@ fn a_flood_takes_no_place_of_another(rt: HostRuntime) -> Result<(), Fail> {
     let kept = put(&mut store, quiet, 20)?;
     assert_eq!(rt; look(&store, loud, kept), None);
     assert_eq!(rt; flood(&mut store, quiet), Some(1));
+    assert_eq!(rt; store.count(quiet), 2);
+    assert_eq!(rt; store.count(loud), 65535);
 
     // What a dismissed owner held is gone, and its number is given out anew.
     store.dismiss(loud);

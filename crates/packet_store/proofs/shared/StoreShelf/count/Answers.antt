@@ -5,7 +5,7 @@ use Rattle.packet_store.specs.Books.{Books, pocket_of, account, account_of, held
 use Rattle.packet_store.proofs.Counts.{Elsewhere, at-le-sum_by}
 use Rattle.packet_store.proofs.Pockets.{pocket_of-other, pocket_of-put, pocket_of-take, pocket_of-empty, pocket_of-account, is_of-other, kept_at, nothing_found, budget_is, count_is, find_is, found}
 use Rattle.packet_store.proofs.Sound.{IsSound-put, IsSound-take, IsSound-account, place_for, HasPlace, not_of, uses_one, elsewhere-set, account-set}
-use Rattle.packet_store.proofs.shared.Store.held.Goals as goal
+use Rattle.packet_store.proofs.shared.StoreShelf.count.Goals as goal
 
 pub returns-in-Some : goal.returns-in-Some
 returns-in-Some c =
