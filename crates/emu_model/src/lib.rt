@@ -28,7 +28,7 @@ pub use ranged::{
 };
 pub use records::{Counters, DropCause, Ending, Record, Refusal};
 pub use rules::{Action, PortRange, Prefix, ProtocolMatch, Rule, Verdict};
-pub use sources::{Class, FlowSpec, SendSpec, Source, Timing, TrainSpec};
+pub use sources::{Class, Due, FlowSpec, SendSpec, Source, Timing, TrainSpec};
 
 // Lists hold many of these.
 const _: () = prove!(size_of::<Record>() <= 72);
@@ -172,6 +172,27 @@ mod tests {
             let prefix = Prefix::new(0x0a010203, length);
             assert_eq!(rt; prefix.address(), wanted, "/{len}");
             assert_eq!(rt; prefix.length().get(), len);
+        }
+    }
+
+    // By moment first, then by class, then by number.
+    #[test]
+    fn dues_stand_in_order(rt: HostRuntime) {
+        let due = |moment, class, number| Due {
+            moment,
+            source: Source { class, number },
+        };
+        let rising = [
+            due(5, Class::Emission, 9),
+            due(6, Class::NextCommand, 0),
+            due(6, Class::Exit, 256),
+            due(6, Class::Exit, 257),
+            due(6, Class::Finish, 0),
+        ];
+        for (i, earlier) in rising.iter().enumerate() {
+            for (j, later) in rising.iter().enumerate() {
+                assert_eq!(rt; earlier.is_before(later), i < j, "{i} and {j}");
+            }
         }
     }
 
