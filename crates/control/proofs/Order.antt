@@ -9,10 +9,10 @@ use Rattle.emu_model.specs.declared.commands.Spec.{Spec}
 use Rattle.emu_model.specs.declared.commands.Timed.{Timed}
 use Rattle.control_words.specs.Entries.{Entry, Nothing, Begins, Does}
 use Rattle.control.specs.declared.fault.Cause.{Cause}
-use Rattle.control.specs.declared.fault.Cause.TheVariants.{TooBig, Cut, TooLong, BadByte, BadWord, OutOfRange, NoEnd, TooMany, SameName, NoExperiment, AfterEnd, Backwards}
+use Rattle.control.specs.declared.fault.Cause.TheVariants.{NoEnd, TooMany, SameName, NoExperiment, AfterEnd, Backwards}
 use Rattle.control.specs.declared.scenario.Experiment.{Experiment}
 use Rattle.control.specs.Scenario.{is_end, has_end, names, commands, IsRunning, FaultsBegin, FaultsDo, FaultsEntry, rank, begun, with_command, with_last, experiments}
-use Rattle.control.specs.Steps.{Sofar, has_name, begin, add_at, add, step}
+use Rattle.control.specs.Steps.{Sofar, has_name, begin, add, step}
 
 pub record Names (done : List Experiment) (ns : List (List ℕ)) : Type 0 where
   pub any : (n : List ℕ) → list_any (has_name n) done ≡ list_any (λ o. bytes_eq o n) ns

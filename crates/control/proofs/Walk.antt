@@ -1,5 +1,5 @@
 -- The lines one after the other: what is found of the rest is found of all.
-use Rattle.std.proofs.Common.{IfOk, IfErr, ◌≡◌, ◌⊎◌, inl, inr, ℕ, ◌+◌, ◌<◌, ◌≤◌, Bool, true, false, cond, eqb, List, [], ◌∷◌, length, Option, Some, None, Result, Ok, Err, refl, sym, ap, subst, ◌∙◌, arith}
+use Rattle.std.proofs.Common.{IfOk, IfErr, ◌≡◌, ◌⊎◌, inl, inr, ℕ, ◌+◌, ◌<◌, ◌≤◌, Bool, true, false, cond, eqb, List, [], ◌∷◌, length, None, Result, Ok, Err, refl, sym, ap, subst, ◌∙◌, arith}
 use Rattle.std.specs.Prelude.{is_some}
 use Rattle.std.specs.List.{onto_first}
 use Rattle.std.proofs.lemmas.Bool.{eqb-true}
@@ -13,14 +13,13 @@ use Rattle.control.specs.declared.fault.Cause.TheVariants.{TooBig, Cut, TooLong,
 use Rattle.control.specs.declared.fault.Fault.{Fault}
 use Rattle.control.specs.declared.fault.LineError.{LineError}
 use Rattle.control.specs.declared.fault.LineError.TheVariants as line_error
-use Rattle.control.specs.declared.fault.ParseError.{ParseError}
 use Rattle.control.specs.declared.fault.ParseError.TheVariants as errors
 use Rattle.control.specs.declared.scenario.Experiment.{Experiment}
-use Rattle.control.specs.Scenario.{IsRunning, FaultsEntry, IsOutOfOrder, Stands, rank, IsFirst, IsFine, IsFault, HasFault, AreSpelled, Spells, Grows, NeedRoom, NeedsRoom, experiments}
+use Rattle.control.specs.Scenario.{FaultsEntry, Stands, rank, IsFirst, IsFine, IsFault, AreSpelled, Spells, Grows, NeedRoom}
 use Rattle.control.specs.Steps.{cause_in_line, error_at, Sofar, step}
 use Rattle.control.specs.Builder.{Passes, GivesStep, OnMemory, Taken}
-use Rattle.control.specs.Answer.{Answer, IsFaultOf, IsReadAs, IsFaultedAs, IsFound, IsReading}
-use Rattle.control.proofs.Order.{Matches, Told, told, Seen, seen, busy_runs, idle_ends, nothing_before}
+use Rattle.control.specs.Answer.{Answer, IsFaultOf, IsFound, IsReading}
+use Rattle.control.proofs.Order.{Matches, Told, told, seen, busy_runs, idle_ends, nothing_before}
 
 -- ---- one line
 abbrev failed : Cause → Result Sofar Cause

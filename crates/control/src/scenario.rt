@@ -1,6 +1,6 @@
 //! What a scenario is.
 
-ghost use Rattle.std.specs.Prelude.{◌≡◌, [], ◌∷◌, ◌++◌, IfOk};
+ghost use Rattle.std.specs.Prelude.{◌≡◌, [], ◌∷◌, ◌++◌, IfOk, OnErr, OnOk};
 
 use emu_model::{Spec, Timed};
 use std::alloc::{AllocError, Global};
@@ -63,9 +63,10 @@ impl CommandList {
         }
     }
 
-    /// Adds a command at the end; refused where memory is.
+    /// Adds a command at the end. Refused where memory is, and the list is as it was.
     pub fn push(&mut self, command: &Timed) -> Result<(), AllocError>
-        ensures { IfOk result (λ _. self.new ≡ self.old ++ command.now ∷ []) }
+        ensures ok { OnOk result (self.new ≡ self.old ++ command.now ∷ []) }
+        ensures err { OnErr result (self.new ≡ self.old) }
     {
         self.items.extend_from_slice(slice::from_ref(command))?;
         Ok(())

@@ -4,6 +4,9 @@ use std::alloc::{AllocError, Global};
 use std::process::Abort;
 use std::test::*;
 
+mod limits;
+mod lines;
+
 /// Wants this fault.
 fn wants(rt: &(impl Abort + AllocGlobal), text: &str, line: u64, cause: Cause) {
     match parse_scenario(rt.alloc(), text.as_bytes()) {
@@ -12,6 +15,17 @@ fn wants(rt: &(impl Abort + AllocGlobal), text: &str, line: u64, cause: Cause) {
             assert_eq!(rt; fault.cause, cause, "in {text}");
         }
         _ => assert!(rt; false, "no fault in {text}"),
+    }
+}
+
+/// Wants this fault in bytes that are not to be printed.
+fn has_fault(rt: &(impl Abort + AllocGlobal), bytes: &[u8], line: u64, cause: Cause) {
+    match parse_scenario(rt.alloc(), bytes) {
+        Err(ParseError::Fault(fault)) => {
+            assert_eq!(rt; fault.line, line);
+            assert_eq!(rt; fault.cause, cause);
+        }
+        _ => assert!(rt; false, "no fault"),
     }
 }
 

@@ -104,3 +104,12 @@ impl<A: Drop> DelayLine<A> {
         self.flight.len()
     }
 }
+
+impl<A: Copy> DelayLine<A> {
+    /// What leaves first, which stays.
+    pub fn front(&self) -> Option<A>
+        ensures { result ≡ first_item self.now.line.flight }
+    {
+        self.flight.front().map(|first| first.item)
+    }
+}

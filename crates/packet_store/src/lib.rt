@@ -81,7 +81,8 @@ pub trait Shelf {
         ensures none { IfNone result (pocket self.new owner ≡ pocket self.old owner) }
         ensures others { (o : ℕ) → o ≢ owner → pocket self.new o ≡ pocket self.old o }
         ensures room { (o : ℕ) → room self.old o ≤ room self.new o }
-        ensures freed { OnSome result (0 < room self.new owner) };
+        ensures freed { OnSome result (0 < room self.new owner) }
+        ensures below { OnSome result ((pocket self.new owner).count < (pocket self.new owner).budget) };
 
     /// How many packets the owner has.
     fn count(&self, owner: Owner) -> usize

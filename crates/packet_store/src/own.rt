@@ -22,7 +22,7 @@ pub struct OwnShelf {
 }
 
 impl Model for OwnShelf {
-    ghost use Rattle.std.specs.Prelude.{◌-◌, ◌≤◌};
+    ghost use Rattle.std.specs.Prelude.{◌-◌, ◌≤◌, count_by, is_some};
     ghost use Rattle.slab.specs.Slab.{slab_len};
     ghost use Rattle.packet_store.specs.Own.{Own};
 
@@ -34,7 +34,7 @@ impl Model for OwnShelf {
       spare = s.slab.capacity - slab_len s.slab;
     } };
 
-    ghost invariant = { λ s. slab_len s.slab ≤ s.slab.capacity };
+    ghost invariant = { λ s. (slab_len s.slab ≤ s.slab.capacity) × (count_by is_some s.slab.slots ≤ s.budget) };
 }
 
 impl OwnShelf {

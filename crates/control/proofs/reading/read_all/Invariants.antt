@@ -1,4 +1,4 @@
-use Rattle.std.proofs.Common.{◌≡◌, ◌+◌, ◌≤◌, length}
+use Rattle.std.proofs.Common.{◌+◌, ◌≤◌, length}
 use Rattle.control.specs.Builder.{sofar}
 use Rattle.control.proofs.Walk.{Holds}
 use Rattle.control.proofs.reading.read_all.Given as goal

@@ -1,4 +1,4 @@
-use Rattle.std.proofs.Common.{refl, sym, inl}
+use Rattle.std.proofs.Common.{sym, inl}
 use Rattle.control_words.specs.Entries.{view_entry}
 use Rattle.control.specs.Builder.{sofar}
 use Rattle.control.proofs.Walk.{taken_by}

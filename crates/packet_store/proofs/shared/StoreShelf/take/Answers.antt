@@ -73,3 +73,12 @@ returns-clause-freed c =
     let counts = count_is _ s.slab.slots s.accounts.slots c.args.owner c.self.view_is in
     let budget = budget_is _ s.slab.slots s.accounts.slots c.args.owner c.self.view_is in
     rw (returns-clause-some c) (omega (arith, uses, counts, budget, c.self.invariant.within c.args.owner, c.self.invariant.used c.args.owner))
+
+pub returns-clause-below : goal.returns-clause-below
+returns-clause-below c =
+    let s = c.self.inside in
+    let own = found c.args.self.now s.slab.slots s.accounts.slots c.args.owner c.self.view_is c.key.inside.place c.in_ok-packet.packet (rw c.key.view_is c.in_ok-packet.ensures) in
+    let uses = uses_one s.slab.slots _ s.accounts.slots s.reserved s.slab.capacity c.key.inside.place c.args.owner c.self.invariant c.try_remove.ensures.updates.others own c.try_remove.ensures.updates.changed in
+    let counts = count_is _ s.slab.slots s.accounts.slots c.args.owner c.self.view_is in
+    let budget = budget_is _ s.slab.slots s.accounts.slots c.args.owner c.self.view_is in
+    rw (returns-clause-some c) (omega (arith, uses, counts, budget, c.self.invariant.within c.args.owner, c.self.invariant.used c.args.owner))

@@ -1,0 +1,3 @@
+pub mod UseCounts
+pub mod Dequeues
+pub mod Shows

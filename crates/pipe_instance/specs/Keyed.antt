@@ -1,0 +1,88 @@
+-- An instance whose packets are kept elsewhere, under keys, and the instance that it shows once
+-- each key is named.
+use Rattle.std.specs.Prelude.{◌≡◌, ℕ, Option, option_map, option_to_list, List, [], ◌∷◌, ◌++◌, map}
+use Rattle.emu_model.specs.declared.packets.Packet.{Packet}
+use Rattle.emu_model.specs.declared.pipes.PipeConfig.{PipeConfig}
+use Rattle.emu_model.specs.declared.pipes.QueueLimit.{QueueLimit}
+use Rattle.emu_model.specs.declared.pipes.Discipline.{Discipline}
+use Rattle.emu_model.specs.declared.pipes.Discipline.TheVariants.{TailDrop, ControlledDelay}
+use Rattle.emu_model.specs.FlowIds.{FlowId}
+use Rattle.emu_model.specs.DropTail.{Waiting}
+use Rattle.emu_model.specs.Codel.{Control, Dequeued, codel_dequeue, give, give_none}
+use Rattle.emu_model.specs.Rate.{Period}
+use Rattle.emu_model.specs.Delay.{Leaving, Line}
+use Rattle.emu_model.specs.Pipes.{InService, Instance}
+use Rattle.link_core.specs.Lane.{Lane}
+use Rattle.loss_stream.specs.Draws.{Draws}
+
+pub record KeyInService : Type 0 where
+  pub key : ℕ
+  pub period : Period
+
+-- the queue; up to `capacity` may wait before it has to grow
+pub record KeyedQueue : Type 0 where
+  pub limit : QueueLimit
+  pub discipline : Discipline
+  pub control : Control
+  pub waiting : List (Waiting ℕ)
+  pub capacity : ℕ
+
+-- the rate, and what is in service
+pub record KeyedService : Type 0 where
+  pub bw : ℕ
+  pub busy : Option KeyInService
+
+pub record KeyedInstance : Type 0 where
+  pub queue : KeyedQueue
+  pub service : KeyedService
+  pub lane : Lane ℕ
+  pub draws : Draws
+
+-- a dequeue by the discipline, of whatever waits
+abbrev pub taken : {A : Type 0} → Discipline → ℕ → Control → List (Waiting A) → Dequeued A
+taken TailDrop now c [] = give_none c
+taken TailDrop now c (w ∷ ws) = give c w ws
+taken (ControlledDelay target interval) now c ws =
+    codel_dequeue (record { target = target; interval = interval }) now c ws
+
+abbrev pub seen_waiting : (ℕ → Packet) → Waiting ℕ → Waiting Packet
+seen_waiting f w = record { item = f w.item; size = w.size; stamp = w.stamp }
+
+abbrev pub seen_leaving : (ℕ → Packet) → Leaving ℕ → Leaving Packet
+seen_leaving f x = record { item = f x.item; exit = x.exit }
+
+abbrev pub seen_line : (ℕ → Packet) → Line ℕ → Line Packet
+seen_line f l = record { flight = map (seen_leaving f) l.flight; last = l.last }
+
+abbrev pub seen_service : (ℕ → Packet) → KeyInService → InService
+seen_service f s = record { packet = f s.key; period = s.period }
+
+-- the instance that is shown, where f names the packet of each key
+abbrev pub seen_instance : (ℕ → Packet) → FlowId → KeyedInstance → Instance
+seen_instance f id i = record {
+  id = id;
+  waiting = map (seen_waiting f) i.queue.waiting;
+  control = i.queue.control;
+  service = option_map (seen_service f) i.service.busy;
+  line = seen_line f i.lane.line;
+  drawn = i.draws.drawn;
+}
+
+-- the keys that stand in an instance: on their way, in service, waiting
+abbrev pub keys_in : KeyedInstance → List ℕ
+keys_in i =
+    map (λ x. x.item) i.lane.line.flight ++ option_to_list (option_map (λ s. s.key) i.service.busy)
+    ++ map (λ w. w.item) i.queue.waiting
+
+-- the instance works by this configuration
+pub record IsTuned (config : PipeConfig) (i : KeyedInstance) : Type 0 where
+  pub limit : i.queue.limit ≡ config.queue
+  pub discipline : i.queue.discipline ≡ config.discipline
+  pub bw : i.service.bw ≡ config.bw
+
+-- what no packet changes
+pub record IsSameSetting (old new : KeyedInstance) : Type 0 where
+  pub limit : new.queue.limit ≡ old.queue.limit
+  pub discipline : new.queue.discipline ≡ old.queue.discipline
+  pub bw : new.service.bw ≡ old.service.bw
+  pub draws : new.draws ≡ old.draws

@@ -1,0 +1,17 @@
+-- Sums over keys: how often one stands in a list, and how many there are.
+use Rattle.std.specs.Prelude.{ℕ, ◌+◌, ◌==◌, if◌then◌else◌, List, [], ◌∷◌}
+
+-- the sum of what each key weighs
+unfoldable pub total : (ℕ → ℕ) → List ℕ → ℕ
+total weight [] = 0
+total weight (x ∷ xs) = weight x + total weight xs
+
+abbrev pub one_at : ℕ → ℕ → ℕ
+one_at k key = if key == k then 1 else 0
+
+-- how often a key stands in a list
+abbrev pub uses : ℕ → List ℕ → ℕ
+uses k keys = total (one_at k) keys
+
+abbrev pub one : ℕ → ℕ
+one key = 1

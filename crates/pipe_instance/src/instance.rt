@@ -1,0 +1,247 @@
+//! One instance of a pipe, over the keys of its packets. Its arrival, finish and exit do to the keys
+//! what the definitions do to the packets, however the keys are named.
+
+ghost use Rattle.std.specs.Prelude.{min, ◌≡◌, ℕ, ◌+◌, ◌-◌, ◌*◌, ◌^◌, ◌<◌, ◌≤◌, true, [], Some, None, option_map, is_some, IsSome, length, IfOk, OnOk, OnErr, IsOk, map};
+ghost use Rattle.emu_model.specs.declared.packets.Packet.{Packet};
+ghost use Rattle.emu_model.specs.declared.pipes.PipeConfig.{PipeConfig as Config};
+ghost use Rattle.emu_model.specs.FlowIds.{FlowId};
+ghost use Rattle.emu_model.specs.Loss.{is_lost};
+ghost use Rattle.emu_model.specs.DropTail.{bytes_of, accepts};
+ghost use Rattle.emu_model.specs.Delay.{leave, first_item, first_exit};
+ghost use Rattle.emu_model.specs.Pipes.{opening_instance, accept, no_drop, instance_configure};
+ghost use Rattle.emu_model.specs.Commands.{shown_words};
+ghost use Rattle.pipe_instance.specs.Keyed.{taken, seen_instance, keys_in, IsTuned};
+ghost use Rattle.pipe_instance.specs.Turns.{accepted, configured, IsFinish};
+
+use crate::leftovers::Leftovers;
+use crate::queue::Queue;
+use crate::service::Service;
+use emu_model::{Delay, LossRate, PipeConfig, PipeNumber, Size};
+use link_core::DelayLine;
+use loss_stream::LossStream;
+use packet_store::Key;
+use queue_disc::{NoMemory, Waiting};
+use std::alloc::Global;
+use std::marker::Model;
+use std::mem;
+
+/// An instance of a pipe. Where nothing is in service, nothing waits.
+#[derive(Drop)]
+pub struct Instance {
+    alloc: Global,
+    queue: Queue,
+    service: Service,
+    line: DelayLine<Key>,
+    stream: LossStream,
+}
+
+impl Model for Instance {
+    ghost use Rattle.std.specs.Prelude.{◌≡◌, [], None};
+    ghost use Rattle.pipe_instance.specs.Keyed.{KeyedInstance};
+
+    ghost Value = { KeyedInstance };
+
+    ghost view = { λ i. record { queue = i.queue; service = i.service; lane = i.line; draws = i.stream } };
+
+    ghost invariant = { λ i. i.service.busy ≡ None → i.queue.waiting ≡ [] };
+}
+
+/// The key whose packet finished, and what CoDel dropped then, in order.
+#[derive(Drop)]
+pub struct Finished {
+    pub key: Key,
+    pub dropped: Vec<Waiting<Key>>,
+}
+
+/// When an instance has something to do (ns): the next exit, and the next finish.
+#[derive(Clone, Copy, Debug, PartialEq)]
+pub struct InstanceDues {
+    pub exit: Option<u64>,
+    pub finish: Option<u64>,
+}
+
+/// The numbers of an instance: how many packets wait, their bytes, whether one is in service, how
+/// many are on their way, and how many loss words were drawn (at most 2^64 - 1 is shown).
+#[derive(Clone, Copy, Debug, PartialEq)]
+pub struct Shown {
+    pub waiting: u64,
+    pub bytes: u64,
+    pub busy: bool,
+    pub flight: u64,
+    pub drawn: u64,
+}
+
+impl Instance {
+    /// An instance to which nothing has come. Takes no memory.
+    pub fn new(alloc: Global, config: &PipeConfig, seed: u64, pipe: PipeNumber, number: u8) -> Self
+        ensures tuned { IsTuned config.now result }
+        ensures opening { (f : ℕ → Packet) (id : FlowId) → seen_instance f id result ≡ opening_instance id }
+        ensures keys { keys_in result ≡ [] }
+        ensures draws { result.draws ≡ record { seed = seed; pipe = pipe; instance = number; drawn = 0 } }
+    {
+        Instance {
+            alloc,
+            queue: Queue::new(alloc, config.queue, config.discipline),
+            service: Service::new(config.bw),
+            line: DelayLine::new(alloc),
+            stream: LossStream::new(seed, pipe, number),
+        }
+    }
+
+    /// Draws the loss word of the packet that comes, at every rate: whether it is lost. The count of
+    /// words stays at 2^128 - 1.
+    pub fn lose(&mut self, plr: LossRate) -> bool
+        ensures answer { result ≡ is_lost self.old.draws.seed self.old.draws.pipe self.old.draws.instance self.old.draws.drawn plr }
+        ensures drawn { self.new ≡ record self.old {
+          draws = record self.old.draws { drawn = min (self.old.draws.drawn + 1) (2 ^ 128 - 1) };
+        } }
+    {
+        self.stream.lose(plr)
+    }
+
+    /// Whether the limit lets a packet of `size` bytes come in.
+    pub fn accepts(&self, size: Size) -> bool
+        ensures { result ≡ accepts self.now.queue.limit self.now.queue.waiting size }
+    {
+        self.queue.accepts(size)
+    }
+
+    /// Makes the growth that `accept` of these can need: none where nothing is in service.
+    pub fn accept_ready(&mut self, size: Size, now: u64) -> Result<(), NoMemory>
+        ensures ready { OnOk result (accepts self.old.queue.limit self.old.queue.waiting size ≡ true →
+            IsSome self.new.service.busy → length self.new.queue.waiting < self.new.queue.capacity) }
+        ensures same { self.new ≡ record self.old { queue = record self.old.queue { capacity = self.new.queue.capacity } } }
+        ensures grows { self.old.queue.capacity ≤ self.new.queue.capacity }
+        ensures unchanged { OnErr result (self.new ≡ self.old) }
+        ensures refused { OnErr result ((accepts self.old.queue.limit self.old.queue.waiting size ≡ true)
+            × IsSome self.old.service.busy × (self.old.queue.capacity ≤ length self.old.queue.waiting)) }
+    {
+        if self.service.is_busy() {
+            self.queue.push_ready(size, now)
+        } else {
+            Ok(())
+        }
+    }
+
+    /// A packet of `size` bytes comes in at the moment `now` (ns) that the limit lets in: it waits, or
+    /// is served at once.
+    pub fn accept(&mut self, key: Key, size: Size, now: u64)
+        requires early { now < 2 * 10 ^ 15 }
+        requires accepted { accepts self.old.queue.limit self.old.queue.waiting size ≡ true }
+        requires ready { IsSome self.old.service.busy → length self.old.queue.waiting < self.old.queue.capacity }
+        ensures exact { self.new ≡ accepted now key size self.old }
+        ensures shown { (f : ℕ → Packet) (id : FlowId) (config : Config) → IsTuned config self.old → (f key).size ≡ size →
+            accept config now (f key) (seen_instance f id self.old) ≡ no_drop (seen_instance f id self.new) }
+    {
+        if self.service.is_busy() {
+            self.queue.push(key, size, now);
+        } else {
+            self.queue.pass(now);
+            self.service.start(key, size, now);
+        }
+    }
+
+    /// The packet in service finishes at the moment `now` (ns), at which it is due: it goes on its way
+    /// with this delay (ms), and the next is served. All growths come first; refused, the instance is
+    /// as before.
+    pub fn finish(&mut self, now: u64, delay: Delay) -> Result<Finished, NoMemory>
+        requires early { now < 2 * 10 ^ 15 }
+        requires due { option_map (λ s. s.period.finish) self.old.service.busy ≡ Some now }
+        ensures ok { IfOk result (λ r. IsFinish now delay r.key r.dropped.items self.old self.new) }
+        ensures unchanged { OnErr result (self.new ≡ record self.old { lane = record self.old.lane { spare = self.new.lane.spare } }) }
+        ensures succeeds { 0 < self.old.lane.spare →
+            (taken self.old.queue.discipline now self.old.queue.control self.old.queue.waiting).dropped ≡ [] → IsOk result }
+    {
+        let Some(key) = self.service.key() else {
+            unreachable!();
+        };
+        let Ok(()) = self.line.enter_ready(now, delay) else {
+            return Err(NoMemory);
+        };
+        let dequeued = self.queue.dequeue(now)?;
+        let Ok(()) = self.line.enter(key, now, delay) else {
+            unreachable!();
+        };
+        self.service.follow(dequeued.given);
+        Ok(Finished {
+            key,
+            dropped: dequeued.dropped,
+        })
+    }
+
+    /// What leaves first, which stays; None where nothing is on its way.
+    pub fn front(&self) -> Option<Key>
+        ensures { result ≡ first_item self.now.lane.line.flight }
+    {
+        self.line.front()
+    }
+
+    /// Takes out what leaves first; None where nothing is on its way.
+    pub fn exit(&mut self) -> Option<Key>
+        ensures item { result ≡ first_item self.old.lane.line.flight }
+        ensures rest { self.new ≡ record self.old { lane = record { line = leave self.old.lane.line; spare = self.new.lane.spare } } }
+        ensures room { self.old.lane.spare ≤ self.new.lane.spare }
+    {
+        self.line.leave()
+    }
+
+    /// A new configuration. Nothing is dropped; the packet in service keeps its finish, at which its
+    /// period ends; CoDel begins anew where its discipline or times change. Takes no memory.
+    pub fn configure(&mut self, old: &PipeConfig, new: &PipeConfig)
+        requires { IsTuned old.now self.old }
+        ensures exact { self.new ≡ configured old.now new.now self.old }
+        ensures tuned { IsTuned new.now self.new }
+        ensures shown { (f : ℕ → Packet) (id : FlowId) →
+            seen_instance f id self.new ≡ instance_configure old.now new.now (seen_instance f id self.old) }
+        ensures keys { keys_in self.new ≡ keys_in self.old }
+    {
+        let vacant = Queue::new(self.alloc, new.queue, new.discipline);
+        let queue = mem::replace(&mut self.queue, vacant);
+        self.queue = queue.configured(old.discipline, new.queue, new.discipline);
+        self.service.configure(new.bw);
+    }
+
+    /// The keys that it holds, one by one: on their way, in service, waiting.
+    pub fn into_leftovers(self) -> Leftovers
+        ensures { result ≡ keys_in self }
+    {
+        let Instance {
+            alloc: _,
+            queue,
+            service,
+            line,
+            stream: _,
+        } = self;
+        Leftovers::new(line, service.key(), queue)
+    }
+
+    /// When it has something to do (ns).
+    pub fn dues(&self) -> InstanceDues
+        ensures exit { result.exit ≡ first_exit self.now.lane.line.flight }
+        ensures finish { result.finish ≡ option_map (λ s. s.period.finish) self.now.service.busy }
+    {
+        InstanceDues {
+            exit: self.line.due(),
+            finish: self.service.due(),
+        }
+    }
+
+    /// The numbers of a listing.
+    pub fn shown(&self) -> Shown
+        ensures { result ≡ record {
+          waiting = length self.now.queue.waiting;
+          bytes = bytes_of self.now.queue.waiting;
+          busy = is_some self.now.service.busy;
+          flight = length self.now.lane.line.flight;
+          drawn = shown_words self.now.draws.drawn;
+        } }
+    {
+        Shown {
+            waiting: self.queue.waiting() as u64,
+            bytes: self.queue.bytes(),
+            busy: self.service.is_busy(),
+            flight: self.line.flight() as u64,
+            drawn: u64::try_from(self.stream.drawn()).unwrap_or(u64::MAX),
+        }
+    }
+}

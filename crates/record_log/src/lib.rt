@@ -1,0 +1,8 @@
+//! What an experiment records, with the counts of its packets kept beside it. Own.
+#![tactic(auto)]
+
+mod log;
+#[cfg(test)]
+mod tests;
+
+pub use log::RecordLog;

@@ -1,0 +1,92 @@
+//! An agenda that is one list: the plainest, for tests.
+ghost use Rattle.std.specs.Prelude.{◌≡◌, ◌≤◌, not, filter, vec_len, vec_capacity};
+ghost use Rattle.timer_wheel.specs.Rows.{row_of, is_of, least_of};
+
+use crate::{Agenda, Entry, Owner};
+use emu_model::Source;
+use std::alloc::{AllocError, Global};
+use std::marker::Model;
+
+/// All entries in one list, in no order. Each call but `clock` visits them all.
+#[derive(Drop)]
+pub struct ListAgenda {
+    items: Vec<Entry>,
+    clock: u64,
+}
+
+impl Model for ListAgenda {
+    ghost use Rattle.timer_wheel.specs.Rows.{ListBook, IsAtOrAbove, row_of};
+
+    ghost Value = { ListBook };
+
+    ghost view = { λ a. record { items = a.items.items; clock = a.clock } };
+
+    ghost invariant = { λ a. IsAtOrAbove a.clock (row_of a.items.items) };
+}
+
+// The least entry.
+fn least(items: &[Entry]) -> Option<Entry>
+    ensures { result ≡ least_of items.now }
+{
+    let (first, rest) = items.split_first()?;
+    let mut least = *first;
+    for entry in rest {
+        if entry.is_before(&least) {
+            least = *entry;
+        }
+    }
+    Some(least)
+}
+
+// Keeps the entries that aren't of this source of this owner.
+fn remove(items: &mut Vec<Entry>, owner: Owner, source: Source)
+    ensures items { items.new.items ≡ filter (λ e. not (is_of owner source e)) items.old.items }
+    ensures len { vec_len items.new ≤ vec_len items.old }
+    ensures capacity { vec_capacity items.new ≡ vec_capacity items.old }
+{
+    items.retain(|entry| !entry.is_of(owner, source));
+}
+
+impl Agenda for ListAgenda {
+    ghost entries = { λ a. row_of a.items };
+
+    ghost time = { λ a. a.clock };
+
+    fn new(alloc: Global, clock: u64) -> Result<ListAgenda, AllocError> {
+        Ok(ListAgenda {
+            items: Vec::new(alloc),
+            clock,
+        })
+    }
+
+    fn clock(&self) -> u64 {
+        self.clock
+    }
+
+    fn set(&mut self, owner: Owner, source: Source, due: u64) -> Result<(), AllocError> {
+        self.items.reserve(1)?;
+        remove(&mut self.items, owner, source);
+        self.items.push_reserved(Entry { due, owner, source });
+        Ok(())
+    }
+
+    fn clear(&mut self, owner: Owner, source: Source) {
+        remove(&mut self.items, owner, source);
+    }
+
+    fn clear_owner(&mut self, owner: Owner) {
+        self.items.retain(|entry| entry.owner != owner);
+    }
+
+    fn pop_least(&mut self) -> Option<Entry> {
+        let entry = least(&self.items)?;
+        remove(&mut self.items, entry.owner, entry.source);
+        self.clock = entry.due;
+        Some(entry)
+    }
+
+    fn restart(&mut self) {
+        self.items.clear();
+        self.clock = 0;
+    }
+}

@@ -1,0 +1,5 @@
+pub mod Places
+pub mod Changes
+pub mod Beginnings
+pub mod Sendings
+pub mod DueFacts

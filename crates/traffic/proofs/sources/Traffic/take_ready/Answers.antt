@@ -1,0 +1,39 @@
+use Rattle.std.proofs.Common.{true, nat_lt, sym, ◌∙◌, ap}
+use Rattle.std.specs.Prelude.{OnOk}
+use Rattle.std.specs.Option.{option_map_or}
+use Rattle.emu_model.specs.Net.{FlowState}
+use Rattle.traffic.specs.Kept.{KeptFlow}
+use Rattle.traffic.proofs.Changes.{flow_at, no_first, sound_flow}
+use Rattle.std.specs.Prelude.{Result, Ok, Err}
+use Rattle.std.proofs.lemmas.Bool.{lt-ltb}
+use Rattle.traffic.proofs.sources.Traffic.take_ready.Goals as goal
+
+on_ok : {T E : Type 0} (P Q : Type 0) (r : Result T E) → (P → Q) → OnOk r P → OnOk r Q
+on_ok P Q (Ok x) f h = f h
+on_ok P Q (Err e) f h = h
+
+pub returns-in_default-clause-ready : goal.returns-in_default-clause-ready
+returns-in_default-clause-ready c =
+    ap (λ o. option_map_or (λ (f : KeptFlow). nat_lt 0 f.room) o true) (no_first c.args.number c.args.self.now (sym c.in_default.is ∙ c.flow_place.ensures))
+
+pub invariant_of-self : goal.invariant_of-self
+invariant_of-self c =
+    sound_flow c.self.inside.flows.items c.self.inside.trains.items _ c.index_mut-flow.result.now c.take_ready.new.self c.self.invariant c.index_mut-flow.ensures.value (ap (λ (s : FlowState). s.number) c.take_ready.ensures.state)
+
+pub returns-clause-ready : goal.returns-clause-ready
+returns-clause-ready c =
+    let fs = c.self.inside.flows.items in
+    let ts = c.self.inside.trains.items in
+    let f = c.index_mut-flow.result.now in
+    let at = flow_at c.args.number c.args.self.now fs ts c.in-Some.place f c.self.view_is (sym c.in-Some.is ∙ c.flow_place.ensures) c.index_mut-flow.ensures.value in
+    let g = c.take_ready.new.self in
+    let here = at.after g (ap (λ (s : FlowState). s.number) c.take_ready.ensures.state ∙ at.number) in
+    on_ok _ _ c.take_ready.result (λ room. ap (λ o. option_map_or (λ (f : KeptFlow). nat_lt 0 f.room) o true) here ∙ lt-ltb 0 g.room room) c.take_ready.ensures.ready
+
+pub returns-clause-same : goal.returns-clause-same
+returns-clause-same c = λ n.
+    let fs = c.self.inside.flows.items in
+    let ts = c.self.inside.trains.items in
+    let f = c.index_mut-flow.result.now in
+    let at = flow_at c.args.number c.args.self.now fs ts c.in-Some.place f c.self.view_is (sym c.in-Some.is ∙ c.flow_place.ensures) c.index_mut-flow.ensures.value in
+    at.still c.take_ready.new.self n c.take_ready.ensures.state

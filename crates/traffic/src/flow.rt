@@ -1,0 +1,227 @@
+//! A flow: its sender and its receiver.
+
+ghost use Rattle.std.specs.Prelude.{◌≡◌, ℕ, ◌+◌, ◌*◌, ◌^◌, ◌<◌, ◌≤◌, ◌++◌, option_to_list, true, OnOk, IfSome, IfNone};
+ghost use Rattle.emu_model.specs.Dues.{flow_dues};
+ghost use Rattle.emu_model.specs.Net.{Net, Setting, put_flow, note, data_send, ack_send, take_ack as acknowledged};
+ghost use Rattle.emu_model.specs.Reno.{emit as sent, emitted, expire as expired, with_segment, missing};
+ghost use Rattle.emu_model.specs.declared.records.Record.TheVariants.{AckTaken};
+ghost use Rattle.traffic.specs.Kept.{opened_flow};
+ghost use Rattle.traffic.specs.Sends.{may_send};
+
+use crate::dues::due;
+use crate::sends::{Sending, Window};
+use emu_model::{Class, Due, FlowNumber, FlowSpec, Load, Protocol, SendSpec, Size};
+use reno_core::{Receiver, Sender};
+use std::alloc::{AllocError, Global};
+use std::marker::Model;
+
+/// The bytes of a header, and of an acknowledgement (own).
+const HEADER: u16 = 40;
+
+#[derive(Drop)]
+pub(crate) struct Flow {
+    number: FlowNumber,
+    sender: Sender,
+    receiver: Receiver,
+    stopped: bool,
+}
+
+/// What a flow has due: its timer, and a segment that it may send.
+#[derive(Clone, Copy)]
+pub(crate) struct FlowDues {
+    pub(crate) expiry: Option<Due>,
+    pub(crate) emission: Option<Due>,
+}
+
+impl Model for Flow {
+    ghost use Rattle.std.specs.Prelude.{◌≡◌};
+    ghost use Rattle.traffic.specs.Kept.{KeptFlow};
+
+    ghost Value = { KeptFlow };
+
+    ghost view = { λ f. record {
+      state = record {
+        number = f.number;
+        flow = f.sender.flow;
+        sender = f.sender.sender;
+        stopped = f.stopped;
+        came = f.receiver.came;
+      };
+      room = f.receiver.room;
+    } };
+
+    ghost invariant = { λ f. f.receiver.smss ≡ f.sender.flow.smss };
+}
+
+impl Flow {
+    /// Nothing is sent yet. Takes no memory.
+    pub(crate) fn new(alloc: Global, number: FlowNumber, flow: &FlowSpec) -> Self
+        ensures { result.state ≡ opened_flow number flow.now }
+    {
+        Flow {
+            number,
+            sender: Sender::new(*flow),
+            receiver: Receiver::new(alloc, flow.smss),
+            stopped: false,
+        }
+    }
+
+    pub(crate) fn number(&self) -> FlowNumber
+        ensures { result ≡ self.now.state.number }
+    {
+        self.number
+    }
+
+    /// Its sender sends no more, and takes no acknowledgement.
+    pub(crate) fn stop(&mut self)
+        ensures { self.new ≡ record self.old { state = record self.old.state { stopped = true } } }
+    {
+        self.stopped = true;
+    }
+
+    /// The header of its segments.
+    pub(crate) fn send(&self) -> SendSpec
+        ensures { result ≡ data_send self.now.state.flow }
+    {
+        let flow = self.sender.flow();
+        let Some(size) = Size::new(flow.smss.get() + HEADER) else {
+            unreachable!()
+        };
+        SendSpec {
+            proto: Protocol::Tcp,
+            src: flow.src,
+            sport: flow.sport,
+            dst: flow.dst,
+            dport: flow.dport,
+            size,
+        }
+    }
+
+    /// The header of its acknowledgements.
+    pub(crate) fn reply(&self) -> SendSpec
+        ensures { result ≡ ack_send self.now.state.flow }
+    {
+        let flow = self.sender.flow();
+        let Some(size) = Size::new(HEADER) else {
+            unreachable!()
+        };
+        SendSpec {
+            proto: Protocol::Tcp,
+            src: flow.dst,
+            sport: flow.dport,
+            dst: flow.src,
+            dport: flow.sport,
+            size,
+        }
+    }
+
+    /// Sends one segment at the moment `now`.
+    pub(crate) fn emit(&mut self, now: u64) -> Sending
+        requires now { now < 2 * 10 ^ 15 }
+        requires may { may_send self.old.state ≡ true }
+        ensures flow { let f = self.old.state in
+            self.new ≡ record self.old { state = record f { sender = sent f.flow now f.sender } } }
+        ensures result { let f = self.old.state in
+            result ≡ record { load = Load.Seg f.number (emitted f.sender); send = data_send f.flow } }
+    {
+        let send = self.send();
+        let first = self.sender.emit(now);
+        Sending {
+            load: Load::Seg {
+                flow: self.number,
+                first,
+            },
+            send,
+        }
+    }
+
+    /// Makes the growth of a `take` of any segment.
+    pub(crate) fn take_ready(&mut self, first: u64) -> Result<(), AllocError>
+        ensures ready { OnOk result (0 < self.new.room) }
+        ensures state { self.new.state ≡ self.old.state }
+    {
+        self.receiver.take_ready(first)
+    }
+
+    /// Its receiver takes the segment that begins at `first`, and acknowledges it.
+    pub(crate) fn take(&mut self, first: u64) -> Sending
+        requires { 0 < self.old.room }
+        ensures flow { let f = self.old.state in
+            self.new.state ≡ record f { came = with_segment first f.came } }
+        ensures result { let f = self.old.state in
+            result ≡ record {
+              load = Load.Ack f.number (missing f.flow.smss (with_segment first f.came));
+              send = ack_send f.flow;
+            } }
+    {
+        let send = self.reply();
+        let Ok(upto) = self.receiver.take(first) else {
+            unreachable!()
+        };
+        Sending {
+            load: Load::Ack {
+                flow: self.number,
+                upto,
+            },
+            send,
+        }
+    }
+
+    /// Its sender takes an acknowledgement of all bytes below `upto`, unless it is stopped.
+    pub(crate) fn take_ack(&mut self, now: u64, upto: u64) -> Option<Window>
+        requires { now < 2 * 10 ^ 15 }
+        ensures taken { IfSome result (λ w. (n : Net) → acknowledged now upto n self.old.state
+            ≡ note (AckTaken now self.old.state.number w.cwnd w.ssthresh) (put_flow self.new.state n)) }
+        ensures ignored { IfNone result ((n : Net) → acknowledged now upto n self.old.state ≡ n) }
+        ensures same { IfNone result (self.new ≡ self.old) }
+        ensures number { self.new.state.number ≡ self.old.state.number }
+    {
+        if !self.stopped {
+            self.sender.ack(now, upto);
+            return Some(self.window());
+        }
+        None
+    }
+
+    /// Its timer came due.
+    pub(crate) fn expire(&mut self, now: u64) -> Window
+        requires { now < 2 * 10 ^ 15 }
+        ensures flow { let f = self.old.state in
+            self.new ≡ record self.old { state = record f { sender = expired f.flow now f.sender } } }
+        ensures window { result ≡ record { cwnd = self.new.state.sender.cwnd; ssthresh = self.new.state.sender.ssthresh } }
+    {
+        self.sender.expire(now);
+        self.window()
+    }
+
+    fn window(&self) -> Window
+        ensures { result ≡ record { cwnd = self.now.state.sender.cwnd; ssthresh = self.now.state.sender.ssthresh } }
+    {
+        Window {
+            cwnd: self.sender.cwnd(),
+            ssthresh: self.sender.ssthresh(),
+        }
+    }
+
+    /// What it has due, where the last event was at the moment `clock`.
+    pub(crate) fn dues(&self, clock: u64) -> FlowDues
+        ensures { option_to_list result.expiry ++ option_to_list result.emission ≡ flow_dues clock self.now.state }
+    {
+        if self.stopped {
+            return FlowDues {
+                expiry: None,
+                emission: None,
+            };
+        }
+        let expiry = match self.sender.due() {
+            Some(moment) => Some(due(Class::Expiry, self.number, moment)),
+            None => None,
+        };
+        let emission = if self.sender.may_emit() {
+            Some(due(Class::Emission, self.number, clock))
+        } else {
+            None
+        };
+        FlowDues { expiry, emission }
+    }
+}

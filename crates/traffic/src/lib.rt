@@ -1,0 +1,15 @@
+//! All flows and trains of one experiment: Reno flows (RFC 5681, RFC 6298), and trains of equal
+//! packets (own).
+#![tactic(auto)]
+
+mod dues;
+mod flow;
+mod sends;
+mod sources;
+mod train;
+
+pub use sends::{Sending, Window};
+pub use sources::Traffic;
+
+#[cfg(test)]
+mod tests;

@@ -1,0 +1,284 @@
+//! All flows and trains.
+
+ghost use Rattle.std.specs.Prelude.{◌≡◌, ℕ, ◌+◌, ◌*◌, ◌^◌, ◌<◌, ◌≤◌, ◌++◌, [], is_some, option_map, position, ◌==◌, IfNone, OnOk, OnErr};
+ghost use Rattle.std.specs.Option.{option_map_or};
+ghost use Rattle.std.specs.List.{best_of};
+ghost use Rattle.emu_model.specs.declared.records.Record.TheVariants.{AckTaken, TimerExpired};
+ghost use Rattle.emu_model.specs.Net.{Net, Setting, find_flow, make, note, take_segment, take_ack as acknowledged};
+ghost use Rattle.emu_model.specs.Commands.{is_in_use, source_refusal, start_flow as with_flow, start_train as with_train, stop_flow};
+ghost use Rattle.emu_model.specs.Dues.{is_before};
+ghost use Rattle.emu_model.specs.Events.{emission, expire_flow};
+ghost use Rattle.traffic.specs.Kept.{with_traffic, IsFree, HasRoomFor};
+ghost use Rattle.traffic.specs.Sends.{IsEmitting, IsAllowed, IsNumbered, next_send, reply_send, source_dues};
+
+use crate::dues::{append, lesser};
+use crate::flow::Flow;
+use crate::sends::{Sending, Window};
+use crate::train::Train;
+use emu_model::{Class, Due, FlowNumber, FlowSpec, Refusal, SendSpec, TrainSpec};
+use std::alloc::{AllocError, Global};
+use std::marker::Model;
+
+/// How many flows and trains there may be.
+const MOST_SOURCES: usize = 256;
+
+/// All flows and trains of one experiment. No two have one number. A contract sees them as those of
+/// a net, whatever else that net holds, and how many segments each receiver takes without memory.
+/// Moments are in nanoseconds.
+#[derive(Drop)]
+pub struct Traffic {
+    alloc: Global,
+    flows: Vec<Flow>,
+    trains: Vec<Train>,
+}
+
+impl Model for Traffic {
+    ghost use Rattle.traffic.specs.Kept.{KeptTraffic, IsSound};
+
+    ghost Value = { KeptTraffic };
+
+    ghost view = { λ t. record { flows = t.flows.items; trains = t.trains.items } };
+
+    ghost invariant = { λ t. IsSound t.flows.items t.trains.items };
+}
+
+impl Traffic {
+    /// No flows and no trains. Takes no memory.
+    pub fn new(alloc: Global) -> Self
+        ensures { result ≡ record { flows = []; trains = [] } }
+    {
+        Traffic {
+            alloc,
+            flows: Vec::new(alloc),
+            trains: Vec::new(alloc),
+        }
+    }
+
+    /// Why no source begins under this number: `FlowThere`, then `TooManyFlows` at 256.
+    pub fn refusal(&self, number: FlowNumber) -> Option<Refusal>
+        ensures refusal { (n : Net) → result ≡ source_refusal number (with_traffic self.now n) }
+        ensures free { IfNone result (IsFree number self.now) }
+    {
+        if self.is_in_use(number) {
+            return Some(Refusal::FlowThere);
+        }
+        if self.flows.len() + self.trains.len() < MOST_SOURCES {
+            return None;
+        }
+        Some(Refusal::TooManyFlows)
+    }
+
+    /// There is a flow of this number, stopped or not.
+    pub fn has_flow(&self, number: FlowNumber) -> bool
+        ensures { (n : Net) → result ≡ is_some (find_flow number (with_traffic self.now n)) }
+    {
+        let place = self.flow_place(number);
+        place.is_some()
+    }
+
+    /// Begins a flow. After an error nothing has changed.
+    pub fn start_flow(&mut self, number: FlowNumber, flow: &FlowSpec) -> Result<(), AllocError>
+        requires { IsFree number self.old }
+        ensures ok { OnOk result ((n : Net) → with_flow number flow.now (with_traffic self.old n) ≡ with_traffic self.new n) }
+        ensures err { OnErr result (self.new ≡ self.old) }
+    {
+        let _range = number.get();
+        self.flows.reserve(1)?;
+        let flow = Flow::new(self.alloc, number, flow);
+        self.flows.push_reserved(flow);
+        Ok(())
+    }
+
+    /// Begins a train at the moment `now`. After an error nothing has changed.
+    pub fn start_train(
+        &mut self,
+        now: u64,
+        number: FlowNumber,
+        train: &TrainSpec,
+    ) -> Result<(), AllocError>
+        requires now { now < 2 * 10 ^ 15 }
+        requires free { IsFree number self.old }
+        ensures ok { OnOk result ((n : Net) → with_train now number train.now (with_traffic self.old n) ≡ with_traffic self.new n) }
+        ensures err { OnErr result (self.new ≡ self.old) }
+    {
+        let _range = number.get();
+        self.trains.reserve(1)?;
+        let train = Train::new(number, train, now);
+        self.trains.push_reserved(train);
+        Ok(())
+    }
+
+    /// Stops a flow, if there is one: it sends no more, and takes no acknowledgement.
+    pub fn stop(&mut self, number: FlowNumber)
+        ensures { (n : Net) → let m = with_traffic self.old n in
+            option_map_or (stop_flow m) (find_flow number m) m ≡ with_traffic self.new n }
+    {
+        let Some(place) = self.flow_place(number) else {
+            return;
+        };
+        let flow = &mut self.flows[place];
+        flow.stop();
+    }
+
+    /// The header of what `emit` sends; None where there is no source of this number.
+    pub fn next_send(&self, number: FlowNumber) -> Option<SendSpec>
+        ensures { (n : Net) → result ≡ next_send number (with_traffic self.now n) }
+    {
+        if let Some(place) = self.train_place(number) {
+            let train = &self.trains[place];
+            return Some(train.send());
+        }
+        let Some(place) = self.flow_place(number) else {
+            return None;
+        };
+        let flow = &self.flows[place];
+        Some(flow.send())
+    }
+
+    /// Sends a packet of a train or a segment of a flow, which may: the packet that is to be made.
+    pub fn emit(&mut self, now: u64, number: FlowNumber) -> Option<Sending>
+        requires now { now < 2 * 10 ^ 15 }
+        requires may { IsEmitting number self.old }
+        ensures emission { (at : Setting) (n : Net) → at.now ≡ now → emission at number (with_traffic self.old n)
+            ≡ option_map_or (λ s. make at s.load s.send (with_traffic self.new n)) result (with_traffic self.new n) }
+        ensures header { (n : Net) → option_map (λ s. s.send) result ≡ next_send number (with_traffic self.old n) }
+    {
+        if let Some(place) = self.train_place(number) {
+            let train = &mut self.trains[place];
+            return Some(train.emit());
+        }
+        let Some(place) = self.flow_place(number) else {
+            return None;
+        };
+        let flow = &mut self.flows[place];
+        Some(flow.emit(now))
+    }
+
+    /// The header of the acknowledgement that `take` makes; None where there is no such flow.
+    pub fn reply(&self, number: FlowNumber) -> Option<SendSpec>
+        ensures { (n : Net) → result ≡ reply_send number (with_traffic self.now n) }
+    {
+        let Some(place) = self.flow_place(number) else {
+            return None;
+        };
+        let flow = &self.flows[place];
+        Some(flow.reply())
+    }
+
+    /// Makes the growth of a `take` of any segment of this flow. Only room changes.
+    pub fn take_ready(&mut self, number: FlowNumber, first: u64) -> Result<(), AllocError>
+        ensures ready { OnOk result (HasRoomFor number self.new) }
+        ensures same { (n : Net) → with_traffic self.new n ≡ with_traffic self.old n }
+    {
+        let Some(place) = self.flow_place(number) else {
+            return Ok(());
+        };
+        let flow = &mut self.flows[place];
+        flow.take_ready(first)
+    }
+
+    /// A flow's receiver takes the segment that begins at `first`, also of a stopped one: the
+    /// acknowledgement that is to be made; None where there is no such flow.
+    pub fn take(&mut self, number: FlowNumber, first: u64) -> Option<Sending>
+        requires { HasRoomFor number self.old }
+        ensures taken { (at : Setting) (n : Net) → let m = with_traffic self.old n in
+            option_map_or (take_segment at first m) (find_flow number m) m
+            ≡ option_map_or (λ s. make at s.load s.send (with_traffic self.new n)) result (with_traffic self.new n) }
+        ensures header { (n : Net) → option_map (λ s. s.send) result ≡ reply_send number (with_traffic self.old n) }
+    {
+        let Some(place) = self.flow_place(number) else {
+            return None;
+        };
+        let flow = &mut self.flows[place];
+        Some(flow.take(first))
+    }
+
+    /// A flow's sender takes an acknowledgement of all bytes below `upto`: its windows after it; None
+    /// where there is no such flow, or it is stopped.
+    pub fn take_ack(&mut self, now: u64, number: FlowNumber, upto: u64) -> Option<Window>
+        requires { now < 2 * 10 ^ 15 }
+        ensures { (n : Net) → let m = with_traffic self.old n in
+            option_map_or (acknowledged now upto m) (find_flow number m) m
+            ≡ option_map_or (λ w. note (AckTaken now number w.cwnd w.ssthresh) (with_traffic self.new n)) result (with_traffic self.new n) }
+    {
+        let Some(place) = self.flow_place(number) else {
+            return None;
+        };
+        let flow = &mut self.flows[place];
+        flow.take_ack(now, upto)
+    }
+
+    /// A flow's timer came due: its sender's windows after it; None where there is no such flow.
+    pub fn expire(&mut self, now: u64, number: FlowNumber) -> Option<Window>
+        requires { now < 2 * 10 ^ 15 }
+        ensures { (at : Setting) (n : Net) → at.now ≡ now → let m = with_traffic self.old n in
+            option_map_or (expire_flow at m) (find_flow number m) m
+            ≡ option_map_or (λ w. note (TimerExpired now number w.cwnd w.ssthresh) (with_traffic self.new n)) result (with_traffic self.new n) }
+    {
+        let Some(place) = self.flow_place(number) else {
+            return None;
+        };
+        let flow = &mut self.flows[place];
+        Some(flow.expire(now))
+    }
+
+    /// The least of a due and those of all flows and trains, where the last event was at the moment
+    /// `clock`; the first of equal ones.
+    pub fn earliest(&self, clock: u64, best: Due) -> Due
+        ensures least { (n : Net) → result ≡ best_of is_before best (source_dues clock (with_traffic self.now n)) }
+        ensures moment { result.moment ≤ best.moment }
+        ensures allowed { IsAllowed self.now best → IsAllowed self.now result }
+        ensures numbered { IsNumbered best → IsNumbered result }
+    {
+        let mut best = best;
+        for flow in &self.flows {
+            let dues = flow.dues(clock);
+            best = lesser(best, dues.expiry);
+            best = lesser(best, dues.emission);
+        }
+        for train in &self.trains {
+            best = lesser(best, train.due());
+        }
+        best
+    }
+
+    /// Appends the dues of all flows and trains, or leaves `dues` as it was.
+    pub fn add_dues(&self, clock: u64, dues: &mut Vec<Due>) -> Result<(), AllocError>
+        ensures ok { OnOk result ((n : Net) → dues.new.items ≡ dues.old.items ++ source_dues clock (with_traffic self.now n)) }
+        ensures err { OnErr result (dues.new.items ≡ dues.old.items) }
+    {
+        dues.reserve(2 * self.flows.len() + self.trains.len())?;
+        for flow in &self.flows {
+            let due = flow.dues(clock);
+            append(dues, due.expiry);
+            append(dues, due.emission);
+        }
+        for train in &self.trains {
+            append(dues, train.due());
+        }
+        Ok(())
+    }
+
+    /// There is a flow or a train of this number.
+    fn is_in_use(&self, number: FlowNumber) -> bool
+        ensures { (n : Net) → result ≡ is_in_use number (with_traffic self.now n) }
+    {
+        self.flow_place(number).is_some() || self.train_place(number).is_some()
+    }
+
+    /// The place of the flow of this number.
+    fn flow_place(&self, number: FlowNumber) -> Option<usize>
+        ensures { result ≡ position (λ f. f.state.number == number) self.now.flows }
+    {
+        self.flows.iter().position(|flow| flow.number() == number)
+    }
+
+    /// The place of the train of this number.
+    fn train_place(&self, number: FlowNumber) -> Option<usize>
+        ensures { result ≡ position (λ t. t.number == number) self.now.trains }
+    {
+        self.trains
+            .iter()
+            .position(|train| train.number() == number)
+    }
+}

@@ -1,0 +1,81 @@
+//! A train.
+
+ghost use Rattle.std.specs.Prelude.{◌≡◌, ◌+◌, ◌*◌, ◌^◌, ◌<◌, ◌≤◌, option_to_list, true};
+ghost use Rattle.emu_model.specs.Dues.{train_dues};
+ghost use Rattle.traffic.specs.Sends.{has_left};
+
+use crate::dues::due;
+use crate::sends::Sending;
+use emu_model::{Class, Due, FlowNumber, Load, SendSpec, TrainSpec};
+use std::marker::Model;
+
+/// A train that sent so many of its packets; it began at a moment (ns).
+#[derive(Drop)]
+pub(crate) struct Train {
+    number: FlowNumber,
+    train: TrainSpec,
+    start: u64,
+    sent: u32,
+}
+
+impl Model for Train {
+    ghost use Rattle.emu_model.specs.Net.{TrainState};
+    ghost use Rattle.traffic.specs.Kept.{IsTrain};
+
+    ghost Value = { TrainState };
+
+    ghost view = { λ t. record { number = t.number; train = t.train; start = t.start; sent = t.sent } };
+
+    ghost invariant = { λ t. IsTrain (record { number = t.number; train = t.train; start = t.start; sent = t.sent }) };
+}
+
+impl Train {
+    pub(crate) fn new(number: FlowNumber, train: &TrainSpec, now: u64) -> Self
+        requires { now < 2 * 10 ^ 15 }
+        ensures { result ≡ record { number = number; train = train.now; start = now; sent = 0 } }
+    {
+        Train {
+            number,
+            train: *train,
+            start: now,
+            sent: 0,
+        }
+    }
+
+    pub(crate) fn number(&self) -> FlowNumber
+        ensures { result ≡ self.now.number }
+    {
+        self.number
+    }
+
+    pub(crate) fn send(&self) -> SendSpec
+        ensures { result ≡ self.now.train.packet }
+    {
+        self.train.packet
+    }
+
+    /// Sends one packet.
+    pub(crate) fn emit(&mut self) -> Sending
+        requires { has_left self.old ≡ true }
+        ensures train { self.new ≡ record self.old { sent = self.old.sent + 1 } }
+        ensures result { result ≡ record { load = Load.Plain; send = self.old.train.packet } }
+    {
+        let _most = self.train.count.get();
+        self.sent += 1;
+        Sending {
+            load: Load::Plain,
+            send: self.train.packet,
+        }
+    }
+
+    /// When its next packet is due, if any is left.
+    pub(crate) fn due(&self) -> Option<Due>
+        ensures { option_to_list result ≡ train_dues self.now }
+    {
+        if self.sent >= self.train.count.get() {
+            return None;
+        }
+        let moment = self.start + u64::from(self.sent) * self.train.gap.get();
+        Some(due(Class::Emission, self.number, moment))
+    }
+}
