@@ -108,10 +108,6 @@ impl Shelf for OwnShelf {
     }
 
     fn count(&self, owner: Owner) -> usize {
-        if owner == 0 {
-            self.slab.len()
-        } else {
-            0
-        }
+        if owner == 0 { self.slab.len() } else { 0 }
     }
 }

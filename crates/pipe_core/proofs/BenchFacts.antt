@@ -1,0 +1,22 @@
+-- A shelf beside a pipe whose keys it names.
+use Rattle.std.proofs.Common.{◌≡◌, ℕ, List, [], refl, ap, ◌∙◌, sym, subst, arith}
+use Rattle.packet_store.specs.Pocket.{Pocket, empty_pocket}
+use Rattle.pipe_instance.proofs.UseCounts.{total-nil}
+use Rattle.pipe_instance.specs.Uses.{one_at}
+use Rattle.pipe_core.specs.declared.slot.Slot.{Slot}
+use Rattle.pipe_core.specs.Moves.{AreNamed, Keeps}
+use Rattle.pipe_core.specs.Keyed.{keys_of}
+use Rattle.pipe_core.proofs.KeyMoves.{AreNamed-kept}
+use Rattle.pipe_core.proofs.PipeFacts.{keys_of-nil}
+
+pub bench_new : (p : Pocket) (slots : List Slot) (budget : ℕ) → p ≡ empty_pocket budget → slots ≡ [] →
+    AreNamed p (keys_of slots) × (p.budget ≡ budget)
+bench_new p slots budget e none =
+    let named : AreNamed p [] = record { each = λ k. omega (arith, total-nil (one_at k)); within = omega arith } in (
+      subst (AreNamed p) (sym (ap keys_of none ∙ keys_of-nil)) named,
+      ap (λ (q : Pocket). q.budget) e,
+    )
+
+pub bench_moves : (p q : Pocket) (old new : List ℕ) (budget : ℕ) → AreNamed p old × (p.budget ≡ budget) → Keeps p q old new →
+    AreNamed q new × (q.budget ≡ budget)
+bench_moves p q old new budget n k = (AreNamed-kept p q old new n.0 k, k.budget ∙ n.1)

@@ -1,0 +1,48 @@
+use Rattle.std.proofs.Common.{◌≡◌, ℕ, List, ◌++◌, map, take, drop, length, sym, ap, ◌∙◌, subst, arith}
+use Rattle.std.specs.List.{All}
+use Rattle.std.proofs.lemmas.List.{length-map}
+use Rattle.pipe_instance.specs.Keyed.{IsTuned}
+use Rattle.pipe_core.specs.declared.slot.Slot.{Slot}
+use Rattle.pipe_core.specs.Keyed.{KeyedPipe, seen_slot, keys_of, IsPipe}
+use Rattle.pipe_core.specs.Steps.{configured_slot}
+use Rattle.pipe_core.proofs.PipeFacts.{all-tuned, written, IsPipe-configured, configured-seen, configured-keys}
+use Rattle.pipe_core.proofs.pipe.Pipe.configure.Goals as goal
+
+now_all : (f : Slot → Slot) (n : ℕ) (items seen new : List Slot) → n ≡ length items → seen ≡ items → new ≡ map f seen →
+    take n (new ++ drop (length new) items) ≡ map f items
+now_all f n items seen new is same e =
+    let whole : new ≡ map f items = e ∙ ap (map f) same in
+    written n new items is (ap length whole ∙ length-map items f) ∙ whole
+
+pub configure_all-requires : goal.configure_all-requires
+configure_all-requires c =
+    let s = c.self.inside in
+    subst (λ ss. All (λ (x : Slot). IsTuned s.config x.instance) ss) (sym c.deref_mut.ensures.value)
+    (all-tuned s.config s.seed s.number s.ids.ids s.slots.items c.self.invariant)
+
+pub invariant_of-self : goal.invariant_of-self
+invariant_of-self c =
+    let s = c.self.inside in
+    let f : Slot → Slot = configured_slot s.config c.args.config in
+    subst (IsPipe c.args.config s.seed s.number s.ids.ids)
+    (sym (now_all f s.slots.len s.slots.items c.deref_mut.result.now c.configure_all.new.slots (omega (arith, s.slots.ok.0)) c.deref_mut.ensures.value c.configure_all.ensures))
+    (IsPipe-configured s.config c.args.config s.seed s.number s.ids.ids s.slots.items c.self.invariant)
+
+pub returns-clause-done : goal.returns-clause-done
+returns-clause-done c =
+    let s = c.self.inside in
+    let g : Slot → Slot = configured_slot s.config c.args.config in
+    rw (← c.self.view_is) (λ f t. record {
+      number = s.number;
+      config = c.args.config;
+      instances = (ap (map (seen_slot f))
+          (now_all g s.slots.len s.slots.items c.deref_mut.result.now c.configure_all.new.slots (omega (arith, s.slots.ok.0)) c.deref_mut.ensures.value c.configure_all.ensures)
+          ∙ configured-seen f s.config c.args.config s.slots.items) t;
+    })
+
+pub returns-clause-keys : goal.returns-clause-keys
+returns-clause-keys c =
+    let s = c.self.inside in
+    let f : Slot → Slot = configured_slot s.config c.args.config in
+    ap keys_of (now_all f s.slots.len s.slots.items c.deref_mut.result.now c.configure_all.new.slots (omega (arith, s.slots.ok.0)) c.deref_mut.ensures.value c.configure_all.ensures)
+    ∙ configured-keys s.config c.args.config s.slots.items ∙ ap (λ (z : KeyedPipe). keys_of z.slots) c.self.view_is

@@ -1,0 +1,7 @@
+use Rattle.pipe_core.proofs.PipeFacts.{IsPipe-none}
+use Rattle.pipe_core.proofs.pipe.Pipe.new.Goals as goal
+
+pub invariant_of-result : goal.invariant_of-result
+invariant_of-result c =
+    IsPipe-none c.args.config c.args.seed c.args.number c.new-ids.result.ids c.new-slots.result.items
+    c.new-ids.ensures c.new-slots.ensures.items

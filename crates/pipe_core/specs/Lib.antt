@@ -1,0 +1,4 @@
+pub mod Moves
+pub mod Keyed
+pub mod Steps
+pub mod Views

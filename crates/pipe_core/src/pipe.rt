@@ -1,0 +1,373 @@
+//! A pipe: its configuration, and its instances by flow identifier.
+
+ghost use Rattle.std.specs.Prelude.{◌≡◌, ◌≢◌, ℕ, ◌+◌, ◌-◌, ◌*◌, ◌^◌, ◌<◌, ◌≤◌, false, [], map, length, slice_get, Some, None, option_map, option_and_then, IfSome, OnSome, IfNone, IfOk, OnOk, OnErr, IsOk, vec_capacity};
+ghost use Rattle.std.specs.List.{list_any, All};
+ghost use Rattle.emu_model.specs.declared.packets.Packet.{Packet as Letter};
+ghost use Rattle.emu_model.specs.FlowIds.{same_flow, instance_of};
+ghost use Rattle.emu_model.specs.Delay.{first_exit};
+ghost use Rattle.emu_model.specs.Pipes.{pipe_arrive, pipe_finish, pipe_exit, pipe_configure, pipe_packets, with_instance};
+ghost use Rattle.emu_model.specs.Events.{flying_in, served_in};
+ghost use Rattle.emu_model.specs.Commands.{mask_refusal};
+ghost use Rattle.pipe_instance.specs.Keyed.{IsTuned};
+ghost use Rattle.pipe_core.specs.Moves.{AreNamed, Keeps};
+ghost use Rattle.pipe_core.specs.Keyed.{seen_pipe, view, shown_of, ids_of, keys_of};
+ghost use Rattle.pipe_core.specs.Steps.{drops_of, drops_by_codel, IsGrown, HasRoomAt, HasRoomAtSlot, IsFreeAt, ComesAt, configured_slot};
+
+use crate::slot::Slot;
+use crate::takes::take_all;
+use emu_model::{DropCause, Packet, PipeConfig, PipeNumber, Refusal, Size};
+use flow_mask::{ApplyMask, FlowId, InstanceError, Instances};
+use packet_store::{Owner, Shelf};
+use pipe_instance::{Instance, InstanceDues, Shown};
+use queue_disc::NoMemory;
+use std::alloc::Global;
+use std::marker::Model;
+use std::mem;
+
+/// A pipe with its instances. Its packets stand on a shelf, and it holds their keys.
+#[derive(Drop)]
+pub struct Pipe {
+    alloc: Global,
+    seed: u64,
+    number: PipeNumber,
+    config: PipeConfig,
+    ids: Instances,
+    slots: Vec<Slot>,
+}
+
+impl Model for Pipe {
+    ghost use Rattle.std.specs.Prelude.{◌-◌, min, vec_len, vec_capacity};
+    ghost use Rattle.pipe_core.specs.Keyed.{KeyedPipe, IsPipe};
+
+    ghost Value = { KeyedPipe };
+
+    ghost view = { λ p. record {
+      seed = p.seed;
+      number = p.number;
+      config = p.config;
+      slots = p.slots.items;
+      spare = min (vec_capacity p.slots - vec_len p.slots) p.ids.spare;
+    } };
+
+    ghost invariant = { λ p. IsPipe p.config p.seed p.number p.ids.ids p.slots.items };
+}
+
+impl Pipe {
+    /// A pipe without instances, of an experiment with this seed. Takes no memory.
+    pub fn new(alloc: Global, seed: u64, number: PipeNumber, config: PipeConfig) -> Self
+        ensures { result ≡ record { seed = seed; number = number; config = config; slots = []; spare = result.spare } }
+    {
+        let ids = Instances::new(alloc);
+        let slots = Vec::new(alloc);
+        Pipe {
+            alloc,
+            seed,
+            number,
+            config,
+            ids,
+            slots,
+        }
+    }
+
+    /// Its configuration.
+    pub fn config(&self) -> PipeConfig
+        ensures { result ≡ self.now.config }
+    {
+        self.config
+    }
+
+    /// Its number.
+    pub fn number(&self) -> PipeNumber
+        ensures { result ≡ self.now.number }
+    {
+        self.number
+    }
+
+    /// How many instances it has, 256 at most.
+    pub fn instances(&self) -> usize
+        ensures instances { result ≡ length self.now.slots }
+        ensures few { result ≤ 256 }
+    {
+        let _ = &self.ids;
+        self.slots.len()
+    }
+
+    /// When an instance has something to do (ns): its next exit, and its next finish.
+    pub fn dues(&self, index: usize) -> InstanceDues
+        requires { index < length self.now.slots }
+        ensures exit { (f : ℕ → Letter) → result.exit
+            ≡ option_and_then (λ i. first_exit i.line.flight) (slice_get (seen_pipe f self.now).instances index) }
+        ensures finish { (f : ℕ → Letter) → result.finish
+            ≡ option_map (λ s. s.period.finish) (served_in index (seen_pipe f self.now)) }
+    {
+        let slot = &self.slots[index];
+        slot.instance.dues()
+    }
+
+    /// The numbers of an instance, as a listing has them; None where there is no such instance.
+    pub fn shown(&self, index: usize) -> Option<Shown>
+        ensures { (f : ℕ → Letter) → result ≡ option_map shown_of (slice_get (seen_pipe f self.now).instances index) }
+    {
+        let slot = self.slots.get(index)?;
+        Some(slot.instance.shown())
+    }
+
+    /// Makes the growths that `arrive` of this packet needs, or of one that differs in its load, number
+    /// or place. Only room grows, also where one is refused.
+    pub fn arrive_ready<S: Shelf>(
+        &mut self,
+        shelf: &mut S,
+        owner: Owner,
+        now: u64,
+        packet: Packet,
+    ) -> Result<(), NoMemory>
+        ensures grown { IsGrown self.old self.new }
+        ensures pockets { (o : ℕ) → S.pocket shelf.new o ≡ S.pocket shelf.old o }
+        ensures rooms { (o : ℕ) → S.room shelf.old o ≤ S.room shelf.new o }
+        ensures room { OnOk result ((S.pocket shelf.old owner).count < (S.pocket shelf.old owner).budget → 0 < S.room shelf.new owner) }
+        ensures ready { OnOk result (HasRoomAt packet self.new) }
+        ensures succeeds { 0 < S.room shelf.old owner → HasRoomAt packet self.old → IsOk result }
+    {
+        let Ok(()) = shelf.put_ready(owner) else {
+            return Err(NoMemory);
+        };
+        let id = self.config.mask.apply(&packet);
+        match self.ids.find(id) {
+            Some(index) => self.accept_ready(index as usize, packet.size, now),
+            None => self.make_ready(id),
+        }
+    }
+
+    // Makes the growth that an instance needs to accept a packet of this size.
+    fn accept_ready(&mut self, index: usize, size: Size, now: u64) -> Result<(), NoMemory>
+        requires { index < length self.old.slots }
+        ensures grown { IsGrown self.old self.new }
+        ensures ids { ids_of self.new.slots ≡ ids_of self.old.slots }
+        ensures ready { OnOk result (HasRoomAtSlot size index self.new) }
+        ensures succeeds { HasRoomAtSlot size index self.old → IsOk result }
+    {
+        let slot = &mut self.slots[index];
+        slot.instance.accept_ready(size, now)
+    }
+
+    // Makes the growth that one more instance needs, for an identifier that did not come.
+    fn make_ready(&mut self, id: FlowId) -> Result<(), NoMemory>
+        ensures same { self.new ≡ record self.old { spare = self.new.spare } }
+        ensures grows { self.old.spare ≤ self.new.spare }
+        ensures ready { OnOk result (list_any (same_flow id) (ids_of self.old.slots) ≡ false → length self.old.slots < 256 → 0 < self.new.spare) }
+        ensures succeeds { 0 < self.old.spare → IsOk result }
+        ensures full { 256 ≤ length self.old.slots → IsOk result }
+    {
+        let Ok(()) = self.ids.find_or_make_ready(id) else {
+            return Err(NoMemory);
+        };
+        if 256 <= self.slots.len() {
+            return Ok(());
+        }
+        let Ok(()) = self.slots.reserve(1) else {
+            return Err(NoMemory);
+        };
+        Ok(())
+    }
+
+    // The number of the identifier's instance, which is made where it did not come before. None where
+    // there are 256 others. There is room for it.
+    fn find_or_make(&mut self, id: FlowId) -> Option<usize>
+        requires { instance_of (ids_of self.old.slots) id ≡ Some (length self.old.slots) → 0 < self.old.spare }
+        ensures number { result ≡ instance_of (ids_of self.old.slots) id }
+        ensures made { IfSome result (λ k. (f : ℕ → Letter) → with_instance id k (seen_pipe f self.old) ≡ seen_pipe f self.new) }
+        ensures there { IfSome result (λ k. k < length self.new.slots) }
+        ensures ready { IfSome result (λ k. (size : ℕ) → HasRoomAtSlot size k self.old → HasRoomAtSlot size k self.new) }
+        ensures keys { keys_of self.new.slots ≡ keys_of self.old.slots }
+        ensures same { self.new ≡ record self.old { slots = self.new.slots; spare = self.new.spare } }
+        ensures none { IfNone result (self.new.slots ≡ self.old.slots) }
+    {
+        if let Some(index) = self.ids.find(id) {
+            return Some(index as usize);
+        }
+        let index = match self.ids.find_or_make(id) {
+            Ok(index) => index,
+            Err(InstanceError::TooMany) => return None,
+            Err(InstanceError::NoMemory) => unreachable!(),
+        };
+        let instance = Instance::new(self.alloc, &self.config, self.seed, self.number, index);
+        self.slots.push_reserved(Slot { id, instance });
+        Some(index as usize)
+    }
+
+    // A packet comes to an instance.
+    fn come<S: Shelf>(
+        &mut self,
+        index: usize,
+        shelf: &mut S,
+        owner: Owner,
+        now: u64,
+        packet: Packet,
+    ) -> Option<DropCause>
+        requires inside { index < length self.old.slots }
+        requires early { now < 2 * 10 ^ 15 }
+        requires budget { (S.pocket shelf.old owner).count < (S.pocket shelf.old owner).budget }
+        requires room { 0 < S.room shelf.old owner }
+        requires ready { HasRoomAtSlot packet.size index self.old }
+        ensures came { ComesAt index now packet result (S.pocket shelf.old owner) (S.pocket shelf.new owner) self.old self.new }
+        ensures others { (o : ℕ) → o ≢ owner → S.pocket shelf.new o ≡ S.pocket shelf.old o }
+    {
+        let config = self.config;
+        let slot = &mut self.slots[index];
+        slot.come(shelf, owner, now, &packet, &config)
+    }
+
+    /// A packet comes at the moment `now` (ns): its instance is found or made, its loss word is drawn,
+    /// and then the limit decides. None where it is taken in, else why it is dropped. All growths come
+    /// first; refused, only room has grown.
+    pub fn arrive<S: Shelf>(
+        &mut self,
+        shelf: &mut S,
+        owner: Owner,
+        now: u64,
+        packet: Packet,
+    ) -> Result<Option<DropCause>, NoMemory>
+        requires early { now < 2 * 10 ^ 15 }
+        requires named { AreNamed (S.pocket shelf.old owner) (keys_of self.old.slots) }
+        requires budget { (S.pocket shelf.old owner).count < (S.pocket shelf.old owner).budget }
+        ensures ok { IfOk result (λ answer. pipe_arrive self.old.seed now packet (view (S.pocket shelf.old owner) self.old)
+            ≡ record { state = view (S.pocket shelf.new owner) self.new; dropped = drops_of packet answer }) }
+        ensures keys { Keeps (S.pocket shelf.old owner) (S.pocket shelf.new owner) (keys_of self.old.slots) (keys_of self.new.slots) }
+        ensures same { self.new ≡ record self.old { slots = self.new.slots; spare = self.new.spare } }
+        ensures others { (o : ℕ) → o ≢ owner → S.pocket shelf.new o ≡ S.pocket shelf.old o }
+        ensures refused { OnErr result (IsGrown self.old self.new) }
+        ensures refused_pocket { OnErr result (S.pocket shelf.new owner ≡ S.pocket shelf.old owner) }
+        ensures succeeds { 0 < S.room shelf.old owner → HasRoomAt packet self.old → IsOk result }
+    {
+        self.arrive_ready(shelf, owner, now, packet)?;
+        let id = self.config.mask.apply(&packet);
+        let Some(index) = self.find_or_make(id) else {
+            return Ok(Some(DropCause::NoInstance));
+        };
+        Ok(self.come(index, shelf, owner, now, packet))
+    }
+
+    /// The packet in service in an instance finishes at the moment `now` (ns), at which it is due, and is
+    /// told: it goes on its way, and the next is served. What CoDel drops, in order, is taken from the
+    /// shelf into `drops`, which loses what it held. All growths come first: of the delay line, and where
+    /// CoDel is the discipline of lists of drops; refused, only room has grown.
+    pub fn finish<S: Shelf>(
+        &mut self,
+        shelf: &mut S,
+        owner: Owner,
+        index: usize,
+        now: u64,
+        drops: &mut Vec<Packet>,
+    ) -> Result<Packet, NoMemory>
+        requires early { now < 2 * 10 ^ 15 }
+        requires due { option_map (λ s. s.period.finish) (served_in index (view (S.pocket shelf.old owner) self.old)) ≡ Some now }
+        requires named { AreNamed (S.pocket shelf.old owner) (keys_of self.old.slots) }
+        ensures served { IfOk result (λ packet.
+            option_map (λ s. s.packet) (served_in index (view (S.pocket shelf.old owner) self.old)) ≡ Some packet) }
+        ensures ok { OnOk result (pipe_finish now index (view (S.pocket shelf.old owner) self.old)
+            ≡ record { state = view (S.pocket shelf.new owner) self.new; dropped = drops_by_codel drops.new.items }) }
+        ensures keys { Keeps (S.pocket shelf.old owner) (S.pocket shelf.new owner) (keys_of self.old.slots) (keys_of self.new.slots) }
+        ensures same { self.new ≡ record self.old { slots = self.new.slots } }
+        ensures others { (o : ℕ) → o ≢ owner → S.pocket shelf.new o ≡ S.pocket shelf.old o }
+        ensures refused { OnErr result (IsGrown self.old self.new) }
+        ensures refused_pocket { OnErr result (S.pocket shelf.new owner ≡ S.pocket shelf.old owner) }
+        ensures count { OnOk result ((S.pocket shelf.new owner).count + length drops.new.items ≡ (S.pocket shelf.old owner).count) }
+        ensures succeeds { IsFreeAt index now (vec_capacity drops.old) self.old → IsOk result }
+    {
+        let config = self.config;
+        let slot = &mut self.slots[index];
+        slot.finish(shelf, owner, now, &config, drops)
+    }
+
+    /// The packet that leaves first in an instance, which stays; None where nothing is on its way.
+    pub fn front<S: Shelf>(&self, shelf: &S, owner: Owner, index: usize) -> Option<Packet>
+        requires inside { index < length self.now.slots }
+        requires named { AreNamed (S.pocket shelf.now owner) (keys_of self.now.slots) }
+        ensures { result ≡ flying_in index (view (S.pocket shelf.now owner) self.now) }
+    {
+        let slot = &self.slots[index];
+        slot.front(shelf, owner)
+    }
+
+    /// What leaves first in an instance goes: the packet, which is taken from the shelf; None where
+    /// nothing is on its way. Takes no memory, and keeps room for arrivals.
+    pub fn exit<S: Shelf>(&mut self, shelf: &mut S, owner: Owner, index: usize) -> Option<Packet>
+        requires inside { index < length self.old.slots }
+        requires named { AreNamed (S.pocket shelf.old owner) (keys_of self.old.slots) }
+        ensures packet { result ≡ flying_in index (view (S.pocket shelf.old owner) self.old) }
+        ensures shown { view (S.pocket shelf.new owner) self.new ≡ pipe_exit index (view (S.pocket shelf.old owner) self.old) }
+        ensures keys { Keeps (S.pocket shelf.old owner) (S.pocket shelf.new owner) (keys_of self.old.slots) (keys_of self.new.slots) }
+        ensures same { self.new ≡ record self.old { slots = self.new.slots } }
+        ensures ready { (p : Letter) → HasRoomAt p self.old → HasRoomAt p self.new }
+        ensures freed { OnSome result (0 < S.room shelf.new owner) }
+        ensures below { OnSome result ((S.pocket shelf.new owner).count < (S.pocket shelf.new owner).budget) }
+        ensures others { (o : ℕ) → o ≢ owner → S.pocket shelf.new o ≡ S.pocket shelf.old o }
+    {
+        let slot = &mut self.slots[index];
+        slot.exit(shelf, owner)
+    }
+
+    /// A new configuration, which each instance takes over with all that it holds; or why it is refused:
+    /// a mask stays as it is once there is an instance. Takes no memory.
+    pub fn configure(&mut self, config: PipeConfig) -> Option<Refusal>
+        ensures refusal { (f : ℕ → Letter) → result ≡ mask_refusal config (seen_pipe f self.old) }
+        ensures done { IfNone result ((f : ℕ → Letter) → seen_pipe f self.new ≡ pipe_configure config (seen_pipe f self.old)) }
+        ensures keys { keys_of self.new.slots ≡ keys_of self.old.slots }
+        ensures seed { self.new.seed ≡ self.old.seed }
+        ensures refused { OnSome result (self.new ≡ self.old) }
+    {
+        if !self.slots.is_empty() && config.mask != self.config.mask {
+            return Some(Refusal::MaskFixed);
+        }
+        configure_all(&mut self.slots, &self.config, &config);
+        self.config = config;
+        None
+    }
+
+    /// Gives up all that the pipe holds: the packets by instance number, in each the delay line from its
+    /// front, the packet in service, and what waits. They are taken from the shelf. The pipe is left
+    /// without instances; refused, nothing has changed.
+    pub fn delete<S: Shelf>(&mut self, shelf: &mut S, owner: Owner) -> Result<Vec<Packet>, NoMemory>
+        requires { AreNamed (S.pocket shelf.old owner) (keys_of self.old.slots) }
+        ensures gone { IfOk result (λ gone. gone.items ≡ pipe_packets (view (S.pocket shelf.old owner) self.old)) }
+        ensures empty { OnOk result (self.new ≡ record self.old { slots = []; spare = self.new.spare }) }
+        ensures keys { Keeps (S.pocket shelf.old owner) (S.pocket shelf.new owner) (keys_of self.old.slots) (keys_of self.new.slots) }
+        ensures others { (o : ℕ) → o ≢ owner → S.pocket shelf.new o ≡ S.pocket shelf.old o }
+        ensures refused { OnErr result (self.new ≡ self.old) }
+        ensures refused_pocket { OnErr result (S.pocket shelf.new owner ≡ S.pocket shelf.old owner) }
+    {
+        let Some(held) = self.held() else {
+            return Err(NoMemory);
+        };
+        let mut gone = Vec::new(self.alloc);
+        let Ok(()) = gone.reserve(held) else {
+            return Err(NoMemory);
+        };
+        self.ids = Instances::new(self.alloc);
+        let vacant = Vec::new(self.alloc);
+        let slots = mem::replace(&mut self.slots, vacant);
+        take_all(slots, shelf, owner, &mut gone);
+        Ok(gone)
+    }
+
+    // How many packets all instances hold; None where that is more than a `usize` counts.
+    fn held(&self) -> Option<usize>
+        ensures { IfSome result (λ n. n ≡ length (keys_of self.now.slots)) }
+    {
+        let mut held: usize = 0;
+        for slot in &self.slots {
+            held = held.checked_add(slot.held()?)?;
+        }
+        Some(held)
+    }
+}
+
+// Each instance takes over a new configuration.
+fn configure_all(slots: &mut [Slot], old: &PipeConfig, new: &PipeConfig)
+    requires { All (λ s. IsTuned old.now s.instance) slots.old }
+    ensures { slots.new ≡ map (configured_slot old.now new.now) slots.old }
+{
+    for slot in slots.iter_mut() {
+        slot.instance.configure(old, new);
+    }
+}

@@ -1,0 +1,144 @@
+//! One instance of a pipe beside its flow identifier, and what a packet does there.
+
+ghost use Rattle.std.specs.Prelude.{◌≡◌, ◌≢◌, ℕ, ◌+◌, ◌-◌, ◌*◌, ◌^◌, ◌<◌, Some, None, length, option_map, IfSome, OnSome, IfOk, OnErr, IsOk, vec_capacity};
+ghost use Rattle.pipe_instance.specs.Keyed.{IsTuned, keys_in};
+ghost use Rattle.pipe_core.specs.Steps.{Comes, Exits, Finishes, HasRoom, IsFree, most_dropped};
+ghost use Rattle.emu_model.specs.Delay.{first_item};
+ghost use Rattle.pipe_core.specs.Keyed.{seen_slot};
+ghost use Rattle.pipe_core.specs.Moves.{packet_at, AreNamed};
+
+use crate::takes::take_dropped;
+use emu_model::{Discipline, DropCause, Packet, PipeConfig};
+use flow_mask::FlowId;
+use packet_store::{Owner, Shelf};
+use pipe_instance::Instance;
+use queue_disc::NoMemory;
+
+#[derive(Drop)]
+pub(crate) struct Slot {
+    pub(crate) id: FlowId,
+    pub(crate) instance: Instance,
+}
+
+impl Slot {
+    /// A packet comes: its loss word is drawn, and then the limit decides.
+    pub(crate) fn come<S: Shelf>(
+        &mut self,
+        shelf: &mut S,
+        owner: Owner,
+        now: u64,
+        packet: &Packet,
+        config: &PipeConfig,
+    ) -> Option<DropCause>
+        requires early { now < 2 * 10 ^ 15 }
+        requires tuned { IsTuned config.now self.old.instance }
+        requires budget { (S.pocket shelf.old owner).count < (S.pocket shelf.old owner).budget }
+        requires room { 0 < S.room shelf.old owner }
+        requires ready { HasRoom packet.now.size self.old.instance }
+        ensures came { Comes config.now now packet.now result (S.pocket shelf.old owner) (S.pocket shelf.new owner) self.old self.new }
+        ensures others { (o : ℕ) → o ≢ owner → S.pocket shelf.new o ≡ S.pocket shelf.old o }
+    {
+        let lost = self.instance.lose(config.plr);
+        if lost {
+            return Some(DropCause::Lost);
+        }
+        let room = self.instance.accepts(packet.size);
+        if room {
+            let Ok(key) = shelf.put(owner, *packet) else {
+                unreachable!();
+            };
+            self.instance.accept(key, packet.size, now);
+            return None;
+        }
+        Some(DropCause::Full)
+    }
+
+    /// The packet in service finishes, at the moment at which it is due, and is told; the next is
+    /// served. What CoDel drops is taken from the shelf into `drops`, which loses what it held. All
+    /// growths come first.
+    pub(crate) fn finish<S: Shelf>(
+        &mut self,
+        shelf: &mut S,
+        owner: Owner,
+        now: u64,
+        config: &PipeConfig,
+        drops: &mut Vec<Packet>,
+    ) -> Result<Packet, NoMemory>
+        requires early { now < 2 * 10 ^ 15 }
+        requires tuned { IsTuned config.now self.old.instance }
+        requires due { option_map (λ s. s.period.finish) self.old.instance.service.busy ≡ Some now }
+        requires named { AreNamed (S.pocket shelf.old owner) (keys_in self.old.instance) }
+        ensures finished { IfOk result (λ packet. Finishes config.now now packet drops.new.items (S.pocket shelf.old owner) (S.pocket shelf.new owner) self.old self.new) }
+        ensures refused { OnErr result (self.new ≡ record self.old {
+          instance = record self.old.instance { lane = record self.old.instance.lane { spare = self.new.instance.lane.spare } };
+        }) }
+        ensures refused_pocket { OnErr result (S.pocket shelf.new owner ≡ S.pocket shelf.old owner) }
+        ensures others { (o : ℕ) → o ≢ owner → S.pocket shelf.new o ≡ S.pocket shelf.old o }
+        ensures succeeds { IsFree now (vec_capacity drops.old) self.old.instance → IsOk result }
+    {
+        drops.clear();
+        let most = self.most_dropped(config);
+        let Ok(()) = drops.reserve(most) else {
+            return Err(NoMemory);
+        };
+        let Ok(done) = self.instance.finish(now, config.delay) else {
+            return Err(NoMemory);
+        };
+        let Some(packet) = shelf.look(owner, done.key) else {
+            unreachable!();
+        };
+        take_dropped(done.dropped.as_slice(), shelf, owner, drops);
+        Ok(packet)
+    }
+
+    // How many packets a finish can drop, at most.
+    fn most_dropped(&self, config: &PipeConfig) -> usize
+        requires { IsTuned config.now self.now.instance }
+        ensures { result ≡ most_dropped self.now.instance.queue }
+    {
+        match config.discipline {
+            Discipline::TailDrop => 0,
+            Discipline::ControlledDelay {
+                target: _,
+                interval: _,
+            } => self.instance.shown().waiting as usize,
+        }
+    }
+
+    /// The packet that leaves first, which stays; None where nothing is on its way.
+    pub(crate) fn front<S: Shelf>(&self, shelf: &S, owner: Owner) -> Option<Packet>
+        requires { AreNamed (S.pocket shelf.now owner) (keys_in self.now.instance) }
+        ensures { result ≡ first_item (seen_slot (packet_at (S.pocket shelf.now owner).find) self.now).line.flight }
+    {
+        let key = self.instance.front()?;
+        let Some(packet) = shelf.look(owner, key) else {
+            unreachable!();
+        };
+        Some(packet)
+    }
+
+    /// What leaves first goes, and its packet is taken from the shelf; None where nothing is on its
+    /// way.
+    pub(crate) fn exit<S: Shelf>(&mut self, shelf: &mut S, owner: Owner) -> Option<Packet>
+        requires { AreNamed (S.pocket shelf.old owner) (keys_in self.old.instance) }
+        ensures left { Exits result (S.pocket shelf.old owner) (S.pocket shelf.new owner) self.old self.new }
+        ensures freed { OnSome result (0 < S.room shelf.new owner) }
+        ensures below { OnSome result ((S.pocket shelf.new owner).count < (S.pocket shelf.new owner).budget) }
+        ensures others { (o : ℕ) → o ≢ owner → S.pocket shelf.new o ≡ S.pocket shelf.old o }
+    {
+        let key = self.instance.exit()?;
+        let Some(packet) = shelf.take(owner, key) else {
+            unreachable!();
+        };
+        Some(packet)
+    }
+
+    /// How many packets it holds; None where that is more than a `usize` counts.
+    pub(crate) fn held(&self) -> Option<usize>
+        ensures { IfSome result (λ n. n ≡ length (keys_in self.now.instance)) }
+    {
+        let shown = self.instance.shown();
+        let moving = (shown.flight as usize).checked_add(usize::from(shown.busy))?;
+        moving.checked_add(shown.waiting as usize)
+    }
+}

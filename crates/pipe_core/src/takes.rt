@@ -1,0 +1,71 @@
+//! Packets that are taken from a shelf by their keys.
+
+ghost use Rattle.std.specs.Prelude.{◌≡◌, ◌≢◌, ℕ, ◌+◌, ◌≤◌, ◌++◌, [], map, length, vec_len, vec_capacity};
+ghost use Rattle.pipe_core.specs.Moves.{AreNamed, Taking};
+ghost use Rattle.pipe_core.specs.Keyed.{keys_of};
+
+use crate::slot::Slot;
+use emu_model::Packet;
+use packet_store::{Key, Owner, Shelf};
+use pipe_instance::Leftovers;
+use queue_disc::Waiting;
+
+/// Takes the packets of what was dropped, to the end of a list that has room for them.
+pub(crate) fn take_dropped<S: Shelf>(
+    dropped: &[Waiting<Key>],
+    shelf: &mut S,
+    owner: Owner,
+    drops: &mut Vec<Packet>,
+)
+    requires named { AreNamed (S.pocket shelf.old owner) (map (λ w. w.item) dropped.now) }
+    requires room { vec_len drops.old + length dropped.now ≤ vec_capacity drops.old }
+    ensures taken { Taking (S.pocket shelf.old owner) (S.pocket shelf.new owner) (map (λ w. w.item) dropped.now) [] drops.old.items drops.new.items }
+    ensures others { (o : ℕ) → o ≢ owner → S.pocket shelf.new o ≡ S.pocket shelf.old o }
+{
+    for waiting in dropped {
+        let Some(packet) = shelf.take(owner, waiting.item) else {
+            unreachable!();
+        };
+        drops.push_reserved(packet);
+    }
+}
+
+/// Takes the packets of an instance that is no more, to the end of a list that has room for them.
+pub(crate) fn take_leftovers<S: Shelf>(
+    mut leftovers: Leftovers,
+    shelf: &mut S,
+    owner: Owner,
+    gone: &mut Vec<Packet>,
+)
+    requires named { AreNamed (S.pocket shelf.old owner) leftovers }
+    requires room { vec_len gone.old + length leftovers ≤ vec_capacity gone.old }
+    ensures taken { Taking (S.pocket shelf.old owner) (S.pocket shelf.new owner) leftovers [] gone.old.items gone.new.items }
+    ensures count { vec_len gone.new ≡ vec_len gone.old + length leftovers }
+    ensures capacity { vec_capacity gone.new ≡ vec_capacity gone.old }
+    ensures others { (o : ℕ) → o ≢ owner → S.pocket shelf.new o ≡ S.pocket shelf.old o }
+{
+    while let Some(key) = leftovers.next() {
+        let Some(packet) = shelf.take(owner, key) else {
+            unreachable!();
+        };
+        gone.push_reserved(packet);
+    }
+}
+
+/// Takes the packets of instances that are no more, in order.
+pub(crate) fn take_all<S: Shelf>(
+    slots: Vec<Slot>,
+    shelf: &mut S,
+    owner: Owner,
+    gone: &mut Vec<Packet>,
+)
+    requires named { AreNamed (S.pocket shelf.old owner) (keys_of slots.items) }
+    requires room { vec_len gone.old + length (keys_of slots.items) ≤ vec_capacity gone.old }
+    ensures taken { Taking (S.pocket shelf.old owner) (S.pocket shelf.new owner) (keys_of slots.items) [] gone.old.items gone.new.items }
+    ensures others { (o : ℕ) → o ≢ owner → S.pocket shelf.new o ≡ S.pocket shelf.old o }
+{
+    for slot in slots {
+        let Slot { id: _, instance } = slot;
+        take_leftovers(instance.into_leftovers(), shelf, owner, gone);
+    }
+}

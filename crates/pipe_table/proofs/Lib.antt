@@ -1,0 +1,8 @@
+mod Splits
+mod Sums
+mod TableFacts
+mod NetFacts
+mod Order
+mod At
+mod DueFacts
+mod LineFacts

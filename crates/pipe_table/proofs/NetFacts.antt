@@ -1,0 +1,82 @@
+-- What the definitions do with one pipe of an experiment, where the table holds it.
+use Rattle.std.proofs.Common.{◌≡◌, ℕ, ◌+◌, ◌<◌, Bool, true, false, cond, refl, sym, ap, ◌∙◌, subst, List, [], ◌∷◌, ◌++◌, map, length, Option, Some, None}
+use Rattle.std.specs.Prelude.{◌==◌, if◌then◌else◌, find, option_map, option_and_then, is_some}
+use Rattle.std.specs.Option.{option_map_or}
+use Rattle.emu_model.specs.declared.packets.Packet.{Packet}
+use Rattle.emu_model.specs.declared.pipes.PipeConfig.{PipeConfig}
+use Rattle.emu_model.specs.declared.records.DropCause.TheVariants.{NoPipe, Deleted}
+use Rattle.emu_model.specs.declared.records.Record.{Record}
+use Rattle.emu_model.specs.declared.records.Record.TheVariants.{PacketFinished}
+use Rattle.emu_model.specs.Lists.{replace_first, remove_first}
+use Rattle.emu_model.specs.Pipes.{PipeState, InService, Drop, After, pipe_arrive, pipe_finish, pipe_exit, pipe_configure, pipe_packets}
+use Rattle.emu_model.specs.Net.{Net, Setting, find_pipe, put_pipe, put_after, note, note_drops, drop_packet, to_pipe}
+use Rattle.emu_model.specs.Events.{flying_in, served_in, leave_pipe_some, pipe_exits, pipe_finishes}
+use Rattle.emu_model.specs.Commands.{delete_pipe, config_refusal, mask_refusal, configure}
+use Rattle.packet_store.specs.Pocket.{Pocket}
+use Rattle.pipe_core.specs.Moves.{packet_at, AreNamed, Keeps}
+use Rattle.pipe_core.specs.Keyed.{KeyedPipe, seen_pipe, view, keys_of}
+use Rattle.pipe_core.specs.Views.{ViewsAgree}
+use Rattle.pipe_table.specs.Table.{Table, seen_pipes, with_pipes, pipe_keys, has_number, pipe_of}
+use Rattle.pipe_table.proofs.TableFacts.{seen-find, found-here, shown-changed, seen-remove}
+
+abbrev net : Pocket → List KeyedPipe → Net → Net
+net p ps n = record n { pipes = seen_pipes (packet_at p.find) ps }
+
+pub find-none : (p : Pocket) (k : ℕ) (ps : List KeyedPipe) (n : Net) → pipe_of k ps ≡ None → find_pipe k (net p ps n) ≡ None
+find-none p k ps n none = seen-find (packet_at p.find) k ps ∙ ap (option_map (seen_pipe (packet_at p.find))) none
+
+pub find-some : (p : Pocket) (k : ℕ) (ps : List KeyedPipe) (x : KeyedPipe) (n : Net) → pipe_of k ps ≡ Some x → find_pipe k (net p ps n) ≡ Some (view p x)
+find-some p k ps x n some = seen-find (packet_at p.find) k ps ∙ ap (option_map (seen_pipe (packet_at p.find))) some
+
+pub arrive-nowhere : (at : Setting) (p : Pocket) (k : ℕ) (packet : Packet) (ps : List KeyedPipe) (n : Net) → pipe_of k ps ≡ None →
+    to_pipe at k packet (net p ps n) ≡ drop_packet at.now NoPipe packet (net p ps n)
+arrive-nowhere at p k packet ps n none =
+    ap (λ o. option_map_or (λ pipe. put_after at.now k (pipe_arrive at.seed at.now packet pipe) (net p ps n)) o
+    (drop_packet at.now NoPipe packet (net p ps n))) (find-none p k ps n none)
+
+module _ (agree : ViewsAgree) (p q : Pocket) (before behind : List KeyedPipe) (x y : KeyedPipe)
+    (named : AreNamed p (pipe_keys (before ++ x ∷ behind))) (keeps : Keeps p q (keys_of x.slots) (keys_of y.slots))
+    (k : ℕ) (first : pipe_of k before ≡ None) (passes : has_number k x ≡ true) where
+  find-is : (n : Net) → find_pipe k (net p (before ++ x ∷ behind) n) ≡ Some (view p x)
+  find-is n = find-some p k (before ++ x ∷ behind) x n (found-here k before behind x first passes)
+
+  -- the changed pipe in its place
+  put-is : (n : Net) → put_pipe k (view q y) (net p (before ++ x ∷ behind) n) ≡ net q (before ++ y ∷ behind) n
+  put-is n = λ i. record n { pipes = sym (shown-changed agree p q before behind x y named keeps k first passes) i }
+
+  pub arrive-is : (at : Setting) (packet : Packet) (ds : List Drop) (n : Net) →
+      pipe_arrive at.seed at.now packet (view p x) ≡ record { state = view q y; dropped = ds } →
+      to_pipe at k packet (net p (before ++ x ∷ behind) n) ≡ note_drops at.now ds (net q (before ++ y ∷ behind) n)
+  arrive-is at packet ds n came =
+      ap (λ o. option_map_or (λ pipe. put_after at.now k (pipe_arrive at.seed at.now packet pipe) (net p (before ++ x ∷ behind) n)) o
+      (drop_packet at.now NoPipe packet (net p (before ++ x ∷ behind) n))) (find-is n)
+      ∙ ap (λ (a : After PipeState). put_after at.now k a (net p (before ++ x ∷ behind) n)) came
+      ∙ ap (note_drops at.now ds) (put-is n)
+
+  pub exit-is : (at : Setting) (j : ℕ) (o : Option Packet) (n : Net) →
+      o ≡ flying_in j (view p x) → view q y ≡ pipe_exit j (view p x) →
+      option_map_or (pipe_exits at k j (net p (before ++ x ∷ behind) n)) (find_pipe k (net p (before ++ x ∷ behind) n)) (net p (before ++ x ∷ behind) n)
+      ≡ leave_pipe_some at k j o (net q (before ++ y ∷ behind) n)
+  exit-is at j o n flying gone =
+      ap (λ f. option_map_or (pipe_exits at k j (net p (before ++ x ∷ behind) n)) f (net p (before ++ x ∷ behind) n)) (find-is n)
+      ∙ ap (λ s. leave_pipe_some at k j (flying_in j (view p x)) (put_pipe k s (net p (before ++ x ∷ behind) n))) (sym gone)
+      ∙ (λ i. leave_pipe_some at k j (sym flying i) (put-is n i))
+
+  pub finish-is : (at : Setting) (j : ℕ) (packet : Packet) (ds : List Drop) (n : Net) →
+      option_map (λ (s : InService). s.packet) (served_in j (view p x)) ≡ Some packet →
+      pipe_finish at.now j (view p x) ≡ record { state = view q y; dropped = ds } →
+      option_map_or (pipe_finishes at k j (net p (before ++ x ∷ behind) n)) (find_pipe k (net p (before ++ x ∷ behind) n)) (net p (before ++ x ∷ behind) n)
+      ≡ note_drops at.now ds (net q (before ++ y ∷ behind) (note (PacketFinished at.now packet.number k j) n))
+  finish-is at j packet ds n served done =
+      ap (λ f. option_map_or (pipe_finishes at k j (net p (before ++ x ∷ behind) n)) f (net p (before ++ x ∷ behind) n)) (find-is n)
+      ∙ go (served_in j (view p x)) served
+      ∙ ap (note_drops at.now ds) (put-is (note (PacketFinished at.now packet.number k j) n))
+    where
+      go : (s : Option InService) → option_map (λ (i : InService). i.packet) s ≡ Some packet →
+          put_after at.now k (pipe_finish at.now j (view p x))
+          (option_map_or (λ (i : InService). note (PacketFinished at.now i.packet.number k j) (net p (before ++ x ∷ behind) n)) s (net p (before ++ x ∷ behind) n))
+          ≡ note_drops at.now ds (put_pipe k (view q y) (net p (before ++ x ∷ behind) (note (PacketFinished at.now packet.number k j) n)))
+      go None e = absurd (cc)
+      go (Some s) e =
+          let same : s.packet ≡ packet = cc in
+          λ i. put_after at.now k (done i) (note (PacketFinished at.now (same i).number k j) (net p (before ++ x ∷ behind) n))

@@ -1,0 +1,52 @@
+use Rattle.std.proofs.Common.{rules, ◌≡◌, ℕ, refl, sym, ap, ◌∙◌, subst, Some, None, IsSome, Ok, Err, Result, OnOk, set, length, arith, List, [], ◌∷◌}
+use Rattle.std.specs.Prelude.{option_map, option_and_then, is_some}
+use Rattle.std.specs.List.{insert, position_or_len}
+use Rattle.std.proofs.lemmas.List.{append-nil}
+use Rattle.std.specs.Option.{option_map_or}
+use Rattle.emu_model.specs.declared.packets.Packet.{Packet}
+use Rattle.emu_model.specs.Net.{Net, Setting, find_pipe}
+use Rattle.emu_model.specs.Commands.{delete_pipe}
+use Rattle.emu_model.specs.Events.{flying_in, pipe_exits}
+use Rattle.emu_model.specs.Pipes.{PipeState, pipe_arrive, pipe_exit, pipe_finish}
+use Rattle.packet_store.specs.Pocket.{Pocket}
+use Rattle.pipe_core.specs.Moves.{some_packet, packet_at, AreNamed, Keeps}
+use Rattle.pipe_core.specs.Keyed.{KeyedPipe, keys_of, view, seen_pipe}
+use Rattle.pipe_core.specs.Steps.{HasRoomAt}
+use Rattle.queue_disc.specs.declared.entries.NoMemory.{NoMemory}
+use Rattle.pipe_table.specs.Table.{Table, with_pipes, pipe_keys, pipe_of, has_number, is_above, HasRoomIn, IsTable}
+use Rattle.pipe_table.proofs.Splits.{position-none, position-len, none-len}
+use Rattle.pipe_table.proofs.NetFacts.{find-none, find-some, arrive-nowhere}
+use Rattle.pipe_table.proofs.At.{sound-at, sound-by, sound-removed, sound-insert, configure-at, refusal-at, configure-none, refusal-none, place-fits, table-insert, keys-insert, new-is, table-removed, delete-at, count-at, keys-removed, ok-by, match-by, not-finishing, finishing-at, finish-ok, grown-set, err-by, ready-set, pipe-set, shown-set, keys-set, set-same, flying-beyond, exit-beyond, Keeps-same, passes, pipe-at, named-at, keys-at, table-at, seed-at, ready-at, arrive-at, exit-at, finish-at}
+use Rattle.pipe_table.proofs.table.PipeTable.arrive.Goals as goal
+
+pub returns-in_default-clause-arrived : goal.returns-in_default-clause-arrived
+returns-in_default-clause-arrived g c = λ at n same now.
+    rw (← c.self.view_is, ← now) (arrive-nowhere at (g.S.Shelf.pocket c.args.shelf.now c.args.owner) c.args.number c.args.packet.now c.self.inside.pipes.items n
+    (position-none (has_number c.args.number) c.self.inside.pipes.items (rw (← c.self.view_is) at c.in_default.ensures)))
+
+pub arrive-requires-clause-named : goal.arrive-requires-clause-named
+arrive-requires-clause-named g c =
+    named-at c.args.number c.in-Some.place c.self.inside.pipes.items c.index_mut.result.now (rw (← c.self.view_is) at c.in-Some.ensures) c.index_mut.ensures.value (g.S.Shelf.pocket c.args.shelf.now c.args.owner) (rw (← c.self.view_is) at c.requires.named)
+
+pub unreachable-requires : goal.unreachable-requires
+unreachable-requires g c =
+    let here = pipe-at c.args.number c.in-Some.place c.self.inside.pipes.items c.index_mut.result.now (rw (← c.self.view_is) at c.in-Some.ensures) c.index_mut.ensures.value in
+    let ready = (rw (← c.self.view_is) at c.requires.ready) c.index_mut.result.now here in
+    let there : IsSome (pipe_of c.args.number c.self.inside.pipes.items) = subst IsSome (sym here) refl in
+    let ok = c.in_default-arrive.ensures.succeeds ((rw (← c.self.view_is) at c.requires.room) there) ready in absurd (cc)
+
+pub invariant_of-self : goal.invariant_of-self
+invariant_of-self g c =
+    sound-at c.args.number c.in-Some.place c.self.inside.pipes.items c.index_mut.result.now (rw (← c.self.view_is) at c.in-Some.ensures) c.index_mut.ensures.value c.self.inside.seed c.arrive.new.self c.self.invariant (ap (λ (p : KeyedPipe). p.seed) c.in-Ok.ensures.same) (ap (λ (p : KeyedPipe). p.number) c.in-Ok.ensures.same)
+
+pub returns-clause-arrived : goal.returns-clause-arrived
+returns-clause-arrived g c = λ at n same now.
+    let seeds : at.seed ≡ c.index_mut.result.now.seed = same ∙ ap (λ (t : Table). t.seed) (sym c.self.view_is) ∙ sym (seed-at c.args.number c.in-Some.place c.self.inside.pipes.items c.index_mut.result.now (rw (← c.self.view_is) at c.in-Some.ensures) c.index_mut.ensures.value c.self.inside.seed 0 c.self.invariant.0) in
+    rw (← c.self.view_is, ← now) (arrive-at c.args.number c.in-Some.place c.self.inside.pipes.items c.index_mut.result.now (rw (← c.self.view_is) at c.in-Some.ensures) c.index_mut.ensures.value c.keys_say_all.ensures.agree (g.S.Shelf.pocket c.args.shelf.now c.args.owner)
+    (g.S.Shelf.pocket c.arrive.new.shelf c.args.owner) c.arrive.new.self (rw (← c.self.view_is) at c.requires.named) c.in-Ok.ensures.keys
+    at c.args.packet.now _ n c.self.inside.seed
+    ((λ i. pipe_arrive (seeds i) (now i) c.args.packet.now (view (g.S.Shelf.pocket c.args.shelf.now c.args.owner) c.index_mut.result.now)) ∙ c.in-Ok.ensures.ok))
+
+pub returns-clause-keys : goal.returns-clause-keys
+returns-clause-keys g c =
+    rw (← c.self.view_is) (keys-at c.args.number c.in-Some.place c.self.inside.pipes.items c.index_mut.result.now (rw (← c.self.view_is) at c.in-Some.ensures) c.index_mut.ensures.value (g.S.Shelf.pocket c.args.shelf.now c.args.owner) (g.S.Shelf.pocket c.arrive.new.shelf c.args.owner) c.arrive.new.self c.in-Ok.ensures.keys)

@@ -1,0 +1,65 @@
+use Rattle.std.proofs.Common.{rules, ◌≡◌, ℕ, refl, sym, ap, ◌∙◌, subst, Some, None, IsSome, Ok, Err, Result, OnOk, set, length, arith, List, [], ◌∷◌}
+use Rattle.std.specs.Prelude.{option_map, option_and_then, is_some}
+use Rattle.std.specs.List.{insert, position_or_len}
+use Rattle.std.proofs.lemmas.List.{append-nil}
+use Rattle.std.specs.Option.{option_map_or}
+use Rattle.emu_model.specs.declared.packets.Packet.{Packet}
+use Rattle.emu_model.specs.Net.{Net, Setting, find_pipe}
+use Rattle.emu_model.specs.Commands.{delete_pipe}
+use Rattle.emu_model.specs.Events.{flying_in, pipe_exits}
+use Rattle.emu_model.specs.Pipes.{PipeState, pipe_arrive, pipe_exit, pipe_finish}
+use Rattle.packet_store.specs.Pocket.{Pocket}
+use Rattle.pipe_core.specs.Moves.{some_packet, packet_at, AreNamed, Keeps}
+use Rattle.pipe_core.specs.Keyed.{KeyedPipe, keys_of, view, seen_pipe}
+use Rattle.pipe_core.specs.Steps.{HasRoomAt}
+use Rattle.queue_disc.specs.declared.entries.NoMemory.{NoMemory}
+use Rattle.pipe_table.specs.Table.{Table, with_pipes, pipe_keys, pipe_of, has_number, is_above, HasRoomIn, IsTable}
+use Rattle.pipe_table.proofs.Splits.{position-none, position-len, none-len}
+use Rattle.pipe_table.proofs.NetFacts.{find-none, find-some, arrive-nowhere}
+use Rattle.pipe_table.proofs.At.{sound-at, sound-by, sound-removed, sound-insert, configure-at, refusal-at, configure-none, refusal-none, place-fits, table-insert, keys-insert, new-is, table-removed, delete-at, count-at, keys-removed, ok-by, match-by, not-finishing, finishing-at, finish-ok, grown-set, err-by, ready-set, pipe-set, shown-set, keys-set, set-same, flying-beyond, exit-beyond, Keeps-same, passes, pipe-at, named-at, keys-at, table-at, seed-at, ready-at, arrive-at, exit-at, finish-at}
+use Rattle.pipe_table.proofs.table.PipeTable.delete.Goals as goal
+
+pub returns-in_default-clause-ok : goal.returns-in_default-clause-ok
+returns-in_default-clause-ok g c = λ now n.
+    let p = g.S.Shelf.pocket c.args.shelf.now c.args.owner in
+    let m = with_pipes p c.args.self.now n in
+    ap (λ o. option_map_or (delete_pipe now c.args.number m) o m)
+    (find-none p c.args.number c.args.self.now.pipes n (position-none (has_number c.args.number) c.args.self.now.pipes c.in_default.ensures))
+    ∙ (λ z. record m { records = sym (append-nil m.records) z })
+
+pub returns-in_default-clause-there : goal.returns-in_default-clause-there
+returns-in_default-clause-there g c = λ n.
+    let p = g.S.Shelf.pocket c.args.shelf.now c.args.owner in
+    sym (ap is_some (find-none p c.args.number c.args.self.now.pipes n (position-none (has_number c.args.number) c.args.self.now.pipes c.in_default.ensures)))
+
+pub delete-requires : goal.delete-requires
+delete-requires g c =
+    named-at c.args.number c.in-Some.place c.self.inside.pipes.items c.index_mut.result.now (rw (← c.self.view_is) at c.in-Some.ensures) c.index_mut.ensures.value (g.S.Shelf.pocket c.args.shelf.now c.args.owner) (rw (← c.self.view_is) at c.requires)
+
+pub invariant_of-self-2 : goal.invariant_of-self-2
+invariant_of-self-2 g c =
+    sound-by c.self.inside.seed (sym c.remove.ensures.items) (sound-removed c.args.number c.in-Some.place c.self.inside.pipes.items c.index_mut.result.now (rw (← c.self.view_is) at c.in-Some.ensures) c.index_mut.ensures.value c.self.inside.seed c.delete.new.self c.self.invariant)
+
+pub returns-clause-ok : goal.returns-clause-ok
+returns-clause-ok g c = λ now n.
+    let p = g.S.Shelf.pocket c.args.shelf.now c.args.owner in
+    let q = g.S.Shelf.pocket c.delete.new.shelf c.args.owner in
+    rw (← c.self.view_is, c.remove.ensures.items)
+    (delete-at c.args.number c.in-Some.place c.self.inside.pipes.items c.index_mut.result.now (rw (← c.self.view_is) at c.in-Some.ensures) c.index_mut.ensures.value c.keys_say_all.ensures.agree p q c.delete.new.self (rw (← c.self.view_is) at c.requires) c.delete.ensures.keys
+    now c.self.inside.seed n c.in_ok-gone.gone.items c.in_ok-gone.ensures.gone)
+
+pub returns-clause-there : goal.returns-clause-there
+returns-clause-there g c = λ n.
+    let p = g.S.Shelf.pocket c.args.shelf.now c.args.owner in
+    rw (← c.self.view_is) (sym (ap is_some (find-some p c.args.number c.self.inside.pipes.items c.index_mut.result.now n (pipe-at c.args.number c.in-Some.place c.self.inside.pipes.items c.index_mut.result.now (rw (← c.self.view_is) at c.in-Some.ensures) c.index_mut.ensures.value))))
+
+pub returns-clause-count : goal.returns-clause-count
+returns-clause-count g c =
+    count-at c.args.number c.in-Some.place c.self.inside.pipes.items c.index_mut.result.now (rw (← c.self.view_is) at c.in-Some.ensures) c.index_mut.ensures.value c.keys_say_all.ensures.packets (g.S.Shelf.pocket c.args.shelf.now c.args.owner) c.in_ok-gone.gone.items
+    (rw (← c.self.view_is) at c.requires) c.in_ok-gone.ensures.gone
+
+pub returns-clause-keys : goal.returns-clause-keys
+returns-clause-keys g c =
+    rw (← c.self.view_is, c.remove.ensures.items)
+    (keys-removed c.args.number c.in-Some.place c.self.inside.pipes.items c.index_mut.result.now (rw (← c.self.view_is) at c.in-Some.ensures) c.index_mut.ensures.value (g.S.Shelf.pocket c.args.shelf.now c.args.owner) (g.S.Shelf.pocket c.delete.new.shelf c.args.owner) c.delete.new.self
+    (ap (λ (p : KeyedPipe). p.slots) c.in_ok-gone.ensures.empty) c.delete.ensures.keys)

@@ -1,0 +1,82 @@
+use Rattle.std.proofs.Common.{rules, ◌≡◌, ℕ, refl, sym, ap, ◌∙◌, subst, Some, None, IsSome, Ok, Err, Result, OnOk, set, length, arith, List, [], ◌∷◌}
+use Rattle.std.specs.Prelude.{option_map, option_and_then, is_some}
+use Rattle.std.specs.List.{insert, position_or_len}
+use Rattle.std.proofs.lemmas.List.{append-nil}
+use Rattle.std.specs.Option.{option_map_or}
+use Rattle.emu_model.specs.declared.packets.Packet.{Packet}
+use Rattle.emu_model.specs.Net.{Net, Setting, find_pipe}
+use Rattle.emu_model.specs.Commands.{delete_pipe}
+use Rattle.emu_model.specs.Events.{flying_in, pipe_exits}
+use Rattle.emu_model.specs.Pipes.{PipeState, pipe_arrive, pipe_exit, pipe_finish}
+use Rattle.packet_store.specs.Pocket.{Pocket}
+use Rattle.pipe_core.specs.Moves.{some_packet, packet_at, AreNamed, Keeps}
+use Rattle.pipe_core.specs.Keyed.{KeyedPipe, keys_of, view, seen_pipe}
+use Rattle.pipe_core.specs.Steps.{HasRoomAt}
+use Rattle.queue_disc.specs.declared.entries.NoMemory.{NoMemory}
+use Rattle.pipe_table.specs.Table.{Table, with_pipes, pipe_keys, pipe_of, has_number, is_above, HasRoomIn, IsTable}
+use Rattle.pipe_table.proofs.Splits.{position-none, position-len, none-len}
+use Rattle.pipe_table.proofs.NetFacts.{find-none, find-some, arrive-nowhere}
+use Rattle.pipe_table.proofs.At.{sound-at, sound-by, sound-removed, sound-insert, configure-at, refusal-at, configure-none, refusal-none, place-fits, table-insert, keys-insert, new-is, table-removed, delete-at, count-at, keys-removed, ok-by, match-by, not-finishing, finishing-at, finish-ok, grown-set, err-by, ready-set, pipe-set, shown-set, keys-set, set-same, flying-beyond, exit-beyond, Keeps-same, passes, pipe-at, named-at, keys-at, table-at, seed-at, ready-at, arrive-at, exit-at, finish-at}
+use Rattle.pipe_table.proofs.table.PipeTable.exit.Goals as goal
+
+pub returns-in_default-clause-gone : goal.returns-in_default-clause-gone
+returns-in_default-clause-gone g c = λ at n.
+    let p = g.S.Shelf.pocket c.args.shelf.now c.args.owner in
+    let none = position-none (has_number c.args.number) c.self.inside.pipes.items (rw (← c.self.view_is) at c.in_default.ensures) in
+    let m = with_pipes p (record { seed = c.self.inside.seed; pipes = c.self.inside.pipes.items }) n in
+    rw (← c.self.view_is) (ap (λ o. option_map_or (pipe_exits at c.args.number c.args.instance m) o m) (find-none p c.args.number c.self.inside.pipes.items n none))
+
+pub returns-in_default-clause-packet : goal.returns-in_default-clause-packet
+returns-in_default-clause-packet g c = λ n.
+    let p = g.S.Shelf.pocket c.args.shelf.now c.args.owner in
+    let none = position-none (has_number c.args.number) c.self.inside.pipes.items (rw (← c.self.view_is) at c.in_default.ensures) in
+    rw (← c.self.view_is) (sym (ap (option_and_then (flying_in c.args.instance)) (find-none p c.args.number c.self.inside.pipes.items n none)))
+
+pub returns-then-instances-index-clause-gone : goal.returns-then-instances-index-clause-gone
+returns-then-instances-index-clause-gone g c = λ at n.
+    let p = g.S.Shelf.pocket c.args.shelf.now c.args.owner in
+    let x = c.index.result.now in
+    rw (← c.self.view_is)
+    (exit-at c.args.number c.in-Some.place c.self.inside.pipes.items c.index.result.now (rw (← c.self.view_is) at c.in-Some.ensures) c.index.ensures c.keys_say_all.ensures.agree p p x (rw (← c.self.view_is) at c.requires.named) (Keeps-same p (keys_of x.slots))
+    at c.args.instance None n c.self.inside.seed
+    (flying-beyond p x c.args.instance (omega (arith, c.if-instances-index.true, c.instances.ensures.instances)))
+    (exit-beyond p x c.args.instance (omega (arith, c.if-instances-index.true, c.instances.ensures.instances)))
+    ∙ (λ i. with_pipes p (record { seed = c.self.inside.seed; pipes = set-same c.args.number c.in-Some.place c.self.inside.pipes.items c.index.result.now (rw (← c.self.view_is) at c.in-Some.ensures) c.index.ensures i }) n))
+
+pub returns-then-instances-index-clause-packet : goal.returns-then-instances-index-clause-packet
+returns-then-instances-index-clause-packet g c = λ n.
+    let p = g.S.Shelf.pocket c.args.shelf.now c.args.owner in
+    let x = c.index.result.now in
+    rw (← c.self.view_is)
+    (flying-beyond p x c.args.instance (omega (arith, c.if-instances-index.true, c.instances.ensures.instances))
+    ∙ sym (ap (option_and_then (flying_in c.args.instance)) (find-some p c.args.number c.self.inside.pipes.items x n (pipe-at c.args.number c.in-Some.place c.self.inside.pipes.items c.index.result.now (rw (← c.self.view_is) at c.in-Some.ensures) c.index.ensures))))
+
+pub exit-requires-clause-named : goal.exit-requires-clause-named
+exit-requires-clause-named g c =
+    named-at c.args.number c.in-Some.place c.self.inside.pipes.items c.index_mut.result.now (rw (← c.self.view_is) at c.in-Some.ensures) c.index_mut.ensures.value (g.S.Shelf.pocket c.args.shelf.now c.args.owner) (rw (← c.self.view_is) at c.requires.named)
+
+pub invariant_of-self : goal.invariant_of-self
+invariant_of-self g c =
+    sound-at c.args.number c.in-Some.place c.self.inside.pipes.items c.index_mut.result.now (rw (← c.self.view_is) at c.in-Some.ensures) c.index_mut.ensures.value c.self.inside.seed c.exit.new.self c.self.invariant (ap (λ (p : KeyedPipe). p.seed) c.exit.ensures.same) (ap (λ (p : KeyedPipe). p.number) c.exit.ensures.same)
+
+pub returns-clause-gone : goal.returns-clause-gone
+returns-clause-gone g c = λ at n.
+    rw (← c.self.view_is)
+    (exit-at c.args.number c.in-Some.place c.self.inside.pipes.items c.index_mut.result.now (rw (← c.self.view_is) at c.in-Some.ensures) c.index_mut.ensures.value c.keys_say_all.ensures.agree (g.S.Shelf.pocket c.args.shelf.now c.args.owner) (g.S.Shelf.pocket c.exit.new.shelf c.args.owner)
+    c.exit.new.self (rw (← c.self.view_is) at c.requires.named) c.exit.ensures.keys
+    at c.args.instance c.exit.result n c.self.inside.seed c.exit.ensures.packet c.exit.ensures.shown)
+
+pub returns-clause-packet : goal.returns-clause-packet
+returns-clause-packet g c = λ n.
+    let p = g.S.Shelf.pocket c.args.shelf.now c.args.owner in
+    rw (← c.self.view_is)
+    (c.exit.ensures.packet
+    ∙ sym (ap (option_and_then (flying_in c.args.instance)) (find-some p c.args.number c.self.inside.pipes.items c.index_mut.result.now n (pipe-at c.args.number c.in-Some.place c.self.inside.pipes.items c.index_mut.result.now (rw (← c.self.view_is) at c.in-Some.ensures) c.index_mut.ensures.value))))
+
+pub returns-clause-keys : goal.returns-clause-keys
+returns-clause-keys g c =
+    rw (← c.self.view_is) (keys-at c.args.number c.in-Some.place c.self.inside.pipes.items c.index_mut.result.now (rw (← c.self.view_is) at c.in-Some.ensures) c.index_mut.ensures.value (g.S.Shelf.pocket c.args.shelf.now c.args.owner) (g.S.Shelf.pocket c.exit.new.shelf c.args.owner) c.exit.new.self c.exit.ensures.keys)
+
+pub returns-clause-ready : goal.returns-clause-ready
+returns-clause-ready g c =
+    rw (← c.self.view_is) (ready-at c.args.number c.in-Some.place c.self.inside.pipes.items c.index_mut.result.now (rw (← c.self.view_is) at c.in-Some.ensures) c.index_mut.ensures.value c.exit.new.self (ap (λ (p : KeyedPipe). p.number) c.exit.ensures.same) c.exit.ensures.ready)

@@ -1,0 +1,10 @@
+//! The pipes of one experiment by number (ipfw(8), traffic shaper), over any shelf of packets.
+#![tactic(auto)]
+
+mod dues;
+mod lines;
+mod table;
+#[cfg(test)]
+mod tests;
+
+pub use table::{ConfigureError, PipeTable};

@@ -1,0 +1,313 @@
+//! The table: pipes by number, and what a packet, a finish, an exit or a command does there.
+
+ghost use Rattle.std.specs.Prelude.{◌≡◌, ◌≢◌, ℕ, ◌+◌, ◌*◌, ◌^◌, ◌<◌, ◌≤◌, [], None, option_map, option_and_then, position, is_some, IsSome, OnSome, OnOk, OnErr, IfOk, MatchResult, length};
+ghost use Rattle.std.specs.List.{position_or_len};
+ghost use Rattle.std.specs.Option.{option_map_or};
+ghost use Rattle.emu_model.specs.declared.packets.Packet.{Packet as Letter};
+ghost use Rattle.emu_model.specs.Net.{Net, Setting, find_pipe, note, note_drops, to_pipe};
+ghost use Rattle.emu_model.specs.declared.records.Record.TheVariants.{PacketFinished};
+ghost use Rattle.emu_model.specs.Commands.{config_refusal, configure as configured, new_pipe, new_pipe_refusal, delete_pipe};
+ghost use Rattle.emu_model.specs.Events.{flying_in, leave_pipe_some, pipe_exits, pipe_finishes};
+ghost use Rattle.packet_store.specs.Pocket.{Pocket};
+ghost use Rattle.pipe_core.specs.Moves.{AreNamed, Keeps};
+ghost use Rattle.pipe_core.specs.Steps.{drops_of, drops_by_codel};
+ghost use Rattle.pipe_table.specs.Table.{with_pipes, pipe_keys, pipe_of, has_number, HasRoomIn, HasGrown, IsFinishing, is_above, drops_by_deletion, refusal_in};
+
+use emu_model::{DropCause, Packet, PipeConfig, PipeNumber, Refusal};
+use packet_store::{Owner, Shelf};
+use pipe_core::{Pipe, keys_say_all};
+use queue_disc::NoMemory;
+use std::alloc::Global;
+use std::marker::Model;
+
+/// The pipes of an experiment with one seed, by number.
+#[derive(Drop)]
+pub struct PipeTable {
+    alloc: Global,
+    seed: u64,
+    pub(crate) pipes: Vec<Pipe>,
+}
+
+/// Why a pipe was not configured.
+#[derive(Clone, Copy)]
+pub enum ConfigureError {
+    Refused(Refusal),
+    NoMemory,
+}
+
+impl Model for PipeTable {
+    ghost use Rattle.std.specs.Prelude.{◌≤◌, length};
+    ghost use Rattle.pipe_table.specs.Table.{Table, IsTable};
+
+    ghost Value = { Table };
+
+    ghost view = { λ t. record { seed = t.seed; pipes = t.pipes.items } };
+
+    ghost invariant = { λ t. (IsTable t.seed 0 t.pipes.items) × (length t.pipes.items ≤ 64) };
+}
+
+impl PipeTable {
+    /// No pipes, of an experiment with this seed. Takes no memory.
+    #[tactic(auto, unfolding(crate::specs::Table::IsTable))]
+    pub fn new(alloc: Global, seed: u64) -> Self
+        ensures { result ≡ record { seed = seed; pipes = [] } }
+    {
+        PipeTable {
+            alloc,
+            seed,
+            pipes: Vec::new(alloc),
+        }
+    }
+
+    // The place of a pipe in the list.
+    fn place_of(&self, number: PipeNumber) -> Option<usize>
+        ensures { result ≡ position (has_number number) self.now.pipes }
+    {
+        self.pipes.iter().position(|pipe| pipe.number() == number)
+    }
+
+    /// Makes the growths that `arrive` of this packet at this pipe needs, or of one that differs in its
+    /// load, number or place. Only room grows, also where one is refused.
+    pub fn arrive_ready<S: Shelf>(
+        &mut self,
+        shelf: &mut S,
+        owner: Owner,
+        now: u64,
+        number: PipeNumber,
+        packet: &Packet,
+    ) -> Result<(), NoMemory>
+        ensures seed { self.new.seed ≡ self.old.seed }
+        ensures grown { HasGrown self.old.pipes self.new.pipes }
+        ensures pockets { (o : ℕ) → S.pocket shelf.new o ≡ S.pocket shelf.old o }
+        ensures rooms { (o : ℕ) → S.room shelf.old o ≤ S.room shelf.new o }
+        ensures room { OnOk result (IsSome (pipe_of number self.new.pipes) → (S.pocket shelf.old owner).count < (S.pocket shelf.old owner).budget → 0 < S.room shelf.new owner) }
+        ensures ready { OnOk result (HasRoomIn number packet.now self.new.pipes) }
+    {
+        let Some(place) = self.place_of(number) else {
+            return Ok(());
+        };
+        self.pipes[place].arrive_ready(shelf, owner, now, *packet)
+    }
+
+    /// A packet is handed to a pipe at the moment `now` (ns): None where it is taken in, else why it is
+    /// dropped, `NoPipe` where there is no such pipe. `arrive_ready` came before.
+    pub fn arrive<S: Shelf>(
+        &mut self,
+        shelf: &mut S,
+        owner: Owner,
+        now: u64,
+        number: PipeNumber,
+        packet: &Packet,
+    ) -> Option<DropCause>
+        requires early { now < 2 * 10 ^ 15 }
+        requires named { AreNamed (S.pocket shelf.old owner) (pipe_keys self.old.pipes) }
+        requires budget { (S.pocket shelf.old owner).count < (S.pocket shelf.old owner).budget }
+        requires room { IsSome (pipe_of number self.old.pipes) → 0 < S.room shelf.old owner }
+        requires ready { HasRoomIn number packet.now self.old.pipes }
+        ensures seed { self.new.seed ≡ self.old.seed }
+        ensures arrived { (at : Setting) (n : Net) → at.seed ≡ self.old.seed → at.now ≡ now →
+            to_pipe at number packet.now (with_pipes (S.pocket shelf.old owner) self.old n)
+            ≡ note_drops now (drops_of packet.now result) (with_pipes (S.pocket shelf.new owner) self.new n) }
+        ensures keys { Keeps (S.pocket shelf.old owner) (S.pocket shelf.new owner) (pipe_keys self.old.pipes) (pipe_keys self.new.pipes) }
+        ensures others { (o : ℕ) → o ≢ owner → S.pocket shelf.new o ≡ S.pocket shelf.old o }
+    {
+        keys_say_all();
+        let Some(place) = self.place_of(number) else {
+            return Some(DropCause::NoPipe);
+        };
+        let Ok(answer) = self.pipes[place].arrive(shelf, owner, now, *packet) else {
+            unreachable!();
+        };
+        answer
+    }
+
+    /// The packet that `exit` would give.
+    pub fn front<S: Shelf>(
+        &self,
+        shelf: &S,
+        owner: Owner,
+        number: PipeNumber,
+        instance: u8,
+    ) -> Option<Packet>
+        requires { AreNamed (S.pocket shelf.now owner) (pipe_keys self.now.pipes) }
+        ensures { (n : Net) → result ≡ option_and_then (flying_in instance) (find_pipe number (with_pipes (S.pocket shelf.now owner) self.now n)) }
+    {
+        let Some(place) = self.place_of(number) else {
+            return None;
+        };
+        let pipe = &self.pipes[place];
+        let index = instance as usize;
+        if pipe.instances() <= index {
+            return None;
+        }
+        pipe.front(shelf, owner, index)
+    }
+
+    /// The packet that leaves first in an instance goes: it is taken from the shelf. None where there is
+    /// none. Takes no memory, and keeps room for arrivals.
+    pub fn exit<S: Shelf>(
+        &mut self,
+        shelf: &mut S,
+        owner: Owner,
+        number: PipeNumber,
+        instance: u8,
+    ) -> Option<Packet>
+        requires named { AreNamed (S.pocket shelf.old owner) (pipe_keys self.old.pipes) }
+        ensures seed { self.new.seed ≡ self.old.seed }
+        ensures gone { (at : Setting) (n : Net) → let m = with_pipes (S.pocket shelf.old owner) self.old n in
+            option_map_or (pipe_exits at number instance m) (find_pipe number m) m
+            ≡ leave_pipe_some at number instance result (with_pipes (S.pocket shelf.new owner) self.new n) }
+        ensures packet { (n : Net) → result ≡ option_and_then (flying_in instance) (find_pipe number (with_pipes (S.pocket shelf.old owner) self.old n)) }
+        ensures keys { Keeps (S.pocket shelf.old owner) (S.pocket shelf.new owner) (pipe_keys self.old.pipes) (pipe_keys self.new.pipes) }
+        ensures ready { (k : ℕ) (p : Letter) → HasRoomIn k p self.old.pipes → HasRoomIn k p self.new.pipes }
+        ensures freed { OnSome result (0 < S.room shelf.new owner) }
+        ensures below { OnSome result ((S.pocket shelf.new owner).count < (S.pocket shelf.new owner).budget) }
+        ensures others { (o : ℕ) → o ≢ owner → S.pocket shelf.new o ≡ S.pocket shelf.old o }
+    {
+        keys_say_all();
+        let Some(place) = self.place_of(number) else {
+            return None;
+        };
+        let index = instance as usize;
+        if self.pipes[place].instances() <= index {
+            return None;
+        }
+        self.pipes[place].exit(shelf, owner, index)
+    }
+
+    /// The packet in service in an instance finishes at the moment `now` (ns), at which it is due, and
+    /// is told. What CoDel drops stands in `drops` then, in order. Refused, only room has grown.
+    pub fn finish<S: Shelf>(
+        &mut self,
+        shelf: &mut S,
+        owner: Owner,
+        now: u64,
+        number: PipeNumber,
+        instance: u8,
+        drops: &mut Vec<Packet>,
+    ) -> Result<Packet, NoMemory>
+        requires early { now < 2 * 10 ^ 15 }
+        requires due { IsFinishing number instance now self.old.pipes }
+        requires named { AreNamed (S.pocket shelf.old owner) (pipe_keys self.old.pipes) }
+        ensures seed { self.new.seed ≡ self.old.seed }
+        ensures ok { IfOk result (λ packet. (at : Setting) (n : Net) → at.now ≡ now → let m = with_pipes (S.pocket shelf.old owner) self.old n in
+            option_map_or (pipe_finishes at number instance m) (find_pipe number m) m
+            ≡ note_drops now (drops_by_codel drops.new.items)
+            (with_pipes (S.pocket shelf.new owner) self.new (note (PacketFinished now packet.number number instance) n))) }
+        ensures keys { Keeps (S.pocket shelf.old owner) (S.pocket shelf.new owner) (pipe_keys self.old.pipes) (pipe_keys self.new.pipes) }
+        ensures others { (o : ℕ) → o ≢ owner → S.pocket shelf.new o ≡ S.pocket shelf.old o }
+        ensures count { OnOk result ((S.pocket shelf.new owner).count + length drops.new.items ≡ (S.pocket shelf.old owner).count) }
+        ensures refused { OnErr result (HasGrown self.old.pipes self.new.pipes) }
+        ensures refused_pocket { OnErr result (S.pocket shelf.new owner ≡ S.pocket shelf.old owner) }
+    {
+        keys_say_all();
+        let Some(place) = self.place_of(number) else {
+            unreachable!();
+        };
+        self.pipes[place].finish(shelf, owner, instance as usize, now, drops)
+    }
+
+    /// A pipe's new configuration, or a new pipe; refused as `MaskFixed` where a pipe with instances is
+    /// to have another mask, and as `TooManyPipes` where there are 64 others. After an error nothing has
+    /// changed.
+    pub fn configure(
+        &mut self,
+        number: PipeNumber,
+        config: &PipeConfig,
+    ) -> Result<(), ConfigureError>
+        ensures seed { self.new.seed ≡ self.old.seed }
+        ensures ok { OnOk result ((p : Pocket) (n : Net) →
+            configured number config.now (with_pipes p self.old n) ≡ with_pipes p self.new n) }
+        ensures refusal { MatchResult result
+            (λ _. (p : Pocket) (n : Net) → config_refusal number config.now (with_pipes p self.old n) ≡ None)
+            (λ e. (p : Pocket) (n : Net) → config_refusal number config.now (with_pipes p self.old n) ≡ refusal_in e) }
+        ensures keys { pipe_keys self.new.pipes ≡ pipe_keys self.old.pipes }
+        ensures err { OnErr result (self.new ≡ self.old) }
+    {
+        let Some(place) = self.place_of(number) else {
+            return self.make(number, config);
+        };
+        if let Some(refusal) = self.pipes[place].configure(*config) {
+            return Err(ConfigureError::Refused(refusal));
+        }
+        Ok(())
+    }
+
+    // A new pipe, before the first of a greater number.
+    fn make(&mut self, number: PipeNumber, config: &PipeConfig) -> Result<(), ConfigureError>
+        requires { pipe_of number self.old.pipes ≡ None }
+        ensures seed { self.new.seed ≡ self.old.seed }
+        ensures ok { OnOk result ((p : Pocket) (n : Net) → new_pipe number config.now (with_pipes p self.old n) ≡ with_pipes p self.new n) }
+        ensures refusal { MatchResult result
+            (λ _. (p : Pocket) (n : Net) → new_pipe_refusal (with_pipes p self.old n) ≡ None)
+            (λ e. (p : Pocket) (n : Net) → new_pipe_refusal (with_pipes p self.old n) ≡ refusal_in e) }
+        ensures keys { pipe_keys self.new.pipes ≡ pipe_keys self.old.pipes }
+        ensures err { OnErr result (self.new ≡ self.old) }
+    {
+        if MOST_PIPES <= self.pipes.len() {
+            return Err(ConfigureError::Refused(Refusal::TooManyPipes));
+        }
+        let Ok(()) = self.pipes.reserve(1) else {
+            return Err(ConfigureError::NoMemory);
+        };
+        let place = self.place_behind(number);
+        let pipe = Pipe::new(self.alloc, self.seed, number, *config);
+        let Ok(()) = self.pipes.insert(place, pipe) else {
+            unreachable!();
+        };
+        Ok(())
+    }
+
+    // The place of the first pipe of a greater number, if there is one.
+    fn place_above(&self, number: PipeNumber) -> Option<usize>
+        ensures { result ≡ position (is_above number) self.now.pipes }
+    {
+        let number = number.get();
+        self.pipes
+            .iter()
+            .position(|pipe| number < pipe.number().get())
+    }
+
+    // The place before the first pipe of a greater number.
+    fn place_behind(&self, number: PipeNumber) -> usize
+        ensures { result ≡ position_or_len (is_above number) self.now.pipes }
+    {
+        match self.place_above(number) {
+            Some(place) => place,
+            None => self.pipes.len(),
+        }
+    }
+
+    /// A pipe goes, and the packets that it held are taken from the shelf: by instance number, in each
+    /// the delay line from its front, the packet in service, and what waits. None where there is no such
+    /// pipe. Refused, nothing has changed.
+    pub fn delete<S: Shelf>(
+        &mut self,
+        shelf: &mut S,
+        owner: Owner,
+        number: PipeNumber,
+    ) -> Result<Option<Vec<Packet>>, NoMemory>
+        requires { AreNamed (S.pocket shelf.old owner) (pipe_keys self.old.pipes) }
+        ensures seed { self.new.seed ≡ self.old.seed }
+        ensures ok { IfOk result (λ gone. (now : ℕ) (n : Net) → let m = with_pipes (S.pocket shelf.old owner) self.old n in
+            option_map_or (delete_pipe now number m) (find_pipe number m) m
+            ≡ note_drops now (drops_by_deletion (option_map (λ v. v.items) gone)) (with_pipes (S.pocket shelf.new owner) self.new n)) }
+        ensures there { IfOk result (λ gone. (n : Net) → is_some gone ≡ is_some (find_pipe number (with_pipes (S.pocket shelf.old owner) self.old n))) }
+        ensures count { IfOk result (λ gone. length (drops_by_deletion (option_map (λ v. v.items) gone)) ≤ (S.pocket shelf.old owner).count) }
+        ensures keys { Keeps (S.pocket shelf.old owner) (S.pocket shelf.new owner) (pipe_keys self.old.pipes) (pipe_keys self.new.pipes) }
+        ensures others { (o : ℕ) → o ≢ owner → S.pocket shelf.new o ≡ S.pocket shelf.old o }
+        ensures refused { OnErr result (self.new ≡ self.old) }
+        ensures refused_pocket { OnErr result (S.pocket shelf.new owner ≡ S.pocket shelf.old owner) }
+    {
+        keys_say_all();
+        let Some(place) = self.place_of(number) else {
+            return Ok(None);
+        };
+        let gone = self.pipes[place].delete(shelf, owner)?;
+        self.pipes.remove(place);
+        Ok(Some(gone))
+    }
+}
+
+/// How many pipes there may be.
+const MOST_PIPES: usize = 64;
