@@ -2,13 +2,10 @@
 //! in which they were added, the default last; searched from the first or from behind a rule.
 #![tactic(auto)]
 
-mod counted;
 mod list;
-mod matching;
-mod search;
 
-pub use counted::CountedRule;
 pub use list::{AddError, RuleList};
+pub use rule_search::CountedRule;
 
 #[cfg(test)]
 mod tests;

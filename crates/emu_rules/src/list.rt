@@ -4,9 +4,8 @@ ghost use Rattle.std.specs.Prelude.{◌≡◌, Some, None, IfOk, OnOk, OnErr, Ma
 ghost use Rattle.emu_model.specs.Rules.{opening_book, add_refusal, book_with, delete_refusal, book_without, verdict, counted_book, start_behind, is_rule_number};
 ghost use Rattle.emu_rules.specs.Errors.{refusal_of};
 
-use crate::counted::{CountedRule, target_of};
-use crate::search::{aim, first_behind, first_from, judge, judge_and_count};
 use emu_model::{Packet, Place, Refusal, Rule, RuleNumber, Verdict};
+use rule_search::{CountedRule, aim, first_behind, first_from, judge, judge_and_count, target_of};
 use std::alloc::{AllocError, Global};
 use std::marker::Model;
 
@@ -29,7 +28,7 @@ pub struct RuleList {
 
 impl Model for RuleList {
     ghost use Rattle.emu_model.specs.Rules.{RuleBook};
-    ghost use Rattle.emu_rules.specs.Walk.{IsSound};
+    ghost use Rattle.emu_rules.specs.Sound.{IsSound};
 
     ghost Value = { RuleBook };
 

@@ -3,8 +3,8 @@
 
 use crate::{AddError, RuleList};
 use emu_model::{
-    Action, Load, Packet, PipeNumber, Place, PortRange, Prefix, PrefixLength, Protocol,
-    ProtocolMatch, Refusal, Rule, RuleNumber, Size, Verdict,
+    Action, Load, Packet, PipeNumber, Place, Prefix, PrefixLength, Protocol, ProtocolMatch,
+    Refusal, Rule, RuleNumber, Size, Verdict,
 };
 use std::alloc::Global;
 use std::test::Fail;
@@ -55,19 +55,6 @@ fn rule(n: u32, action: Action) -> Rule {
         sports: None,
         dst: prefix(0, 0),
         dports: None,
-    }
-}
-
-/// allow udp from 10.0.0.0/30 1000-1001 to 10.0.0.2/32 2000-2000
-fn narrow_rule() -> Rule {
-    Rule {
-        number: number(100),
-        action: Action::Permit,
-        proto: ProtocolMatch::OnlyUdp,
-        src: prefix(0x0a00_0000, 30),
-        sports: PortRange::new(1000, 1001),
-        dst: prefix(0x0a00_0002, 32),
-        dports: PortRange::new(2000, 2000),
     }
 }
 
@@ -257,32 +244,6 @@ fn rule_replaced_behind_a_pipe(rt: HostRuntime) -> Result<(), Fail> {
     let lines = [(100, 2, 1, 1000), (300, 1, 1, 1000), (65535, 0, 0, 0)];
     let listed = lists(&list, &lines);
     assert!(rt; answered && listed);
-    Ok(())
-}
-
-fn allows(list: &RuleList, proto: Protocol, src: u32, sport: u16, dst: u32, dport: u16) -> bool {
-    let verdict = list.find(&packet(proto, src, sport, dst, dport));
-    word(verdict) == "allow"
-}
-
-#[test]
-fn what_a_rule_matches(rt: HostRuntime) -> Result<(), Fail> {
-    let mut list = RuleList::new(rt.alloc())?;
-    let added = add(&mut list, narrow_rule());
-    assert_eq!(rt; added, "ok");
-    for (proto, src, sport, dst, dport, want) in [
-        (Protocol::Udp, 0x0a00_0001, 1000, 0x0a00_0002, 2000, true),
-        (Protocol::Udp, 0x0a00_0003, 1001, 0x0a00_0002, 2000, true),
-        (Protocol::Tcp, 0x0a00_0001, 1000, 0x0a00_0002, 2000, false),
-        (Protocol::Udp, 0x0a00_0004, 1000, 0x0a00_0002, 2000, false),
-        (Protocol::Udp, 0x0a00_0001, 1002, 0x0a00_0002, 2000, false),
-        (Protocol::Udp, 0x0a00_0001, 999, 0x0a00_0002, 2000, false),
-        (Protocol::Udp, 0x0a00_0001, 1000, 0x0a00_0003, 2000, false),
-        (Protocol::Udp, 0x0a00_0001, 1000, 0x0a00_0002, 2001, false),
-    ] {
-        let allowed = allows(&list, proto, src, sport, dst, dport);
-        assert_eq!(rt; allowed, want);
-    }
     Ok(())
 }
 

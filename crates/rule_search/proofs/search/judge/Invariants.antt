@@ -1,7 +1,7 @@
 use Rattle.std.proofs.Common.{◌-◌, length}
 use Rattle.emu_model.specs.Rules.{verdict}
-use Rattle.emu_rules.proofs.Walking.{Answers}
-use Rattle.emu_rules.proofs.search.judge.Given as goal
+use Rattle.rule_search.proofs.Walking.{Answers}
+use Rattle.rule_search.proofs.search.judge.Given as goal
 
 abbrev pub invariant-loop-place : goal.invariant-loop-place
 invariant-loop-place l = Answers l.packet l.rules l.from (verdict l.start l.packet l.rules)

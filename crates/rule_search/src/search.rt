@@ -2,7 +2,7 @@
 
 ghost use Rattle.std.specs.Prelude.{◌≡◌, ◌≤◌, length};
 ghost use Rattle.emu_model.specs.Rules.{the_rules, least_match, place_of_number, start_behind, verdict, counted_rules};
-ghost use Rattle.emu_rules.specs.Walk.{IsOrdered, AreJumps};
+ghost use Rattle.rule_search.specs.Walk.{IsOrdered, AreJumps};
 
 use crate::counted::{CountedRule, target_of};
 use emu_model::{Packet, Place, Verdict};
@@ -21,12 +21,7 @@ fn next_match(rules: &[CountedRule], from: usize, packet: &Packet) -> Option<usi
 }
 
 /// The verdict of a search that begins at `start`.
-pub(crate) fn judge(
-    rules: &[CountedRule],
-    jumps: &[usize],
-    start: usize,
-    packet: &Packet,
-) -> Verdict
+pub fn judge(rules: &[CountedRule], jumps: &[usize], start: usize, packet: &Packet) -> Verdict
     requires { AreJumps (the_rules rules.now) jumps.now }
     ensures { result ≡ verdict start packet.now rules.now }
 {
@@ -42,7 +37,7 @@ pub(crate) fn judge(
 }
 
 /// The same; each rule that matches counts the packet.
-pub(crate) fn judge_and_count(
+pub fn judge_and_count(
     rules: &mut [CountedRule],
     jumps: &[usize],
     start: usize,
@@ -65,7 +60,7 @@ pub(crate) fn judge_and_count(
 }
 
 /// The first place numbered `number` or higher.
-pub(crate) fn first_from(rules: &[CountedRule], number: u32) -> usize
+pub fn first_from(rules: &[CountedRule], number: u32) -> usize
     requires { IsOrdered rules.now }
     ensures within { result ≤ length rules.now }
     ensures first { result ≡ place_of_number number (the_rules rules.now) }
@@ -74,7 +69,7 @@ pub(crate) fn first_from(rules: &[CountedRule], number: u32) -> usize
 }
 
 /// The first place behind that of a rule, which may be gone.
-pub(crate) fn first_behind(rules: &[CountedRule], place: Place) -> usize
+pub fn first_behind(rules: &[CountedRule], place: Place) -> usize
     requires { IsOrdered rules.now }
     ensures { result ≡ start_behind place rules.now }
 {
@@ -86,7 +81,7 @@ pub(crate) fn first_behind(rules: &[CountedRule], place: Place) -> usize
 }
 
 /// Writes to each place where a search goes on that matched there.
-pub(crate) fn aim(rules: &[CountedRule], jumps: &mut [usize])
+pub fn aim(rules: &[CountedRule], jumps: &mut [usize])
     requires same { length jumps.old ≡ length rules.now }
     requires ordered { IsOrdered rules.now }
     ensures { AreJumps (the_rules rules.now) jumps.new }

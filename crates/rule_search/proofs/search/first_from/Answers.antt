@@ -1,8 +1,8 @@
 use Rattle.std.proofs.Common.{rules, ltb}
 use Rattle.std.proofs.lemmas.List.Sorted.{IsPartitionPoint-from_clause, IsPartitionedBy-ltb}
 use Rattle.emu_model.specs.Rules.{Counted}
-use Rattle.emu_rules.proofs.Order.{numbers_rise, place-from_point}
-use Rattle.emu_rules.proofs.search.first_from.Goals as goal
+use Rattle.rule_search.proofs.Order.{numbers_rise, place-from_point}
+use Rattle.rule_search.proofs.search.first_from.Goals as goal
 
 pub returns-clause-first : goal.returns-clause-first
 returns-clause-first c =

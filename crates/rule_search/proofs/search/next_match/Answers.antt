@@ -1,8 +1,8 @@
-use Rattle.std.proofs.Common.{◌≡◌, ◌≤◌, ◌<◌, ℕ, length, get_or, sym, ap, ◌∙◌, arith, below_more, false}
+use Rattle.std.proofs.Common.{◌≡◌, ◌≤◌, ◌<◌, length, get_or, sym, ap, ◌∙◌, arith, below_more, false}
 use Rattle.std.proofs.lemmas.List.{length-map}
 use Rattle.emu_model.specs.Rules.{Counted, the_rules, rule_matches, default_rule}
-use Rattle.emu_rules.proofs.Walking.{least_match-is, least_match-none, rule_read}
-use Rattle.emu_rules.proofs.search.next_match.Goals as goal
+use Rattle.rule_search.proofs.Walking.{least_match-is, least_match-none, rule_read}
+use Rattle.rule_search.proofs.search.next_match.Goals as goal
 
 pub returns-then-matches : goal.returns-then-matches
 returns-then-matches c =

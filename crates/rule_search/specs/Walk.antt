@@ -1,11 +1,11 @@
--- What a rule list keeps beside its rules, and the verdict of one rule.
+-- What a search rests on: rules in order and the jumps kept beside them; the verdict of one rule.
 use Rattle.std.specs.Prelude.{◌≡◌, ℕ, ◌<◌, ◌≤◌, ⊤, Option, Some, None, List, [], ◌∷◌, length, All, slice_index}
 use Rattle.emu_model.specs.declared.rules.Action.{Action}
 use Rattle.emu_model.specs.declared.rules.Action.TheVariants.{Permit, Forbid, Count, SkipTo, SendTo}
 use Rattle.emu_model.specs.declared.rules.Rule.{Rule}
 use Rattle.emu_model.specs.declared.rules.Verdict.{Verdict}
 use Rattle.emu_model.specs.declared.rules.Verdict.TheVariants.{Allow, Deny, Pipe}
-use Rattle.emu_model.specs.Rules.{Counted, RuleBook, the_rules, place_of, goes_on, action_at}
+use Rattle.emu_model.specs.Rules.{Counted, place_of, goes_on, action_at}
 
 -- the verdict of a rule that ends the search
 abbrev pub decision : Action → Counted → Option Verdict
@@ -40,11 +40,7 @@ pub record AreJumps (rules : List Rule) (jumps : List ℕ) : Type 0 where
   pub there : (k j : ℕ) → goes_on rules k (action_at rules k) ≡ Some j → slice_index jumps k ≡ j
   pub forward : (k j : ℕ) → goes_on rules k (action_at rules k) ≡ Some j → k < j
 
+-- they ascend, and each jump goes to a greater number
 pub record IsOrdered (rules : List Counted) : Type 0 where
   pub ascends : Ascends rules
   pub forward : All (λ c. GoesForward c.rule.number c.rule.action) rules
-
-pub record IsSound (rules : List Counted) (jumps : List ℕ) (added : ℕ) : Type 0 where
-  pub ordered : IsOrdered rules
-  pub older : All (λ c. c.order ≤ added) rules
-  pub jumps_are : AreJumps (the_rules rules) jumps

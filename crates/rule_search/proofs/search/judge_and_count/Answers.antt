@@ -1,10 +1,10 @@
-use Rattle.std.proofs.Common.{sym, ap, ◌∙◌, subst, ◌≡◌, ◌<◌, ◌-◌, length, slice_index, set, arith}
+use Rattle.std.proofs.Common.{sym, ap, ◌∙◌, subst, ◌<◌, ◌-◌, length, slice_index, set, arith}
 use Rattle.std.proofs.lemmas.List.{length-map, length-set}
 use Rattle.emu_model.specs.Rules.{Counted, the_rules, verdict, counted_rules, count_packet}
-use Rattle.emu_rules.specs.Walk.{AreJumps}
-use Rattle.emu_rules.proofs.Walking.{matched_read, least_match-within, Answers-none}
-use Rattle.emu_rules.proofs.Counting.{counting_ends, counting_goes, jump-counted, Leaves-none}
-use Rattle.emu_rules.proofs.search.judge_and_count.Goals as goal
+use Rattle.rule_search.specs.Walk.{AreJumps}
+use Rattle.rule_search.proofs.Walking.{matched_read, least_match-within, Answers-none}
+use Rattle.rule_search.proofs.Counting.{counting_ends, counting_goes, jump-counted, Leaves-none}
+use Rattle.rule_search.proofs.search.judge_and_count.Goals as goal
 
 pub returns-in-Some-decision-clause-verdict : goal.returns-in-Some-decision-clause-verdict
 returns-in-Some-decision-clause-verdict c =

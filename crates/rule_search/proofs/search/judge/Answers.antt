@@ -1,8 +1,8 @@
 use Rattle.std.proofs.Common.{sym, arith, ◌∙◌, ◌<◌, ◌-◌, length, slice_index}
 use Rattle.std.proofs.lemmas.List.{length-map}
 use Rattle.emu_model.specs.Rules.{Counted, the_rules, verdict}
-use Rattle.emu_rules.proofs.Walking.{matched_read, Answers-ends, Answers-goes, jump, least_match-within}
-use Rattle.emu_rules.proofs.search.judge.Goals as goal
+use Rattle.rule_search.proofs.Walking.{matched_read, Answers-ends, Answers-goes, jump, least_match-within}
+use Rattle.rule_search.proofs.search.judge.Goals as goal
 
 pub returns-in-Some-decision : goal.returns-in-Some-decision
 returns-in-Some-decision c =

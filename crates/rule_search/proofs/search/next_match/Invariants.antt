@@ -1,6 +1,6 @@
 use Rattle.std.proofs.Common.{◌≡◌, ◌≤◌, ℕ, ◌<◌, false, get_or}
 use Rattle.emu_model.specs.Rules.{the_rules, rule_matches, default_rule}
-use Rattle.emu_rules.proofs.search.next_match.Given as goal
+use Rattle.rule_search.proofs.search.next_match.Given as goal
 
 abbrev pub invariant-loop-place : goal.invariant-loop-place
 invariant-loop-place l =

@@ -2,12 +2,12 @@ use Rattle.std.proofs.Common.{◌≡◌, ◌∙◌, ◌<◌, ℕ, Some, length, 
 use Rattle.std.proofs.lemmas.Option.{slice_get_read}
 use Rattle.std.proofs.lemmas.List.{length-map, length-set, get_or-set_same, get_or-set_other}
 use Rattle.emu_model.specs.declared.rules.Rule.{Rule}
-use Rattle.emu_rules.specs.Walk.{target_of}
+use Rattle.rule_search.specs.Walk.{target_of}
 use Rattle.emu_model.specs.Rules.{Counted, the_rules, goes_on, action_at}
-use Rattle.emu_rules.proofs.Walking.{action}
-use Rattle.emu_rules.proofs.Order.{aimed, goes_within, jumps_forward}
-use Rattle.emu_rules.proofs.search.aim.Goals as goal
-use Rattle.emu_rules.proofs.search.aim.Goals.{in-Some, in-None}
+use Rattle.rule_search.proofs.Walking.{action}
+use Rattle.rule_search.proofs.Order.{aimed, goes_within, jumps_forward}
+use Rattle.rule_search.proofs.search.aim.Goals as goal
+use Rattle.rule_search.proofs.search.aim.Goals.{in-Some, in-None}
 
 pub loop-place-preserved : goal.loop-place-preserved
 loop-place-preserved c =

@@ -2,7 +2,7 @@
 
 ghost use Rattle.std.specs.Prelude.{◌≡◌, ◌≤◌};
 ghost use Rattle.emu_model.specs.Rules.{place_of, rule_matches, count_packet, new_rule, default_rule};
-ghost use Rattle.emu_rules.specs.Walk.{decision, target_of as jump_target};
+ghost use Rattle.rule_search.specs.Walk.{decision, target_of as jump_target};
 
 use crate::matching::matches;
 use emu_model::{
@@ -31,7 +31,8 @@ impl Model for CountedRule {
 }
 
 impl CountedRule {
-    pub(crate) fn new(rule: Rule, order: u64) -> Self
+    /// A rule that matched no packet yet, and how many rules were added before it.
+    pub fn new(rule: Rule, order: u64) -> Self
         ensures { result ≡ new_rule order rule }
     {
         CountedRule {
@@ -43,7 +44,7 @@ impl CountedRule {
     }
 
     /// Rule 65535: `deny ip from any to any`.
-    pub(crate) fn last() -> Self
+    pub fn last() -> Self
         ensures { result ≡ default_rule }
     {
         let any = Prefix::new(0, PrefixLength::new(0).unwrap());
@@ -89,7 +90,8 @@ impl CountedRule {
         }
     }
 
-    pub(crate) fn number(&self) -> u32
+    /// Its number, 0 to 99999.
+    pub fn number(&self) -> u32
         ensures number { result ≡ self.now.rule.number }
         ensures high { result ≤ 99999 }
     {
@@ -123,7 +125,7 @@ impl CountedRule {
 }
 
 /// The number to which a rule jumps.
-pub(crate) fn target_of(action: Action) -> Option<u32>
+pub fn target_of(action: Action) -> Option<u32>
     ensures { result ≡ jump_target action }
 {
     match action {

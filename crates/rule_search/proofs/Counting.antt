@@ -1,7 +1,7 @@
 -- A walk that counts at each place as it comes there meets the definition, which counts at all
 -- places of the search at once: no place comes twice.
-use Rattle.std.proofs.Common.{◌≡◌, ◌≢◌, ℕ, zero, suc, ◌+◌, ◌-◌, ◌<◌, ◌≤◌, Bool, true, false, cond, Option, Some, None, List, [], ◌∷◌, map, length, get_or, set, refl, sym, ap, ◌∙◌, subst, inl, inr, arith, eqb}
-use Rattle.std.specs.Prelude.{◌||◌, option_and_then, slice_get, slice_index}
+use Rattle.std.proofs.Common.{◌≡◌, ℕ, zero, suc, ◌+◌, ◌-◌, ◌<◌, ◌≤◌, Bool, true, false, cond, Option, Some, None, List, [], ◌∷◌, length, get_or, set, refl, sym, ap, ◌∙◌, subst, inl, inr, arith, eqb}
+use Rattle.std.specs.Prelude.{◌||◌, slice_get, slice_index}
 use Rattle.std.specs.List.{list_any, last_or}
 use Rattle.std.proofs.lemmas.Bool.{cases_eq, ne_eqb, eq-eqb, or_from}
 use Rattle.std.proofs.lemmas.Option.{same_Some, slice_get_within, get_or_from_slice_get, option_and_then_some}
@@ -11,10 +11,9 @@ use Rattle.emu_model.specs.declared.rules.Action.{Action}
 use Rattle.emu_model.specs.declared.rules.Action.TheVariants.{Permit, Forbid, Count, SkipTo, SendTo}
 use Rattle.emu_model.specs.declared.rules.Rule.{Rule}
 use Rattle.emu_model.specs.declared.rules.Verdict.{Verdict}
-use Rattle.emu_model.specs.declared.rules.Verdict.TheVariants.{Allow, Deny, Pipe}
-use Rattle.emu_model.specs.Rules.{Counted, least_match, goes_on, action_at, next_match, matches_from, verdict_by, verdict_of_match, the_rules, verdict, count_packet, count_at, counted_rules}
-use Rattle.emu_rules.specs.Walk.{decision, AreJumps}
-use Rattle.emu_rules.proofs.Walking.{least_match-within, action, ends, next-ends, next-goes, no_matches, jump, judged_at, judged, Answers, Answers-start, Answers-none, Answers-ends, Answers-goes}
+use Rattle.emu_model.specs.Rules.{Counted, least_match, goes_on, action_at, next_match, matches_from, verdict_by, verdict_of_match, the_rules, count_packet, count_at, counted_rules}
+use Rattle.rule_search.specs.Walk.{decision, AreJumps}
+use Rattle.rule_search.proofs.Walking.{least_match-within, action, ends, next-ends, next-goes, no_matches, jump, judged_at, Answers, Answers-ends, Answers-goes}
 
 -- ---- counting at a list of places
 

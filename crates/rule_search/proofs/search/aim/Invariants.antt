@@ -1,6 +1,6 @@
 use Rattle.std.proofs.Common.{◌≡◌, ℕ, ◌<◌, Some, length, slice_index}
 use Rattle.emu_model.specs.Rules.{the_rules, goes_on, action_at}
-use Rattle.emu_rules.proofs.search.aim.Given as goal
+use Rattle.rule_search.proofs.search.aim.Given as goal
 
 abbrev pub invariant-loop-place : goal.invariant-loop-place
 invariant-loop-place l = record {

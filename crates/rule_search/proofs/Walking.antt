@@ -1,6 +1,6 @@
 -- A walk by kept jumps meets the definition of the search.
-use Rattle.std.proofs.Common.{◌≡◌, ℕ, zero, suc, ◌+◌, ◌-◌, ◌<◌, ◌≤◌, Bool, true, false, cond, Option, Some, None, List, [], ◌∷◌, map, length, get_or, drop, refl, sym, ap, ◌∙◌, inl, inr, arith, rules, ltb, length-drop}
-use Rattle.std.specs.Prelude.{option_map, option_and_then, position, slice_get, slice_index}
+use Rattle.std.proofs.Common.{◌≡◌, ℕ, zero, suc, ◌+◌, ◌-◌, ◌<◌, ◌≤◌, true, false, cond, Option, Some, None, List, [], ◌∷◌, length, get_or, drop, refl, sym, ap, ◌∙◌, inl, inr, arith, ltb, length-drop}
+use Rattle.std.specs.Prelude.{option_map, option_and_then, slice_get, slice_index}
 use Rattle.std.specs.List.{position_or_len, last_or}
 use Rattle.std.proofs.lemmas.Bool.{ltb-true, lt-ltb, le-ltb, cases_Bool}
 use Rattle.std.proofs.lemmas.Option.{same_Some, none-some, slice_get-map, slice_get_within, slice_get_read}
@@ -11,9 +11,9 @@ use Rattle.emu_model.specs.declared.rules.Action.{Action}
 use Rattle.emu_model.specs.declared.rules.Action.TheVariants.{Permit, Forbid, Count, SkipTo, SendTo}
 use Rattle.emu_model.specs.declared.rules.Rule.{Rule}
 use Rattle.emu_model.specs.declared.rules.Verdict.{Verdict}
-use Rattle.emu_model.specs.declared.rules.Verdict.TheVariants.{Allow, Deny, Pipe}
-use Rattle.emu_model.specs.Rules.{Counted, rule_matches, least_match, place_of_number, goes_on, action_at, next_match, matches_from, matched_places, verdict_by, verdict_of_match, the_rules, verdict, place_of}
-use Rattle.emu_rules.specs.Walk.{decision, AreJumps}
+use Rattle.emu_model.specs.declared.rules.Verdict.TheVariants.{Deny}
+use Rattle.emu_model.specs.Rules.{Counted, rule_matches, least_match, place_of_number, goes_on, action_at, next_match, matches_from, verdict_by, verdict_of_match, the_rules, verdict}
+use Rattle.rule_search.specs.Walk.{decision, AreJumps}
 
 -- ---- the least place that matches
 

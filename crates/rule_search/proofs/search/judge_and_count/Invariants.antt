@@ -1,8 +1,8 @@
 use Rattle.std.proofs.Common.{◌≡◌, ◌-◌, length}
 use Rattle.emu_model.specs.Rules.{the_rules, verdict, counted_rules}
-use Rattle.emu_rules.proofs.Walking.{Answers}
-use Rattle.emu_rules.proofs.Counting.{Leaves}
-use Rattle.emu_rules.proofs.search.judge_and_count.Given as goal
+use Rattle.rule_search.proofs.Walking.{Answers}
+use Rattle.rule_search.proofs.Counting.{Leaves}
+use Rattle.rule_search.proofs.search.judge_and_count.Given as goal
 
 abbrev pub invariant-loop-place : goal.invariant-loop-place
 invariant-loop-place l = record {

@@ -1,0 +1,13 @@
+//! The search of a packet's verdict in a list of counted rules (ipfw(8)): which rules match, where a
+//! search goes on, and the jumps that are kept beside the rules for it.
+#![tactic(auto)]
+
+mod counted;
+mod matching;
+mod search;
+
+pub use counted::{CountedRule, target_of};
+pub use search::{aim, first_behind, first_from, judge, judge_and_count};
+
+#[cfg(test)]
+mod tests;
