@@ -185,7 +185,7 @@ fn exhaust(alloc: Global) -> Result<Option<Vec<Vec<u64>>>, AllocError> {
 }
 
 #[test]
-fn refused_memory_changes_nothing(rt: HostRuntime) -> Result<(), Fail> {
+fn memory_that_runs_out_changes_nothing(rt: HostRuntime) -> Result<(), Fail> {
     let small = size(40)?;
     let late = 300 * MILLISECOND;
     let mut tail = DropTail::new(rt.alloc(), slots(50)?);
