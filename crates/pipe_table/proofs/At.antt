@@ -293,6 +293,10 @@ pub match-by : {T E : Type 0} {A B : T → Type 0} {C D : E → Type 0} (r : Res
 match-by (Ok t) f g a = f t a
 match-by (Err e) f g a = g e a
 
+pub on_any_err : {T E : Type 0} {A : Type 0} (r : Result T E) → A → OnErr r A
+on_any_err (Ok t) a = tt
+on_any_err (Err e) a = a
+
 pub err-by : {T E : Type 0} {A B : Type 0} (r : Result T E) → (A → B) → OnErr r A → OnErr r B
 err-by (Ok t) h a = a
 err-by (Err e) h a = h a

@@ -1,6 +1,6 @@
 //! The table: pipes by number, and what a packet, a finish, an exit or a command does there.
 
-ghost use Rattle.std.specs.Prelude.{◌≡◌, ◌≢◌, ℕ, ◌+◌, ◌*◌, ◌^◌, ◌<◌, ◌≤◌, [], None, option_map, option_and_then, position, is_some, IsSome, OnSome, OnOk, OnErr, IfOk, MatchResult, length};
+ghost use Rattle.std.specs.Prelude.{◌≡◌, ◌≢◌, ℕ, ◌+◌, ◌*◌, ◌^◌, ◌<◌, ◌≤◌, [], None, option_map, option_and_then, position, is_some, IsSome, OnSome, OnOk, OnErr, IsOk, IfOk, MatchResult, Err, length, vec_capacity};
 ghost use Rattle.std.specs.List.{position_or_len};
 ghost use Rattle.std.specs.Option.{option_map_or};
 ghost use Rattle.emu_model.specs.declared.packets.Packet.{Packet as Letter};
@@ -11,7 +11,7 @@ ghost use Rattle.emu_model.specs.Events.{flying_in, leave_pipe_some, pipe_exits,
 ghost use Rattle.packet_store.specs.Pocket.{Pocket};
 ghost use Rattle.pipe_core.specs.Moves.{AreNamed, Keeps};
 ghost use Rattle.pipe_core.specs.Steps.{drops_of, drops_by_codel};
-ghost use Rattle.pipe_table.specs.Table.{with_pipes, pipe_keys, pipe_of, has_number, HasRoomIn, HasGrown, IsFinishing, is_above, drops_by_deletion, refusal_in};
+ghost use Rattle.pipe_table.specs.Table.{with_pipes, pipe_keys, pipe_of, has_number, HasRoomIn, HasGrown, IsFinishing, IsFreeIn, is_above, drops_by_deletion, refusal_in};
 
 use emu_model::{DropCause, Packet, PipeConfig, PipeNumber, Refusal};
 use packet_store::{Owner, Shelf};
@@ -82,6 +82,7 @@ impl PipeTable {
         ensures rooms { (o : ℕ) → S.room shelf.old o ≤ S.room shelf.new o }
         ensures room { OnOk result (IsSome (pipe_of number self.new.pipes) → (S.pocket shelf.old owner).count < (S.pocket shelf.old owner).budget → 0 < S.room shelf.new owner) }
         ensures ready { OnOk result (HasRoomIn number packet.now self.new.pipes) }
+        ensures succeeds { (IsSome (pipe_of number self.old.pipes) → 0 < S.room shelf.old owner) → HasRoomIn number packet.now self.old.pipes → IsOk result }
     {
         let Some(place) = self.place_of(number) else {
             return Ok(());
@@ -199,6 +200,7 @@ impl PipeTable {
         ensures count { OnOk result ((S.pocket shelf.new owner).count + length drops.new.items ≡ (S.pocket shelf.old owner).count) }
         ensures refused { OnErr result (HasGrown self.old.pipes self.new.pipes) }
         ensures refused_pocket { OnErr result (S.pocket shelf.new owner ≡ S.pocket shelf.old owner) }
+        ensures succeeds { IsFreeIn number instance now (vec_capacity drops.old) self.old.pipes → IsOk result }
     {
         keys_say_all();
         let Some(place) = self.place_of(number) else {
@@ -222,6 +224,7 @@ impl PipeTable {
             (λ _. (p : Pocket) (n : Net) → config_refusal number config.now (with_pipes p self.old n) ≡ None)
             (λ e. (p : Pocket) (n : Net) → config_refusal number config.now (with_pipes p self.old n) ≡ refusal_in e) }
         ensures keys { pipe_keys self.new.pipes ≡ pipe_keys self.old.pipes }
+        ensures memory { result ≡ Err ConfigureError.NoMemory → pipe_of number self.old.pipes ≡ None }
         ensures err { OnErr result (self.new ≡ self.old) }
     {
         let Some(place) = self.place_of(number) else {
@@ -296,6 +299,7 @@ impl PipeTable {
         ensures count { IfOk result (λ gone. length (drops_by_deletion (option_map (λ v. v.items) gone)) ≤ (S.pocket shelf.old owner).count) }
         ensures keys { Keeps (S.pocket shelf.old owner) (S.pocket shelf.new owner) (pipe_keys self.old.pipes) (pipe_keys self.new.pipes) }
         ensures others { (o : ℕ) → o ≢ owner → S.pocket shelf.new o ≡ S.pocket shelf.old o }
+        ensures memory { OnErr result (IsSome (pipe_of number self.old.pipes)) }
         ensures refused { OnErr result (self.new ≡ self.old) }
         ensures refused_pocket { OnErr result (S.pocket shelf.new owner ≡ S.pocket shelf.old owner) }
     {

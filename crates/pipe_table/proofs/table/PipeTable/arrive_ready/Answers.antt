@@ -46,3 +46,9 @@ returns-clause-ready g c = go c.arrive_ready.result c.arrive_ready.ensures.ready
         OnOk r (HasRoomIn c.args.number c.args.packet.now (set c.self.inside.pipes.items c.in-Some.place c.arrive_ready.new.self))
     go (Ok u) has = ready-set c.args.number c.in-Some.place c.self.inside.pipes.items c.index_mut.result.now (rw (← c.self.view_is) at c.in-Some.ensures) c.index_mut.ensures.value c.arrive_ready.new.self c.args.packet.now (ap (λ (p : KeyedPipe). p.number) c.arrive_ready.ensures.grown.same) has
     go (Err e) has = tt
+
+pub returns-clause-succeeds : goal.returns-clause-succeeds
+returns-clause-succeeds g c = λ room has.
+    let here = pipe-at c.args.number c.in-Some.place c.self.inside.pipes.items c.index_mut.result.now (rw (← c.self.view_is) at c.in-Some.ensures) c.index_mut.ensures.value in
+    let there : IsSome (pipe_of c.args.number c.self.inside.pipes.items) = subst IsSome (sym here) refl in
+    c.arrive_ready.ensures.succeeds ((rw (← c.self.view_is) at room) there) ((rw (← c.self.view_is) at has) c.index_mut.result.now here)

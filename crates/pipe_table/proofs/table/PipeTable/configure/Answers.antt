@@ -57,3 +57,6 @@ returns-clause-refusal c = λ p n.
 
 pub returns-clause-keys : goal.returns-clause-keys
 returns-clause-keys c = rw (← c.self.view_is) (keys-set c.args.number c.in-Some.place c.self.inside.pipes.items c.index_mut.result.now (rw (← c.self.view_is) at c.in-Some.ensures) c.index_mut.ensures.value c.configure.new.self c.configure.ensures.keys)
+
+pub returns-in_default-clause-memory : goal.returns-in_default-clause-memory
+returns-in_default-clause-memory c = λ refused. position-none (has_number c.args.number) c.args.self.now.pipes c.in_default.ensures

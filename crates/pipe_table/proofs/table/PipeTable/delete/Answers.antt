@@ -16,7 +16,7 @@ use Rattle.queue_disc.specs.declared.entries.NoMemory.{NoMemory}
 use Rattle.pipe_table.specs.Table.{Table, with_pipes, pipe_keys, pipe_of, has_number, is_above, HasRoomIn, IsTable}
 use Rattle.pipe_table.proofs.Splits.{position-none, position-len, none-len}
 use Rattle.pipe_table.proofs.NetFacts.{find-none, find-some, arrive-nowhere}
-use Rattle.pipe_table.proofs.At.{sound-at, sound-by, sound-removed, sound-insert, configure-at, refusal-at, configure-none, refusal-none, place-fits, table-insert, keys-insert, new-is, table-removed, delete-at, count-at, keys-removed, ok-by, match-by, not-finishing, finishing-at, finish-ok, grown-set, err-by, ready-set, pipe-set, shown-set, keys-set, set-same, flying-beyond, exit-beyond, Keeps-same, passes, pipe-at, named-at, keys-at, table-at, seed-at, ready-at, arrive-at, exit-at, finish-at}
+use Rattle.pipe_table.proofs.At.{on_any_err, sound-at, sound-by, sound-removed, sound-insert, configure-at, refusal-at, configure-none, refusal-none, place-fits, table-insert, keys-insert, new-is, table-removed, delete-at, count-at, keys-removed, ok-by, match-by, not-finishing, finishing-at, finish-ok, grown-set, err-by, ready-set, pipe-set, shown-set, keys-set, set-same, flying-beyond, exit-beyond, Keeps-same, passes, pipe-at, named-at, keys-at, table-at, seed-at, ready-at, arrive-at, exit-at, finish-at}
 use Rattle.pipe_table.proofs.table.PipeTable.delete.Goals as goal
 
 pub returns-in_default-clause-ok : goal.returns-in_default-clause-ok
@@ -63,3 +63,8 @@ returns-clause-keys g c =
     rw (← c.self.view_is, c.remove.ensures.items)
     (keys-removed c.args.number c.in-Some.place c.self.inside.pipes.items c.index_mut.result.now (rw (← c.self.view_is) at c.in-Some.ensures) c.index_mut.ensures.value (g.S.Shelf.pocket c.args.shelf.now c.args.owner) (g.S.Shelf.pocket c.delete.new.shelf c.args.owner) c.delete.new.self
     (ap (λ (p : KeyedPipe). p.slots) c.in_ok-gone.ensures.empty) c.delete.ensures.keys)
+
+pub returns-in_err-gone-clause-memory : goal.returns-in_err-gone-clause-memory
+returns-in_err-gone-clause-memory g c =
+    let there : IsSome (pipe_of c.args.number c.self.inside.pipes.items) = subst IsSome (sym (pipe-at c.args.number c.in-Some.place c.self.inside.pipes.items c.index_mut.result.now (rw (← c.self.view_is) at c.in-Some.ensures) c.index_mut.ensures.value)) refl in
+    rw (← c.self.view_is) (on_any_err c.from_residual.result there)

@@ -52,3 +52,7 @@ returns-clause-keys g c =
 pub returns-clause-refused : goal.returns-clause-refused
 returns-clause-refused g c =
     rw (← c.self.view_is) (err-by c.finish.result (grown-set c.args.number c.in-Some.place c.self.inside.pipes.items c.index_mut.result.now (rw (← c.self.view_is) at c.in-Some.ensures) c.index_mut.ensures.value c.finish.new.self) c.finish.ensures.refused)
+
+pub returns-clause-succeeds : goal.returns-clause-succeeds
+returns-clause-succeeds g c = λ free.
+    c.finish.ensures.succeeds ((rw (← c.self.view_is) at free) c.index_mut.result.now (pipe-at c.args.number c.in-Some.place c.self.inside.pipes.items c.index_mut.result.now (rw (← c.self.view_is) at c.in-Some.ensures) c.index_mut.ensures.value))
