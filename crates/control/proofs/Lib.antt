@@ -1,2 +1,4 @@
+pub mod Counted
+pub mod InOrder
 pub mod Order
 pub mod Walk

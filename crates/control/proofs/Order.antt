@@ -7,7 +7,7 @@ use Rattle.std.proofs.lemmas.Bool.{ltb-true, leb-true, eqb-true, lt-ltb, le-leb}
 use Rattle.std.proofs.lemmas.List.Folds.{list_any-append}
 use Rattle.emu_model.specs.declared.commands.Spec.{Spec}
 use Rattle.emu_model.specs.declared.commands.Timed.{Timed}
-use Rattle.control_words.specs.Entries.{Entry, Nothing, Begins, Does}
+use Rattle.control_lines.specs.Entries.{Entry, Nothing, Begins, Does}
 use Rattle.control.specs.declared.fault.Cause.{Cause}
 use Rattle.control.specs.declared.fault.Cause.TheVariants.{NoEnd, TooMany, SameName, NoExperiment, AfterEnd, Backwards}
 use Rattle.control.specs.declared.scenario.Experiment.{Experiment}
@@ -18,7 +18,7 @@ pub record Names (done : List Experiment) (ns : List (List ℕ)) : Type 0 where
   pub any : (n : List ℕ) → list_any (has_name n) done ≡ list_any (λ o. bytes_eq o n) ns
   pub count : length done ≡ length ns
 
-abbrev first_moment : List Timed → ℕ
+abbrev pub first_moment : List Timed → ℕ
 first_moment [] = 0
 first_moment (c ∷ cs) = c.moment
 
@@ -95,7 +95,7 @@ ended_names done e latest c before m = record {
   count = omega (arith, length-append done (with_command e c ∷ []), m.known.count, ap length m.all);
 }
 
-with_last_is : (done : List Experiment) (e : Experiment) (c : Timed) → with_last (done ++ e ∷ []) c ≡ done ++ with_command e c ∷ []
+pub with_last_is : (done : List Experiment) (e : Experiment) (c : Timed) → with_last (done ++ e ∷ []) c ≡ done ++ with_command e c ∷ []
 with_last_is [] e c = refl
 with_last_is (x ∷ []) e c = refl
 with_last_is (x ∷ y ∷ more) e c = ap (λ (l : List Experiment). x ∷ l) (with_last_is (y ∷ more) e c)

@@ -5,9 +5,9 @@ use Rattle.std.specs.List.{onto_first}
 use Rattle.std.proofs.lemmas.Bool.{eqb-true}
 use Rattle.std.proofs.lemmas.List.{nil_from_length}
 use Rattle.control_words.specs.Text.{lines}
-use Rattle.control_words.specs.Entries.{Entry, Nothing, Begins, Does, Says, StandsAlone, place, IsFirstAlone, IsEntry}
-use Rattle.control_words.specs.declared.line.LineFault.{LineFault}
-use Rattle.control_words.specs.declared.line.LineFault.TheVariants as alone
+use Rattle.control_lines.specs.Entries.{Entry, Nothing, Begins, Does, Says, StandsAlone, place, IsFirstAlone, IsEntry}
+use Rattle.control_lines.specs.declared.line.LineFault.{LineFault}
+use Rattle.control_lines.specs.declared.line.LineFault.TheVariants as alone
 use Rattle.control.specs.declared.fault.Cause.{Cause}
 use Rattle.control.specs.declared.fault.Cause.TheVariants.{TooBig, Cut, TooLong, BadByte, BadWord, OutOfRange, NoEnd, TooMany, SameName, NoExperiment, AfterEnd, Backwards}
 use Rattle.control.specs.declared.fault.Fault.{Fault}

@@ -1,7 +1,7 @@
 -- What a builder has, and what its calls answer.
 use Rattle.std.specs.Prelude.{◌≡◌, ℕ, List, Result, Ok, Err, ◌⊎◌}
-use Rattle.control_words.specs.Entries.{Entry, IsEntry, IsFirstAlone}
-use Rattle.control_words.specs.declared.line.LineFault.{LineFault}
+use Rattle.control_lines.specs.Entries.{Entry, IsEntry, IsFirstAlone}
+use Rattle.control_lines.specs.declared.line.LineFault.{LineFault}
 use Rattle.control.specs.Scenario.{Grows}
 use Rattle.control.specs.Steps.{cause_in_line, Sofar, step}
 use Rattle.control.specs.declared.fault.Cause.{Cause}

@@ -1,4 +1,5 @@
-pub mod Scenario
 pub mod Answer
-pub mod Steps
 pub mod Builder
+pub mod Order
+pub mod Scenario
+pub mod Steps

@@ -7,8 +7,8 @@ use Rattle.emu_model.specs.declared.commands.Command.{Command}
 use Rattle.emu_model.specs.declared.commands.Command.TheVariants as every
 use Rattle.emu_model.specs.declared.commands.Timed.{Timed}
 use Rattle.control_words.specs.Text.{lines}
-use Rattle.control_words.specs.Entries.{Entry, Nothing, Begins, Does, Says, StandsAlone}
-use Rattle.control_words.specs.declared.line.LineFault.TheVariants as alone
+use Rattle.control_lines.specs.Entries.{Entry, Nothing, Begins, Does, Says, StandsAlone}
+use Rattle.control_lines.specs.declared.line.LineFault.TheVariants as alone
 use Rattle.control.specs.declared.fault.Cause.{Cause}
 use Rattle.control.specs.declared.fault.Cause.TheVariants.{TooBig, Cut, TooLong, BadByte, BadWord, OutOfRange, NoEnd, TooMany, SameName, NoExperiment, AfterEnd, Backwards}
 use Rattle.control.specs.declared.fault.Fault.{Fault}

@@ -4,9 +4,9 @@ use Rattle.std.specs.List.{list_any}
 use Rattle.std.specs.Str.{bytes_eq}
 use Rattle.emu_model.specs.declared.commands.Spec.{Spec}
 use Rattle.emu_model.specs.declared.commands.Timed.{Timed}
-use Rattle.control_words.specs.Entries.{Entry, Nothing, Begins, Does}
-use Rattle.control_words.specs.declared.line.LineFault.{LineFault}
-use Rattle.control_words.specs.declared.line.LineFault.TheVariants as alone
+use Rattle.control_lines.specs.Entries.{Entry, Nothing, Begins, Does}
+use Rattle.control_lines.specs.declared.line.LineFault.{LineFault}
+use Rattle.control_lines.specs.declared.line.LineFault.TheVariants as alone
 use Rattle.control.specs.Scenario.{is_end, begun, with_command}
 use Rattle.control.specs.declared.fault.Cause.{Cause}
 use Rattle.control.specs.declared.fault.Cause.TheVariants.{TooLong, BadByte, BadWord, OutOfRange, NoEnd, TooMany, SameName, NoExperiment, AfterEnd, Backwards}

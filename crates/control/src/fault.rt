@@ -4,40 +4,54 @@ ghost use Rattle.std.specs.Prelude.{◌≡◌};
 ghost use Rattle.control.specs.Steps.{cause_in_line, error_at};
 ghost use Rattle.control.specs.declared.fault.LineError.TheVariants.{Memory};
 
-use control_words::LineFault;
+use control_lines::LineFault;
 use std::alloc::{AllocError, AllocFailed};
+use thiserror::Error;
 
 /// What is wrong. Of several in one line, the first in this order is named.
-#[derive(Clone, Copy, Debug, PartialEq, Eq)]
+#[derive(Clone, Copy, Debug, Error, PartialEq, Eq)]
 pub enum Cause {
     /// The text has more than 16777216 bytes; line 0.
+    #[error("toobig")]
     TooBig,
     /// The last line has no line feed.
+    #[error("cut")]
     Cut,
     /// A line has more than 512 bytes.
+    #[error("toolong")]
     TooLong,
     /// A byte isn't one of 32 to 126.
+    #[error("badbyte")]
     BadByte,
     /// The words aren't those of a line, whatever the numbers are.
+    #[error("badword")]
     BadWord,
     /// A number is outside its range.
+    #[error("outofrange")]
     OutOfRange,
     /// An experiment begins, or the text ends, while the experiment before has no end.
+    #[error("noend")]
     NoEnd,
     /// The 257th experiment begins.
+    #[error("toomany")]
     TooMany,
     /// A name stood before.
+    #[error("samename")]
     SameName,
     /// A command stands before any experiment.
+    #[error("noexperiment")]
     NoExperiment,
     /// A command stands after its experiment's end.
+    #[error("afterend")]
     AfterEnd,
     /// A moment is below the one before in its experiment.
+    #[error("backwards")]
     Backwards,
 }
 
 /// The first faulty line, counted from 1, and its first cause.
-#[derive(Clone, Copy, Debug, PartialEq, Eq)]
+#[derive(Clone, Copy, Debug, Error, PartialEq, Eq)]
+#[error("line {line}: {cause}")]
 pub struct Fault {
     pub line: u64,
     pub cause: Cause,

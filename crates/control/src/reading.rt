@@ -1,6 +1,7 @@
 //! Reading a scenario, line by line.
 
-ghost use Rattle.std.specs.Prelude.{◌≡◌, List, IfOk, IfErr};
+ghost use Rattle.std.specs.Prelude.{◌≡◌, ◌≤◌, List, All, length, map, sum, IfOk, IfErr};
+ghost use Rattle.control.specs.Order.{AreInOrder};
 ghost use Rattle.std.specs.List.{list_any};
 ghost use Rattle.control.specs.Scenario.{is_end, Spells, HasFault};
 ghost use Rattle.control.specs.Steps.{has_name};
@@ -10,7 +11,8 @@ ghost use Rattle.control.specs.declared.scenario.Experiment.{Experiment as Exper
 
 use crate::fault::{Cause, Fault, LineError, ParseError, at_line, in_line};
 use crate::scenario::{CommandList, Experiment, ExperimentName, Scenario};
-use control_words::{LineEntry, first_line, read_line};
+use control_lines::{LineEntry, read_line};
+use control_words::first_line;
 use emu_model::{Command, Spec, Timed};
 use std::alloc::Global;
 
@@ -49,7 +51,7 @@ fn ends(command: &Command) -> bool
 
 impl Builder {
     ghost use Rattle.std.specs.Prelude.{◌≡◌};
-    ghost use Rattle.control_words.specs.Entries.{view_entry};
+    ghost use Rattle.control_lines.specs.Entries.{view_entry};
     ghost use Rattle.control.specs.Steps.{begin as begin_of, add as add_of, step};
     ghost use Rattle.control.specs.Builder.{sofar, GivesStep, OnMemory, Taken};
     ghost use Rattle.control.specs.Scenario.{Grows};
@@ -133,6 +135,10 @@ fn fault_at<T>(line: u64, cause: Cause) -> Result<T, ParseError>
 pub fn parse_scenario(alloc: Global, bytes: &[u8]) -> Result<Scenario, ParseError>
     // What is read is what the bytes spell.
     ensures spelled { IfOk result (λ s. Spells bytes.now s) }
+    // So the moments of an experiment's commands don't fall.
+    ensures in_order { IfOk result (λ s. All (λ e. AreInOrder 0 e.commands) s) }
+    // It has fewer commands than the text has bytes.
+    ensures few { IfOk result (λ s. sum (map (λ e. length e.commands) s) ≤ length bytes.now) }
     // Whatever spells a scenario is read as just that one, and never refused but for memory.
     ensures only { (s : List ExperimentValue) → Spells bytes.now s → IsReadAs s result }
     // A fault is the bytes' own: the first faulty line's, and in it the first that stands.

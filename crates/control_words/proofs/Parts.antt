@@ -1,10 +1,10 @@
 -- A word in parts, one part too many.
-use Rattle.std.proofs.Common.{◌≡◌, ℕ, Bool, true, false, cond, eqb, List, [], ◌∷◌, Option, Some, None, refl}
+use Rattle.std.proofs.Common.{◌≡◌, ℕ, Bool, true, false, cond, eqb, List, [], ◌∷◌, None, refl}
 use Rattle.std.specs.List.{onto_first}
 use Rattle.std.specs.Str.{bytes_eq}
 use lib.Chars.{codes}
 use Rattle.control_words.specs.Text.{parts}
-use Rattle.control_words.specs.Addresses.{four_of, address_of, with_length, prefix_of, first_to_last, ports_of}
+use Rattle.control_words.specs.Addresses.{address_of, prefix_of, ports_of}
 
 made : (b : Bool) (x : ℕ) (ls : List (List ℕ)) → (m : List ℕ) × (ms : List (List ℕ)) × (cond b ([] ∷ ls) (onto_first x ls) ≡ m ∷ ms)
 made true x ls = ([], ls, refl)

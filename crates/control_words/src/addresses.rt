@@ -17,6 +17,7 @@ use crate::raw::{RawAddress, RawPorts, RawPrefix};
 use crate::text::{cut, is};
 use emu_model::{Protocol, ProtocolMatch};
 
+/// `tcp` or `udp`. `None` for any other word (ipfw(8), proto).
 #[tactic(auto, unfolding(crate::specs::Addresses::protocol_of))]
 pub fn protocol(word: &[u8]) -> Option<Protocol>
     ensures { result ≡ protocol_of word.now }
@@ -30,6 +31,7 @@ pub fn protocol(word: &[u8]) -> Option<Protocol>
     }
 }
 
+/// `ip`, which is any protocol, `tcp` or `udp`. `None` for any other word (ipfw(8), proto).
 #[tactic(auto, unfolding(crate::specs::Addresses::match_of))]
 pub fn protocol_match(word: &[u8]) -> Option<ProtocolMatch>
     ensures { result ≡ match_of word.now }
@@ -45,7 +47,7 @@ pub fn protocol_match(word: &[u8]) -> Option<ProtocolMatch>
     }
 }
 
-/// Four numbers with points between.
+/// Four numbers with points between. `None` for any other word (ipfw(8), addr).
 #[tactic(auto, unfolding(crate::specs::Addresses::address_of))]
 pub fn address(word: &[u8]) -> Option<RawAddress>
     ensures { result ≡ address_of word.now }
@@ -64,7 +66,8 @@ pub fn address(word: &[u8]) -> Option<RawAddress>
     })
 }
 
-/// `any`, or an address with or without a length.
+/// `any`, which is `0.0.0.0/0`, or an address, or one directly followed by `/` and how many bits of it
+/// count; without, 32. `None` for any other word (ipfw(8), addr).
 #[tactic(auto, unfolding(crate::specs::Addresses::prefix_of))]
 pub fn prefix(word: &[u8]) -> Option<RawPrefix>
     ensures { result ≡ prefix_of word.now }
@@ -93,7 +96,7 @@ pub fn prefix(word: &[u8]) -> Option<RawPrefix>
     Some(RawPrefix { address, length })
 }
 
-/// A port, or two with `-` between.
+/// A port, or the first and the last with `-` between. `None` for any other word (ipfw(8), ports).
 #[tactic(auto, unfolding(crate::specs::Addresses::ports_of))]
 pub fn ports(word: &[u8]) -> Option<RawPorts>
     ensures { result ≡ ports_of word.now }
@@ -125,7 +128,7 @@ fn has_name_chars(word: &[u8]) -> bool
     word.iter().all(|c| is_name_char(*c))
 }
 
-/// 1 to 32 of `a` to `z`, `0` to `9`, `-` and `_`.
+/// The word, where it is 1 to 32 of `a` to `z`, `0` to `9`, `-` and `_`. `None` for any other. Own.
 #[tactic(auto, unfolding(crate::specs::Addresses::name_of))]
 pub fn name(word: &[u8]) -> Option<&[u8]>
     ensures { option_map (λ w. w.now) result ≡ name_of word.now }

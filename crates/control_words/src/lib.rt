@@ -1,15 +1,11 @@
-//! The words of a scenario's lines: what a line says, whatever stands before it. A line is read
-//! by its shape first, with numbers of up to 20 digits, and then each number by its range.
+//! What one word of a scenario says: lines and words, numbers with their units, addresses, ports and
+//! names (own, in the words of ipfw(8)). A number has up to 20 digits here, whatever its range.
 #![tactic(auto)]
 
-mod addresses;
-mod line;
-mod numbers;
-mod options;
-mod ranges;
+pub mod addresses;
+pub mod numbers;
 mod raw;
-mod shape;
 mod text;
 
-pub use line::{LineEntry, LineFault, read_line};
-pub use text::first_line;
+pub use raw::{RawAddress, RawPorts, RawPrefix, RawQueue, RawTiming};
+pub use text::{Words, first_line, is};

@@ -44,7 +44,7 @@ fn digits(word: &[u8]) -> Option<u128>
     Some(n)
 }
 
-/// A number: `0`, or 1 to 20 digits that don't begin with `0`.
+/// A number: `0`, or 1 to 20 digits that don't begin with `0`. `None` for any other word. Own.
 #[tactic(auto, unfolding(crate::specs::Numbers::number_of))]
 pub fn number(word: &[u8]) -> Option<u128>
     ensures value { result ≡ number_of word.now }
@@ -112,7 +112,8 @@ fn bits_in(unit: &[u8]) -> Option<u128>
     }
 }
 
-/// A rate in bit/s.
+/// A rate in bit/s: a number, directly followed by nothing, or by `bit/s` or `Byte/s` with `K`, `M`, `G`
+/// (each 1000 times the one before) or nothing in front. `None` for any other word (ipfw(8), bw).
 #[tactic(auto, unfolding(crate::specs::Numbers::rate_of))]
 pub fn rate(word: &[u8]) -> Option<u128>
     ensures { result ≡ rate_of word.now }
@@ -132,7 +133,7 @@ fn milliseconds_in(unit: &[u8]) -> Option<u128>
     }
 }
 
-/// A delay in ms.
+/// A delay in ms: a number, directly followed by nothing or `ms`. `None` for any other word (ipfw(8), delay).
 #[tactic(auto, unfolding(crate::specs::Numbers::delay_of))]
 pub fn delay(word: &[u8]) -> Option<u128>
     ensures { result ≡ delay_of word.now }
@@ -157,7 +158,8 @@ fn nanoseconds_in(unit: &[u8]) -> Option<u128>
     }
 }
 
-/// A time in ns.
+/// A time in ns: a number, directly followed by `s`, `ms` or `us`, or by nothing for ms. `None` for any
+/// other word (ipfw(8), codel).
 #[tactic(auto, unfolding(crate::specs::Numbers::time_of))]
 pub fn time(word: &[u8]) -> Option<u128>
     ensures { result ≡ time_of word.now }
@@ -181,7 +183,8 @@ fn decimals(word: &[u8]) -> Option<u128>
     Some(n * 10u128.pow(6 - word.len() as u32))
 }
 
-/// A fraction in millionths.
+/// A fraction in millionths: `0` or `1`, followed by nothing, or by a point and 1 to 6 digits. `None` for
+/// any other word (ipfw(8), plr).
 #[tactic(auto, unfolding(crate::specs::Numbers::fraction_of))]
 pub fn fraction(word: &[u8]) -> Option<u128>
     ensures { result ≡ fraction_of word.now }
@@ -201,7 +204,8 @@ fn is_kilobytes(unit: &[u8]) -> bool
     is(unit, "KBytes") || is(unit, "Kbytes") || is(unit, "KB") || is(unit, "K")
 }
 
-/// A queue's limit in slots or KBytes.
+/// A queue's limit: a number of slots, or one directly followed by `KBytes`, `Kbytes`, `KB` or `K`. `None`
+/// for any other word (ipfw(8), queue).
 #[tactic(auto, unfolding(crate::specs::Numbers::queue_of))]
 pub fn queue(word: &[u8]) -> Option<RawQueue>
     ensures { result ≡ queue_of word.now }
@@ -257,7 +261,8 @@ fn some_hex_digits(word: &[u8], greatest: usize) -> Option<u128>
     hex_digits(word)
 }
 
-/// `0x`, then 1 digit to the greatest count of digits.
+/// `0x`, then 1 digit to the greatest count of digits, of base 16 in either case. `None` for any other
+/// word (ipfw(8), mask).
 #[tactic(auto, unfolding(crate::specs::Numbers::hex_of))]
 pub fn hexadecimal(word: &[u8], greatest: usize) -> Option<u128>
     requires { greatest ≤ 8 }
@@ -269,7 +274,7 @@ pub fn hexadecimal(word: &[u8], greatest: usize) -> Option<u128>
     }
 }
 
-/// A retransmission time.
+/// A retransmission time: a number of ms, or `adaptive`. `None` for any other word. Own.
 #[tactic(auto, unfolding(crate::specs::Numbers::timing_of))]
 pub fn timing(word: &[u8]) -> Option<RawTiming>
     ensures { result ≡ timing_of word.now }
@@ -280,7 +285,7 @@ pub fn timing(word: &[u8]) -> Option<RawTiming>
     Some(RawTiming::Fixed(number(word)?))
 }
 
-/// `@`, directly followed by a number of ns.
+/// `@`, directly followed by a number of ns. `None` for any other word. Own.
 #[tactic(auto, unfolding(crate::specs::Numbers::moment_of))]
 pub fn moment(word: &[u8]) -> Option<u128>
     ensures { result ≡ moment_of word.now }

@@ -5,7 +5,7 @@ ghost use Rattle.std.specs.List.{prefix_len, position_or_len};
 ghost use Rattle.std.specs.Str.{bytes_eq};
 ghost use Rattle.control_words.specs.Text.{parts, lines, words};
 
-/// Whether the word is this text.
+/// Whether the word is just this text. Own.
 pub fn is(word: &[u8], text: &str) -> bool
     ensures { result ≡ bytes_eq word.now text.now }
 {
@@ -27,7 +27,7 @@ pub fn cut(bytes: &[u8], separator: u8) -> Option<(&[u8], &[u8])>
     Some((&bytes[..end], &bytes[end + 1..]))
 }
 
-/// The first line, without its line feed, and what follows it. `None` where there is no line feed.
+/// The first line, without its line feed, and what follows it. `None` where there is no line feed. Own.
 pub fn first_line(bytes: &[u8]) -> Option<(&[u8], &[u8])>
     ensures value { MatchOption result (lines bytes.now ≡ bytes.now ∷ []) (λ x. lines bytes.now ≡ x.0.now ∷ lines x.1.now) }
     ensures shorter { IfSome result (λ x. length x.1.now < length bytes.now) }
@@ -72,37 +72,40 @@ fn first_word(bytes: &[u8]) -> Option<(&[u8], &[u8])>
     Some(bytes.split_at(word_end(bytes)))
 }
 
-/// The words of a line that are left.
+/// The words of a line that are left, with runs of spaces between. `rest` is what is left of the line.
+/// Own.
 #[derive(Clone, Copy)]
 pub struct Words<'a> {
     pub rest: &'a [u8],
 }
 
 impl<'a> Words<'a> {
-    ghost use Rattle.control_words.specs.Numbers.{number_of};
-    ghost use Rattle.control_words.specs.Words.{next, after, none_left, value};
-    ghost use Rattle.std.specs.Prelude.{◌≡◌, [], option_map};
+    ghost use Rattle.control_words.specs.Words.{next, after, none_left};
+    ghost use Rattle.std.specs.Prelude.{◌≡◌, [], option_map, drop};
     ghost use Rattle.control_words.specs.Text.{words};
 
-    /// The next word.
+    /// Takes the next word. `None` where no word is left. Own.
     pub fn next_word(&mut self) -> Option<&'a [u8]>
-        ensures { option_map (λ w. (w.now, words self.new.rest.now)) result ≡ next (words self.old.rest.now) }
+        ensures value { option_map (λ w. (w.now, words self.new.rest.now)) result ≡ next (words self.old.rest.now) }
+        ensures left { words self.new.rest.now ≡ drop 1 (words self.old.rest.now) }
     {
         let (word, rest) = first_word(self.rest)?;
         self.rest = rest;
         Some(word)
     }
 
-    /// Whether the next word is this text.
+    /// Takes the next word, whatever it is. `None` where it isn't this text, or where no word is left. Own.
     pub fn expect_word(&mut self, text: &str) -> Option<()>
-        ensures { option_map (λ _. words self.new.rest.now) result ≡ after text.now (words self.old.rest.now) }
+        ensures value { option_map (λ _. words self.new.rest.now) result ≡ after text.now (words self.old.rest.now) }
+        ensures left { words self.new.rest.now ≡ drop 1 (words self.old.rest.now) }
     {
         is(self.next_word()?, text).then_some(())
     }
 
-    /// Whether no word is left.
+    /// Takes the next word, if one is left, and is `None` then. Own.
     pub fn finished(&mut self) -> Option<()>
-        ensures { option_map (λ _. []) result ≡ none_left (words self.old.rest.now) }
+        ensures value { option_map (λ _. []) result ≡ none_left (words self.old.rest.now) }
+        ensures left { words self.new.rest.now ≡ drop 1 (words self.old.rest.now) }
     {
         match self.next_word() {
             None => Some(()),

@@ -1,5 +1,5 @@
 -- A pipe at its place in the table.
-use Rattle.std.proofs.Common.{◌≡◌, ℕ, zero, suc, ◌+◌, ◌<◌, ◌≤◌, Bool, true, false, cond, refl, sym, ap, ◌∙◌, subst, List, [], ◌∷◌, ◌++◌, map, length, take, drop, set, get_or, position, Option, Some, None, Result, Ok, Err, IfOk, OnOk, OnErr, MatchResult, arith}
+use Rattle.std.proofs.Common.{◌≡◌, ℕ, zero, suc, ◌<◌, ◌≤◌, Bool, true, false, cond, refl, sym, ap, ◌∙◌, subst, List, [], ◌∷◌, ◌++◌, map, length, take, drop, set, get_or, position, Option, Some, None, Result, Ok, Err, IfOk, OnOk, OnErr, MatchResult, arith}
 use Rattle.std.specs.Prelude.{◌==◌, option_map, option_and_then, unwrap_or, slice_get}
 use Rattle.std.specs.List.{remove, insert, position_or_len}
 use Rattle.std.specs.Option.{option_map_or}
@@ -21,7 +21,7 @@ use Rattle.pipe_core.specs.Views.{ViewsAgree, PacketsAreNamed}
 use Rattle.queue_disc.specs.declared.entries.NoMemory.{NoMemory}
 use Rattle.pipe_core.specs.Steps.{HasRoomAt, IsGrown, drops_by_codel}
 use Rattle.pipe_table.specs.Table.{Table, seen_pipes, with_pipes, pipe_keys, has_number, is_above, pipe_of, HasRoomIn, HasGrown, IsFinishing, IsTable}
-use Rattle.pipe_table.proofs.Splits.{position-within, position-passes, position-first, position-whole, find-behind}
+use Rattle.pipe_table.proofs.Splits.{position-within, position-passes, position-first, position-whole}
 use Rattle.pipe_table.proofs.TableFacts.{shows_number, found-here, seen-replace, seen-remove, seen-before, seen-behind, Keeps-lift, AreNamed-part}
 use Rattle.pipe_table.proofs.NetFacts.{find-none, find-some, arrive-is, exit-is, finish-is}
 use Rattle.pipe_table.proofs.Order.{place, place-is, place-within, with_pipe-at, IsTable-change, IsTable-seed, IsTable-insert, IsTable-remove}

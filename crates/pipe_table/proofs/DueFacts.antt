@@ -1,15 +1,14 @@
 -- The least due, instance by instance and pipe by pipe.
 use Rattle.std.proofs.Common.{◌≡◌, ℕ, zero, suc, ◌+◌, ◌*◌, ◌/◌, ◌%◌, ◌<◌, ◌≤◌, Bool, true, false, nat_lt, nat_eq, cond, refl, sym, ap, ◌∙◌, subst, List, [], ◌∷◌, ◌++◌, map, length, take, drop, get_or, ◌⊎◌, inl, inr, Option, Some, None, arith}
-use Rattle.std.specs.Prelude.{◌&&◌, ◌||◌, ◌==◌, option_and_then, option_map, option_to_list, unwrap_or, slice_get, flat_map}
-use Rattle.std.specs.List.{best_of, fold}
+use Rattle.std.specs.Prelude.{◌&&◌, ◌||◌, option_and_then, option_map, option_to_list, unwrap_or, slice_get, flat_map}
+use Rattle.std.specs.List.{best_of}
 use Rattle.std.proofs.lemmas.Bool.Decides.{nat_tests}
 use Rattle.std.proofs.lemmas.List.Sums.{fold-append}
 use Rattle.std.proofs.lemmas.Grind.{flat_map-append}
 use Rattle.std.proofs.Math.Seq.{take-suc}
-use Rattle.std.proofs.lemmas.List.{length-map, map-append, set_split, set-get_or, append-nil, append_assoc, take-append-drop}
+use Rattle.std.proofs.lemmas.List.{length-map, map-append, set_split, set-get_or, append-nil, append_assoc}
 use Rattle.emu_model.specs.declared.packets.Packet.{Packet}
 use Rattle.emu_model.specs.declared.sources.Due.{Due}
-use Rattle.emu_model.specs.declared.sources.Class.{Class}
 use Rattle.emu_model.specs.declared.sources.Class.TheVariants.{Exit, Finish}
 use Rattle.emu_model.specs.Delay.{first_exit}
 use Rattle.emu_model.specs.Dues.{due, is_before, line_dues, service_dues, instances_dues, pipe_dues}

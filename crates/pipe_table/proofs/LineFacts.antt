@@ -1,17 +1,16 @@
 -- The lines of a listing, pipe by pipe and instance by instance.
-use Rattle.std.proofs.Common.{◌≡◌, ℕ, zero, suc, ◌+◌, ◌*◌, ◌<◌, ◌≤◌, refl, sym, ap, ◌∙◌, subst, List, [], ◌∷◌, ◌++◌, map, length, take, get_or, Option, Some, None, arith}
-use Rattle.std.specs.Prelude.{option_map, slice_get, flat_map, sum_by, is_some}
+use Rattle.std.proofs.Common.{◌≡◌, ℕ, zero, suc, ◌+◌, ◌<◌, ◌≤◌, refl, sym, ap, ◌∙◌, List, [], ◌∷◌, ◌++◌, map, length, take, get_or, Some, None, arith}
+use Rattle.std.specs.Prelude.{option_map, slice_get, flat_map, sum_by}
 use Rattle.std.proofs.lemmas.Grind.{flat_map-append}
 use Rattle.std.proofs.lemmas.List.Sums.{sum_by-append, sum_by-cons, sum_by-take-drop}
-use Rattle.std.proofs.lemmas.List.{length-map, length-append, map-append, append-nil, append_assoc}
+use Rattle.std.proofs.lemmas.List.{length-map, length-append, map-append, append-nil}
 use Rattle.std.proofs.Math.Seq.{take-suc}
 use Rattle.emu_model.specs.declared.packets.Packet.{Packet}
 use Rattle.emu_model.specs.declared.records.Record.{Record}
-use Rattle.emu_model.specs.declared.records.Record.TheVariants.{PipeLine, InstanceLine}
+use Rattle.emu_model.specs.declared.records.Record.TheVariants.{InstanceLine}
 use Rattle.emu_model.specs.Commands.{instance_line, instance_lines, pipe_lines}
 use Rattle.emu_model.specs.Pipes.{Instance}
 use Rattle.pipe_core.specs.Keyed.{KeyedPipe, seen_pipe, seen_slot, shown_of}
-use Rattle.pipe_core.specs.declared.slot.Slot.{Slot}
 use Rattle.pipe_instance.specs.declared.instance.Shown.{Shown}
 use Rattle.pipe_table.specs.Table.{seen_pipes}
 

@@ -1,23 +1,19 @@
 -- What the definitions do with one pipe of an experiment, where the table holds it.
-use Rattle.std.proofs.Common.{◌≡◌, ℕ, ◌+◌, ◌<◌, Bool, true, false, cond, refl, sym, ap, ◌∙◌, subst, List, [], ◌∷◌, ◌++◌, map, length, Option, Some, None}
-use Rattle.std.specs.Prelude.{◌==◌, if◌then◌else◌, find, option_map, option_and_then, is_some}
+use Rattle.std.proofs.Common.{◌≡◌, ℕ, true, sym, ap, ◌∙◌, List, ◌∷◌, ◌++◌, Option, Some, None}
+use Rattle.std.specs.Prelude.{option_map}
 use Rattle.std.specs.Option.{option_map_or}
 use Rattle.emu_model.specs.declared.packets.Packet.{Packet}
-use Rattle.emu_model.specs.declared.pipes.PipeConfig.{PipeConfig}
-use Rattle.emu_model.specs.declared.records.DropCause.TheVariants.{NoPipe, Deleted}
-use Rattle.emu_model.specs.declared.records.Record.{Record}
+use Rattle.emu_model.specs.declared.records.DropCause.TheVariants.{NoPipe}
 use Rattle.emu_model.specs.declared.records.Record.TheVariants.{PacketFinished}
-use Rattle.emu_model.specs.Lists.{replace_first, remove_first}
-use Rattle.emu_model.specs.Pipes.{PipeState, InService, Drop, After, pipe_arrive, pipe_finish, pipe_exit, pipe_configure, pipe_packets}
+use Rattle.emu_model.specs.Pipes.{PipeState, InService, Drop, After, pipe_arrive, pipe_finish, pipe_exit}
 use Rattle.emu_model.specs.Net.{Net, Setting, find_pipe, put_pipe, put_after, note, note_drops, drop_packet, to_pipe}
 use Rattle.emu_model.specs.Events.{flying_in, served_in, leave_pipe_some, pipe_exits, pipe_finishes}
-use Rattle.emu_model.specs.Commands.{delete_pipe, config_refusal, mask_refusal, configure}
 use Rattle.packet_store.specs.Pocket.{Pocket}
 use Rattle.pipe_core.specs.Moves.{packet_at, AreNamed, Keeps}
 use Rattle.pipe_core.specs.Keyed.{KeyedPipe, seen_pipe, view, keys_of}
 use Rattle.pipe_core.specs.Views.{ViewsAgree}
-use Rattle.pipe_table.specs.Table.{Table, seen_pipes, with_pipes, pipe_keys, has_number, pipe_of}
-use Rattle.pipe_table.proofs.TableFacts.{seen-find, found-here, shown-changed, seen-remove}
+use Rattle.pipe_table.specs.Table.{seen_pipes, pipe_keys, has_number, pipe_of}
+use Rattle.pipe_table.proofs.TableFacts.{seen-find, found-here, shown-changed}
 
 abbrev net : Pocket → List KeyedPipe → Net → Net
 net p ps n = record n { pipes = seen_pipes (packet_at p.find) ps }

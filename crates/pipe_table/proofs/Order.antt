@@ -1,6 +1,6 @@
 -- The order of the table by number.
-use Rattle.std.proofs.Common.{◌≡◌, ℕ, zero, suc, ◌+◌, ◌<◌, ◌≤◌, Bool, true, false, nat_lt, nat_eq, cond, refl, sym, ap, ◌∙◌, subst, List, [], ◌∷◌, ◌++◌, map, length, take, drop, Option, Some, None, ◌≢◌, ◌⊎◌, inl, inr, arith}
-use Rattle.std.specs.Prelude.{◌==◌, if◌then◌else◌, option_map}
+use Rattle.std.proofs.Common.{◌≡◌, ℕ, suc, ◌+◌, ◌<◌, ◌≤◌, Bool, true, false, nat_lt, nat_eq, cond, refl, sym, ap, ◌∙◌, subst, List, [], ◌∷◌, ◌++◌, length, take, drop, Some, None, ◌⊎◌, inl, inr, arith}
+use Rattle.std.specs.Prelude.{if◌then◌else◌}
 use Rattle.std.specs.List.{position_or_len}
 use Rattle.std.proofs.lemmas.Bool.{cases_eq}
 use Rattle.std.proofs.lemmas.Bool.Decides.{nat_tests}
@@ -9,7 +9,7 @@ use Rattle.emu_model.specs.declared.packets.Packet.{Packet}
 use Rattle.emu_model.specs.Pipes.{PipeState}
 use Rattle.emu_model.specs.Commands.{with_pipe}
 use Rattle.pipe_core.specs.Keyed.{KeyedPipe, seen_pipe}
-use Rattle.pipe_table.specs.Table.{seen_pipes, has_number, pipe_of, is_above, IsTable}
+use Rattle.pipe_table.specs.Table.{seen_pipes, pipe_of, is_above, IsTable}
 
 -- the place of the first pipe of a greater number
 abbrev pub place : ℕ → List KeyedPipe → ℕ

@@ -1,6 +1,6 @@
 -- How often a key stands in the pipes.
-use Rattle.std.proofs.Common.{◌≡◌, ℕ, ◌+◌, ◌<◌, ◌≤◌, refl, ap, ◌∙◌, List, [], ◌∷◌, ◌++◌, length, arith}
-use Rattle.pipe_instance.specs.Uses.{total, uses, one_at, one}
+use Rattle.std.proofs.Common.{◌≡◌, ℕ, ◌+◌, refl, ap, ◌∙◌, List, [], ◌∷◌, ◌++◌, length, arith}
+use Rattle.pipe_instance.specs.Uses.{total, one}
 use Rattle.pipe_core.specs.Keyed.{KeyedPipe, keys_of}
 use Rattle.pipe_table.specs.Table.{pipe_keys}
 

@@ -1,18 +1,18 @@
 -- One pipe of the table changes.
-use Rattle.std.proofs.Common.{◌≡◌, ℕ, zero, suc, ◌+◌, ◌<◌, ◌≤◌, Bool, true, false, cond, refl, sym, ap, ◌∙◌, subst, List, [], ◌∷◌, ◌++◌, map, length, Option, Some, None, IsSome, arith}
-use Rattle.std.specs.Prelude.{◌==◌, if◌then◌else◌, find, unwrap_or, option_map}
+use Rattle.std.proofs.Common.{◌≡◌, ℕ, ◌+◌, ◌<◌, ◌≤◌, Bool, true, cond, refl, sym, ap, ◌∙◌, List, [], ◌∷◌, ◌++◌, Option, Some, None, IsSome, arith}
+use Rattle.std.specs.Prelude.{◌==◌, find, unwrap_or, option_map}
 use Rattle.std.proofs.lemmas.List.{map-append}
 use Rattle.emu_model.specs.declared.packets.Packet.{Packet}
 use Rattle.emu_model.specs.Lists.{replace_first, remove_first}
 use Rattle.emu_model.specs.Pipes.{PipeState}
 use Rattle.packet_store.specs.Pocket.{Pocket}
-use Rattle.pipe_instance.specs.Uses.{total, uses, one_at, one}
+use Rattle.pipe_instance.specs.Uses.{uses, one_at, one}
 use Rattle.pipe_core.specs.Moves.{some_packet, packet_at, found, AreNamed, Keeps}
 use Rattle.pipe_core.specs.Keyed.{KeyedPipe, seen_pipe, view, keys_of}
 use Rattle.pipe_core.specs.Views.{ViewsAgree}
 use Rattle.pipe_table.specs.Table.{seen_pipes, pipe_keys, has_number, pipe_of}
 use Rattle.pipe_table.proofs.Splits.{find-behind, replace-behind, remove-behind, find-map}
-use Rattle.pipe_table.proofs.Sums.{total-pipes, total-split, total-join, total-length}
+use Rattle.pipe_table.proofs.Sums.{total-pipes, total-split, total-length}
 
 abbrev pub shows_number : ℕ → PipeState → Bool
 shows_number k p = p.number == k

@@ -1,7 +1,7 @@
 //! What is due first among the pipes.
 
-ghost use Rattle.std.specs.Prelude.{◌≡◌, ℕ, ◌+◌, ◌*◌, ◌<◌, ◌≤◌, ◌++◌, ◌⊎◌, List, length, Some, option_map, option_and_then, option_to_list, flat_map, slice_get};
-ghost use Rattle.std.specs.List.{best_of};
+ghost use Rattle.std.specs.Prelude.{◌≡◌, ℕ, ◌+◌, ◌*◌, ◌<◌, ◌≤◌, ◌++◌, ◌⊎◌, List, length, Some, option_map, option_and_then, option_to_list, flat_map, slice_get, vec_len, vec_capacity, OnOk, OnErr};
+ghost use Rattle.std.specs.List.{best_of, sum_by};
 ghost use Rattle.emu_model.specs.declared.packets.Packet.{Packet as Letter};
 ghost use Rattle.emu_model.specs.Delay.{first_exit};
 ghost use Rattle.emu_model.specs.Dues.{due, is_before, pipe_dues, line_dues, service_dues};
@@ -15,6 +15,7 @@ ghost use Rattle.pipe_table.specs.Reach.{Reaches, instance_dues};
 use crate::PipeTable;
 use emu_model::{Class, Due, Source};
 use pipe_core::Pipe;
+use std::alloc::AllocError;
 
 // The earlier of a due and another that may be there.
 fn earlier(best: Due, class: Class, number: u32, moment: Option<u64>) -> Due
@@ -48,17 +49,67 @@ fn earliest_at(pipe: &Pipe, index: usize, number: u32, best: Due) -> Due
     earlier(sooner, Class::Finish, number, dues.finish)
 }
 
+// The number of a pipe's first instance.
+fn first_number(pipe: &Pipe) -> u32
+    ensures number { result ≡ pipe.now.number * 256 }
+    ensures range { IsPipeNumber pipe.now.number }
+{
+    u32::from(pipe.number().get()) * 256
+}
+
 // The least of a due and those of one pipe.
 fn earliest_in(pipe: &Pipe, best: Due) -> Due
     ensures { (ps : List KeyedPipe) → pipe_of pipe.now.number ps ≡ Some pipe.now →
         Reaches ps (λ f. pipe_dues (seen_pipe f pipe.now)) best result }
 {
-    let first = u32::from(pipe.number().get()) * 256;
+    let first = first_number(pipe);
     let mut best = best;
     for index in 0..pipe.instances() {
         best = earliest_at(pipe, index, first + index as u32, best);
     }
     best
+}
+
+// Appends a due that may be there.
+fn append(dues: &mut Vec<Due>, class: Class, number: u32, moment: Option<u64>)
+    requires { vec_len dues.old + 1 ≤ vec_capacity dues.old }
+    ensures items { dues.new.items ≡ dues.old.items ++ option_to_list (option_map (due class number) moment) }
+    ensures length { vec_len dues.new ≤ vec_len dues.old + 1 }
+    ensures capacity { vec_capacity dues.new ≡ vec_capacity dues.old }
+{
+    if let Some(moment) = moment {
+        dues.push_reserved(Due {
+            moment,
+            source: Source { class, number },
+        });
+    }
+}
+
+// Appends the dues of one instance.
+fn add_at(pipe: &Pipe, index: usize, number: u32, dues: &mut Vec<Due>)
+    requires inside { index < length pipe.now.slots }
+    requires number { number ≡ pipe.now.number * 256 + index }
+    requires room { vec_len dues.old + 2 ≤ vec_capacity dues.old }
+    ensures items { (f : ℕ → Letter) → dues.new.items ≡ dues.old.items ++ instance_dues f pipe.now index }
+    ensures length { vec_len dues.new ≤ vec_len dues.old + 2 }
+    ensures capacity { vec_capacity dues.new ≡ vec_capacity dues.old }
+{
+    let there = pipe.dues(index);
+    append(dues, Class::Exit, number, there.exit);
+    append(dues, Class::Finish, number, there.finish);
+}
+
+// Appends the dues of one pipe.
+fn add_in(pipe: &Pipe, dues: &mut Vec<Due>)
+    requires { vec_len dues.old + 2 * length pipe.now.slots ≤ vec_capacity dues.old }
+    ensures items { (f : ℕ → Letter) → dues.new.items ≡ dues.old.items ++ pipe_dues (seen_pipe f pipe.now) }
+    ensures length { vec_len dues.new ≤ vec_len dues.old + 2 * length pipe.now.slots }
+    ensures capacity { vec_capacity dues.new ≡ vec_capacity dues.old }
+{
+    let first = first_number(pipe);
+    for index in 0..pipe.instances() {
+        add_at(pipe, index, first + index as u32, dues);
+    }
 }
 
 impl PipeTable {
@@ -75,5 +126,30 @@ impl PipeTable {
             best = earliest_in(pipe, best);
         }
         best
+    }
+
+    /// Appends the dues of all pipes, pipe by pipe and instance by instance, or leaves `dues` as it
+    /// was.
+    pub fn add_dues(&self, dues: &mut Vec<Due>) -> Result<(), AllocError>
+        ensures ok { OnOk result ((p : Pocket) (n : Net) → dues.new.items ≡ dues.old.items ++ flat_map pipe_dues (with_pipes p self.now n).pipes) }
+        ensures err { OnErr result (dues.new.items ≡ dues.old.items) }
+    {
+        dues.reserve(2 * self.instances())?;
+        for pipe in &self.pipes {
+            add_in(pipe, dues);
+        }
+        Ok(())
+    }
+
+    // How many instances the pipes have.
+    fn instances(&self) -> usize
+        ensures sum { result ≡ sum_by (λ p. length p.slots) self.now.pipes }
+        ensures few { result ≤ 64 * 256 }
+    {
+        let mut instances = 0;
+        for pipe in &self.pipes {
+            instances += pipe.instances();
+        }
+        instances
     }
 }

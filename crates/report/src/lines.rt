@@ -1,7 +1,7 @@
 //! The lines of a report, each appended to a text (own). Moments are in ns. Where memory is refused,
 //! the text stays as it was.
 
-ghost use Rattle.std.specs.Prelude.{◌≡◌, ◌+◌, ◌≤◌, ◌++◌, length, codes, decimal, OnOk, OnErr};
+ghost use Rattle.std.specs.Prelude.{◌≡◌, ◌+◌, ◌≤◌, ◌++◌, length, codes, decimal, vec_len, vec_capacity, IsOk, OnOk, OnErr};
 ghost use Rattle.report.specs.Room.{spare};
 ghost use Rattle.std.specs.List.{flat_map};
 ghost use Rattle.report.specs.Lines.{spaced, fields_of, line_of, heading_of, behind_space, counters_of};
@@ -22,6 +22,7 @@ fn append_rule(out: &mut Vec<u8>, rule: &Rule, packets: u64, bytes: u64)
     requires { 399 ≤ spare out.old }
     ensures items { out.new.items ≡ out.old.items ++ spaced (fields_of (RuleLine rule.now packets bytes)) }
     ensures room { spare out.old ≤ spare out.new + 399 }
+    ensures capacity { vec_capacity out.old ≤ vec_capacity out.new }
 {
     append(out, b"rule ");
     append_places(out, 10, 5, rule.number.get());
@@ -41,6 +42,7 @@ fn append_pipe(out: &mut Vec<u8>, pipe: PipeNumber, config: &PipeConfig)
     requires { 399 ≤ spare out.old }
     ensures items { out.new.items ≡ out.old.items ++ spaced (fields_of (PipeLine pipe config.now)) }
     ensures room { spare out.old ≤ spare out.new + 399 }
+    ensures capacity { vec_capacity out.old ≤ vec_capacity out.new }
 {
     append_labelled(out, b"pipe ", u64::from(pipe.get()));
     append_labelled(out, b" bw ", config.bw.get());
@@ -59,6 +61,7 @@ fn append_event(out: &mut Vec<u8>, moment: u64, word: &[u8], number: u64)
     requires { 40 + length word.now ≤ spare out.old }
     ensures items { out.new.items ≡ out.old.items ++ decimal moment ++ word.now ++ decimal number }
     ensures room { spare out.old ≤ spare out.new + (40 + length word.now) }
+    ensures capacity { vec_capacity out.old ≤ vec_capacity out.new }
 {
     append_number(out, moment);
     append_labelled(out, word, number);
@@ -68,6 +71,7 @@ fn append_fields(out: &mut Vec<u8>, line: &Record)
     requires { 399 ≤ spare out.old }
     ensures items { out.new.items ≡ out.old.items ++ spaced (fields_of line.now) }
     ensures room { spare out.old ≤ spare out.new + 399 }
+    ensures capacity { vec_capacity out.old ≤ vec_capacity out.new }
 {
     match *line {
         Record::CommandDone { moment, command } => append_event(out, moment, b" ok ", command),
@@ -175,6 +179,8 @@ fn append_fields(out: &mut Vec<u8>, line: &Record)
 pub fn write_record(out: &mut Vec<u8>, line: &Record) -> Result<(), AllocError>
     ensures ok { OnOk result (out.new.items ≡ out.old.items ++ line_of line.now) }
     ensures err { OnErr result (out.new.items ≡ out.old.items) }
+    ensures capacity { vec_capacity out.old ≤ vec_capacity out.new }
+    ensures succeeds { vec_len out.old + 400 ≤ vec_capacity out.old → IsOk result }
 {
     out.reserve(LONGEST_LINE)?;
     append_fields(out, line);
@@ -188,6 +194,8 @@ pub fn write_record(out: &mut Vec<u8>, line: &Record) -> Result<(), AllocError>
 pub fn write_heading(out: &mut Vec<u8>, name: &[u8]) -> Result<(), AllocError>
     ensures ok { OnOk result (out.new.items ≡ out.old.items ++ heading_of name.now) }
     ensures err { OnErr result (out.new.items ≡ out.old.items) }
+    ensures capacity { vec_capacity out.old ≤ vec_capacity out.new }
+    ensures succeeds { vec_len out.old + (400 + length name.now) ≤ vec_capacity out.old → IsOk result }
 {
     out.reserve(LONGEST_LINE + name.len())?;
     append(out, b"experiment ");
@@ -200,6 +208,7 @@ fn append_drops(out: &mut Vec<u8>, drops: &[u64; 8])
     requires { 168 ≤ spare out.old }
     ensures items { out.new.items ≡ out.old.items ++ flat_map behind_space drops.now }
     ensures room { spare out.old ≤ spare out.new + 168 }
+    ensures capacity { vec_capacity out.old ≤ vec_capacity out.new }
 {
     for dropped in drops {
         append_labelled(out, b" ", *dropped);
@@ -211,6 +220,8 @@ fn append_drops(out: &mut Vec<u8>, drops: &[u64; 8])
 pub fn write_counters(out: &mut Vec<u8>, counters: &Counters) -> Result<(), AllocError>
     ensures ok { OnOk result (out.new.items ≡ out.old.items ++ counters_of counters.now) }
     ensures err { OnErr result (out.new.items ≡ out.old.items) }
+    ensures capacity { vec_capacity out.old ≤ vec_capacity out.new }
+    ensures succeeds { vec_len out.old + 400 ≤ vec_capacity out.old → IsOk result }
 {
     out.reserve(LONGEST_LINE)?;
     append_labelled(out, b"counters ", counters.made);

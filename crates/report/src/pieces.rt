@@ -1,6 +1,6 @@
 //! What every line is made of. Each call finds the room that it needs.
 
-ghost use Rattle.std.specs.Prelude.{◌≡◌, ◌+◌, ◌≤◌, ◌++◌, length, decimal};
+ghost use Rattle.std.specs.Prelude.{◌≡◌, ◌+◌, ◌≤◌, ◌++◌, length, decimal, vec_capacity};
 ghost use Rattle.report.specs.Room.{spare};
 ghost use Rattle.report.specs.Words.{places};
 
@@ -12,6 +12,7 @@ pub fn append(out: &mut Vec<u8>, bytes: &[u8])
     requires { length bytes.now ≤ spare out.old }
     ensures items { out.new.items ≡ out.old.items ++ bytes.now }
     ensures room { spare out.old ≤ spare out.new + length bytes.now }
+    ensures capacity { vec_capacity out.old ≤ vec_capacity out.new }
 {
     let Ok(()) = out.extend_from_slice(bytes) else {
         unreachable!()
@@ -23,6 +24,7 @@ pub fn append_number(out: &mut Vec<u8>, number: u64)
     requires { 20 ≤ spare out.old }
     ensures items { out.new.items ≡ out.old.items ++ decimal number }
     ensures room { spare out.old ≤ spare out.new + 20 }
+    ensures capacity { vec_capacity out.old ≤ vec_capacity out.new }
 {
     let mut buffer = Buffer::new();
     append(out, buffer.format(number).as_bytes());
@@ -34,6 +36,7 @@ pub fn append_labelled(out: &mut Vec<u8>, label: &[u8], number: u64)
     requires { length label.now + 20 ≤ spare out.old }
     ensures items { out.new.items ≡ out.old.items ++ label.now ++ decimal number }
     ensures room { spare out.old ≤ spare out.new + length label.now + 20 }
+    ensures capacity { vec_capacity out.old ≤ vec_capacity out.new }
 {
     append(out, label);
     append_number(out, number);
@@ -46,6 +49,7 @@ pub fn append_places(out: &mut Vec<u8>, base: u32, count: u32, number: u32)
     requires room { count ≤ spare out.old }
     ensures items { out.new.items ≡ out.old.items ++ places base count number }
     ensures room { spare out.old ≤ spare out.new + count }
+    ensures capacity { vec_capacity out.old ≤ vec_capacity out.new }
 {
     if count == 0 {
         return;

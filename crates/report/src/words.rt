@@ -1,6 +1,6 @@
 //! The parts of a line that are more than a number.
 
-ghost use Rattle.std.specs.Prelude.{◌≡◌, ◌+◌, ◌≤◌, ◌++◌};
+ghost use Rattle.std.specs.Prelude.{◌≡◌, ◌+◌, ◌≤◌, ◌++◌, vec_capacity};
 ghost use Rattle.report.specs.Room.{spare};
 ghost use Rattle.report.specs.Words.{instance_name, load_of, cause_of, code_of, action_of, protocol_of, dotted, prefix_of, ports_of, end_of, queue_of, mask_of, discipline_of};
 
@@ -15,6 +15,7 @@ pub fn append_instance(out: &mut Vec<u8>, pipe: PipeNumber, instance: u8)
     requires { 41 ≤ spare out.old }
     ensures items { out.new.items ≡ out.old.items ++ instance_name pipe instance }
     ensures room { spare out.old ≤ spare out.new + 41 }
+    ensures capacity { vec_capacity out.old ≤ vec_capacity out.new }
 {
     append_number(out, u64::from(pipe.get()));
     append_labelled(out, b".", u64::from(instance));
@@ -25,6 +26,7 @@ pub fn append_load(out: &mut Vec<u8>, load: Load)
     requires { 46 ≤ spare out.old }
     ensures items { out.new.items ≡ out.old.items ++ load_of load }
     ensures room { spare out.old ≤ spare out.new + 46 }
+    ensures capacity { vec_capacity out.old ≤ vec_capacity out.new }
 {
     match load {
         Load::Plain => append(out, b"plain"),
@@ -43,6 +45,7 @@ pub fn append_cause(out: &mut Vec<u8>, cause: DropCause)
     requires { 10 ≤ spare out.old }
     ensures items { out.new.items ≡ out.old.items ++ cause_of cause }
     ensures room { spare out.old ≤ spare out.new + 10 }
+    ensures capacity { vec_capacity out.old ≤ vec_capacity out.new }
 {
     match cause {
         DropCause::Denied => append(out, b"denied"),
@@ -66,6 +69,7 @@ pub fn append_action(out: &mut Vec<u8>, action: Action)
     requires { 27 ≤ spare out.old }
     ensures items { out.new.items ≡ out.old.items ++ action_of action }
     ensures room { spare out.old ≤ spare out.new + 27 }
+    ensures capacity { vec_capacity out.old ≤ vec_capacity out.new }
 {
     match action {
         Action::Permit => append(out, b"allow"),
@@ -80,6 +84,7 @@ pub fn append_protocol(out: &mut Vec<u8>, proto: ProtocolMatch)
     requires { 3 ≤ spare out.old }
     ensures items { out.new.items ≡ out.old.items ++ protocol_of proto }
     ensures room { spare out.old ≤ spare out.new + 3 }
+    ensures capacity { vec_capacity out.old ≤ vec_capacity out.new }
 {
     match proto {
         ProtocolMatch::AnyProtocol => append(out, b"ip"),
@@ -92,6 +97,7 @@ fn append_dotted(out: &mut Vec<u8>, address: u32)
     requires { 83 ≤ spare out.old }
     ensures items { out.new.items ≡ out.old.items ++ dotted address }
     ensures room { spare out.old ≤ spare out.new + 83 }
+    ensures capacity { vec_capacity out.old ≤ vec_capacity out.new }
 {
     append_number(out, u64::from(address >> 24));
     append_labelled(out, b".", u64::from((address >> 16) % 256));
@@ -103,6 +109,7 @@ fn append_prefix(out: &mut Vec<u8>, prefix: Prefix)
     requires { 104 ≤ spare out.old }
     ensures items { out.new.items ≡ out.old.items ++ prefix_of prefix }
     ensures room { spare out.old ≤ spare out.new + 104 }
+    ensures capacity { vec_capacity out.old ≤ vec_capacity out.new }
 {
     let len = prefix.length().get();
     if len == 0 {
@@ -119,6 +126,7 @@ fn append_ports(out: &mut Vec<u8>, ports: PortRange)
     requires { 41 ≤ spare out.old }
     ensures items { out.new.items ≡ out.old.items ++ ports_of ports }
     ensures room { spare out.old ≤ spare out.new + 41 }
+    ensures capacity { vec_capacity out.old ≤ vec_capacity out.new }
 {
     append_number(out, u64::from(ports.first()));
     if ports.first() == ports.last() {
@@ -132,6 +140,7 @@ pub fn append_end(out: &mut Vec<u8>, prefix: Prefix, ports: Option<PortRange>)
     requires { 146 ≤ spare out.old }
     ensures items { out.new.items ≡ out.old.items ++ end_of prefix ports }
     ensures room { spare out.old ≤ spare out.new + 146 }
+    ensures capacity { vec_capacity out.old ≤ vec_capacity out.new }
 {
     append_prefix(out, prefix);
     let Some(ports) = ports else {
@@ -145,6 +154,7 @@ pub fn append_queue(out: &mut Vec<u8>, queue: QueueLimit)
     requires { 26 ≤ spare out.old }
     ensures items { out.new.items ≡ out.old.items ++ queue_of queue }
     ensures room { spare out.old ≤ spare out.new + 26 }
+    ensures capacity { vec_capacity out.old ≤ vec_capacity out.new }
 {
     match queue {
         QueueLimit::Slots(limit) => append_number(out, u64::from(limit.get())),
@@ -159,6 +169,7 @@ pub fn append_mask(out: &mut Vec<u8>, mask: Mask)
     requires { 30 ≤ spare out.old }
     ensures items { out.new.items ≡ out.old.items ++ mask_of mask }
     ensures room { spare out.old ≤ spare out.new + 30 }
+    ensures capacity { vec_capacity out.old ≤ vec_capacity out.new }
 {
     append_places(out, 16, 2, u32::from(mask.proto));
     append(out, b"/");
@@ -175,6 +186,7 @@ pub fn append_discipline(out: &mut Vec<u8>, discipline: Discipline)
     requires { 63 ≤ spare out.old }
     ensures items { out.new.items ≡ out.old.items ++ discipline_of discipline }
     ensures room { spare out.old ≤ spare out.new + 63 }
+    ensures capacity { vec_capacity out.old ≤ vec_capacity out.new }
 {
     match discipline {
         Discipline::TailDrop => append(out, b"droptail"),

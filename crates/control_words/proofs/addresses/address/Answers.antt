@@ -1,4 +1,3 @@
-use Rattle.std.proofs.Common.{sym, ◌∙◌}
 use Rattle.control_words.proofs.Parts.{five}
 use Rattle.control_words.proofs.addresses.address.Goals as goal
 

@@ -1,4 +1,3 @@
-use Rattle.std.proofs.Common.{sym, ◌∙◌}
 use Rattle.control_words.proofs.Parts.{three_ports}
 use Rattle.control_words.proofs.addresses.ports.Goals as goal
 

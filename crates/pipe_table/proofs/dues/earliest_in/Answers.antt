@@ -1,10 +1,8 @@
-use Rattle.std.proofs.Common.{◌≡◌, ℕ, ◌*◌, ◌+◌, ◌++◌, suc, Some, List, [], map, take, sym, ap, ◌∙◌, arith}
-use Rattle.emu_model.specs.declared.packets.Packet.{Packet}
-use Rattle.emu_model.specs.declared.sources.Due.{Due}
-use Rattle.emu_model.specs.Dues.{instances_dues, pipe_dues}
-use Rattle.pipe_core.specs.Keyed.{KeyedPipe, seen_pipe, seen_slot}
-use Rattle.pipe_table.specs.Reach.{Reaches, instance_dues}
-use Rattle.pipe_table.proofs.DueFacts.{Reaches-none, Reaches-then, Reaches-by, instances-more, instances-all}
+use Rattle.std.proofs.Common.{◌≡◌, ◌*◌, ◌+◌, ◌++◌, suc, map, take, ap, ◌∙◌, arith}
+use Rattle.emu_model.specs.Dues.{instances_dues}
+use Rattle.pipe_core.specs.Keyed.{seen_slot}
+use Rattle.pipe_table.specs.Reach.{instance_dues}
+use Rattle.pipe_table.proofs.DueFacts.{Reaches-then, Reaches-by, instances-more}
 use Rattle.pipe_table.proofs.dues.earliest_in.Goals as goal
 
 pub loop-index-preserved : goal.loop-index-preserved

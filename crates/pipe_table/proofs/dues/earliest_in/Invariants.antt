@@ -1,4 +1,4 @@
-use Rattle.std.proofs.Common.{◌≡◌, ℕ, ◌*◌, Some, List, map, take}
+use Rattle.std.proofs.Common.{◌≡◌, ◌*◌, Some, List, map, take}
 use Rattle.emu_model.specs.Dues.{instances_dues}
 use Rattle.pipe_core.specs.Keyed.{KeyedPipe, seen_slot}
 use Rattle.pipe_table.specs.Table.{pipe_of}

@@ -1,6 +1,5 @@
-use Rattle.std.proofs.Common.{◌≡◌, ℕ, ◌+◌, ◌≤◌, List, [], ◌∷◌, ◌++◌, map, take}
+use Rattle.std.proofs.Common.{◌≡◌, ℕ, ◌+◌, ◌≤◌, ◌++◌, map, take}
 use Rattle.emu_model.specs.declared.packets.Packet.{Packet}
-use Rattle.emu_model.specs.declared.records.Record.TheVariants.{PipeLine}
 use Rattle.emu_model.specs.Commands.{instance_lines}
 use Rattle.pipe_core.specs.Keyed.{seen_slot}
 use Rattle.pipe_table.proofs.lines.show_pipe.Given as goal

@@ -1,5 +1,5 @@
 use Rattle.std.proofs.Common.{sym, inl}
-use Rattle.control_words.specs.Entries.{view_entry}
+use Rattle.control_lines.specs.Entries.{view_entry}
 use Rattle.control.specs.Builder.{sofar}
 use Rattle.control.proofs.Walk.{taken_by}
 use Rattle.control.proofs.reading.Builder.take_line.Goals as goal

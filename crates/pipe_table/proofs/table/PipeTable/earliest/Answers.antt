@@ -1,9 +1,8 @@
-use Rattle.std.proofs.Common.{◌≡◌, ℕ, ◌*◌, ◌+◌, ◌++◌, ◌<◌, length, get_or, suc, Some, List, [], map, take, sym, ap, ◌∙◌, subst, arith}
+use Rattle.std.proofs.Common.{◌≡◌, ◌+◌, ◌++◌, ◌<◌, length, get_or, suc, take, ap, ◌∙◌, subst, arith}
 use Rattle.std.specs.Prelude.{flat_map}
 use Rattle.emu_model.specs.Dues.{pipe_dues}
-use Rattle.pipe_core.specs.Keyed.{KeyedPipe, seen_pipe}
+use Rattle.pipe_core.specs.Keyed.{seen_pipe}
 use Rattle.pipe_table.specs.Table.{Table, seen_pipes, IsTable}
-use Rattle.pipe_table.specs.Reach.{Reaches}
 use Rattle.pipe_table.proofs.DueFacts.{Reaches-then, Reaches-by, pipes-more, standing}
 use Rattle.pipe_table.proofs.table.PipeTable.earliest.Goals as goal
 

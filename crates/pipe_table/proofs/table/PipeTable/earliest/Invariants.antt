@@ -1,7 +1,6 @@
-use Rattle.std.proofs.Common.{◌≡◌, ℕ, List, take}
+use Rattle.std.proofs.Common.{take}
 use Rattle.std.specs.Prelude.{flat_map}
 use Rattle.emu_model.specs.Dues.{pipe_dues}
-use Rattle.pipe_core.specs.Keyed.{KeyedPipe}
 use Rattle.pipe_table.specs.Table.{seen_pipes}
 use Rattle.pipe_table.specs.Reach.{Reaches}
 use Rattle.pipe_table.proofs.table.PipeTable.earliest.Given as goal

@@ -1,10 +1,7 @@
-use Rattle.std.proofs.Common.{◌≡◌, ℕ, ◌+◌, ◌<◌, ◌≤◌, suc, Some, None, List, [], ◌∷◌, ◌++◌, map, take, length, get_or, sym, ap, ◌∙◌, subst, arith}
-use Rattle.std.specs.Prelude.{flat_map}
-use Rattle.emu_model.specs.Commands.{pipe_lines}
-use Rattle.pipe_core.specs.Keyed.{KeyedPipe}
-use Rattle.pipe_core.specs.Moves.{some_packet, packet_at}
-use Rattle.pipe_table.specs.Table.{Table, seen_pipes}
-use Rattle.pipe_table.proofs.LineFacts.{take-end, lines_of, lines-count, count-within, count-more, pipes-more}
+use Rattle.std.proofs.Common.{◌≡◌, ◌≤◌, take, length, sym, ap, ◌∙◌, subst}
+use Rattle.pipe_core.specs.Moves.{packet_at}
+use Rattle.pipe_table.specs.Table.{Table}
+use Rattle.pipe_table.proofs.LineFacts.{take-end, lines_of, lines-count}
 use Rattle.pipe_table.proofs.table.PipeTable.lines.Goals as goal
 
 pub returns : goal.returns

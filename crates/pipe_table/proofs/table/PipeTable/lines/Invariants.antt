@@ -1,8 +1,4 @@
-use Rattle.std.proofs.Common.{◌≡◌, ℕ, ◌+◌, ◌*◌, ◌≤◌, List, ◌++◌, take}
-use Rattle.std.specs.Prelude.{flat_map}
-use Rattle.emu_model.specs.declared.packets.Packet.{Packet}
-use Rattle.emu_model.specs.Commands.{pipe_lines}
-use Rattle.pipe_table.specs.Table.{seen_pipes}
+use Rattle.std.proofs.Common.{◌≡◌, ◌*◌, ◌≤◌, take}
 use Rattle.pipe_table.proofs.LineFacts.{lines_of}
 use Rattle.pipe_table.proofs.table.PipeTable.lines.Given as goal
 

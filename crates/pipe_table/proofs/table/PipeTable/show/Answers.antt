@@ -1,12 +1,9 @@
-use Rattle.std.proofs.Common.{◌≡◌, ℕ, ◌+◌, ◌<◌, ◌≤◌, suc, Some, None, List, [], ◌∷◌, ◌++◌, map, take, length, get_or, sym, ap, ◌∙◌, subst, arith}
-use Rattle.std.specs.Prelude.{flat_map}
-use Rattle.emu_model.specs.Commands.{pipe_lines}
+use Rattle.std.proofs.Common.{◌≡◌, ◌<◌, ◌≤◌, take, length, get_or, ap, ◌∙◌, subst, arith}
 use Rattle.packet_store.specs.Pocket.{empty_pocket}
 use Rattle.emu_model.specs.Net.{opening_net}
-use Rattle.pipe_core.specs.Keyed.{KeyedPipe}
-use Rattle.pipe_core.specs.Moves.{some_packet, packet_at}
-use Rattle.pipe_table.specs.Table.{Table, seen_pipes}
-use Rattle.pipe_table.proofs.LineFacts.{take-end, lines_of, lines-count, count-within, count-more, pipes-more}
+use Rattle.pipe_core.specs.Moves.{packet_at}
+use Rattle.pipe_table.specs.Table.{Table}
+use Rattle.pipe_table.proofs.LineFacts.{take-end, lines_of, lines-count, count-within}
 use Rattle.pipe_table.proofs.table.PipeTable.show.Goals as goal
 
 pub show_pipe-requires : goal.show_pipe-requires

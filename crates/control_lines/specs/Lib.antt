@@ -1,0 +1,4 @@
+pub mod Grammar
+pub mod Shape
+pub mod Ranges
+pub mod Entries

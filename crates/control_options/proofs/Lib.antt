@@ -1,0 +1,4 @@
+pub mod Phrases
+pub mod Pairs
+pub mod PhraseKinds
+pub mod Settings

@@ -1,0 +1,77 @@
+//! `dnlab`: a link emulator in simulated time. Here are the words of its command line, its exit statuses
+//! and what it prints on standard error; all else is in `lab`.
+#![tactic(auto)]
+
+#[cfg(test)]
+mod tests;
+mod words;
+
+ghost use Rattle.std.specs.Prelude.{◌≡◌};
+ghost use Rattle.dnlab.specs.Status.{status_after};
+
+use clap::Error;
+use clap::error::ErrorKind;
+use lab::{Device, RunFault, check, run_alone};
+use std::process::ExitCode;
+use std::{env, io};
+use words::{Task, task_of};
+
+/// The exit status after a call.
+fn status_of(outcome: &Result<(), RunFault>) -> u8
+    ensures { result ≡ status_after outcome.now }
+{
+    match outcome {
+        Ok(()) => 0,
+        Err(RunFault::Scenario(_)) => 1,
+        Err(RunFault::Read | RunFault::Write | RunFault::Memory) => 3,
+    }
+}
+
+// Says why a call gave no answer, and how the program ends.
+fn end(rt: &impl Eprint, outcome: Result<(), RunFault>) -> ExitCode {
+    let status = status_of(&outcome);
+    if let Err(fault) = outcome {
+        // There is nowhere else to say that this can't be printed.
+        let _ = eprintln!(rt; "{fault}");
+    }
+    ExitCode::from(status)
+}
+
+// Prints what `clap` has to say: a mistake in the words, help or the version.
+fn say<R: Print + Eprint>(rt: &R, error: &Error) -> ExitCode {
+    if error.kind() == ErrorKind::OutOfMemory {
+        return end(rt, Err(RunFault::Memory));
+    }
+    if error.print(rt).is_err() {
+        return end(rt, Err(RunFault::Write));
+    }
+    ExitCode::from(if error.use_stderr() { 2 } else { 0 })
+}
+
+fn main(rt: HostRuntime) -> ExitCode {
+    let alloc = rt.alloc();
+    let words = match env::args(&rt) {
+        Ok(words) => words,
+        Err(error) if error.kind() == io::ErrorKind::OutOfMemory => {
+            return end(&rt, Err(RunFault::Memory));
+        }
+        Err(error) => {
+            let _ = eprintln!(rt; "error: {error}");
+            return ExitCode::from(2);
+        }
+    };
+    let Ok(words) = words.collect::<Vec<String>>(alloc) else {
+        return end(&rt, Err(RunFault::Memory));
+    };
+    let task = match task_of(alloc, words.as_slice()) {
+        Ok(task) => task,
+        Err(error) => return say(&rt, &error),
+    };
+    let mut reader = Device::new(rt.reader());
+    let mut writer = Device::new(io::writer(&rt));
+    let outcome = match task {
+        Task::Alone => run_alone(alloc, &mut reader, &mut writer),
+        Task::Check => check(alloc, &mut reader, &mut writer),
+    };
+    end(&rt, outcome)
+}

@@ -1,0 +1,5 @@
+mod StepFacts
+mod ApplyFacts
+mod Keeping
+mod AloneFacts
+mod TouchFacts

@@ -1,0 +1,25 @@
+use Rattle.std.proofs.Common.{◌≡◌, ◌++◌, ◌∷◌, [], subst, sym, ap, ◌∙◌, Some, List}
+use Rattle.emu_model.specs.declared.commands.Timed.{Timed}
+use Rattle.experiment.specs.Kept.{KeptExperiment, IsSound}
+use Rattle.experiment.proofs.ApplyFacts.{is_none, sound-apply}
+use Rattle.experiment.proofs.experiment.Experiment.apply.Goals as goal
+
+pub invariant_of-self-2 : goal.invariant_of-self-2
+invariant_of-self-2 c =
+    let s = c.self.inside in
+    let e : KeptExperiment = record {
+      spec = s.spec;
+      net = s.net;
+      next = s.next;
+      consumed = s.consumed.items;
+      taken = s.taken;
+      clock = s.clock;
+      steps = s.steps;
+      ending = s.ending;
+      watched = s.watched;
+      before = s.before.items;
+    } in
+    let items : c.extend_from_slice.new.self.items ≡ s.consumed.items ++ c.args.command.now ∷ [] =
+    c.in-Ok.ensures.items ∙ ap (λ l. s.consumed.items ++ l) c.from_ref.ensures.value in
+    subst (λ (l : List Timed). IsSound (record e { next = Some c.args.command.now; consumed = l }) c.args.command.now.moment s.held) (sym items)
+    (sound-apply e s.latest s.held c.args.command.now c.self.invariant (is_none s.next (sym c.is_some-2.ensures ∙ c.if-is_some-2.false)) c.requires)

@@ -1,0 +1,8 @@
+use Rattle.experiment.proofs.ApplyFacts.{housed-new}
+use Rattle.experiment.proofs.experiment.Experiment.new.Goals as goal
+
+pub returns-clause-housed : goal.returns-clause-housed
+returns-clause-housed c = λ budget room. record {
+  housed = housed-new budget c.in-Ok.net c.in-Ok.ensures.keys;
+  room = room;
+}

@@ -1,0 +1,20 @@
+use Rattle.experiment.specs.Kept.{KeptExperiment}
+use Rattle.experiment.proofs.Keeping.{sound-halted}
+use Rattle.experiment.proofs.experiment.Experiment.take_command.Goals as goal
+
+pub invariant_of-self : goal.invariant_of-self
+invariant_of-self g c =
+    let s = c.self.inside in
+    let e : KeptExperiment = record {
+      spec = s.spec;
+      net = s.net;
+      next = s.next;
+      consumed = s.consumed.items;
+      taken = s.taken;
+      clock = s.clock;
+      steps = s.steps;
+      ending = s.ending;
+      watched = s.watched;
+      before = s.before.items;
+    } in
+    sound-halted e s.latest s.held c.obey.new.self (g.S.Shelf.pocket c.args.shelf.now c.args.owner) c.self.invariant c.in_default.ensures.refused

@@ -1,0 +1,33 @@
+-- What is due in a state.
+use Rattle.std.specs.Prelude.{◌≡◌, false, List, [], ◌∷◌, ◌++◌, filter}
+use Rattle.std.specs.List.{list_any}
+use Rattle.emu_model.specs.declared.commands.Timed.{Timed}
+use Rattle.emu_model.specs.declared.sources.Due.{Due}
+use Rattle.emu_model.specs.declared.sources.Source.{Source}
+use Rattle.emu_model.specs.declared.sources.Class.TheVariants.{NextCommand}
+use Rattle.emu_model.specs.Dues.{due, dues_of}
+use Rattle.emu_model.specs.Step.{State}
+use Rattle.emu_model.specs.Laws.{same_source}
+
+-- the first of the commands that are left is the next one
+abbrev pub command_dues : List Timed → List Due
+command_dues [] = []
+command_dues (c ∷ rest) = due NextCommand 0 c.moment ∷ []
+
+-- the next command, and all events
+abbrev pub dues_in : State → List Due
+dues_in s = command_dues s.left ++ dues_of s.clock s.net
+
+-- the dues of one source
+abbrev pub dues_at : Source → List Due → List Due
+dues_at s dues = filter (λ d. same_source d.source s) dues
+
+-- each source is named whose dues differ
+abbrev pub Covers : List Due → List Due → List Source → Type 0
+Covers before now named = (s : Source) → list_any (λ t. same_source t s) named ≡ false →
+    dues_at s before ≡ dues_at s now
+
+-- no source is named that has none, before and now
+abbrev pub NamesNoOther : List Due → List Due → List Source → Type 0
+NamesNoOther before now named = (s : Source) → dues_at s before ≡ [] → dues_at s now ≡ [] →
+    list_any (λ t. same_source t s) named ≡ false

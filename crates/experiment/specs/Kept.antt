@@ -1,0 +1,72 @@
+-- What is kept of an experiment, and the state that it shows.
+use Rattle.std.specs.Prelude.{◌≡◌, ℕ, ◌+◌, ◌^◌, ◌<◌, ◌≤◌, Bool, Option, Some, None, option_to_list, IfSome, List, [], ◌∷◌, length}
+use Rattle.emu_model.specs.declared.commands.Spec.{Spec}
+use Rattle.emu_model.specs.declared.commands.Timed.{Timed}
+use Rattle.emu_model.specs.declared.sources.Due.{Due}
+use Rattle.emu_model.specs.declared.records.Ending.{Ending}
+use Rattle.emu_model.specs.declared.records.Ending.TheVariants.{Ended, Spent, Halted}
+use Rattle.emu_model.specs.Step.{State}
+use Rattle.emu_model.specs.Alone.{alone}
+use Rattle.packet_store.specs.Pocket.{Pocket}
+use Rattle.network.specs.Kept.{KeptNet, net_of, net_keys, IsHoused}
+
+-- what it was given, what moves packets, the next command if there is one, all commands that came, how
+-- many were taken, the moment of the last event, how many steps were made, how it ended, and what was
+-- due before the last step
+pub record KeptExperiment : Type 0 where
+  pub spec : Spec
+  pub net : KeptNet
+  pub next : Option Timed
+  pub consumed : List Timed
+  pub taken : ℕ
+  pub clock : ℕ
+  pub steps : ℕ
+  pub ending : Option Ending
+  pub watched : Bool
+  pub before : List Due
+
+-- want of memory isn't an ending of the definitions: it leaves the state as it was
+abbrev pub shown_ending : Option Ending → Option Ending
+shown_ending None = None
+shown_ending (Some Ended) = Some Ended
+shown_ending (Some Spent) = Some Spent
+shown_ending (Some Halted) = None
+
+-- the state that is shown over an owner's packets
+abbrev pub view : Pocket → KeptExperiment → State
+view p e = record {
+  spec = e.spec;
+  left = option_to_list e.next;
+  taken = e.taken;
+  clock = e.clock;
+  steps = e.steps;
+  net = net_of p e.net;
+  ending = shown_ending e.ending;
+}
+
+-- what is shown is the state of the experiment by itself, after as many steps on the commands that came
+abbrev pub IsAlone : Pocket → KeptExperiment → Type 0
+IsAlone p e = view p e ≡ alone e.spec e.consumed e.steps
+
+-- the owner's packets are just those of the experiment, and it may hold as many as it was given
+pub record IsHousedIn (p : Pocket) (e : KeptExperiment) : Type 0 where
+  pub housed : IsHoused p e.net
+  pub room : e.spec.budget.packets ≤ p.budget
+
+-- the moment of the last command, or an earlier one where there is none
+abbrev pub last_moment : ℕ → List Timed → ℕ
+last_moment moment [] = moment
+last_moment moment (c ∷ cs) = last_moment c.moment cs
+
+-- what holds of every experiment
+pub record IsSound (e : KeptExperiment) (latest held : ℕ) : Type 0 where
+  pub counted : e.taken + length (option_to_list e.next) ≡ length e.consumed
+  pub latest_is : latest ≡ last_moment 0 e.consumed
+  pub early : IfSome e.next (λ c. c.moment ≤ 10 ^ 15)
+  pub seed : e.net.table.seed ≡ e.spec.seed
+  pub made : e.net.made ≤ e.steps
+  pub taken_few : e.taken ≤ e.steps
+  pub steps_left : e.ending ≡ None → e.steps < e.spec.budget.steps
+  pub steps_few : e.steps ≤ e.spec.budget.steps
+  pub budget_few : e.spec.budget.steps ≤ 10 ^ 7
+  pub held_is : held ≡ length (net_keys e.net)

@@ -1,0 +1,46 @@
+-- What an event of an experiment does, by its answer.
+use Rattle.std.specs.Prelude.{◌≡◌, ℕ, ◌+◌, ◌⊎◌, Bool, true, false, Option, Some, None, IsSome, [], ◌∷◌}
+use Rattle.emu_model.specs.declared.commands.Timed.{Timed}
+use Rattle.emu_model.specs.declared.sources.Due.{Due}
+use Rattle.emu_model.specs.declared.records.Ending.{Ending}
+use Rattle.emu_model.specs.declared.records.Ending.TheVariants.{Spent, Halted as HaltedSo}
+use Rattle.emu_model.specs.declared.records.Record.TheVariants.{StepsSpent}
+use Rattle.emu_model.specs.Step.{step, take_due, count_step}
+use Rattle.packet_store.specs.Pocket.{Pocket}
+use Rattle.network.specs.Kept.{KeptNet}
+use Rattle.network.specs.Changes.{Notes}
+use Rattle.experiment.specs.declared.experiment.Event.{Event}
+use Rattle.experiment.specs.declared.experiment.Event.TheVariants.{Ran, Ended, Halted, Still}
+use Rattle.experiment.specs.Kept.{KeptExperiment, view, shown_ending}
+use Rattle.experiment.specs.Dues.{dues_in}
+
+-- one step of the definitions was made
+pub record IsStep (p : Pocket) (old : KeptExperiment) (q : Pocket) (new : KeptExperiment) : Type 0 where
+  pub stepped : view q new ≡ step (view p old)
+  pub counted : new.steps ≡ old.steps + 1
+  pub going : old.ending ≡ None
+  pub before : old.watched ≡ true → new.before ≡ dues_in (view p old)
+
+-- for want of memory no step was made
+pub record Halts (p : Pocket) (old : KeptExperiment) (q : Pocket) (new : KeptExperiment) : Type 0 where
+  pub shown : view q new ≡ view p old
+  pub pocket : q ≡ p
+  pub ending : new.ending ≡ Some HaltedSo
+
+abbrev pub Makes : Event → Pocket → KeptExperiment → Pocket → KeptExperiment → Type 0
+Makes Ran p old q new = IsStep p old q new × (new.ending ≡ None)
+Makes Ended p old q new = IsStep p old q new × IsSome (shown_ending new.ending)
+Makes Halted p old q new = Halts p old q new
+Makes Still p old q new = (new ≡ old) × (q ≡ p) × ((old.next ≡ None) ⊎ IsSome old.ending)
+
+-- the step whose event is this due, c being the next command
+pub record Steps (d : Due) (c : Timed) (p : Pocket) (old : KeptExperiment) (q : Pocket) (new : KeptExperiment) : Type 0 where
+  pub stepped : view q new ≡ count_step (take_due d c [] (view p old))
+  pub counted : new.steps ≡ old.steps + 1
+  pub ending : IsSome new.ending → IsSome (shown_ending new.ending)
+
+-- how a step ends: as its event said, or since it was the last of the budget
+abbrev pub Closes : Option Ending → Bool → ℕ → KeptNet → KeptNet → Option Ending → Type 0
+Closes (Some e) last now old new result = (new ≡ old) × (result ≡ Some e)
+Closes None true now old new result = Notes (StepsSpent now ∷ []) old new × (result ≡ Some Spent)
+Closes None false now old new result = (new ≡ old) × (result ≡ None)

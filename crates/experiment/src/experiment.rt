@@ -1,0 +1,371 @@
+//! An experiment: commands are applied one at a time, and events are made one at a time.
+
+ghost use Rattle.std.specs.Prelude.{◌≡◌, ◌≢◌, ℕ, ◌+◌, ◌^◌, ◌≤◌, ◌<◌, ◌++◌, ◌==◌, if◌then◌else◌, true, false, [], ◌∷◌, Option, Some, None, IsSome, IfSome, IfOk, OnOk, OnErr, is_some};
+ghost use Rattle.emu_model.specs.declared.commands.Timed.{Timed as Command};
+ghost use Rattle.emu_model.specs.declared.sources.Class.TheVariants.{NextCommand};
+ghost use Rattle.emu_model.specs.declared.records.Ending.TheVariants.{Ended};
+ghost use Rattle.emu_model.specs.Step.{opening, next_event};
+ghost use Rattle.emu_model.specs.Commands.{is_end};
+ghost use Rattle.packet_store.specs.Pocket.{Pocket, empty_pocket};
+ghost use Rattle.network.specs.Kept.{net_of, IsHoused};
+ghost use Rattle.network.specs.Due.{IsDue};
+ghost use Rattle.experiment.specs.Kept.{view, IsAlone, IsHousedIn, last_moment};
+ghost use Rattle.experiment.specs.Moves.{Makes, Steps, Halts, Closes};
+ghost use Rattle.experiment.specs.Dues.{dues_in};
+
+use crate::told::{append_dues, command_due};
+use emu_model::{Class, Command, Due, Ending, Spec, Timed, later_commands_wait};
+use network::{Moment, Network};
+use packet_store::{Owner, Shelf};
+use queue_disc::NoMemory;
+use std::alloc::Global;
+use std::marker::Model;
+use std::slice;
+
+/// Why a command was not taken in: the experiment has ended, its next command waits still, or the moment
+/// lies before that of the last command.
+#[derive(Clone, Copy, Debug, PartialEq)]
+pub enum ApplyError {
+    Busy = 27,
+    Backward = 28,
+    Over = 29,
+    NoMemory = 99,
+}
+
+/// What a call of `event` did: a step, the last step, none for want of memory, or none since there is
+/// nothing to be done.
+#[derive(Clone, Copy, Debug, PartialEq)]
+pub enum Event {
+    Ran,
+    Ended,
+    Halted,
+    Still,
+}
+
+/// Rules, pipes, sources and what they hold; the commands that came, and the next of them.
+#[derive(Drop)]
+pub struct Experiment {
+    pub(crate) spec: Spec,
+    pub(crate) net: Network,
+    pub(crate) next: Option<Timed>,
+    pub(crate) consumed: Vec<Timed>,
+    taken: u64,
+    pub(crate) clock: u64,
+    pub(crate) steps: u64,
+    pub(crate) ending: Option<Ending>,
+    // The moment of the last command.
+    latest: u64,
+    // What was due before the last step, where it is watched.
+    watched: bool,
+    pub(crate) before: Vec<Due>,
+    // How many packets are on the shelf.
+    pub(crate) held: u64,
+}
+
+impl Model for Experiment {
+    ghost use Rattle.experiment.specs.Kept.{KeptExperiment, IsSound};
+
+    ghost Value = { KeptExperiment };
+
+    ghost view = { λ e. record {
+      spec = e.spec;
+      net = e.net;
+      next = e.next;
+      consumed = e.consumed.items;
+      taken = e.taken;
+      clock = e.clock;
+      steps = e.steps;
+      ending = e.ending;
+      watched = e.watched;
+      before = e.before.items;
+    } };
+
+    ghost invariant = { λ e. IsSound (record {
+      spec = e.spec;
+      net = e.net;
+      next = e.next;
+      consumed = e.consumed.items;
+      taken = e.taken;
+      clock = e.clock;
+      steps = e.steps;
+      ending = e.ending;
+      watched = e.watched;
+      before = e.before.items;
+    }) e.latest e.held };
+}
+
+impl Experiment {
+    /// An experiment to which no command came.
+    pub fn new(alloc: Global, spec: Spec) -> Result<Self, NoMemory>
+        ensures opening { IfOk result (λ e. (p : Pocket) → view p e ≡ opening spec []) }
+        ensures alone { IfOk result (λ e. (p : Pocket) → IsAlone p e) }
+        ensures given { IfOk result (λ e. (e.spec ≡ spec) × (e.next ≡ None) × (e.consumed ≡ []) × (e.steps ≡ 0) × (e.ending ≡ None) × (e.watched ≡ false)) }
+        ensures housed { IfOk result (λ e. (budget : ℕ) → spec.budget.packets ≤ budget → IsHousedIn (empty_pocket budget) e) }
+    {
+        few_steps(&spec);
+        let Ok(net) = Network::new(alloc, spec.seed) else {
+            return Err(NoMemory);
+        };
+        Ok(Experiment {
+            spec,
+            net,
+            next: None,
+            consumed: Vec::new(alloc),
+            taken: 0,
+            clock: 0,
+            steps: 0,
+            ending: None,
+            latest: 0,
+            watched: false,
+            before: Vec::new(alloc),
+            held: 0,
+        })
+    }
+
+    /// Makes a command the next one. Refused in this order as `Over` where the experiment has ended,
+    /// `Busy` where it has a next command, `Backward` where the moment lies before that of the last, and
+    /// for want of memory; nothing has changed then.
+    pub fn apply(&mut self, command: &Timed) -> Result<(), ApplyError>
+        requires { command.now.moment ≤ 10 ^ 15 }
+        ensures ok { OnOk result (self.new ≡ record self.old { next = Some command.now; consumed = self.old.consumed ++ command.now ∷ [] }) }
+        ensures free { OnOk result ((self.old.ending ≡ None) × (self.old.next ≡ None) × (last_moment 0 self.old.consumed ≤ command.now.moment)) }
+        ensures err { OnErr result (self.new ≡ self.old) }
+        ensures housed { (p : Pocket) → IsHousedIn p self.old → IsHousedIn p self.new }
+        ensures alone { (p : Pocket) → IsAlone p self.old → IsAlone p self.new }
+        ensures over { result ≡ Err ApplyError.Over → IsSome self.old.ending }
+        ensures busy { result ≡ Err ApplyError.Busy → (self.old.ending ≡ None) × IsSome self.old.next }
+        ensures backward { result ≡ Err ApplyError.Backward → (self.old.ending ≡ None) × (self.old.next ≡ None) × (command.now.moment < last_moment 0 self.old.consumed) }
+    {
+        if self.ending.is_some() {
+            return Err(ApplyError::Over);
+        }
+        if self.next.is_some() {
+            return Err(ApplyError::Busy);
+        }
+        if command.moment < self.latest {
+            return Err(ApplyError::Backward);
+        }
+        let Ok(()) = self.consumed.extend_from_slice(slice::from_ref(command)) else {
+            return Err(ApplyError::NoMemory);
+        };
+        later_commands_wait();
+        self.next = Some(*command);
+        self.latest = command.moment;
+        Ok(())
+    }
+
+    /// Has the dues before each step kept, for `touched`; before, none are.
+    pub fn watch(&mut self)
+        ensures { self.new ≡ record self.old { watched = true } }
+    {
+        self.watched = true;
+    }
+
+    /// Makes the next event: one step of the definitions. `Ran` and `Ended` where the step was made,
+    /// `Still` without a next command or after the end, `Halted` for want of memory: the experiment
+    /// stands then as before, and ends so.
+    #[tactic(auto, using(crate::proofs::AloneFacts::alone_counted))]
+    pub fn event<S: Shelf>(&mut self, shelf: &mut S, owner: Owner) -> Event
+        requires { IsHousedIn (S.pocket shelf.old owner) self.old }
+        ensures housed { IsHousedIn (S.pocket shelf.new owner) self.new }
+        ensures makes { Makes result (S.pocket shelf.old owner) self.old (S.pocket shelf.new owner) self.new }
+        ensures alone { IsAlone (S.pocket shelf.old owner) self.old → IsAlone (S.pocket shelf.new owner) self.new }
+        ensures consumed { self.new.consumed ≡ self.old.consumed }
+        ensures spec { self.new.spec ≡ self.old.spec }
+        ensures steps { self.new.steps ≤ self.new.spec.budget.steps }
+        ensures watched { self.new.watched ≡ self.old.watched }
+        ensures others { (o : ℕ) → o ≢ owner → S.pocket shelf.new o ≡ S.pocket shelf.old o }
+    {
+        if self.ending.is_some() {
+            return Event::Still;
+        }
+        let Some(command) = self.next else {
+            return Event::Still;
+        };
+        let Ok(()) = self.step(shelf, owner, &command) else {
+            return Event::Halted;
+        };
+        if self.ending.is_some() {
+            return Event::Ended;
+        }
+        Event::Ran
+    }
+
+    // One step, where this is the next command.
+    fn step<S: Shelf>(
+        &mut self,
+        shelf: &mut S,
+        owner: Owner,
+        command: &Timed,
+    ) -> Result<(), NoMemory>
+        requires early { command.now.moment ≤ 10 ^ 15 }
+        requires next { self.old.next ≡ Some command.now }
+        requires going { self.old.ending ≡ None }
+        requires housed { IsHousedIn (S.pocket shelf.old owner) self.old }
+        ensures ok { OnOk result (Steps (next_event (view (S.pocket shelf.old owner) self.old) command.now) command.now (S.pocket shelf.old owner) self.old (S.pocket shelf.new owner) self.new) }
+        ensures halted { OnErr result (Halts (S.pocket shelf.old owner) self.old (S.pocket shelf.new owner) self.new) }
+        ensures housed { IsHousedIn (S.pocket shelf.new owner) self.new }
+        ensures before { OnOk result (self.old.watched ≡ true → self.new.before ≡ dues_in (view (S.pocket shelf.old owner) self.old)) }
+        ensures watched { self.new.watched ≡ self.old.watched }
+        ensures consumed { self.new.consumed ≡ self.old.consumed }
+        ensures spec { self.new.spec ≡ self.old.spec }
+        ensures others { (o : ℕ) → o ≢ owner → S.pocket shelf.new o ≡ S.pocket shelf.old o }
+    {
+        let Ok(()) = self.keep_dues() else {
+            self.ending = Some(Ending::Halted);
+            return Err(NoMemory);
+        };
+        let due = self.next_due(command);
+        if due.source.class == Class::NextCommand {
+            self.take_command(shelf, owner, due, command)
+        } else {
+            self.take_event(shelf, owner, due, command)
+        }
+    }
+
+    // Keeps what is due, where it is watched.
+    fn keep_dues(&mut self) -> Result<(), NoMemory>
+        ensures rest { self.new ≡ record self.old { before = self.new.before } }
+        ensures before { OnOk result (self.old.watched ≡ true → (p : Pocket) → self.new.before ≡ dues_in (view p self.old)) }
+    {
+        if !self.watched {
+            return Ok(());
+        }
+        self.before.clear();
+        append_dues(&self.net, self.next, self.clock, &mut self.before)
+    }
+
+    // The next event, where this is the next command.
+    fn next_due(&self, command: &Timed) -> Due
+        ensures least { (p : Pocket) → result ≡ next_event (view p self.now) command.now }
+        ensures moment { result.moment ≤ command.now.moment }
+        ensures due { IsDue result self.now.net }
+    {
+        let first = command_due(command);
+        self.net.earliest(self.clock, first)
+    }
+
+    // The next command comes, as the step's event.
+    fn take_command<S: Shelf>(
+        &mut self,
+        shelf: &mut S,
+        owner: Owner,
+        due: Due,
+        command: &Timed,
+    ) -> Result<(), NoMemory>
+        requires early { due.moment ≤ 10 ^ 15 }
+        requires class { due.source.class ≡ NextCommand }
+        requires next { self.old.next ≡ Some command.now }
+        requires going { self.old.ending ≡ None }
+        requires housed { IsHousedIn (S.pocket shelf.old owner) self.old }
+        ensures ok { OnOk result (Steps due command.now (S.pocket shelf.old owner) self.old (S.pocket shelf.new owner) self.new) }
+        ensures halted { OnErr result (Halts (S.pocket shelf.old owner) self.old (S.pocket shelf.new owner) self.new) }
+        ensures housed { IsHousedIn (S.pocket shelf.new owner) self.new }
+        ensures before { self.new.before ≡ self.old.before }
+        ensures watched { self.new.watched ≡ self.old.watched }
+        ensures consumed { self.new.consumed ≡ self.old.consumed }
+        ensures spec { self.new.spec ≡ self.old.spec }
+        ensures others { (o : ℕ) → o ≢ owner → S.pocket shelf.new o ≡ S.pocket shelf.old o }
+    {
+        let at = moment_of(&self.spec, due.moment);
+        let Ok(()) = self
+            .net
+            .obey(shelf, owner, at, self.taken, &command.command)
+        else {
+            self.ending = Some(Ending::Halted);
+            return Err(NoMemory);
+        };
+        let ending = ending_by(&command.command);
+        self.next = None;
+        self.taken += 1;
+        self.clock = due.moment;
+        self.steps += 1;
+        self.ending = close(&mut self.net, &self.spec, self.steps, due.moment, ending);
+        self.held = shelf.count(owner) as u64;
+        Ok(())
+    }
+
+    // Something else that is due comes, as the step's event.
+    fn take_event<S: Shelf>(
+        &mut self,
+        shelf: &mut S,
+        owner: Owner,
+        due: Due,
+        command: &Timed,
+    ) -> Result<(), NoMemory>
+        requires early { due.moment ≤ 10 ^ 15 }
+        requires class { due.source.class ≢ NextCommand }
+        requires due { IsDue due self.old.net }
+        requires next { self.old.next ≡ Some command.now }
+        requires going { self.old.ending ≡ None }
+        requires housed { IsHousedIn (S.pocket shelf.old owner) self.old }
+        ensures ok { OnOk result (Steps due command.now (S.pocket shelf.old owner) self.old (S.pocket shelf.new owner) self.new) }
+        ensures halted { OnErr result (Halts (S.pocket shelf.old owner) self.old (S.pocket shelf.new owner) self.new) }
+        ensures housed { IsHousedIn (S.pocket shelf.new owner) self.new }
+        ensures before { self.new.before ≡ self.old.before }
+        ensures watched { self.new.watched ≡ self.old.watched }
+        ensures consumed { self.new.consumed ≡ self.old.consumed }
+        ensures spec { self.new.spec ≡ self.old.spec }
+        ensures others { (o : ℕ) → o ≢ owner → S.pocket shelf.new o ≡ S.pocket shelf.old o }
+    {
+        let at = moment_of(&self.spec, due.moment);
+        let Ok(()) = self.net.event(shelf, owner, at, due) else {
+            self.ending = Some(Ending::Halted);
+            return Err(NoMemory);
+        };
+        self.clock = due.moment;
+        self.steps += 1;
+        self.ending = close(&mut self.net, &self.spec, self.steps, due.moment, None);
+        self.held = shelf.count(owner) as u64;
+        Ok(())
+    }
+}
+
+// The range of a budget of steps.
+fn few_steps(spec: &Spec)
+    ensures { spec.now.budget.steps ≤ 10 ^ 7 }
+{
+    let _high = spec.budget.steps.get();
+}
+
+// A moment of an experiment.
+fn moment_of(spec: &Spec, now: u64) -> Moment
+    ensures { result ≡ record { seed = spec.now.seed; room = spec.now.budget.packets; now = now } }
+{
+    Moment {
+        seed: spec.seed,
+        room: spec.budget.packets,
+        now,
+    }
+}
+
+// How a command ends the experiment.
+fn ending_by(command: &Command) -> Option<Ending>
+    ensures { result ≡ (if is_end command.now then Some Ended else None) }
+{
+    match command {
+        Command::End => Some(Ending::Ended),
+        _ => None,
+    }
+}
+
+// The last step of the budget ends an experiment that hasn't ended.
+fn close(
+    net: &mut Network,
+    spec: &Spec,
+    steps: u64,
+    now: u64,
+    ending: Option<Ending>,
+) -> Option<Ending>
+    requires { 0 < net.old.log.spare }
+    ensures { Closes ending (steps == spec.now.budget.steps) now net.old net.new result }
+{
+    if ending.is_some() {
+        return ending;
+    }
+    if steps == u64::from(spec.budget.steps.get()) {
+        net.note_spent(now);
+        return Some(Ending::Spent);
+    }
+    None
+}

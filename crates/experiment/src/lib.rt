@@ -1,0 +1,11 @@
+//! One experiment by itself, over any shelf of packets: its commands at their moments, its events, and
+//! how it ends. Own.
+#![tactic(auto)]
+
+mod experiment;
+#[cfg(test)]
+mod tests;
+mod told;
+mod touched;
+
+pub use experiment::{ApplyError, Event, Experiment};

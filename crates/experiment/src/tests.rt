@@ -1,0 +1,363 @@
+//! Worked examples of one experiment, refusals in their order, and want of memory.
+
+ghost use Rattle.packet_store.specs.Own.{own_pocket};
+ghost use Rattle.experiment.specs.Kept.{IsHousedIn};
+
+use super::*;
+use emu_model::{
+    Action, Bandwidth, Budget, Class, Command, Delay, Discipline, Due, Ending, Load, LossRate,
+    Mask, PacketBudget, PipeConfig, PipeNumber, Prefix, PrefixLength, Protocol, ProtocolMatch,
+    QueueLimit, Record, Rule, RuleNumber, SendSpec, Size, SlotLimit, Source, Spec, StepBudget,
+    Timed,
+};
+use packet_store::OwnShelf;
+use std::alloc::Global;
+use std::test::Fail;
+
+/// An experiment beside its shelf.
+#[derive(Drop)]
+struct Bench {
+    shelf: OwnShelf,
+    experiment: Experiment,
+    ghost housed: { IsHousedIn (own_pocket shelf) experiment },
+}
+
+impl Bench {
+    /// No command came yet; None where memory was refused.
+    fn new(alloc: Global, packets: u16, steps: u32) -> Option<Self> {
+        let packets = PacketBudget::new(packets)?;
+        let steps = StepBudget::new(steps)?;
+        let budget = Budget { packets, steps };
+        let shelf = OwnShelf::new(alloc, packets);
+        let Ok(experiment) = Experiment::new(alloc, Spec { seed: 0, budget }) else {
+            return None;
+        };
+        Some(Bench { shelf, experiment })
+    }
+
+    fn watch(&mut self) {
+        self.experiment.watch();
+    }
+
+    fn apply(&mut self, moment: u32, command: Command) -> Result<(), ApplyError> {
+        let moment = u64::from(moment);
+        self.experiment.apply(&Timed { moment, command })
+    }
+
+    fn event(&mut self) -> Event {
+        self.experiment.event(&mut self.shelf, 0)
+    }
+
+    /// A command comes, and is the next event.
+    fn takes(&mut self, moment: u32, command: Command) -> bool {
+        self.apply(moment, command).is_ok() && self.event() == Event::Ran
+    }
+
+    /// How many records, commands, steps and packets there are.
+    fn seen(&self) -> (usize, usize, u64, u64) {
+        let records = self.experiment.records().len();
+        let commands = self.experiment.consumed().len();
+        (
+            records,
+            commands,
+            self.experiment.events(),
+            self.experiment.counters().made,
+        )
+    }
+
+    /// Applies a command, at the second try where memory was refused: nothing has changed then.
+    fn applies_in_the_end(&mut self, moment: u32, command: Command) -> bool {
+        let moment = u64::from(moment);
+        let timed = Timed { moment, command };
+        let before = self.seen();
+        match self.experiment.apply(&timed) {
+            Ok(()) => true,
+            Err(error) => {
+                error == ApplyError::NoMemory
+                    && self.seen() == before
+                    && self.experiment.apply(&timed).is_ok()
+            }
+        }
+    }
+
+    /// What is due, at the second try where memory was refused.
+    fn dues_in_the_end(&self, alloc: Global) -> Option<Vec<Due>> {
+        match self.experiment.dues(alloc) {
+            Ok(dues) => Some(dues),
+            Err(_) => self.experiment.dues(alloc).ok(),
+        }
+    }
+
+    /// What the last step touched, at the second try where memory was refused.
+    fn touched_in_the_end(&self, alloc: Global) -> Option<Vec<Source>> {
+        let dues = self.dues_in_the_end(alloc)?;
+        let mut sources = Vec::new(alloc);
+        if self.experiment.touched(&dues, &mut sources).is_err() {
+            if !sources.is_empty() {
+                return None;
+            }
+            self.experiment.touched(&dues, &mut sources).ok()?;
+        }
+        Some(sources)
+    }
+
+    /// What an event does. None where it halts and not all is as before, or something follows.
+    fn event_or_halt(&mut self) -> Option<Event> {
+        let before = self.seen();
+        let event = self.event();
+        if event != Event::Halted {
+            return Some(event);
+        }
+        let ends = self.seen() == before
+            && matches!(self.experiment.ending(), Some(Ending::Halted))
+            && self.event() == Event::Still
+            && self.apply(u32::MAX, Command::End) == Err(ApplyError::Over)
+            && self.seen() == before;
+        if ends { Some(event) } else { None }
+    }
+}
+
+/// Pipe 1 with 1 Mbit/s and 10 ms.
+fn config() -> Option<Command> {
+    Some(Command::Config {
+        pipe: PipeNumber::new(1)?,
+        config: PipeConfig {
+            bw: Bandwidth::new(1_000_000)?,
+            delay: Delay::new(10)?,
+            queue: QueueLimit::Slots(SlotLimit::new(50)?),
+            plr: LossRate::new(0)?,
+            mask: Mask {
+                proto: 0,
+                src: 0,
+                dst: 0,
+                sport: 0,
+                dport: 0,
+            },
+            discipline: Discipline::TailDrop,
+        },
+    })
+}
+
+/// All packets to pipe 1.
+fn rule() -> Option<Command> {
+    let any = Prefix::new(0, PrefixLength::new(0)?);
+    Some(Command::Add(Rule {
+        number: RuleNumber::new(100)?,
+        action: Action::SendTo(PipeNumber::new(1)?),
+        proto: ProtocolMatch::AnyProtocol,
+        src: any,
+        sports: None,
+        dst: any,
+        dports: None,
+    }))
+}
+
+/// A packet of 1000 bytes.
+fn inject() -> Option<Command> {
+    Some(Command::Inject(SendSpec {
+        proto: Protocol::Udp,
+        src: 0x0a00_0001,
+        sport: 1000,
+        dst: 0x0a00_0002,
+        dport: 2000,
+        size: Size::new(1000)?,
+    }))
+}
+
+fn done(moment: u64, command: u64) -> Record {
+    Record::CommandDone { moment, command }
+}
+
+/// Busy while a command waits, backward below its moment, over after the end.
+#[test]
+fn commands_are_refused_in_order(rt: HostRuntime) -> Result<(), Fail> {
+    let mut bench = Bench::new(rt.alloc(), 10, 1000).ok_or("bench")?;
+    assert!(rt; bench.apply(5, Command::Show).is_ok());
+    assert!(rt; bench.apply(5, Command::Show) == Err(ApplyError::Busy));
+    assert!(rt; bench.apply(4, Command::Show) == Err(ApplyError::Busy));
+    assert!(rt; bench.event() == Event::Ran);
+    assert!(rt; bench.event() == Event::Still);
+    assert!(rt; bench.apply(4, Command::End) == Err(ApplyError::Backward));
+    assert!(rt; bench.apply(5, Command::End).is_ok());
+    assert!(rt; bench.event() == Event::Ended);
+    assert!(rt; bench.apply(4, Command::End) == Err(ApplyError::Over));
+    assert!(rt; bench.event() == Event::Still);
+    assert!(rt; matches!(bench.experiment.ending(), Some(Ending::Ended)));
+
+    // The reply, the line of the default rule, the reply.
+    let records = bench.experiment.records();
+    assert_eq!(rt; records.len(), 3);
+    assert!(rt; records[2] == done(5, 1));
+    assert!(rt; bench.seen() == (3, 2, 2, 0));
+    Ok(())
+}
+
+/// The packet enters a pipe of 1 Mbit/s and 10 ms at 0.
+fn sent(alloc: Global) -> Option<Bench> {
+    let mut bench = Bench::new(alloc, 10, 1000)?;
+    if bench.takes(0, config()?) && bench.takes(0, rule()?) && bench.takes(0, inject()?) {
+        return Some(bench);
+    }
+    None
+}
+
+/// A packet of 1000 bytes at 0: it finishes at 8000000, and is delivered at 18000000.
+#[test]
+fn one_packet(rt: HostRuntime) -> Result<(), Fail> {
+    let mut bench = sent(rt.alloc()).ok_or("bench")?;
+    assert_eq!(rt; bench.experiment.counters().held, 1);
+    assert!(rt; bench.apply(20_000_000, Command::End).is_ok());
+    assert!(rt; bench.event() == Event::Ran);
+    assert!(rt; bench.event() == Event::Ran);
+    assert!(rt; bench.event() == Event::Ended);
+    let pipe = PipeNumber::new(1).ok_or("1")?;
+    let finished = Record::PacketFinished {
+        moment: 8_000_000,
+        packet: 0,
+        pipe,
+        instance: 0,
+    };
+    let delivered = Record::PacketDelivered {
+        moment: 18_000_000,
+        packet: 0,
+        load: Load::Plain,
+    };
+    assert_eq!(rt; bench.experiment.spec().seed, 0);
+    let (commands, records) = bench.experiment.into_lists();
+    assert_eq!(rt; commands.len(), 4);
+    assert_eq!(rt; records.len(), 6);
+    assert!(rt; records[3] == finished);
+    assert!(rt; records[4] == delivered);
+    assert!(rt; records[5] == done(20_000_000, 3));
+    Ok(())
+}
+
+fn due(class: Class, number: u32, moment: u64) -> Due {
+    let source = Source { class, number };
+    Due { moment, source }
+}
+
+fn names(sources: &[Source], due: Due) -> bool {
+    sources.iter().any(|source| *source == due.source)
+}
+
+/// A packet in service is due at its finish, then at its exit. Its pipe's step touches both, and not
+/// the next command.
+#[test]
+fn dues_of_one_packet(rt: HostRuntime) -> Result<(), Fail> {
+    let mut bench = sent(rt.alloc()).ok_or("bench")?;
+    bench.watch();
+    assert!(rt; bench.apply(20_000_000, Command::End).is_ok());
+    let end = due(Class::NextCommand, 0, 20_000_000);
+    let finish = due(Class::Finish, 256, 8_000_000);
+    let exit = due(Class::Exit, 256, 18_000_000);
+    let dues = bench.dues_in_the_end(rt.alloc()).ok_or("dues")?;
+    assert_eq!(rt; dues.len(), 2);
+    assert!(rt; dues[0] == end);
+    assert!(rt; dues[1] == finish);
+
+    assert!(rt; bench.event() == Event::Ran);
+    let dues = bench.dues_in_the_end(rt.alloc()).ok_or("dues")?;
+    assert_eq!(rt; dues.len(), 2);
+    assert!(rt; dues[0] == end);
+    assert!(rt; dues[1] == exit);
+    let touched = bench.touched_in_the_end(rt.alloc()).ok_or("touched")?;
+    assert!(rt; names(&touched, finish));
+    assert!(rt; names(&touched, exit));
+    assert!(rt; !names(&touched, end));
+
+    assert!(rt; bench.event() == Event::Ran);
+    assert!(rt; bench.event() == Event::Ended);
+    let dues = bench.dues_in_the_end(rt.alloc()).ok_or("dues")?;
+    assert!(rt; dues.is_empty());
+    Ok(())
+}
+
+/// With the end at the moment of the exit it isn't delivered: the command comes first.
+#[test]
+fn one_packet_held(rt: HostRuntime) -> Result<(), Fail> {
+    let mut bench = sent(rt.alloc()).ok_or("bench")?;
+    assert!(rt; bench.apply(18_000_000, Command::End).is_ok());
+    assert!(rt; bench.event() == Event::Ran);
+    assert!(rt; bench.event() == Event::Ended);
+    let counters = bench.experiment.counters();
+    assert_eq!(rt;
+        (counters.made, counters.delivered, counters.held),
+        (1, 0, 1)
+    );
+    Ok(())
+}
+
+/// Two steps: the second listing ends with `spent`, and `end` has no step.
+#[test]
+fn step_budget(rt: HostRuntime) -> Result<(), Fail> {
+    let mut bench = Bench::new(rt.alloc(), 10, 2).ok_or("bench")?;
+    assert!(rt; bench.takes(0, Command::Show));
+    assert!(rt; bench.apply(0, Command::Show).is_ok());
+    assert!(rt; bench.event() == Event::Ended);
+    assert!(rt; matches!(bench.experiment.ending(), Some(Ending::Spent)));
+    assert!(rt; bench.apply(0, Command::End) == Err(ApplyError::Over));
+    assert!(rt; bench.event() == Event::Still);
+    let records = bench.experiment.records();
+    assert_eq!(rt; records.len(), 5);
+    assert!(rt; records[0] == done(0, 0));
+    assert!(rt;
+        matches!(
+            records[1],
+            Record::RuleLine {
+                packets: 0,
+                bytes: 0,
+                ..
+            }
+        )
+    );
+    assert!(rt; records[2] == done(0, 1));
+    assert!(rt; records[4] == Record::StepsSpent { moment: 0 });
+    assert_eq!(rt; bench.experiment.events(), 2);
+    Ok(())
+}
+
+/// An `end` that is the last step of the budget isn't spent.
+#[test]
+fn last_step_is_the_end(rt: HostRuntime) -> Result<(), Fail> {
+    let mut bench = Bench::new(rt.alloc(), 10, 1).ok_or("bench")?;
+    assert!(rt; bench.apply(7, Command::End).is_ok());
+    assert!(rt; bench.event() == Event::Ended);
+    assert!(rt; matches!(bench.experiment.ending(), Some(Ending::Ended)));
+    assert_eq!(rt; bench.experiment.records().len(), 1);
+    Ok(())
+}
+
+/// Passes with ample memory, and where any one allocation is refused: a command comes at the second
+/// try, and an event that halts leaves all as it was.
+#[test]
+fn refused_memory_changes_nothing(rt: HostRuntime) -> Result<(), Fail> {
+    let Some(mut bench) = Bench::new(rt.alloc(), 10, 1000) else {
+        return Ok(());
+    };
+    bench.watch();
+    let commands = [
+        config().ok_or("config")?,
+        rule().ok_or("rule")?,
+        inject().ok_or("inject")?,
+        Command::PipeShow,
+    ];
+    for command in commands {
+        assert!(rt; bench.applies_in_the_end(0, command));
+        if bench.event_or_halt().ok_or("event")? == Event::Halted {
+            return Ok(());
+        }
+    }
+    assert!(rt; bench.applies_in_the_end(20_000_000, Command::End));
+    let dues = bench.dues_in_the_end(rt.alloc()).ok_or("dues")?;
+    assert_eq!(rt; dues.len(), 2);
+    let touched = bench.touched_in_the_end(rt.alloc()).ok_or("touched")?;
+    assert!(rt; !touched.is_empty());
+    for _ in 0..3 {
+        if bench.event_or_halt().ok_or("event")? == Event::Halted {
+            return Ok(());
+        }
+    }
+    assert!(rt; matches!(bench.experiment.ending(), Some(Ending::Ended)));
+    Ok(())
+}

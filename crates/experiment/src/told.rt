@@ -1,0 +1,124 @@
+//! What is told of an experiment.
+
+ghost use Rattle.std.specs.Prelude.{◌≡◌, ◌++◌, [], option_to_list, IfOk, OnOk, OnErr};
+ghost use Rattle.emu_model.specs.Net.{counters_of};
+ghost use Rattle.emu_model.specs.Dues.{dues_of};
+ghost use Rattle.packet_store.specs.Pocket.{Pocket};
+ghost use Rattle.network.specs.Kept.{net_of};
+ghost use Rattle.experiment.specs.Kept.{view, IsHousedIn};
+ghost use Rattle.experiment.specs.Dues.{command_dues, dues_in};
+
+use crate::Experiment;
+use emu_model::{Class, Counters, Due, Ending, Record, Source, Spec, Timed};
+use network::Network;
+use queue_disc::NoMemory;
+use std::alloc::Global;
+
+impl Experiment {
+    /// What was recorded.
+    pub fn records(&self) -> &[Record]
+        ensures { result.now ≡ self.now.net.log.records }
+    {
+        self.net.records()
+    }
+
+    /// The commands that came, the next one among them.
+    pub fn consumed(&self) -> &[Timed]
+        ensures { result.now ≡ self.now.consumed }
+    {
+        self.consumed.as_slice()
+    }
+
+    /// The packets that were made, delivered, are held, and were dropped by cause.
+    pub fn counters(&self) -> Counters
+        ensures { (p : Pocket) → IsHousedIn p self.now → result ≡ counters_of (view p self.now).net }
+    {
+        self.net.counters(self.held)
+    }
+
+    /// How it ended, if it has.
+    pub fn ending(&self) -> Option<Ending>
+        ensures { result ≡ self.now.ending }
+    {
+        self.ending
+    }
+
+    /// What it was given.
+    pub fn spec(&self) -> Spec
+        ensures { result ≡ self.now.spec }
+    {
+        self.spec
+    }
+
+    /// How many steps were made.
+    pub fn events(&self) -> u64
+        ensures { result ≡ self.now.steps }
+    {
+        self.steps
+    }
+
+    /// The commands that came, and the records. Takes no memory.
+    pub fn into_lists(self) -> (Vec<Timed>, Vec<Record>)
+        ensures consumed { result.0.items ≡ self.consumed }
+        ensures records { result.1.items ≡ self.net.log.records }
+    {
+        let Experiment { consumed, net, .. } = self;
+        (consumed, net.into_records())
+    }
+
+    /// What is due: the next command, if there is one, and then all events, also where the experiment
+    /// has ended.
+    pub fn dues(&self, alloc: Global) -> Result<Vec<Due>, NoMemory>
+        ensures { IfOk result (λ dues. (p : Pocket) → dues.items ≡ dues_in (view p self.now)) }
+    {
+        let mut dues = Vec::new(alloc);
+        self.add_dues(&mut dues)?;
+        Ok(dues)
+    }
+
+    /// Appends what is due, or leaves `dues` as it was.
+    pub fn add_dues(&self, dues: &mut Vec<Due>) -> Result<(), NoMemory>
+        ensures ok { OnOk result ((p : Pocket) → dues.new.items ≡ dues.old.items ++ dues_in (view p self.now)) }
+        ensures err { OnErr result (dues.new.items ≡ dues.old.items) }
+    {
+        append_dues(&self.net, self.next, self.clock, dues)
+    }
+}
+
+/// The due of a command that is the next one.
+pub(crate) fn command_due(command: &Timed) -> Due
+    ensures { result ≡ record { moment = command.now.moment; source = record { class = Class.NextCommand; number = 0 } } }
+{
+    Due {
+        moment: command.moment,
+        source: Source {
+            class: Class::NextCommand,
+            number: 0,
+        },
+    }
+}
+
+// Appends the due of the next command and those of all events, where the last one was at the moment
+// `clock` (ns), or leaves `dues` as it was.
+pub(crate) fn append_dues(
+    net: &Network,
+    next: Option<Timed>,
+    clock: u64,
+    dues: &mut Vec<Due>,
+) -> Result<(), NoMemory>
+    ensures ok { OnOk result ((p : Pocket) → dues.new.items ≡ dues.old.items ++ (command_dues (option_to_list next) ++ dues_of clock (net_of p net.now))) }
+    ensures err { OnErr result (dues.new.items ≡ dues.old.items) }
+{
+    let before = dues.len();
+    let Ok(()) = dues.reserve(1) else {
+        return Err(NoMemory);
+    };
+    if let Some(command) = next {
+        dues.push_reserved(command_due(&command));
+    }
+    let Ok(()) = net.add_dues(clock, dues) else {
+        dues.truncate(before);
+        return Err(NoMemory);
+    };
+    Ok(())
+}

@@ -1,0 +1,52 @@
+-- How a call ends: what was written, of what the text says.
+use Rattle.std.proofs.Common.{◌≡◌, ℕ, List, [], ◌++◌, map, Option, sym, ap, subst, ◌∙◌, append-nil}
+use Rattle.std.specs.Io.KnownBytes.{Appends, Keeps}
+use Rattle.emu_model.specs.Alone.{Trace}
+use Rattle.control.specs.declared.scenario.Experiment.{Experiment}
+use Rattle.lab.specs.Bytes.{IsCut, Puts, Stops}
+use Rattle.lab.specs.Reports.{trace_alone, reports_with, reports, tally, Reads, Writes, WritesCut}
+use Rattle.lab.proofs.Writing.{writing_none, writing_done, appends_kept, puts_both, stops_behind}
+use Rattle.lab.proofs.Reporting.{reports_alone}
+
+cut-all : (a b : Option (List ℕ)) (kept bytes : List ℕ) → kept ≡ [] → Stops a kept b bytes → IsCut a b bytes
+unfolding Stops
+cut-all a b kept bytes none f = subst (λ k. Stops a k b bytes) none f a [] (writing_none a)
+
+all-written : (a b : Option (List ℕ)) (kept bytes : List ℕ) → kept ≡ [] → Puts a kept b [] bytes → Appends a b bytes
+unfolding Puts
+all-written a b kept bytes none f = writing_done a b bytes (subst (λ k. Puts a k b [] bytes) none f a [] (writing_none a))
+
+same-reports : (es plans : List Experiment) (ts : List Trace) → plans ≡ es → ts ≡ map trace_alone plans → reports_with plans ts ≡ reports es
+same-reports es plans ts are left = ap (reports_with plans) left ∙ reports_alone plans ∙ ap reports are
+
+pub reports_cut : (read a b : Option (List ℕ)) (kept : List ℕ) (es plans : List Experiment) (ts : List Trace) → Reads read es → kept ≡ [] → plans ≡ es → ts ≡ map trace_alone plans →
+    Stops a kept b (reports_with plans ts) → WritesCut reports read a b
+reports_cut read a b kept es plans ts reads none are left f =
+    (es, reads, subst (IsCut a b) (same-reports es plans ts are left) (cut-all a b kept (reports_with plans ts) none f))
+
+pub reports_cut_after : (read a b c : Option (List ℕ)) (kept l : List ℕ) (es plans : List Experiment) (ts : List Trace) → Reads read es → kept ≡ [] → plans ≡ es → ts ≡ map trace_alone plans →
+    Puts a kept b l (reports_with plans ts) → Stops b l c [] → WritesCut reports read a c
+reports_cut_after read a b c kept l es plans ts reads none are left f g =
+    reports_cut read a c kept es plans ts reads none are left
+    (subst (Stops a kept c) (append-nil (reports_with plans ts)) (stops_behind a b c kept l (reports_with plans ts) [] f g))
+
+pub reports_written : (read a b c : Option (List ℕ)) (kept l : List ℕ) (es plans : List Experiment) (ts : List Trace) → Reads read es → kept ≡ [] → plans ≡ es → ts ≡ map trace_alone plans →
+    Puts a kept b l (reports_with plans ts) → Puts b l c [] [] → Writes reports read a c
+reports_written read a b c kept l es plans ts reads none are left f g = (
+  es,
+  reads,
+  subst (Appends a c) (append-nil (reports_with plans ts) ∙ same-reports es plans ts are left)
+      (all-written a c kept (reports_with plans ts ++ []) none (puts_both a b c kept l [] (reports_with plans ts) [] f g)),
+)
+
+-- the line of `check`
+pub written : (read a b c : Option (List ℕ)) (line : List ℕ) (es plans : List Experiment) → Reads read es → plans ≡ es → line ≡ tally plans → Appends a b line → Keeps b c → Writes tally read a c
+written read a b c line es plans reads are is f g = (es, reads, subst (Appends a c) (is ∙ ap tally are) (appends_kept a b c line f g))
+
+pub cut : (read a b : Option (List ℕ)) (line : List ℕ) (es plans : List Experiment) → Reads read es → plans ≡ es → line ≡ tally plans → IsCut a b line → WritesCut tally read a b
+cut read a b line es plans reads are is f = (es, reads, subst (IsCut a b) (is ∙ ap tally are) f)
+
+pub cut_after : (read a b c : Option (List ℕ)) (line : List ℕ) (es plans : List Experiment) → Reads read es → plans ≡ es → line ≡ tally plans → Appends a b line → Keeps b c → WritesCut tally read a c
+unfolding IsCut
+cut_after read a b c line es plans reads are is f g =
+    (es, reads, (tally es, [], subst (Appends a c) (is ∙ ap tally are) (appends_kept a b c line f g), sym (append-nil (tally es))))

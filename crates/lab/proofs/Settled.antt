@@ -1,0 +1,64 @@
+-- A run that has ended, or has no more commands, stands as it will after all its steps.
+use Rattle.std.proofs.Common.{◌≡◌, ℕ, zero, suc, ◌≤◌, inl, inr, Bool, true, false, ltb, refl, sym, ap, ◌∙◌, List, [], ◌++◌, Option, Some, None, IsSome, arith}
+use Rattle.std.specs.Prelude.{if◌then◌else◌, is_some, option_to_list}
+use Rattle.std.proofs.lemmas.Bool.{ltb-true, ltb-false}
+use Rattle.emu_model.specs.declared.commands.Spec.{Spec}
+use Rattle.emu_model.specs.declared.commands.Timed.{Timed}
+use Rattle.emu_model.specs.declared.records.Ending.{Ending}
+use Rattle.emu_model.specs.Step.{State, opening, step, step_with}
+use Rattle.emu_model.specs.Alone.{after_steps, alone, trace_of}
+use Rattle.emu_model.specs.Laws.{with_more, TakesSteps, LaterCommandsWait}
+use Rattle.packet_store.specs.Pocket.{Pocket}
+use Rattle.experiment.specs.Kept.{KeptExperiment, view, IsAlone}
+use Rattle.lab.specs.Runs.{IsOver, Plays}
+
+-- a state that stands still stands so after any steps
+still : (m n : ℕ) (s : State) → step (after_steps n s) ≡ after_steps n s → n ≤ m → after_steps m s ≡ after_steps n s
+still zero n s same few =
+    let none : n ≡ zero = omega (arith, few) in
+    sym (ap (λ k. after_steps k s) none)
+still (suc m) n s same few = by (still m n s same) (ltb m n) refl
+  where
+    by : (n ≤ m → after_steps m s ≡ after_steps n s) → (b : Bool) → ltb m n ≡ b → after_steps (suc m) s ≡ after_steps n s
+    by before true e =
+        let here : n ≡ suc m = omega (arith, few, ltb-true m n e) in
+        sym (ap (λ k. after_steps k s) here)
+    by before false e = ap step (before (ltb-false m n e)) ∙ same
+
+-- one that has ended stands still, and one without commands
+ended-still : (s : State) → IsSome s.ending → step s ≡ s
+ended-still s some = go s.ending refl some
+  where
+    go : (o : Option Ending) → s.ending ≡ o → IsSome o → step s ≡ s
+    go (Some x) is some = ap (λ (o : Option Ending). if is_some o then s else step_with s.left s) is
+    go None is some = absurd (cc)
+
+idle-still : (s : State) → s.left ≡ [] → step s ≡ s
+idle-still s none = go s.ending refl
+  where
+    go : (o : Option Ending) → s.ending ≡ o → step s ≡ s
+    go (Some x) is = ap (λ (o : Option Ending). if is_some o then s else step_with s.left s) is
+    go None is = ap (λ (o : Option Ending). if is_some o then s else step_with s.left s) is ∙ ap (λ l. step_with l s) none
+
+at-end : (p : Pocket) (e : KeptExperiment) (rest : List Timed) → IsOver e rest →
+    step (with_more rest (view p e)) ≡ with_more rest (view p e)
+at-end p e rest (inl ended) = ended-still (with_more rest (view p e)) ended
+at-end p e rest (inr idle) = idle-still (with_more rest (view p e)) ((λ i. option_to_list (idle.0 i) ++ idle.1 i))
+
+pub settled : LaterCommandsWait → (p : Pocket) (e : KeptExperiment) (rest : List Timed) → IsAlone p e → e.steps ≤ e.spec.budget.steps → IsOver e rest →
+    trace_of (alone e.spec (e.consumed ++ rest) e.spec.budget.steps) ≡ trace_of (view p e)
+settled wait p e rest same few over =
+    let takes : TakesSteps e.spec e.consumed e.steps = ap (λ s. s.steps) (sym same) in
+    let now : alone e.spec (e.consumed ++ rest) e.steps ≡ with_more rest (view p e)
+    = wait e.spec e.consumed rest e.steps takes ∙ ap (with_more rest) (sym same) in
+    let stands : step (alone e.spec (e.consumed ++ rest) e.steps) ≡ alone e.spec (e.consumed ++ rest) e.steps
+    = ap step now ∙ at-end p e rest over ∙ sym now in
+    ap trace_of (still e.spec.budget.steps e.steps (opening e.spec (e.consumed ++ rest)) stands few ∙ now)
+
+-- what was played is what the definitions say
+pub left_alone : LaterCommandsWait → (spec : Spec) (commands : List Timed) (p q : Pocket) (old new : KeptExperiment) → old.spec ≡ spec → IsAlone p old →
+    Plays commands p old q new → trace_of (view q new) ≡ trace_of (alone spec commands spec.budget.steps)
+left_alone wait spec commands p q old new same start played =
+    sym (settled wait q new played.rest (played.alone start) played.few played.over)
+    ∙ ap (λ (cs : List Timed). trace_of (alone new.spec cs new.spec.budget.steps)) (sym played.all)
+    ∙ ap (λ (s : Spec). trace_of (alone s commands s.budget.steps)) (played.spec ∙ same)

@@ -1,0 +1,16 @@
+use Rattle.std.proofs.Common.{◌≡◌, ◌-◌, None}
+use Rattle.packet_store.specs.Own.{own_pocket}
+use Rattle.experiment.specs.Kept.{IsHousedIn, IsAlone}
+use Rattle.lab.proofs.alone.advance.Given as goal
+
+abbrev pub invariant-loop : goal.invariant-loop
+invariant-loop l = record {
+  housed : IsHousedIn (own_pocket l.shelf) l.experiment;
+  alone : IsAlone (own_pocket l.initial.shelf) l.initial.experiment → IsAlone (own_pocket l.shelf) l.experiment;
+  spec : l.experiment.spec ≡ l.initial.experiment.spec;
+  consumed : l.experiment.consumed ≡ l.initial.experiment.consumed;
+  going : l.initial.experiment.ending ≡ None → l.experiment.ending ≡ None;
+}
+
+abbrev pub decreases-loop : goal.decreases-loop
+decreases-loop l = l.experiment.spec.budget.steps - l.experiment.steps

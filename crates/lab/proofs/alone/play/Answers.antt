@@ -1,0 +1,74 @@
+use Rattle.std.proofs.Common.{refl, ap, ◌∙◌, ◌+◌, arith, drop, inl, inr, Err}
+use Rattle.std.specs.Prelude.{is_some}
+use Rattle.packet_store.specs.Own.{own_pocket}
+use Rattle.lab.proofs.Turns.{early, not-before, one-more, goes-on, has-ended, played-all, is-none, is-some, drop-end}
+use Rattle.lab.proofs.alone.play.Goals as goal
+
+pub loop-command-init : goal.loop-command-init
+loop-command-init c = record {
+  housed = c.requires.housed;
+  alone = λ a. a;
+  spec = refl;
+  consumed = c.requires.new.consumed;
+  ending = c.requires.new.ending;
+  next = c.requires.new.next;
+  few = omega (arith, c.requires.new.steps);
+}
+
+pub apply-requires : goal.apply-requires
+apply-requires c = early c.args.commands.now c.loop-command.command-index c.command-item.result c.requires.in_order c.loop-command-test.true c.command-item.is
+
+pub advance-requires : goal.advance-requires
+advance-requires c = c.apply.ensures.housed _ c.loop-command.invariant.housed
+
+pub loop-command-preserved : goal.loop-command-preserved
+loop-command-preserved c =
+    let inv = c.loop-command.invariant in
+    let put = c.in-Ok.ensures.ok in
+    let moved = c.in_ok-advance.ensures in
+    let ending = ap (λ o. o) (is-none c.advance.new.experiment.ending c.is_some.result c.if-is_some.false (c.is_some.ensures ∙ ap is_some c.ending.ensures)) in
+    record {
+      housed = moved.housed;
+      alone = λ a. moved.alone (c.apply.ensures.alone (own_pocket c.loop-command.shelf) (inv.alone a));
+      spec = moved.spec ∙ ap (λ e. e.spec) put ∙ inv.spec;
+      consumed = moved.consumed ∙ ap (λ e. e.consumed) put ∙ one-more c.args.commands.now c.loop-command.experiment.consumed c.loop-command.command-index c.command-item.result c.loop-command-test.true c.command-item.is inv.consumed;
+      ending = ending;
+      next = goes-on c.advance.new.experiment (moved.at_rest (ap (λ e. e.ending) put ∙ inv.ending)) ending;
+      few = moved.few;
+    }
+
+pub returns-after-loop-command : goal.returns-after-loop-command
+returns-after-loop-command c =
+    let inv = c.loop-command.invariant in
+    record {
+      housed = inv.housed;
+      alone = inv.alone;
+      spec = inv.spec;
+      rest = drop c.loop-command.command-index c.args.commands.now;
+      all = played-all c.args.commands.now c.loop-command.experiment.consumed c.loop-command.command-index inv.consumed;
+      over = inr (inv.next, drop-end c.loop-command.command-index c.args.commands.now c.loop-command-test.false);
+      few = inv.few;
+    }
+
+pub returns-then-is_some : goal.returns-then-is_some
+returns-then-is_some c =
+    let inv = c.loop-command.invariant in
+    let put = c.in-Ok.ensures.ok in
+    let moved = c.in_ok-advance.ensures in
+    let ended = is-some c.advance.new.experiment.ending c.is_some.result c.if-is_some.true (c.is_some.ensures ∙ ap is_some c.ending.ensures) in
+    record {
+      housed = moved.housed;
+      alone = λ a. moved.alone (c.apply.ensures.alone (own_pocket c.loop-command.shelf) (inv.alone a));
+      spec = moved.spec ∙ ap (λ e. e.spec) put ∙ inv.spec;
+      rest = drop (c.loop-command.command-index + 1) c.args.commands.now;
+      all = played-all c.args.commands.now c.advance.new.experiment.consumed (c.loop-command.command-index + 1) (
+          moved.consumed ∙ ap (λ e. e.consumed) put ∙ one-more c.args.commands.now c.loop-command.experiment.consumed c.loop-command.command-index c.command-item.result c.loop-command-test.true c.command-item.is inv.consumed
+          );
+      over = inl (has-ended c.advance.new.experiment (moved.at_rest (ap (λ e. e.ending) put ∙ inv.ending)) ended);
+      few = moved.few;
+    }
+
+pub unreachable-requires-in-Err-Backward : goal.unreachable-requires-in-Err-Backward
+unreachable-requires-in-Err-Backward c =
+    let late = c.apply.ensures.backward (c.in-Err-Backward.is ∙ ap Err c.in-Err-Backward.field-0-is) in
+    not-before c.args.commands.now c.loop-command.experiment.consumed c.loop-command.command-index c.command-item.result c.requires.in_order c.loop-command-test.true c.command-item.is c.loop-command.invariant.consumed late.2

@@ -1,0 +1,73 @@
+-- What the calls of the program read and write.
+use Rattle.std.specs.Prelude.{◌≡◌, ℕ, List, [], ◌∷◌, ◌++◌, length, map, sum, flat_map, codes, decimal, Option, IfSome, Result, Ok, Err, Bool, true}
+use Rattle.std.specs.Io.KnownBytes.{Appends, Keeps}
+use Rattle.emu_model.specs.Alone.{Trace, alone, trace_of}
+use Rattle.report.specs.Lines.{report_of}
+use Rattle.control.specs.declared.scenario.Experiment.{Experiment}
+use Rattle.control.specs.Scenario.{Spells, HasFault}
+use Rattle.lab.specs.declared.fault.RunFault.{RunFault}
+use Rattle.lab.specs.declared.fault.RunFault.TheVariants as faults
+use Rattle.lab.specs.Bytes.{IsCut}
+
+-- an experiment by itself, after all steps of its budget
+abbrev pub trace_alone : Experiment → Trace
+trace_alone e = trace_of (alone e.spec e.commands e.spec.budget.steps)
+
+abbrev pub report_with : Experiment → Trace → List ℕ
+report_with e t = report_of e.name t.records t.counters
+
+-- the reports of experiments that left these traces
+abbrev pub reports_with : List Experiment → List Trace → List ℕ
+reports_with [] ts = []
+reports_with (e ∷ es) [] = []
+reports_with (e ∷ es) (t ∷ ts) = report_with e t ++ reports_with es ts
+
+-- the report of an experiment that runs by itself, and those of all, in their order
+abbrev pub report_alone : Experiment → List ℕ
+report_alone e = report_with e (trace_alone e)
+
+abbrev pub reports : List Experiment → List ℕ
+reports es = flat_map report_alone es
+
+-- the line of `check`: how many experiments and commands there are
+abbrev pub tally : List Experiment → List ℕ
+tally es = codes "ok " ++ decimal (length es) ++ codes " " ++ decimal (sum (map (λ e. length e.commands) es)) ++ codes "\n"
+
+-- the text that was read spells a scenario, of which this is written
+abbrev pub Writes : (List Experiment → List ℕ) → Option (List ℕ) → Option (List ℕ) → Option (List ℕ) → Type 0
+Writes says read old new = (es : List Experiment) × IfSome read (λ text. Spells text es) × Appends old new (says es)
+
+-- some first bytes of that
+abbrev pub WritesCut : (List Experiment → List ℕ) → Option (List ℕ) → Option (List ℕ) → Option (List ℕ) → Type 0
+WritesCut says read old new = (es : List Experiment) × IfSome read (λ text. Spells text es) × IsCut old new (says es)
+
+-- a call that reads a scenario and writes what a function says of it: `read` was left to read, `old` was
+-- written before it and `new` is after it
+abbrev pub Calls : (List Experiment → List ℕ) → Option (List ℕ) → Option (List ℕ) → Option (List ℕ) → Result (Unit {0}) RunFault → Type 0
+Calls says read old new (Ok _) = Writes says read old new
+Calls says read old new (Err (faults.Scenario f)) = IfSome read (λ text. HasFault text f) × Keeps old new
+Calls says read old new (Err faults.Read) = Keeps old new
+Calls says read old new (Err faults.Write) = WritesCut says read old new
+Calls says read old new (Err faults.Memory) = Keeps old new
+
+-- a device is blamed only where it failed in the call
+abbrev pub Blames : Bool → Bool → Result (Unit {0}) RunFault → Type 0
+Blames reader writer (Err faults.Read) = reader ≡ true
+Blames reader writer (Err faults.Write) = writer ≡ true
+Blames reader writer _ = Unit {0}
+
+-- a fault of reading alone
+abbrev pub IsInputFault : Bool → RunFault → Type 0
+IsInputFault failed faults.Read = failed ≡ true
+IsInputFault failed faults.Memory = Unit {0}
+IsInputFault failed _ = ⊥
+
+-- what was read of a text spells these experiments
+abbrev pub Reads : Option (List ℕ) → List Experiment → Type 0
+Reads read es = IfSome read (λ text. Spells text es)
+
+abbrev pub ReadsFault : Option (List ℕ) → Bool → RunFault → Type 0
+ReadsFault read failed (faults.Scenario f) = IfSome read (λ text. HasFault text f)
+ReadsFault read failed faults.Read = failed ≡ true
+ReadsFault read failed faults.Write = ⊥
+ReadsFault read failed faults.Memory = Unit {0}

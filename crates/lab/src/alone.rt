@@ -1,0 +1,130 @@
+//! An experiment by itself: each command is applied in its turn, and events are made until the next one
+//! is wanted.
+
+ghost use Rattle.std.specs.Prelude.{◌≡◌, ◌≤◌, IfOk, OnOk, All, map};
+ghost use Rattle.emu_model.specs.Alone.{alone, trace_of};
+ghost use Rattle.packet_store.specs.Pocket.{Pocket};
+ghost use Rattle.packet_store.specs.Own.{own_pocket};
+ghost use Rattle.experiment.specs.Kept.{IsHousedIn, view};
+ghost use Rattle.control.specs.Order.{AreInOrder};
+ghost use Rattle.lab.specs.Runs.{Advances, IsNew, Plays};
+ghost use Rattle.lab.specs.Reports.{trace_alone};
+
+use control::Experiment as Plan;
+use emu_model::{Counters, Record, Spec, Timed, later_commands_wait};
+use experiment::{ApplyError, Event, Experiment};
+use packet_store::OwnShelf;
+use queue_disc::NoMemory;
+use std::alloc::Global;
+use std::marker::Model;
+
+/// What a run leaves: its records in their order, and its counters.
+#[derive(Drop)]
+pub struct Outcome {
+    records: Vec<Record>,
+    counters: Counters,
+}
+
+impl Model for Outcome {
+    ghost use Rattle.emu_model.specs.Alone.{Trace};
+
+    ghost Value = { Trace };
+
+    ghost view = { λ o. record { records = o.records.items; counters = o.counters } };
+}
+
+impl Outcome {
+    /// The records in their order.
+    pub fn records(&self) -> &[Record]
+        ensures { result.now ≡ self.now.records }
+    {
+        self.records.as_slice()
+    }
+
+    /// The packets that were made, delivered, are held, and were dropped by cause.
+    pub fn counters(&self) -> &Counters
+        ensures { result.now ≡ self.now.counters }
+    {
+        &self.counters
+    }
+}
+
+// Makes events until there is nothing more to do.
+fn advance(experiment: &mut Experiment, shelf: &mut OwnShelf) -> Result<(), NoMemory>
+    requires { IsHousedIn (own_pocket shelf.old) experiment.old }
+    ensures { OnOk result (Advances (own_pocket shelf.old) experiment.old (own_pocket shelf.new) experiment.new) }
+{
+    loop {
+        match experiment.event(shelf, 0) {
+            Event::Ran => {}
+            Event::Halted => return Err(NoMemory),
+            Event::Ended | Event::Still => return Ok(()),
+        }
+    }
+}
+
+// Applies each command in its turn, until the experiment has ended.
+fn play(
+    experiment: &mut Experiment,
+    shelf: &mut OwnShelf,
+    commands: &[Timed],
+) -> Result<(), NoMemory>
+    requires housed { IsHousedIn (own_pocket shelf.old) experiment.old }
+    requires new { IsNew experiment.old }
+    requires in_order { AreInOrder 0 commands.now }
+    ensures { OnOk result (Plays commands.now (own_pocket shelf.old) experiment.old (own_pocket shelf.new) experiment.new) }
+{
+    for command in commands {
+        match experiment.apply(command) {
+            Ok(()) => {}
+            Err(ApplyError::NoMemory) => return Err(NoMemory),
+            Err(ApplyError::Over) => unreachable!(),
+            Err(ApplyError::Busy) => unreachable!(),
+            Err(ApplyError::Backward) => unreachable!(),
+        }
+        advance(experiment, shelf)?;
+        if experiment.ending().is_some() {
+            break;
+        }
+    }
+    Ok(())
+}
+
+// What an experiment that was run leaves.
+fn outcome_of(experiment: Experiment) -> Outcome
+    ensures { (p : Pocket) → IsHousedIn p experiment → result ≡ trace_of (view p experiment) }
+{
+    let counters = experiment.counters();
+    let (_, records) = experiment.into_lists();
+    Outcome { records, counters }
+}
+
+/// Runs an experiment by itself on these commands, whose moments (ns) don't fall. `NoMemory` where
+/// memory was refused.
+pub fn run(alloc: Global, spec: &Spec, commands: &[Timed]) -> Result<Outcome, NoMemory>
+    requires { AreInOrder 0 commands.now }
+    ensures { IfOk result (λ o. o ≡ trace_of (alone spec.now commands.now spec.now.budget.steps)) }
+{
+    later_commands_wait();
+    let mut shelf = OwnShelf::new(alloc, spec.budget.packets);
+    let mut experiment = Experiment::new(alloc, *spec)?;
+    play(&mut experiment, &mut shelf, commands)?;
+    Ok(outcome_of(experiment))
+}
+
+/// Runs each experiment by itself, one after the other. `NoMemory` where memory was refused.
+pub fn run_all(alloc: Global, plans: &[Plan]) -> Result<Vec<Outcome>, NoMemory>
+    requires { All (λ e. AreInOrder 0 e.commands) plans.now }
+    ensures { IfOk result (λ os. os.items ≡ map trace_alone plans.now) }
+{
+    let Ok(mut outcomes) = Vec::with_capacity(alloc, plans.len()) else {
+        return Err(NoMemory);
+    };
+    for plan in plans {
+        let outcome = run(alloc, &plan.spec, plan.commands.as_slice())?;
+        let Ok(()) = outcomes.push(outcome) else {
+            return Err(NoMemory);
+        };
+    }
+    Ok(outcomes)
+}

@@ -1,0 +1,115 @@
+//! `run_alone` and `check`: all is read before any step, and all steps are made before anything is written.
+
+ghost use Rattle.std.specs.Prelude.{◌≡◌, ◌≤◌, length, sum, map, IfOk, IfErr, All};
+ghost use Rattle.control.specs.Order.{AreInOrder};
+ghost use Rattle.lab.specs.Reports.{reports, tally, Calls, Blames, Reads, ReadsFault};
+
+use crate::alone::run_all;
+use crate::device::Device;
+use crate::fault::RunFault;
+use crate::input::read_text;
+use crate::output::Buffer;
+use control::{Experiment as Plan, ParseError, Scenario, parse_scenario};
+use itoa::Buffer as Digits;
+use std::alloc::{AllocError, Global};
+use std::io::{Read, Write};
+
+// Reads a scenario.
+#[tactic(auto, using(crate::proofs::ReadFacts::read_spells, crate::proofs::ReadFacts::read_faults))]
+fn read_scenario<R: Read + Drop>(
+    alloc: Global,
+    reader: &mut Device<R>,
+) -> Result<Scenario, RunFault>
+    ensures read { IfOk result (λ es. Reads (R.remaining reader.old.inner) es) }
+    ensures in_order { IfOk result (λ es. All (λ e. AreInOrder 0 e.commands) es) }
+    ensures few { IfOk result (λ es. sum (map (λ e. length e.commands) es) ≤ 16777216) }
+    ensures fault { IfErr result (λ e. ReadsFault (R.remaining reader.old.inner) reader.new.failed e) }
+{
+    let text = read_text(alloc, reader)?;
+    match parse_scenario(alloc, text.as_slice()) {
+        Ok(scenario) => Ok(scenario),
+        Err(ParseError::Fault(fault)) => Err(RunFault::Scenario(fault)),
+        Err(ParseError::NoMemory) => Err(RunFault::Memory),
+    }
+}
+
+/// Reads a scenario and runs each of its experiments by itself; then writes their reports in its order.
+/// A `Scenario` fault is that of the text. After `Write` some first bytes of the reports were written,
+/// after any other fault none.
+#[tactic(auto, using(crate::proofs::Endings::reports_written, crate::proofs::Endings::reports_cut, crate::proofs::Endings::reports_cut_after))]
+pub fn run_alone<R: Read + Drop, W: Write + Drop>(
+    alloc: Global,
+    reader: &mut Device<R>,
+    writer: &mut Device<W>,
+) -> Result<(), RunFault>
+    ensures calls { Calls reports (R.remaining reader.old.inner) (W.contents writer.old.inner) (W.contents writer.new.inner) result }
+    ensures blames { Blames reader.new.failed writer.new.failed result }
+{
+    let scenario = read_scenario(alloc, reader)?;
+    let plans = scenario.experiments();
+    let Ok(outcomes) = run_all(alloc, plans) else {
+        return Err(RunFault::Memory);
+    };
+    let Ok(mut buffer) = Buffer::new(alloc) else {
+        return Err(RunFault::Memory);
+    };
+    let Ok(()) = buffer.put_reports(writer, plans, outcomes.as_slice()) else {
+        return Err(RunFault::Write);
+    };
+    let Ok(()) = buffer.finish(writer) else {
+        return Err(RunFault::Write);
+    };
+    Ok(())
+}
+
+// How many commands the experiments have.
+#[tactic(auto, using(crate::proofs::ReadFacts::count_more, crate::proofs::ReadFacts::count_few))]
+fn count_commands(plans: &[Plan]) -> u64
+    requires { sum (map (λ e. length e.commands) plans.now) ≤ 16777216 }
+    ensures { result ≡ sum (map (λ e. length e.commands) plans.now) }
+{
+    let mut count = 0u64;
+    for plan in plans {
+        count += plan.commands.as_slice().len() as u64;
+    }
+    count
+}
+
+// The line of `check`.
+fn tally_line(alloc: Global, plans: &[Plan]) -> Result<Vec<u8>, AllocError>
+    requires { sum (map (λ e. length e.commands) plans.now) ≤ 16777216 }
+    ensures { IfOk result (λ text. text.items ≡ tally plans.now) }
+{
+    let mut text = Vec::new(alloc);
+    let mut digits = Digits::new();
+    text.extend_from_slice(b"ok ")?;
+    text.extend_from_slice(digits.format(plans.len() as u64).as_bytes())?;
+    text.extend_from_slice(b" ")?;
+    text.extend_from_slice(digits.format(count_commands(plans)).as_bytes())?;
+    text.extend_from_slice(b"\n")?;
+    Ok(text)
+}
+
+/// Reads a scenario and writes `ok`, how many experiments and how many commands it has. The faults are
+/// those of `run_alone`.
+#[tactic(auto, using(crate::proofs::Endings::written, crate::proofs::Endings::cut, crate::proofs::Endings::cut_after))]
+pub fn check<R: Read + Drop, W: Write + Drop>(
+    alloc: Global,
+    reader: &mut Device<R>,
+    writer: &mut Device<W>,
+) -> Result<(), RunFault>
+    ensures calls { Calls tally (R.remaining reader.old.inner) (W.contents writer.old.inner) (W.contents writer.new.inner) result }
+    ensures blames { Blames reader.new.failed writer.new.failed result }
+{
+    let scenario = read_scenario(alloc, reader)?;
+    let Ok(line) = tally_line(alloc, scenario.experiments()) else {
+        return Err(RunFault::Memory);
+    };
+    let Ok(()) = writer.write_all(line.as_slice()) else {
+        return Err(RunFault::Write);
+    };
+    let Ok(()) = writer.flush() else {
+        return Err(RunFault::Write);
+    };
+    Ok(())
+}

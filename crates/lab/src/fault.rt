@@ -1,0 +1,21 @@
+//! Why a call of the program gave no answer.
+
+use control::Fault;
+use thiserror::Error;
+
+/// What went wrong, with the text that the program prints for it.
+#[derive(Clone, Copy, Debug, Drop, Error, PartialEq)]
+pub enum RunFault {
+    /// What was read spells no scenario.
+    #[error("{0}")]
+    Scenario(Fault),
+    /// The reader answered an error.
+    #[error("read")]
+    Read,
+    /// The writer answered an error, or took nothing.
+    #[error("write")]
+    Write,
+    /// Memory was refused.
+    #[error("memory")]
+    Memory,
+}

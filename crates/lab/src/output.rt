@@ -1,0 +1,225 @@
+//! Writing the reports, by way of a buffer that finds its room before the first byte is written.
+
+ghost use Rattle.std.specs.Prelude.{◌≡◌, ◌+◌, ◌≤◌, ◌++◌, [], true, length, flat_map, IfOk, OnOk, OnErr};
+ghost use Rattle.report.specs.Lines.{line_of, heading_of, counters_of};
+ghost use Rattle.lab.specs.Bytes.{Puts, Stops};
+ghost use Rattle.lab.specs.Reports.{reports_with, report_with};
+
+use crate::alone::Outcome;
+use crate::device::{Device, Failed};
+use control::Experiment as Plan;
+use emu_model::{Counters, Record};
+use report::{write_counters, write_record};
+use std::alloc::{AllocError, Global};
+use std::io::Write;
+use std::marker::Model;
+
+/// How many bytes are kept back before they are written.
+const CAPACITY: usize = 65_536;
+
+/// No line of a record or of counters is longer.
+const LONGEST_LINE: usize = 400;
+
+/// What was not handed to the writer yet, at most 65536 bytes.
+#[derive(Drop)]
+pub struct Buffer {
+    kept: Vec<u8>,
+}
+
+impl Model for Buffer {
+    ghost use Rattle.std.specs.Prelude.{ℕ, List, ◌≤◌, vec_capacity};
+
+    ghost Value = { List ℕ };
+
+    ghost view = { λ b. b.kept.items };
+
+    ghost invariant = { λ b. 65536 ≤ vec_capacity b.kept };
+}
+
+impl Buffer {
+    /// An empty buffer. No other call here takes memory.
+    pub fn new(alloc: Global) -> Result<Self, AllocError>
+        ensures { IfOk result (λ b. b ≡ []) }
+    {
+        let kept = Vec::with_capacity(alloc, CAPACITY)?;
+        Ok(Buffer { kept })
+    }
+
+    // Writes all that is kept.
+    #[tactic(auto, using(crate::proofs::Writing::puts_out_as, crate::proofs::Writing::stops_out))]
+    fn hand_on<W: Write + Drop>(&mut self, writer: &mut Device<W>) -> Result<(), Failed>
+        ensures ok { OnOk result (Puts (W.contents writer.old.inner) self.old (W.contents writer.new.inner) self.new []) }
+        ensures empty { OnOk result (self.new ≡ []) }
+        ensures cut { OnErr result (Stops (W.contents writer.old.inner) self.old (W.contents writer.new.inner) []) }
+        ensures fine { OnOk result (writer.new.failed ≡ writer.old.failed) }
+        ensures failed { OnErr result (writer.new.failed ≡ true) }
+    {
+        writer.write_all(self.kept.as_slice())?;
+        self.kept.clear();
+        Ok(())
+    }
+
+    // Writes what is kept where there is no room for another line.
+    #[tactic(auto, using(crate::proofs::Writing::puts_none))]
+    fn make_room<W: Write + Drop>(&mut self, writer: &mut Device<W>) -> Result<(), Failed>
+        ensures ok { OnOk result (Puts (W.contents writer.old.inner) self.old (W.contents writer.new.inner) self.new []) }
+        ensures room { OnOk result (length self.new + 400 ≤ 65536) }
+        ensures cut { OnErr result (Stops (W.contents writer.old.inner) self.old (W.contents writer.new.inner) []) }
+        ensures fine { OnOk result (writer.new.failed ≡ writer.old.failed) }
+        ensures failed { OnErr result (writer.new.failed ≡ true) }
+    {
+        if self.kept.len() > CAPACITY - LONGEST_LINE {
+            return self.hand_on(writer);
+        }
+        Ok(())
+    }
+
+    /// Puts bytes behind the others.
+    #[tactic(auto, using(crate::proofs::Writing::puts_next, crate::proofs::Writing::puts_kept_as, crate::proofs::Writing::puts_straight_as, crate::proofs::Writing::puts_none, crate::proofs::Writing::stops_any, crate::proofs::Writing::stops_straight_as, crate::proofs::Writing::stops_next))]
+    pub fn put<W: Write + Drop>(
+        &mut self,
+        writer: &mut Device<W>,
+        bytes: &[u8],
+    ) -> Result<(), Failed>
+        ensures ok { OnOk result (Puts (W.contents writer.old.inner) self.old (W.contents writer.new.inner) self.new bytes.now) }
+        ensures cut { OnErr result (Stops (W.contents writer.old.inner) self.old (W.contents writer.new.inner) bytes.now) }
+        ensures fine { OnOk result (writer.new.failed ≡ writer.old.failed) }
+        ensures failed { OnErr result (writer.new.failed ≡ true) }
+    {
+        if bytes.len() > CAPACITY {
+            self.hand_on(writer)?;
+            return writer.write_all(bytes);
+        }
+        if self.kept.len() > CAPACITY - bytes.len() {
+            self.hand_on(writer)?;
+        }
+        let Ok(()) = self.kept.extend_from_slice(bytes) else {
+            unreachable!()
+        };
+        Ok(())
+    }
+
+    // Puts the line of a record.
+    #[tactic(auto, using(crate::proofs::Writing::puts_next, crate::proofs::Writing::puts_kept_as, crate::proofs::Writing::stops_any))]
+    fn put_record<W: Write + Drop>(
+        &mut self,
+        writer: &mut Device<W>,
+        line: &Record,
+    ) -> Result<(), Failed>
+        ensures ok { OnOk result (Puts (W.contents writer.old.inner) self.old (W.contents writer.new.inner) self.new (line_of line.now)) }
+        ensures cut { OnErr result (Stops (W.contents writer.old.inner) self.old (W.contents writer.new.inner) (line_of line.now)) }
+        ensures fine { OnOk result (writer.new.failed ≡ writer.old.failed) }
+        ensures failed { OnErr result (writer.new.failed ≡ true) }
+    {
+        self.make_room(writer)?;
+        let Ok(()) = write_record(&mut self.kept, line) else {
+            unreachable!()
+        };
+        Ok(())
+    }
+
+    // Puts the line of the counters.
+    #[tactic(auto, using(crate::proofs::Writing::puts_next, crate::proofs::Writing::puts_kept_as, crate::proofs::Writing::stops_any))]
+    fn put_counters<W: Write + Drop>(
+        &mut self,
+        writer: &mut Device<W>,
+        counters: &Counters,
+    ) -> Result<(), Failed>
+        ensures ok { OnOk result (Puts (W.contents writer.old.inner) self.old (W.contents writer.new.inner) self.new (counters_of counters.now)) }
+        ensures cut { OnErr result (Stops (W.contents writer.old.inner) self.old (W.contents writer.new.inner) (counters_of counters.now)) }
+        ensures fine { OnOk result (writer.new.failed ≡ writer.old.failed) }
+        ensures failed { OnErr result (writer.new.failed ≡ true) }
+    {
+        self.make_room(writer)?;
+        let Ok(()) = write_counters(&mut self.kept, counters) else {
+            unreachable!()
+        };
+        Ok(())
+    }
+
+    // Puts the line of an experiment's name.
+    #[tactic(auto, using(crate::proofs::Reporting::heading_puts, crate::proofs::Reporting::heading_stops_first, crate::proofs::Reporting::heading_stops_second, crate::proofs::Reporting::heading_stops_third))]
+    fn put_heading<W: Write + Drop>(
+        &mut self,
+        writer: &mut Device<W>,
+        name: &[u8],
+    ) -> Result<(), Failed>
+        ensures ok { OnOk result (Puts (W.contents writer.old.inner) self.old (W.contents writer.new.inner) self.new (heading_of name.now)) }
+        ensures cut { OnErr result (Stops (W.contents writer.old.inner) self.old (W.contents writer.new.inner) (heading_of name.now)) }
+        ensures fine { OnOk result (writer.new.failed ≡ writer.old.failed) }
+        ensures failed { OnErr result (writer.new.failed ≡ true) }
+    {
+        self.put(writer, b"experiment ")?;
+        self.put(writer, name)?;
+        self.put(writer, b"\n")
+    }
+
+    // Puts the lines of records.
+    #[tactic(auto, using(crate::proofs::Writing::puts_none, crate::proofs::Reporting::records_puts, crate::proofs::Reporting::records_stops))]
+    fn put_records<W: Write + Drop>(
+        &mut self,
+        writer: &mut Device<W>,
+        records: &[Record],
+    ) -> Result<(), Failed>
+        ensures ok { OnOk result (Puts (W.contents writer.old.inner) self.old (W.contents writer.new.inner) self.new (flat_map line_of records.now)) }
+        ensures cut { OnErr result (Stops (W.contents writer.old.inner) self.old (W.contents writer.new.inner) (flat_map line_of records.now)) }
+        ensures fine { OnOk result (writer.new.failed ≡ writer.old.failed) }
+        ensures failed { OnErr result (writer.new.failed ≡ true) }
+    {
+        for line in records {
+            self.put_record(writer, line)?;
+        }
+        Ok(())
+    }
+
+    // Puts the report of an experiment.
+    #[tactic(auto, using(crate::proofs::Reporting::report_puts, crate::proofs::Reporting::report_stops_first, crate::proofs::Reporting::report_stops_second, crate::proofs::Reporting::report_stops_third))]
+    fn put_report<W: Write + Drop>(
+        &mut self,
+        writer: &mut Device<W>,
+        plan: &Plan,
+        outcome: &Outcome,
+    ) -> Result<(), Failed>
+        ensures ok { OnOk result (Puts (W.contents writer.old.inner) self.old (W.contents writer.new.inner) self.new (report_with plan.now outcome.now)) }
+        ensures cut { OnErr result (Stops (W.contents writer.old.inner) self.old (W.contents writer.new.inner) (report_with plan.now outcome.now)) }
+        ensures fine { OnOk result (writer.new.failed ≡ writer.old.failed) }
+        ensures failed { OnErr result (writer.new.failed ≡ true) }
+    {
+        self.put_heading(writer, plan.name.as_bytes())?;
+        self.put_records(writer, outcome.records())?;
+        self.put_counters(writer, outcome.counters())
+    }
+
+    /// Puts the reports of experiments that were run.
+    #[tactic(auto, using(crate::proofs::Writing::puts_none, crate::proofs::Reporting::reports_puts, crate::proofs::Reporting::reports_stops))]
+    pub fn put_reports<W: Write + Drop>(
+        &mut self,
+        writer: &mut Device<W>,
+        plans: &[Plan],
+        outcomes: &[Outcome],
+    ) -> Result<(), Failed>
+        requires { length outcomes.now ≡ length plans.now }
+        ensures ok { OnOk result (Puts (W.contents writer.old.inner) self.old (W.contents writer.new.inner) self.new (reports_with plans.now outcomes.now)) }
+        ensures cut { OnErr result (Stops (W.contents writer.old.inner) self.old (W.contents writer.new.inner) (reports_with plans.now outcomes.now)) }
+        ensures fine { OnOk result (writer.new.failed ≡ writer.old.failed) }
+        ensures failed { OnErr result (writer.new.failed ≡ true) }
+    {
+        for index in 0..plans.len() {
+            self.put_report(writer, &plans[index], &outcomes[index])?;
+        }
+        Ok(())
+    }
+
+    /// Writes all that is kept, and has the writer hand it on.
+    #[tactic(auto, using(crate::proofs::Writing::puts_flushed_as, crate::proofs::Writing::stops_flushed_as))]
+    pub fn finish<W: Write + Drop>(self, writer: &mut Device<W>) -> Result<(), Failed>
+        ensures ok { OnOk result (Puts (W.contents writer.old.inner) self (W.contents writer.new.inner) [] []) }
+        ensures cut { OnErr result (Stops (W.contents writer.old.inner) self (W.contents writer.new.inner) []) }
+        ensures fine { OnOk result (writer.new.failed ≡ writer.old.failed) }
+        ensures failed { OnErr result (writer.new.failed ≡ true) }
+    {
+        let mut buffer = self;
+        buffer.hand_on(writer)?;
+        writer.flush()
+    }
+}

@@ -1,0 +1,170 @@
+-- A packet that is made, and arrives.
+use Rattle.std.proofs.Common.{◌≡◌, ℕ, zero, suc, ◌+◌, ◌<◌, ◌≤◌, Bool, true, false, nat_lt, cond, refl, sym, ap, ◌∙◌, subst, List, [], ◌∷◌, length, Option, Some, None, arith}
+use Rattle.std.specs.Prelude.{sum_by, option_and_then, slice_get}
+use Rattle.std.specs.List.{last_or}
+use Rattle.std.proofs.lemmas.Bool.{lt-ltb, le-ltb}
+use Rattle.std.proofs.lemmas.List.{length-append, length-map}
+use Rattle.std.proofs.lemmas.List.Sums.{sum_by-cons}
+use Rattle.emu_model.specs.declared.packets.Load.{Load}
+use Rattle.emu_model.specs.declared.packets.Load.TheVariants.{Plain}
+use Rattle.emu_model.specs.declared.packets.Packet.{Packet}
+use Rattle.emu_model.specs.declared.packets.Place.{Place}
+use Rattle.emu_model.specs.declared.records.DropCause.{DropCause}
+use Rattle.emu_model.specs.declared.records.DropCause.TheVariants.{Budget}
+use Rattle.emu_model.specs.declared.rules.Verdict.{Verdict}
+use Rattle.emu_model.specs.declared.rules.Verdict.TheVariants.{Allow, Deny, Pipe}
+use Rattle.emu_model.specs.declared.rules.Rule.{Rule}
+use Rattle.emu_model.specs.declared.sources.SendSpec.{SendSpec}
+use Rattle.emu_model.specs.Rules.{Counted, verdict, verdict_of_match, matches_from, next_match, the_rules, least_match}
+use Rattle.emu_model.specs.Delay.{Line, Leaving, enter, delay_ns}
+use Rattle.emu_model.specs.Pipes.{PipeState, pipe_packets}
+use Rattle.emu_model.specs.Net.{Net, Setting, held, note_all, note_drops, drop_record, to_direct, to_pipe, packet_of, make, pass_rules}
+use Rattle.link_core.specs.Lane.{Lane}
+use Rattle.packet_store.specs.Pocket.{Pocket, with_packet}
+use Rattle.pipe_instance.specs.Keyed.{seen_leaving, seen_line}
+use Rattle.pipe_core.specs.Moves.{packet_at, Keeps}
+use Rattle.pipe_core.specs.Keyed.{KeyedPipe, seen_pipe, keys_of}
+use Rattle.pipe_core.specs.Steps.{drops_of, HasRoomAt}
+use Rattle.pipe_core.specs.Views.{ViewsAgree, PacketsAreNamed}
+use Rattle.pipe_table.specs.Table.{Table, with_pipes, pipe_keys, seen_pipes, HasRoomIn}
+use Rattle.network.specs.Kept.{KeptNet, net_of, line_keys, IsHoused}
+use Rattle.network.specs.Changes.{Becomes, Notes}
+use Rattle.network.specs.Ready.{IsReady, verdict_on, plain, CanMake}
+use Rattle.network.proofs.Frame.{direct-housed, direct-shown}
+use Rattle.network.proofs.AsReady.{IsRoomy, as-make}
+use Rattle.network.proofs.Direct.{enter-keeps, enter-seen}
+use Rattle.network.proofs.Steps.{noted-none, notes-becomes, pipes-become, follow, shown-as}
+
+-- a packet enters the link of `allow`
+enters-at : (agree : ViewsAgree) (p q : Pocket) (n : KeptNet) (key now : ℕ) (packet : Packet) (l : Lane ℕ) →
+    IsHoused p n → p.find key ≡ None → q ≡ with_packet p key packet → l.line ≡ enter key now 0 n.direct.line →
+    Becomes 0 (to_direct now packet (net_of p n)) p q n (record n { direct = l })
+enters-at agree p q n key now packet l h none put line =
+    let keeps : Keeps p q (line_keys n.direct.line) (line_keys l.line) =
+    subst (λ k. Keeps p q (line_keys n.direct.line) (line_keys k)) (sym line) (enter-keeps p q n key now packet h none put) in
+    record {
+      shown = direct-shown agree p q n l h keeps (enter packet now 0 (net_of p n).direct)
+          (subst (λ (k : Line ℕ). seen_line (packet_at q.find) k ≡ enter packet now 0 (net_of p n).direct) (sym line) (enter-seen p q n key now packet h none put));
+      housed = direct-housed agree p q n l h keeps;
+      budget = ap (λ (r : Pocket). r.budget) put;
+      seed = refl;
+      made = omega arith;
+    }
+
+pub enters : (agree : ViewsAgree) (p q : Pocket) (n : KeptNet) (key now delay : ℕ) (packet : Packet) (l : Lane ℕ) →
+    IsHoused p n → p.find key ≡ None → q ≡ with_packet p key packet → delay ≡ 0 → l.line ≡ enter key now (delay_ns delay) n.direct.line →
+    Becomes 0 (to_direct now packet (net_of p n)) p q n (record n { direct = l })
+enters agree p q n key now delay packet l h none put nought line =
+    enters-at agree p q n key now packet l h none put (line ∙ ap (λ d. enter key now (delay_ns d) n.direct.line) nought)
+
+-- a packet comes to a pipe, and is taken in, or dropped
+module _ (at : Setting) (p q : Pocket) (n : KeptNet) (t : Table) (k now : ℕ) (packet : Packet) (h : IsHoused p n)
+    (keeps : Keeps p q (pipe_keys n.table.pipes) (pipe_keys t.pipes)) (seed : t.seed ≡ n.table.seed) where
+  pub taken-in : to_pipe at k packet (net_of p n) ≡ note_drops now (drops_of packet None) (with_pipes q t (net_of p n)) →
+      Becomes 0 (to_pipe at k packet (net_of p n)) p q n (record n { table = t })
+  taken-in e = shown-as 0 (with_pipes q t (net_of p n)) (to_pipe at k packet (net_of p n)) p q n (record n { table = t })
+      (sym (e ∙ noted-none (with_pipes q t (net_of p n)))) (pipes-become p q n t h keeps seed)
+
+  pub turned-away : (cause : DropCause) (new : KeptNet) →
+      to_pipe at k packet (net_of p n) ≡ note_drops now (drops_of packet (Some cause)) (with_pipes q t (net_of p n)) →
+      Notes (drop_record now (record { packet = packet; cause = cause }) ∷ []) (record n { table = t }) new →
+      Becomes 0 (to_pipe at k packet (net_of p n)) p q n new
+  turned-away cause new e noted =
+      let b : Becomes 0 (with_pipes q t (net_of p n)) p q n (record n { table = t }) = pipes-become p q n t h keeps seed in
+      shown-as 0 (note_all (drop_record now (record { packet = packet; cause = cause }) ∷ []) (with_pipes q t (net_of p n))) (to_pipe at k packet (net_of p n)) p q n new (sym e)
+      (follow (note_all (drop_record now (record { packet = packet; cause = cause }) ∷ [])) 0 0 0 (with_pipes q t (net_of p n)) p q q n (record n { table = t }) new (omega arith) b
+      (notes-becomes q (drop_record now (record { packet = packet; cause = cause }) ∷ []) (record n { table = t }) new b.housed noted))
+
+-- a packet in another place is as ready
+pub ready-placed : (k : ℕ) (packet : Packet) (place : Place) (ps : List KeyedPipe) → HasRoomIn k packet ps → HasRoomIn k (record packet { place = place }) ps
+ready-placed k packet place ps ready p e =
+    let r : HasRoomAt packet p = ready p e in record { there = r.there; new = r.new }
+
+module _ (a b : Load) (send : SendSpec) (i j : ℕ) where
+  -- the rules look at the header alone
+  matches-same : (n : ℕ) (rules : List Rule) (at : Option ℕ) → matches_from n (packet_of a send i) rules at ≡ matches_from n (packet_of b send j) rules at
+  matches-same zero rules at = refl
+  matches-same (suc n) rules None = refl
+  matches-same (suc n) rules (Some k) = ap (λ ks. k ∷ ks) (matches-same n rules (next_match (packet_of a send i) rules k))
+
+  pub verdict-same : (start : ℕ) (cs : List Counted) → verdict start (packet_of a send i) cs ≡ verdict start (packet_of b send j) cs
+  verdict-same start cs =
+      ap (λ ks. verdict_of_match (option_and_then (slice_get cs) (last_or None ks))) (matches-same (length (the_rules cs)) (the_rules cs) (least_match (packet_of a send i) (the_rules cs) start))
+
+  pub ready-same : (v : Verdict) (n : KeptNet) → IsReady v (packet_of a send i) n → IsReady v (packet_of b send j) n
+  ready-same Allow n ready = ready
+  ready-same Deny n ready = ready
+  ready-same (Pipe k place) n ready = λ p e.
+      let r : HasRoomAt (packet_of a send i) p = ready p e in record { there = r.there; new = r.new }
+
+-- a packet of this header that is made is ready
+pub made-ready : (load : Load) (send : SendSpec) (number : ℕ) (n : KeptNet) → CanMake send n →
+    IsReady (verdict_on (packet_of load send number) n) (packet_of load send number) n
+made-ready load send number n ready =
+    subst (λ v. IsReady v (packet_of load send number) n) (verdict-same Plain load send 0 number 0 n.book.rules)
+    (ready-same Plain load send 0 number (verdict_on (plain send) n) n ready)
+
+pub packet-ready : (load : Load) (send : SendSpec) (number : ℕ) (x : Packet) (n m : KeptNet) → IsRoomy n m → x ≡ packet_of load send number → CanMake send n →
+    IsReady (verdict_on x m) x m
+packet-ready load send number x n m same e ready = subst (λ y. IsReady (verdict_on y m) y m) (sym e) (made-ready load send number m (as-make n m same send ready))
+
+-- what is held is what the keys name
+held-pipes : PacketsAreNamed → (f : ℕ → Packet) (ps : List KeyedPipe) → sum_by (λ s. length (pipe_packets s)) (seen_pipes f ps) ≡ length (pipe_keys ps)
+unfolding pipe_keys
+held-pipes named f [] = refl
+held-pipes named f (p ∷ ps) =
+    omega (
+      arith,
+      sum_by-cons (λ (s : PipeState). length (pipe_packets s)) (seen_pipe f p) (seen_pipes f ps),
+      held-pipes named f ps,
+      ap (λ xs. length xs) (named f p),
+      length-map (keys_of p.slots) f,
+      length-append (keys_of p.slots) (pipe_keys ps),
+    )
+
+pub held-is : PacketsAreNamed → (p : Pocket) (n : KeptNet) → IsHoused p n → held (net_of p n) ≡ p.count
+held-is named p n h =
+    omega (
+      arith,
+      h.count,
+      held-pipes named (packet_at p.find) n.table.pipes,
+      length-append (line_keys n.direct.line) (pipe_keys n.table.pipes),
+      length-map n.direct.line.flight (seen_leaving (packet_at p.find)),
+      length-map n.direct.line.flight (λ (x : Leaving ℕ). x.item),
+    )
+
+-- one more was made
+module _ (named : PacketsAreNamed) (at : Setting) (p : Pocket) (n : KeptNet) (load : Load) (send : SendSpec) (x : Packet) (h : IsHoused p n) (is : x ≡ packet_of load send n.made) where
+  abbrev one-more : KeptNet
+  one-more = record n { made = n.made + 1 }
+
+  more-housed : IsHoused p one-more
+  more-housed = record { each = h.each; count = h.count }
+
+  abbrev made-by : Bool → Packet → Net
+  made-by fits y = cond fits (pass_rules at y (net_of p one-more)) (note_drops at.now (record { packet = y; cause = Budget } ∷ []) (net_of p one-more))
+
+  pub made-passes : (q : Pocket) (new : KeptNet) → p.count < at.room → Becomes 0 (pass_rules at x (net_of p one-more)) p q one-more new →
+      Becomes 1 (make at load send (net_of p n)) p q n new
+  made-passes q new fits b =
+      let test : nat_lt (held (net_of p n)) at.room ≡ true = lt-ltb (held (net_of p n)) at.room (omega (arith, fits, held-is named p n h)) in
+      record {
+        shown = b.shown ∙ (λ i. made-by (sym test i) (is i));
+        housed = b.housed;
+        budget = b.budget;
+        seed = b.seed;
+        made = omega (arith, b.made);
+      }
+
+  pub made-dropped : (new : KeptNet) → at.room ≤ p.count → Notes (drop_record at.now (record { packet = x; cause = Budget }) ∷ []) one-more new →
+      Becomes 1 (make at load send (net_of p n)) p p n new
+  made-dropped new full noted =
+      let test : nat_lt (held (net_of p n)) at.room ≡ false = le-ltb (held (net_of p n)) at.room (omega (arith, full, held-is named p n h)) in
+      let b = notes-becomes p (drop_record at.now (record { packet = x; cause = Budget }) ∷ []) one-more new more-housed noted in
+      record {
+        shown = b.shown ∙ (λ i. made-by (sym test i) (is i));
+        housed = b.housed;
+        budget = b.budget;
+        seed = b.seed;
+        made = omega (arith, b.made);
+      }

@@ -1,0 +1,119 @@
+-- A packet leaves the link of `allow`, or a pipe; a packet finishes; a source sends.
+use Rattle.std.proofs.Common.{◌≡◌, ℕ, refl, sym, ap, ◌∙◌, subst, List, [], ◌∷◌, map, Option, Some, None, IsSome, arith}
+use Rattle.std.specs.Option.{option_map_or}
+use Rattle.emu_model.specs.declared.packets.Packet.{Packet}
+use Rattle.emu_model.specs.declared.records.Record.TheVariants.{PacketFinished}
+use Rattle.emu_model.specs.Delay.{Line, Leaving, leave, first_item}
+use Rattle.emu_model.specs.Net.{Net, Setting, note, note_all, note_drops, drop_record, find_pipe}
+use Rattle.emu_model.specs.Events.{leave_pipe, pipe_exits, pipe_finishes}
+use Rattle.link_core.specs.Lane.{Lane}
+use Rattle.packet_store.specs.Pocket.{Pocket, without}
+use Rattle.pipe_instance.specs.Keyed.{seen_leaving, seen_line}
+use Rattle.pipe_core.specs.Moves.{packet_at, Keeps}
+use Rattle.pipe_core.specs.Steps.{drops_by_codel}
+use Rattle.pipe_core.specs.Views.{ViewsAgree}
+use Rattle.pipe_table.specs.Table.{Table, with_pipes, pipe_keys}
+use Rattle.traffic.specs.Kept.{KeptTraffic, with_traffic}
+use Rattle.network.specs.Kept.{KeptNet, net_of, line_keys, IsHoused}
+use Rattle.network.specs.Changes.{Becomes, Notes}
+use Rattle.network.proofs.Frame.{direct-housed, direct-shown}
+use Rattle.network.proofs.Direct.{leaves, front-there, none-leaves}
+use Rattle.network.proofs.Steps.{shown-as, notes-becomes, follow, pipes-become, rebase, turns-becomes}
+use Rattle.network.proofs.Sources.{traffic-turned}
+use Rattle.network.proofs.Obeying.{weaker}
+
+-- what leaves the link first
+pub front-seen : (p : Pocket) (n : KeptNet) (key : ℕ) (r : Option Packet) → IsHoused p n → Some key ≡ first_item n.direct.line.flight → r ≡ p.find key →
+    r ≡ first_item (map (seen_leaving (packet_at p.find)) n.direct.line.flight)
+front-seen p n key r h first is = is ∙ go (p.find key) refl
+  where
+    go : (o : Option Packet) → p.find key ≡ o → o ≡ first_item (map (seen_leaving (packet_at p.find)) n.direct.line.flight)
+    go None e =
+        let there : IsSome (p.find key) = front-there p n key h (sym first) in
+        let gone : IsSome {T = Packet} None = subst IsSome e there in absurd (cc)
+    go (Some x) e = sym ((leaves p (without p key) n key x h (sym first) e refl).first)
+
+pub front-none : (p : Pocket) (n : KeptNet) → None ≡ first_item n.direct.line.flight → None ≡ first_item (map (seen_leaving (packet_at p.find)) n.direct.line.flight)
+front-none p n none = sym ((none-leaves p n.direct.line (sym none)).0)
+
+pub front-missing : (p : Pocket) (n : KeptNet) (key : ℕ) → IsHoused p n → Some key ≡ first_item n.direct.line.flight → None ≡ p.find key → ⊥
+front-missing p n key h first none =
+    let there : IsSome (p.find key) = front-there p n key h (sym first) in
+    let gone : IsSome {T = Packet} None = subst IsSome (sym none) there in cc
+
+pub direct-left : (agree : ViewsAgree) (p q : Pocket) (n : KeptNet) (key : ℕ) (x : Packet) (l : Lane ℕ) → IsHoused p n → Some key ≡ first_item n.direct.line.flight →
+    Some x ≡ p.find key → q ≡ without p key → l.line ≡ leave n.direct.line →
+    Becomes 0 (record (net_of p n) { direct = leave (net_of p n).direct }) p q n (record n { direct = l })
+direct-left agree p q n key x l h first value taken line =
+    let gone = leaves p q n key x h (sym first) (sym value) taken in
+    let keeps : Keeps p q (line_keys n.direct.line) (line_keys l.line) =
+    subst (λ k. Keeps p q (line_keys n.direct.line) (line_keys k)) (sym line) gone.keeps in
+    record {
+      shown = direct-shown agree p q n l h keeps (leave (net_of p n).direct)
+          (subst (λ (k : Line ℕ). seen_line (packet_at q.find) k ≡ leave (net_of p n).direct) (sym line) gone.seen);
+      housed = direct-housed agree p q n l h keeps;
+      budget = ap (λ (r : Pocket). r.budget) taken;
+      seed = refl;
+      made = omega arith;
+    }
+
+empty-line : (l : Line ℕ) → first_item l.flight ≡ None → leave l ≡ l
+empty-line l none = go l.flight none
+  where
+    go : (xs : List (Leaving ℕ)) → first_item xs ≡ None → leave (record l { flight = xs }) ≡ record l { flight = xs }
+    go [] e = refl
+    go (x ∷ xs) e = absurd (cc)
+
+pub direct-none : (p : Pocket) (n : KeptNet) (l : Lane ℕ) → IsHoused p n → None ≡ first_item n.direct.line.flight → l.line ≡ leave n.direct.line →
+    Becomes 0 (record (net_of p n) { direct = leave (net_of p n).direct }) p p n (record n { direct = l })
+direct-none p n l h none line =
+    let same : l.line ≡ n.direct.line = line ∙ empty-line n.direct.line (sym none) in
+    subst (λ (k : Line ℕ). Becomes 0 (record (net_of p n) { direct = leave (net_of p n).direct }) p p n (record n { direct = record { line = k; spare = l.spare } })) (sym same)
+    (record {
+      shown = λ i. record (net_of p n) { direct = sym ((none-leaves p n.direct.line (sym none)).1) i };
+      housed = record { each = h.each; count = h.count };
+      budget = refl;
+      seed = refl;
+      made = omega arith;
+    })
+
+-- a packet left a pipe, or none did; a packet finished
+module _ (p q : Pocket) (n : KeptNet) (t : Table) (k j : ℕ) (h : IsHoused p n)
+    (keeps : Keeps p q (pipe_keys n.table.pipes) (pipe_keys t.pipes)) (seed : t.seed ≡ n.table.seed) where
+  pub exit-none : (at : Setting) → option_map_or (pipe_exits at k j (net_of p n)) (find_pipe k (net_of p n)) (net_of p n) ≡ with_pipes q t (net_of p n) →
+      Becomes 1 (option_map_or (pipe_exits at k j (net_of p n)) (find_pipe k (net_of p n)) (net_of p n)) p q n (record n { table = t })
+  exit-none at e =
+      weaker (option_map_or (pipe_exits at k j (net_of p n)) (find_pipe k (net_of p n)) (net_of p n)) p q n (record n { table = t })
+      (shown-as 0 (with_pipes q t (net_of p n)) (option_map_or (pipe_exits at k j (net_of p n)) (find_pipe k (net_of p n)) (net_of p n)) p q n (record n { table = t }) (sym e)
+      (pipes-become p q n t h keeps seed))
+
+  pub exit-some : (at : Setting) (r : Pocket) (new : KeptNet) (x : Packet) →
+      option_map_or (pipe_exits at k j (net_of p n)) (find_pipe k (net_of p n)) (net_of p n) ≡ leave_pipe at k j x (with_pipes q t (net_of p n)) →
+      Becomes 1 (leave_pipe at k j x (net_of q (record n { table = t }))) q r (record n { table = t }) new →
+      Becomes 1 (option_map_or (pipe_exits at k j (net_of p n)) (find_pipe k (net_of p n)) (net_of p n)) p r n new
+  exit-some at r new x e b =
+      shown-as 1 (leave_pipe at k j x (with_pipes q t (net_of p n))) (option_map_or (pipe_exits at k j (net_of p n)) (find_pipe k (net_of p n)) (net_of p n)) p r n new (sym e)
+      (follow (leave_pipe at k j x) 0 1 1 (with_pipes q t (net_of p n)) p q r n (record n { table = t }) new (omega arith) (pipes-become p q n t h keeps seed) b)
+
+  pub finished : (at : Setting) (number : ℕ) (drops : List Packet) (mid new : KeptNet) →
+      option_map_or (pipe_finishes at k j (net_of p n)) (find_pipe k (net_of p n)) (net_of p n)
+      ≡ note_drops at.now (drops_by_codel drops) (with_pipes q t (note (PacketFinished at.now number k j) (net_of p n))) →
+      Notes (PacketFinished at.now number k j ∷ []) (record n { table = t }) mid →
+      Notes (map (drop_record at.now) (drops_by_codel drops)) mid new →
+      Becomes 0 (option_map_or (pipe_finishes at k j (net_of p n)) (find_pipe k (net_of p n)) (net_of p n)) p q n new
+  finished at number drops mid new e one rest =
+      let b0 = pipes-become p q n t h keeps seed in
+      let b1 = follow (note_all (PacketFinished at.now number k j ∷ [])) 0 0 0 (with_pipes q t (net_of p n)) p q q n (record n { table = t }) mid (omega arith) b0
+      (notes-becomes q (PacketFinished at.now number k j ∷ []) (record n { table = t }) mid b0.housed one) in
+      shown-as 0 (note_all (map (drop_record at.now) (drops_by_codel drops)) (note_all (PacketFinished at.now number k j ∷ []) (with_pipes q t (net_of p n))))
+      (option_map_or (pipe_finishes at k j (net_of p n)) (find_pipe k (net_of p n)) (net_of p n)) p q n new (sym e)
+      (follow (note_all (map (drop_record at.now) (drops_by_codel drops))) 0 0 0 (note_all (PacketFinished at.now number k j ∷ []) (with_pipes q t (net_of p n))) p q q n mid new (omega arith) b1
+      (notes-becomes q (map (drop_record at.now) (drops_by_codel drops)) mid new b1.housed rest))
+
+-- a source changed, and a packet was made, or none
+module _ (f : Net → Net) (p : Pocket) (n : KeptNet) (t : KeptTraffic) where
+  pub sent-one : (q : Pocket) (new : KeptNet) (m : Net) → f (net_of p n) ≡ m → Becomes 1 m p q (record n { traffic = t }) new → Becomes 1 (f (net_of p n)) p q n new
+  sent-one q new m e b = shown-as 1 m (f (net_of p n)) p q n new (sym e) (rebase 1 m p q (record n { traffic = t }) n new refl refl b)
+
+  pub sent-none : IsHoused p n → ((m : Net) → f (with_traffic n.traffic m) ≡ with_traffic t m) → Becomes 1 (f (net_of p n)) p p n (record n { traffic = t })
+  sent-none h e = weaker (f (net_of p n)) p p n (record n { traffic = t }) (turns-becomes f p n (record n { traffic = t }) h (traffic-turned f n t e))

@@ -1,0 +1,11 @@
+mod KeyCounts
+mod Frame
+mod Direct
+mod Steps
+mod AsReady
+mod Arriving
+mod Sources
+mod Obeying
+mod Leaving
+mod DueFacts
+mod Standing

@@ -1,0 +1,197 @@
+-- A command is done, or refused.
+use Rattle.std.proofs.Common.{◌≡◌, ℕ, zero, suc, ◌/◌, ◌%◌, Bool, true, false, cond, refl, sym, ap, ◌∙◌, subst, List, [], ◌∷◌, ◌++◌, length, map, Option, Some, None, arith}
+use Rattle.std.specs.Prelude.{is_some}
+use Rattle.std.specs.Option.{option_map_or}
+use Rattle.emu_model.specs.declared.commands.Command.{Command}
+use Rattle.emu_model.specs.declared.commands.Command.TheVariants.{Add, Delete, Config, PipeDelete, Inject, OnePass, End}
+use Rattle.emu_model.specs.declared.packets.Load.TheVariants.{Plain}
+use Rattle.emu_model.specs.declared.packets.Packet.{Packet}
+use Rattle.emu_model.specs.declared.pipes.PipeConfig.{PipeConfig}
+use Rattle.emu_model.specs.declared.records.Record.{Record}
+use Rattle.emu_model.specs.declared.records.Record.TheVariants.{CommandDone, CommandRefused}
+use Rattle.emu_model.specs.declared.records.Refusal.{Refusal}
+use Rattle.emu_model.specs.declared.records.Refusal.TheVariants.{NoSuchPipe}
+use Rattle.emu_model.specs.declared.rules.Rule.{Rule}
+use Rattle.emu_model.specs.declared.sources.SendSpec.{SendSpec}
+use Rattle.emu_model.specs.Rules.{RuleBook, add_refusal, delete_refusal, book_with, book_without}
+use Rattle.emu_model.specs.Net.{Net, Setting, note, note_all, note_drops, drop_record, find_pipe, make}
+use Rattle.emu_model.specs.Commands.{refusal_of, effect_of, obey, config_refusal, configure, delete_pipe}
+use Rattle.emu_model.specs.declared.sources.Class.TheVariants.{Exit}
+use Rattle.emu_model.specs.Events.{event_of, pipe_exits}
+use Rattle.packet_store.specs.Pocket.{Pocket}
+use Rattle.pipe_core.specs.Moves.{Keeps}
+use Rattle.pipe_table.specs.Table.{Table, with_pipes, pipe_keys, drops_by_deletion}
+use Rattle.traffic.specs.Kept.{KeptTraffic, with_traffic}
+use Rattle.pipe_instance.specs.Uses.{uses}
+use Rattle.network.specs.Kept.{KeptNet, net_of, line_keys, net_keys, IsHoused}
+use Rattle.network.specs.Changes.{Becomes, IsStill, Notes, Obeys}
+use Rattle.network.proofs.Steps.{shown-as, notes-becomes, follow, still-becomes, still-housed, noted-none, pipes-become}
+
+pub weaker : (m : Net) (p q : Pocket) (x y : KeptNet) → Becomes 0 m p q x y → Becomes 1 m p q x y
+weaker m p q x y b = record { shown = b.shown; housed = b.housed; budget = b.budget; seed = b.seed; made = omega (arith, b.made) }
+
+-- a change from a net that is still the same
+pub from_still : (f : Net → Net) (c : ℕ) (p q : Pocket) (x y z : KeptNet) → IsHoused p x → IsStill x y → Becomes c (f (net_of p y)) p q y z → Becomes c (f (net_of p x)) p q x z
+from_still f c p q x y z h s b = follow f 0 c c (net_of p x) p p q x y z (omega arith) (still-becomes p x y h s) b
+
+pub obeyed-done : (at : Setting) (k : ℕ) (c : Command) (m : Net) → refusal_of c m ≡ None → obey at k c m ≡ effect_of at c (note (CommandDone at.now k) m)
+obeyed-done at k c m e = ap (λ o. option_map_or (λ r. note (CommandRefused at.now k r) m) o (effect_of at c (note (CommandDone at.now k) m))) e
+
+pub obeyed-refused : (at : Setting) (k : ℕ) (c : Command) (m : Net) (r : Refusal) → refusal_of c m ≡ Some r → obey at k c m ≡ note (CommandRefused at.now k r) m
+obeyed-refused at k c m r e = ap (λ o. option_map_or (λ r. note (CommandRefused at.now k r) m) o (effect_of at c (note (CommandDone at.now k) m))) e
+
+pub refuse-obeys : (at : Setting) (k : ℕ) (c : Command) (r : Refusal) (n new : KeptNet) → ((p : Pocket) → refusal_of c (net_of p n) ≡ Some r) →
+    Notes (CommandRefused at.now k r ∷ []) n new → Obeys at k c n new
+refuse-obeys at k c r n new why notes p h =
+    shown-as 1 (note_all (CommandRefused at.now k r ∷ []) (net_of p n)) (obey at k c (net_of p n)) p p n new (sym (obeyed-refused at k c (net_of p n) r (why p)))
+    (weaker (note_all (CommandRefused at.now k r ∷ []) (net_of p n)) p p n new (notes-becomes p (CommandRefused at.now k r ∷ []) n new h notes))
+
+-- a change within the net, and then it is recorded that the command is done
+pub record Works (at : Setting) (k : ℕ) (c : Command) (n mid : KeptNet) : Type 0 where
+  pub moved : (p : Pocket) → effect_of at c (note (CommandDone at.now k) (net_of p n)) ≡ note (CommandDone at.now k) (net_of p mid)
+  pub line : mid.direct ≡ n.direct
+  pub keys : pipe_keys mid.table.pipes ≡ pipe_keys n.table.pipes
+  pub seed : mid.table.seed ≡ n.table.seed
+  pub made : mid.made ≡ n.made
+
+pub done-obeys : (at : Setting) (k : ℕ) (c : Command) (n mid new : KeptNet) → ((p : Pocket) → refusal_of c (net_of p n) ≡ None) →
+    Works at k c n mid → Notes (CommandDone at.now k ∷ []) mid new → Obeys at k c n new
+done-obeys at k c n mid new why w notes p h =
+    let keys : net_keys mid ≡ net_keys n = λ i. line_keys (w.line i).line ++ w.keys i in
+    let housed : IsHoused p mid = record { each = λ j. ap (uses j) keys ∙ h.each j; count = h.count ∙ ap (λ ks. length ks) (sym keys) } in
+    let b = notes-becomes p (CommandDone at.now k ∷ []) mid new housed notes in
+    record {
+      shown = b.shown ∙ sym (w.moved p) ∙ sym (obeyed-done at k c (net_of p n) (why p));
+      housed = b.housed;
+      budget = refl;
+      seed = b.seed ∙ w.seed;
+      made = omega (arith, b.made, w.made);
+    }
+
+module _ (at : Setting) (k : ℕ) (n new : KeptNet) where
+  pub add-done : (r : Rule) (b : RuleBook) → b ≡ book_with r n.book → add_refusal r n.book ≡ None →
+      Notes (CommandDone at.now k ∷ []) (record n { book = b }) new → Obeys at k (Add r) n new
+  add-done r b is why notes = done-obeys at k (Add r) n (record n { book = b }) new (λ p. why)
+      (record { moved = λ p i. record (note (CommandDone at.now k) (net_of p n)) { book = sym is i }; line = refl; keys = refl; seed = refl; made = refl }) notes
+
+  pub add-refused : (r : Rule) (b : RuleBook) (why : Refusal) → b ≡ n.book → add_refusal r n.book ≡ Some why →
+      Notes (CommandRefused at.now k why ∷ []) (record n { book = b }) new → Obeys at k (Add r) n new
+  add-refused r b why is e notes = refuse-obeys at k (Add r) why n new (λ p. e)
+      (subst (λ x. Notes (CommandRefused at.now k why ∷ []) (record n { book = x }) new) is notes)
+
+  pub delete-done : (j : ℕ) (b : RuleBook) → b ≡ book_without j n.book → delete_refusal j n.book ≡ None →
+      Notes (CommandDone at.now k ∷ []) (record n { book = b }) new → Obeys at k (Delete j) n new
+  delete-done j b is why notes = done-obeys at k (Delete j) n (record n { book = b }) new (λ p. why)
+      (record { moved = λ p i. record (note (CommandDone at.now k) (net_of p n)) { book = sym is i }; line = refl; keys = refl; seed = refl; made = refl }) notes
+
+  pub delete-refused : (j : ℕ) (b : RuleBook) (why : Refusal) → b ≡ n.book → delete_refusal j n.book ≡ Some why →
+      Notes (CommandRefused at.now k why ∷ []) (record n { book = b }) new → Obeys at k (Delete j) n new
+  delete-refused j b why is e notes = refuse-obeys at k (Delete j) why n new (λ p. e)
+      (subst (λ x. Notes (CommandRefused at.now k why ∷ []) (record n { book = x }) new) is notes)
+
+  pub config-done : (j : ℕ) (config : PipeConfig) (t : Table) → ((p : Pocket) (m : Net) → configure j config (with_pipes p n.table m) ≡ with_pipes p t m) →
+      ((p : Pocket) (m : Net) → config_refusal j config (with_pipes p n.table m) ≡ None) →
+      pipe_keys t.pipes ≡ pipe_keys n.table.pipes → t.seed ≡ n.table.seed →
+      Notes (CommandDone at.now k ∷ []) (record n { table = t }) new → Obeys at k (Config j config) n new
+  config-done j config t moved why keys seed notes = done-obeys at k (Config j config) n (record n { table = t }) new (λ p. why p (net_of p n))
+      (record { moved = λ p. moved p (note (CommandDone at.now k) (net_of p n)); line = refl; keys = keys; seed = seed; made = refl }) notes
+
+  pub config-refused : (j : ℕ) (config : PipeConfig) (t : Table) (r : Refusal) → t ≡ n.table →
+      ((p : Pocket) (m : Net) → config_refusal j config (with_pipes p n.table m) ≡ Some r) →
+      Notes (CommandRefused at.now k r ∷ []) (record n { table = t }) new → Obeys at k (Config j config) n new
+  config-refused j config t r is why notes = refuse-obeys at k (Config j config) r n new (λ p. why p (net_of p n))
+      (subst (λ x. Notes (CommandRefused at.now k r ∷ []) (record n { table = x }) new) is notes)
+
+  pub traffic-done : (c : Command) (t : KeptTraffic) → ((p : Pocket) → refusal_of c (net_of p n) ≡ None) →
+      ((m : Net) → effect_of at c (with_traffic n.traffic m) ≡ with_traffic t m) →
+      Notes (CommandDone at.now k ∷ []) (record n { traffic = t }) new → Obeys at k c n new
+  traffic-done c t why moved notes = done-obeys at k c n (record n { traffic = t }) new why
+      (record { moved = λ p. moved (note (CommandDone at.now k) (net_of p n)); line = refl; keys = refl; seed = refl; made = refl }) notes
+
+  pub pass-done : (b : Bool) → Notes (CommandDone at.now k ∷ []) (record n { one_pass = b }) new → Obeys at k (OnePass b) n new
+  pass-done b notes = done-obeys at k (OnePass b) n (record n { one_pass = b }) new (λ p. refl)
+      (record { moved = λ p. refl; line = refl; keys = refl; seed = refl; made = refl }) notes
+
+  pub end-done : Notes (CommandDone at.now k ∷ []) n new → Obeys at k End n new
+  end-done notes = done-obeys at k End n n new (λ p. refl)
+      (record { moved = λ p. refl; line = refl; keys = refl; seed = refl; made = refl }) notes
+
+-- it is recorded that the command is done, and then lines are listed
+pub listed-obeys : (at : Setting) (k : ℕ) (c : Command) (n mid new : KeptNet) (rs : Pocket → List Record) → ((p : Pocket) → refusal_of c (net_of p n) ≡ None) →
+    ((p : Pocket) → effect_of at c (note (CommandDone at.now k) (net_of p n)) ≡ note_all (rs p) (note (CommandDone at.now k) (net_of p n))) →
+    Notes (CommandDone at.now k ∷ []) n mid → ((p : Pocket) → Notes (rs p) mid new) → Obeys at k c n new
+listed-obeys at k c n mid new rs why effect done listed p h =
+    let a = notes-becomes p (CommandDone at.now k ∷ []) n mid h done in
+    let b = notes-becomes p (rs p) mid new a.housed (listed p) in
+    shown-as 1 (note_all (rs p) (note_all (CommandDone at.now k ∷ []) (net_of p n))) (obey at k c (net_of p n)) p p n new
+    (sym (effect p) ∙ sym (obeyed-done at k c (net_of p n) (why p)))
+    (follow (note_all (rs p)) 0 0 1 (note_all (CommandDone at.now k ∷ []) (net_of p n)) p p p n mid new (omega arith) a b)
+
+-- a packet is injected
+pub injected : (at : Setting) (k : ℕ) (send : SendSpec) (p q : Pocket) (n mid last new : KeptNet) → IsHoused p n → IsStill n mid →
+    Notes (CommandDone at.now k ∷ []) mid last → Becomes 1 (make at Plain send (net_of p last)) p q last new → Becomes 1 (obey at k (Inject send) (net_of p n)) p q n new
+injected at k send p q n mid last new h still done made =
+    let a = notes-becomes p (CommandDone at.now k ∷ []) mid last (still-housed p n mid h still) done in
+    from_still (λ m. make at Plain send (note (CommandDone at.now k) m)) 1 p q n mid new h still
+    (follow (λ m. make at Plain send m) 0 1 1 (note_all (CommandDone at.now k ∷ []) (net_of p mid)) p p q mid last new (omega arith) a made)
+
+none-from : {A : Type 0} (o : Option A) → is_some o ≡ false → o ≡ None
+none-from None e = refl
+none-from (Some x) e = absurd (cc)
+
+-- a pipe is deleted
+module _ (at : Setting) (k j : ℕ) (p q : Pocket) (n : KeptNet) (t : Table) (h : IsHoused p n)
+    (keeps : Keeps p q (pipe_keys n.table.pipes) (pipe_keys t.pipes)) (seed : t.seed ≡ n.table.seed) where
+  pub deleted : (gone : List Packet) (mid new : KeptNet) →
+      ((now : ℕ) (m : Net) → option_map_or (delete_pipe now j (with_pipes p n.table m)) (find_pipe j (with_pipes p n.table m)) (with_pipes p n.table m)
+      ≡ note_drops now (drops_by_deletion (Some gone)) (with_pipes q t m)) →
+      ((m : Net) → true ≡ is_some (find_pipe j (with_pipes p n.table m))) →
+      Notes (CommandDone at.now k ∷ []) (record n { table = t }) mid → Notes (map (drop_record at.now) (drops_by_deletion (Some gone))) mid new →
+      Becomes 1 (obey at k (PipeDelete j) (net_of p n)) p q n new
+  deleted gone mid new ok there done drops =
+      let d = note (CommandDone at.now k) (net_of p n) in
+      let b0 = pipes-become p q n t h keeps seed in
+      let b1 = follow (note_all (CommandDone at.now k ∷ [])) 0 0 0 (with_pipes q t (net_of p n)) p q q n (record n { table = t }) mid (omega arith) b0
+      (notes-becomes q (CommandDone at.now k ∷ []) (record n { table = t }) mid b0.housed done) in
+      let b2 = follow (note_all (map (drop_record at.now) (drops_by_deletion (Some gone)))) 0 0 1 (note_all (CommandDone at.now k ∷ []) (with_pipes q t (net_of p n))) p q q n mid new (omega arith) b1
+      (notes-becomes q (map (drop_record at.now) (drops_by_deletion (Some gone))) mid new b1.housed drops) in
+      shown-as 1 (note_all (map (drop_record at.now) (drops_by_deletion (Some gone))) (note_all (CommandDone at.now k ∷ []) (with_pipes q t (net_of p n)))) (obey at k (PipeDelete j) (net_of p n)) p q n new
+      (sym (ok at.now d) ∙ sym (obeyed-done at k (PipeDelete j) (net_of p n) (ap (λ (b : Bool). cond b None (Some NoSuchPipe)) (sym (there (net_of p n)))))) b2
+
+  pub not-deleted : (new : KeptNet) →
+      ((now : ℕ) (m : Net) → option_map_or (delete_pipe now j (with_pipes p n.table m)) (find_pipe j (with_pipes p n.table m)) (with_pipes p n.table m)
+      ≡ note_drops now (drops_by_deletion None) (with_pipes q t m)) →
+      ((m : Net) → false ≡ is_some (find_pipe j (with_pipes p n.table m))) →
+      Notes (CommandRefused at.now k NoSuchPipe ∷ []) (record n { table = t }) new →
+      Becomes 1 (obey at k (PipeDelete j) (net_of p n)) p q n new
+  not-deleted new ok there refused =
+      let b0 = pipes-become p q n t h keeps seed in
+      let none : find_pipe j (net_of p n) ≡ None = none-from (find_pipe j (net_of p n)) (sym (there (net_of p n))) in
+      let same : with_pipes q t (net_of p n) ≡ net_of p n =
+      sym (noted-none (with_pipes q t (net_of p n))) ∙ sym (ok at.now (net_of p n))
+      ∙ ap (λ o. option_map_or (delete_pipe at.now j (net_of p n)) o (net_of p n)) none in
+      let b1 = follow (note_all (CommandRefused at.now k NoSuchPipe ∷ [])) 0 0 1 (with_pipes q t (net_of p n)) p q q n (record n { table = t }) new (omega arith) b0
+      (notes-becomes q (CommandRefused at.now k NoSuchPipe ∷ []) (record n { table = t }) new b0.housed refused) in
+      shown-as 1 (note_all (CommandRefused at.now k NoSuchPipe ∷ []) (with_pipes q t (net_of p n))) (obey at k (PipeDelete j) (net_of p n)) p q n new
+      (ap (note_all (CommandRefused at.now k NoSuchPipe ∷ [])) same
+      ∙ sym (obeyed-refused at k (PipeDelete j) (net_of p n) NoSuchPipe (ap (λ (b : Bool). cond b None (Some NoSuchPipe)) (sym (there (net_of p n)))))) b1
+
+-- a change from a net that is still the same, over the same pocket, seen from within
+pub from_ready : (f : Net → Net) (c : ℕ) (o p q : Pocket) (old mid n new : KeptNet) → IsHoused o old → IsStill old mid → p ≡ o → n ≡ mid →
+    Becomes c (f (net_of p n)) p q n new → Becomes c (f (net_of o old)) o q old new
+from_ready f c o p q old mid n new h still same is b =
+    from_still f c o q old mid new h still
+    (subst (λ (m : KeptNet). Becomes c (f (net_of o m)) o q m new) is
+    (subst (λ (x : Pocket). Becomes c (f (net_of x n)) x q n new) same b))
+
+pub ready-housed : (o p : Pocket) (old mid n : KeptNet) → IsHoused o old → IsStill old mid → p ≡ o → n ≡ mid → IsHoused p n
+ready-housed o p old mid n h still same is =
+    subst (λ (x : Pocket). IsHoused x n) (sym same) (subst (λ (m : KeptNet). IsHoused o m) (sym is) (still-housed o old mid h still))
+
+pub ready-shown : (o p : Pocket) (old mid n : KeptNet) → IsStill old mid → p ≡ o → n ≡ mid → net_of p n ≡ net_of o old
+ready-shown o p old mid n still same is = (λ i. net_of (same i) (is i)) ∙ still.shown o
+
+-- an event by its source
+pub event-exit : (at : Setting) (k : ℕ) (m : Net) → (k ≡ 0 → ⊥) → event_of at Exit k m ≡ option_map_or (pipe_exits at (k / 256) (k % 256) m) (find_pipe (k / 256) m) m
+event-exit at zero m h = absurd (h refl)
+event-exit at (suc k) m h = refl

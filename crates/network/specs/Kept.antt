@@ -1,0 +1,62 @@
+-- What is kept of an experiment's rules, pipes and sources, and the net that it shows.
+use Rattle.std.specs.Prelude.{◌≡◌, ℕ, ◌*◌, ◌^◌, ◌<◌, ◌≤◌, Bool, List, ◌++◌, map, length}
+use Rattle.emu_model.specs.Rules.{RuleBook}
+use Rattle.emu_model.specs.Delay.{Line}
+use Rattle.emu_model.specs.Net.{Net, Setting}
+use Rattle.link_core.specs.Lane.{Lane}
+use Rattle.packet_store.specs.Pocket.{Pocket}
+use Rattle.pipe_instance.specs.Keyed.{seen_line}
+use Rattle.pipe_instance.specs.Uses.{uses}
+use Rattle.pipe_core.specs.Moves.{packet_at, found}
+use Rattle.pipe_table.specs.Table.{Table, seen_pipes, pipe_keys}
+use Rattle.record_log.specs.Log.{Log}
+use Rattle.traffic.specs.Kept.{KeptTraffic, states_of}
+use Rattle.network.specs.declared.state.Moment.{Moment}
+
+-- the rules, the pipes, the link of `allow` with its packets' keys, the flows and trains, how many
+-- packets were made, whether one that leaves a pipe is delivered at once, and what was recorded
+pub record KeptNet : Type 0 where
+  pub book : RuleBook
+  pub table : Table
+  pub direct : Lane ℕ
+  pub traffic : KeptTraffic
+  pub made : ℕ
+  pub one_pass : Bool
+  pub log : Log
+
+-- the net that is shown over an owner's packets
+abbrev pub net_of : Pocket → KeptNet → Net
+net_of p n = record {
+  book = n.book;
+  pipes = seen_pipes (packet_at p.find) n.table.pipes;
+  direct = seen_line (packet_at p.find) n.direct.line;
+  flows = states_of n.traffic.flows;
+  trains = n.traffic.trains;
+  made = n.made;
+  one_pass = n.one_pass;
+  records = n.log.records;
+}
+
+-- the keys that stand in a delay line, from its front
+abbrev pub line_keys : Line ℕ → List ℕ
+line_keys l = map (λ x. x.item) l.flight
+
+-- the keys that stand in the link of `allow`, and in the pipes
+abbrev pub net_keys : KeptNet → List ℕ
+net_keys n = line_keys n.direct.line ++ pipe_keys n.table.pipes
+
+-- the owner's packets are just those that the keys name, each once
+pub record IsHoused (p : Pocket) (n : KeptNet) : Type 0 where
+  pub each : (k : ℕ) → uses k (net_keys n) ≡ found (p.find k)
+  pub count : p.count ≡ length (net_keys n)
+
+-- a moment as the definitions have it
+abbrev pub setting_of : Moment → Setting
+setting_of at = record { seed = at.seed; room = at.room; now = at.now }
+
+-- a net at a moment at which an event may come
+pub record Stands (at : Moment) (p : Pocket) (n : KeptNet) : Type 0 where
+  pub early : at.now < 2 * 10 ^ 15
+  pub seed : at.seed ≡ n.table.seed
+  pub room : at.room ≤ p.budget
+  pub housed : IsHoused p n

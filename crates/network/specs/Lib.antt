@@ -1,0 +1,4 @@
+pub mod Kept
+pub mod Changes
+pub mod Ready
+pub mod Due

@@ -1,0 +1,356 @@
+//! What commands do.
+
+ghost use Rattle.std.specs.Prelude.{◌≡◌, ◌≢◌, ℕ, ◌+◌, ◌*◌, ◌^◌, ◌<◌, ◌≤◌, ◌++◌, ◌∷◌, [], Some, None, OnOk, OnErr, map, length};
+ghost use Rattle.emu_model.specs.declared.commands.Command.TheVariants.{Add, Delete, Config, PipeDelete, PipeShow, Show, Inject, Train, Flow, Stop, OnePass, End};
+ghost use Rattle.emu_model.specs.declared.records.Record.TheVariants.{CommandDone, CommandRefused, RuleLine};
+ghost use Rattle.emu_model.specs.Commands.{obey as obeyed};
+ghost use Rattle.network.specs.Kept.{net_of, setting_of, Stands};
+ghost use Rattle.network.specs.Changes.{Becomes, IsStill, Notes, Obeys};
+
+use crate::events::MOST_RECORDS;
+use crate::state::{Moment, Network};
+use emu_model::{
+    Command, DropCause, FlowNumber, FlowSpec, Load, PipeConfig, PipeNumber, Record, Refusal, Rule,
+    RuleNumber, SendSpec, TrainSpec,
+};
+use emu_rules::{AddError, CountedRule};
+use packet_store::{Owner, Shelf};
+use pipe_table::ConfigureError;
+use queue_disc::NoMemory;
+use record_log::RecordLog;
+use traffic::Sending;
+
+impl Network {
+    /// A command comes, which has this number: it is done, or refused, and either is recorded. Each
+    /// growth comes first: where memory is refused, only room has changed. After it there is room for
+    /// one record more.
+    pub fn obey<S: Shelf>(
+        &mut self,
+        shelf: &mut S,
+        owner: Owner,
+        at: Moment,
+        number: u64,
+        command: &Command,
+    ) -> Result<(), NoMemory>
+        requires stands { Stands at (S.pocket shelf.old owner) self.old }
+        requires made { self.old.made < 2 ^ 63 }
+        ensures ok { OnOk result (Becomes 1 (obeyed (setting_of at) number command.now (net_of (S.pocket shelf.old owner) self.old))
+            (S.pocket shelf.old owner) (S.pocket shelf.new owner) self.old self.new) }
+        ensures room { OnOk result (0 < self.new.log.spare) }
+        ensures refused { OnErr result (IsStill self.old self.new) }
+        ensures refused_pocket { OnErr result (S.pocket shelf.new owner ≡ S.pocket shelf.old owner) }
+        ensures others { (o : ℕ) → o ≢ owner → S.pocket shelf.new o ≡ S.pocket shelf.old o }
+    {
+        self.reserve(MOST_RECORDS)?;
+        match *command {
+            Command::PipeDelete(pipe) => {
+                return self.delete_pipe(shelf, owner, at, number, pipe);
+            }
+            Command::Inject(send) => return self.inject(shelf, owner, at, number, &send),
+            Command::Add(rule) => return self.add(at, number, &rule),
+            Command::Delete(rule) => return self.delete(at, number, rule),
+            Command::Config { pipe, config } => return self.configure(at, number, pipe, &config),
+            Command::PipeShow => return self.show_pipes(at, number),
+            Command::Show => return self.show_rules(at, number),
+            Command::Train {
+                number: source,
+                train,
+            } => return self.start_train(at, number, source, &train),
+            Command::Flow {
+                number: source,
+                flow,
+            } => return self.start_flow(at, number, source, &flow),
+            Command::Stop(flow) => return self.stop(at, number, flow),
+            Command::OnePass(one_pass) => return self.set_one_pass(at, number, one_pass),
+            Command::End => return self.end(at, number),
+        }
+    }
+
+    // Records that a command is done.
+    fn done(&mut self, now: u64, number: u64)
+        requires { 0 < self.old.log.spare }
+        ensures { Notes (CommandDone now number ∷ []) self.old self.new }
+    {
+        self.note(&Record::CommandDone {
+            moment: now,
+            command: number,
+        });
+    }
+
+    // Records that a command is refused.
+    fn refuse(&mut self, now: u64, number: u64, refusal: Refusal)
+        requires { 0 < self.old.log.spare }
+        ensures { Notes (CommandRefused now number refusal ∷ []) self.old self.new }
+    {
+        self.note(&Record::CommandRefused {
+            moment: now,
+            command: number,
+            refusal,
+        });
+    }
+
+    // A rule is added.
+    fn add(&mut self, at: Moment, number: u64, rule: &Rule) -> Result<(), NoMemory>
+        requires { 1 < self.old.log.spare }
+        ensures ok { OnOk result (Obeys (setting_of at) number (Add rule.now) self.old self.new) }
+        ensures room { OnOk result (0 < self.new.log.spare) }
+        ensures refused { OnErr result (IsStill self.old self.new) }
+    {
+        match self.book.add(*rule) {
+            Ok(()) => {
+                self.done(at.now, number);
+                return Ok(());
+            }
+            Err(AddError::Refused(refusal)) => {
+                self.refuse(at.now, number, refusal);
+                return Ok(());
+            }
+            Err(AddError::NoMemory) => return Err(NoMemory),
+        }
+    }
+
+    // The rules of a number are deleted.
+    fn delete(&mut self, at: Moment, number: u64, rule: RuleNumber) -> Result<(), NoMemory>
+        requires { 1 < self.old.log.spare }
+        ensures ok { OnOk result (Obeys (setting_of at) number (Delete rule) self.old self.new) }
+        ensures room { OnOk result (0 < self.new.log.spare) }
+        ensures refused { OnErr result (IsStill self.old self.new) }
+    {
+        match self.book.delete(rule) {
+            Ok(()) => {
+                self.done(at.now, number);
+                return Ok(());
+            }
+            Err(refusal) => {
+                self.refuse(at.now, number, refusal);
+                return Ok(());
+            }
+        }
+    }
+
+    // A pipe is configured.
+    fn configure(
+        &mut self,
+        at: Moment,
+        number: u64,
+        pipe: PipeNumber,
+        config: &PipeConfig,
+    ) -> Result<(), NoMemory>
+        requires { 1 < self.old.log.spare }
+        ensures ok { OnOk result (Obeys (setting_of at) number (Config pipe config.now) self.old self.new) }
+        ensures room { OnOk result (0 < self.new.log.spare) }
+        ensures refused { OnErr result (IsStill self.old self.new) }
+    {
+        match self.table.configure(pipe, config) {
+            Ok(()) => {
+                self.done(at.now, number);
+                return Ok(());
+            }
+            Err(ConfigureError::Refused(refusal)) => {
+                self.refuse(at.now, number, refusal);
+                return Ok(());
+            }
+            Err(ConfigureError::NoMemory) => return Err(NoMemory),
+        }
+    }
+
+    // A pipe is deleted, and all that it held is dropped.
+    fn delete_pipe<S: Shelf>(
+        &mut self,
+        shelf: &mut S,
+        owner: Owner,
+        at: Moment,
+        number: u64,
+        pipe: PipeNumber,
+    ) -> Result<(), NoMemory>
+        requires { Stands at (S.pocket shelf.old owner) self.old }
+        ensures ok { OnOk result (Becomes 1 (obeyed (setting_of at) number (PipeDelete pipe) (net_of (S.pocket shelf.old owner) self.old))
+            (S.pocket shelf.old owner) (S.pocket shelf.new owner) self.old self.new) }
+        ensures room { OnOk result (0 < self.new.log.spare) }
+        ensures refused { OnErr result (IsStill self.old self.new) }
+        ensures refused_pocket { OnErr result (S.pocket shelf.new owner ≡ S.pocket shelf.old owner) }
+        ensures others { (o : ℕ) → o ≢ owner → S.pocket shelf.new o ≡ S.pocket shelf.old o }
+    {
+        self.reserve_besides(shelf.count(owner))?;
+        match self.table.delete(shelf, owner, pipe) {
+            Err(NoMemory) => return Err(NoMemory),
+            Ok(None) => {
+                self.refuse(at.now, number, Refusal::NoSuchPipe);
+                return Ok(());
+            }
+            Ok(Some(packets)) => {
+                self.done(at.now, number);
+                self.drop_all(at.now, &packets, DropCause::Deleted);
+                return Ok(());
+            }
+        }
+    }
+
+    // The pipes are listed.
+    fn show_pipes(&mut self, at: Moment, number: u64) -> Result<(), NoMemory>
+        ensures ok { OnOk result (Obeys (setting_of at) number PipeShow self.old self.new) }
+        ensures room { OnOk result (0 < self.new.log.spare) }
+        ensures refused { OnErr result (IsStill self.old self.new) }
+    {
+        let lines = self.table.lines();
+        self.reserve_besides(lines)?;
+        self.done(at.now, number);
+        self.table.show(&mut self.log);
+        Ok(())
+    }
+
+    // The rules are listed.
+    fn show_rules(&mut self, at: Moment, number: u64) -> Result<(), NoMemory>
+        ensures ok { OnOk result (Obeys (setting_of at) number Show self.old self.new) }
+        ensures room { OnOk result (0 < self.new.log.spare) }
+        ensures refused { OnErr result (IsStill self.old self.new) }
+    {
+        let lines = self.book.list().len();
+        self.reserve_besides(lines)?;
+        self.done(at.now, number);
+        note_rules(&mut self.log, self.book.list());
+        Ok(())
+    }
+
+    // A packet is made.
+    fn inject<S: Shelf>(
+        &mut self,
+        shelf: &mut S,
+        owner: Owner,
+        at: Moment,
+        number: u64,
+        send: &SendSpec,
+    ) -> Result<(), NoMemory>
+        requires stands { Stands at (S.pocket shelf.old owner) self.old }
+        requires made { self.old.made < 2 ^ 63 }
+        requires log { 2 < self.old.log.spare }
+        ensures ok { OnOk result (Becomes 1 (obeyed (setting_of at) number (Inject send.now) (net_of (S.pocket shelf.old owner) self.old))
+            (S.pocket shelf.old owner) (S.pocket shelf.new owner) self.old self.new) }
+        ensures room { OnOk result (0 < self.new.log.spare) }
+        ensures refused { OnErr result (IsStill self.old self.new) }
+        ensures refused_pocket { OnErr result (S.pocket shelf.new owner ≡ S.pocket shelf.old owner) }
+        ensures others { (o : ℕ) → o ≢ owner → S.pocket shelf.new o ≡ S.pocket shelf.old o }
+    {
+        let Ok(()) = shelf.put_ready(owner) else {
+            return Err(NoMemory);
+        };
+        self.make_ready(shelf, owner, at.now, send)?;
+        self.done(at.now, number);
+        let sending = plain_sending(send);
+        self.make(shelf, owner, at, &sending);
+        Ok(())
+    }
+
+    // A train begins.
+    fn start_train(
+        &mut self,
+        at: Moment,
+        number: u64,
+        source: FlowNumber,
+        train: &TrainSpec,
+    ) -> Result<(), NoMemory>
+        requires early { at.now < 2 * 10 ^ 15 }
+        requires log { 1 < self.old.log.spare }
+        ensures ok { OnOk result (Obeys (setting_of at) number (Train source train.now) self.old self.new) }
+        ensures room { OnOk result (0 < self.new.log.spare) }
+        ensures refused { OnErr result (IsStill self.old self.new) }
+    {
+        if let Some(refusal) = self.traffic.refusal(source) {
+            self.refuse(at.now, number, refusal);
+            return Ok(());
+        }
+        let Ok(()) = self.traffic.start_train(at.now, source, train) else {
+            return Err(NoMemory);
+        };
+        self.done(at.now, number);
+        Ok(())
+    }
+
+    // A flow begins.
+    fn start_flow(
+        &mut self,
+        at: Moment,
+        number: u64,
+        source: FlowNumber,
+        flow: &FlowSpec,
+    ) -> Result<(), NoMemory>
+        requires { 1 < self.old.log.spare }
+        ensures ok { OnOk result (Obeys (setting_of at) number (Flow source flow.now) self.old self.new) }
+        ensures room { OnOk result (0 < self.new.log.spare) }
+        ensures refused { OnErr result (IsStill self.old self.new) }
+    {
+        if let Some(reason) = self.traffic.refusal(source) {
+            self.refuse(at.now, number, reason);
+            return Ok(());
+        }
+        let Ok(()) = self.traffic.start_flow(source, flow) else {
+            return Err(NoMemory);
+        };
+        self.done(at.now, number);
+        Ok(())
+    }
+
+    // A flow is stopped.
+    fn stop(&mut self, at: Moment, number: u64, flow: FlowNumber) -> Result<(), NoMemory>
+        requires { 1 < self.old.log.spare }
+        ensures ok { OnOk result (Obeys (setting_of at) number (Stop flow) self.old self.new) }
+        ensures room { OnOk result (0 < self.new.log.spare) }
+        ensures refused { OnErr result (IsStill self.old self.new) }
+    {
+        if !self.traffic.has_flow(flow) {
+            self.refuse(at.now, number, Refusal::NoFlow);
+            return Ok(());
+        }
+        self.traffic.stop(flow);
+        self.done(at.now, number);
+        Ok(())
+    }
+
+    // Whether a packet that leaves a pipe is delivered at once is set.
+    fn set_one_pass(&mut self, at: Moment, number: u64, one_pass: bool) -> Result<(), NoMemory>
+        requires { 1 < self.old.log.spare }
+        ensures ok { OnOk result (Obeys (setting_of at) number (OnePass one_pass) self.old self.new) }
+        ensures room { OnOk result (0 < self.new.log.spare) }
+        ensures refused { OnErr result (IsStill self.old self.new) }
+    {
+        self.one_pass = one_pass;
+        self.done(at.now, number);
+        Ok(())
+    }
+
+    // The last command.
+    fn end(&mut self, at: Moment, number: u64) -> Result<(), NoMemory>
+        requires { 1 < self.old.log.spare }
+        ensures ok { OnOk result (Obeys (setting_of at) number End self.old self.new) }
+        ensures room { OnOk result (0 < self.new.log.spare) }
+        ensures refused { OnErr result (IsStill self.old self.new) }
+    {
+        self.done(at.now, number);
+        Ok(())
+    }
+}
+
+// A packet without a load that is to be made.
+fn plain_sending(send: &SendSpec) -> Sending
+    ensures { result ≡ record { load = Load.Plain; send = send.now } }
+{
+    Sending {
+        load: Load::Plain,
+        send: *send,
+    }
+}
+
+// Records a line for each rule.
+fn note_rules(log: &mut RecordLog, rules: &[CountedRule])
+    requires { length rules.now ≤ log.old.spare }
+    ensures records { log.new.records ≡ log.old.records ++ map (λ c. RuleLine c.rule c.packets c.bytes) rules.now }
+    ensures room { log.old.spare ≤ log.new.spare + length rules.now }
+{
+    for counted in rules {
+        log.note(&Record::RuleLine {
+            rule: counted.rule(),
+            packets: counted.packets(),
+            bytes: counted.bytes(),
+        });
+    }
+}

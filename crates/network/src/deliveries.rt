@@ -1,0 +1,165 @@
+//! What a delivered packet does.
+
+ghost use Rattle.std.specs.Prelude.{◌≡◌, ◌≢◌, ℕ, ◌+◌, ◌*◌, ◌^◌, ◌<◌, ◌≤◌, ◌∷◌, [], OnOk};
+ghost use Rattle.std.specs.Option.{option_map_or};
+ghost use Rattle.emu_model.specs.declared.packets.Load.TheVariants.{Plain, Seg, Ack};
+ghost use Rattle.emu_model.specs.Net.{deliver as delivered, find_flow, take_ack as acknowledged, take_load};
+ghost use Rattle.network.specs.Kept.{net_of, setting_of, Stands};
+ghost use Rattle.network.specs.Changes.{Becomes, IsStill, Turns};
+ghost use Rattle.network.specs.Ready.{CanDeliver};
+
+use crate::state::{Moment, Network};
+use emu_model::{FlowNumber, Load, Packet, Record};
+use packet_store::{Owner, Shelf};
+use queue_disc::NoMemory;
+
+impl Network {
+    // Makes the growths of delivering this load.
+    pub(crate) fn deliver_ready<S: Shelf>(
+        &mut self,
+        shelf: &mut S,
+        owner: Owner,
+        now: u64,
+        load: Load,
+    ) -> Result<(), NoMemory>
+        ensures still { IsStill self.old self.new }
+        ensures rest { self.new ≡ record self.old { table = self.new.table; direct = self.new.direct; traffic = self.new.traffic } }
+        ensures pockets { (o : ℕ) → S.pocket shelf.new o ≡ S.pocket shelf.old o }
+        ensures rooms { (o : ℕ) → S.room shelf.old o ≤ S.room shelf.new o }
+        ensures ready { OnOk result (CanDeliver load self.new) }
+    {
+        match load {
+            Load::Plain => return Ok(()),
+            Load::Ack { .. } => return Ok(()),
+            Load::Seg { flow, first } => {
+                return self.segment_ready(shelf, owner, now, flow, first);
+            }
+        }
+    }
+
+    // Makes the growths of delivering a segment.
+    fn segment_ready<S: Shelf>(
+        &mut self,
+        shelf: &mut S,
+        owner: Owner,
+        now: u64,
+        flow: FlowNumber,
+        first: u64,
+    ) -> Result<(), NoMemory>
+        ensures still { IsStill self.old self.new }
+        ensures rest { self.new ≡ record self.old { table = self.new.table; direct = self.new.direct; traffic = self.new.traffic } }
+        ensures pockets { (o : ℕ) → S.pocket shelf.new o ≡ S.pocket shelf.old o }
+        ensures rooms { (o : ℕ) → S.room shelf.old o ≤ S.room shelf.new o }
+        ensures ready { OnOk result (CanDeliver (Seg flow first) self.new) }
+    {
+        let Ok(()) = self.traffic.take_ready(flow, first) else {
+            return Err(NoMemory);
+        };
+        let Some(send) = self.traffic.reply(flow) else {
+            return Ok(());
+        };
+        self.make_ready(shelf, owner, now, &send)
+    }
+
+    // A packet is delivered.
+    pub(crate) fn deliver<S: Shelf>(
+        &mut self,
+        shelf: &mut S,
+        owner: Owner,
+        at: Moment,
+        packet: &Packet,
+    )
+        requires stands { Stands at (S.pocket shelf.old owner) self.old }
+        requires made { self.old.made < 2 ^ 63 }
+        requires room { 0 < S.room shelf.old owner }
+        requires log { 1 < self.old.log.spare }
+        requires ready { CanDeliver packet.now.load self.old }
+        ensures becomes { Becomes 1 (delivered (setting_of at) packet.now (net_of (S.pocket shelf.old owner) self.old))
+            (S.pocket shelf.old owner) (S.pocket shelf.new owner) self.old self.new }
+        ensures log { self.old.log.spare ≤ self.new.log.spare + 2 }
+        ensures others { (o : ℕ) → o ≢ owner → S.pocket shelf.new o ≡ S.pocket shelf.old o }
+    {
+        self.note(&Record::PacketDelivered {
+            moment: at.now,
+            packet: packet.number,
+            load: packet.load,
+        });
+        self.take_load(shelf, owner, at, packet.load);
+    }
+
+    // What a delivered load does.
+    fn take_load<S: Shelf>(&mut self, shelf: &mut S, owner: Owner, at: Moment, load: Load)
+        requires stands { Stands at (S.pocket shelf.old owner) self.old }
+        requires made { self.old.made < 2 ^ 63 }
+        requires room { 0 < S.room shelf.old owner }
+        requires log { 0 < self.old.log.spare }
+        requires ready { CanDeliver load self.old }
+        ensures becomes { Becomes 1 (take_load (setting_of at) load (net_of (S.pocket shelf.old owner) self.old))
+            (S.pocket shelf.old owner) (S.pocket shelf.new owner) self.old self.new }
+        ensures log { self.old.log.spare ≤ self.new.log.spare + 1 }
+        ensures others { (o : ℕ) → o ≢ owner → S.pocket shelf.new o ≡ S.pocket shelf.old o }
+    {
+        match load {
+            Load::Plain => return,
+            Load::Seg { flow, first } => {
+                self.take_segment(shelf, owner, at, flow, first);
+                return;
+            }
+            Load::Ack { flow, upto } => {
+                self.take_ack(at.now, flow, upto);
+                return;
+            }
+        }
+    }
+
+    // A flow's receiver takes a segment, and acknowledges it.
+    fn take_segment<S: Shelf>(
+        &mut self,
+        shelf: &mut S,
+        owner: Owner,
+        at: Moment,
+        flow: FlowNumber,
+        first: u64,
+    )
+        requires stands { Stands at (S.pocket shelf.old owner) self.old }
+        requires made { self.old.made < 2 ^ 63 }
+        requires room { 0 < S.room shelf.old owner }
+        requires log { 0 < self.old.log.spare }
+        requires ready { CanDeliver (Seg flow first) self.old }
+        ensures becomes { Becomes 1 (take_load (setting_of at) (Seg flow first) (net_of (S.pocket shelf.old owner) self.old))
+            (S.pocket shelf.old owner) (S.pocket shelf.new owner) self.old self.new }
+        ensures log { self.old.log.spare ≤ self.new.log.spare + 1 }
+        ensures others { (o : ℕ) → o ≢ owner → S.pocket shelf.new o ≡ S.pocket shelf.old o }
+    {
+        let answer = self.traffic.take(flow, first);
+        match answer {
+            Some(sending) => {
+                self.make(shelf, owner, at, &sending);
+                return;
+            }
+            None => return,
+        }
+    }
+
+    // A flow's sender takes an acknowledgement.
+    fn take_ack(&mut self, now: u64, flow: FlowNumber, upto: u64)
+        requires early { now < 2 * 10 ^ 15 }
+        requires log { 0 < self.old.log.spare }
+        ensures turns { Turns (λ n. option_map_or (acknowledged now upto n) (find_flow flow n) n) self.old self.new }
+        ensures log { self.old.log.spare ≤ self.new.log.spare + 1 }
+    {
+        let answer = self.traffic.take_ack(now, flow, upto);
+        match answer {
+            Some(window) => {
+                self.note(&Record::AckTaken {
+                    moment: now,
+                    flow,
+                    cwnd: window.cwnd,
+                    ssthresh: window.ssthresh,
+                });
+                return;
+            }
+            None => return,
+        }
+    }
+}

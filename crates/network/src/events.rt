@@ -1,0 +1,398 @@
+//! The events but the next command: exits, finishes, expiries and emissions.
+
+ghost use Rattle.std.specs.Prelude.{◌≡◌, ◌≢◌, ℕ, ◌+◌, ◌*◌, ◌/◌, ◌%◌, ◌^◌, ◌<◌, ◌≤◌, ◌∷◌, [], Some, None, OnOk, OnErr, IfSome, OnSome, option_and_then, map, length};
+ghost use Rattle.std.specs.Option.{option_map_or};
+ghost use Rattle.emu_model.specs.declared.packets.Packet.{Packet as Letter};
+ghost use Rattle.emu_model.specs.declared.sources.SendSpec.{SendSpec as Header};
+ghost use Rattle.emu_model.specs.Delay.{first_item, leave};
+ghost use Rattle.emu_model.specs.Net.{Net, drop_record, find_flow, find_pipe};
+ghost use Rattle.emu_model.specs.Events.{direct_exit as exits_direct, emission as emitted, event_of, expire_flow, flying_in, leave_pipe as leaves_pipe, pipe_exits, pipe_finishes};
+ghost use Rattle.network.specs.Kept.{net_of, setting_of, IsHoused, Stands};
+ghost use Rattle.network.specs.Changes.{Becomes, IsStill, Notes, Turns};
+ghost use Rattle.network.specs.Ready.{CanMake, CanDeliver, CanLeave};
+ghost use Rattle.network.specs.Due.{IsDue};
+ghost use Rattle.pipe_table.specs.Table.{IsFinishing, IsPipeNumber};
+ghost use Rattle.traffic.specs.Kept.{with_traffic, IsNumber};
+ghost use Rattle.traffic.specs.Sends.{IsEmitting, next_send};
+
+use crate::state::{Moment, Network};
+use emu_model::{Class, DropCause, Due, FlowNumber, Packet, PipeNumber, Record, SendSpec};
+use packet_store::{Owner, Shelf};
+use pipe_core::keys_say_all;
+use queue_disc::NoMemory;
+
+/// How many records an event makes at most, besides a line for each thing that is listed or dropped
+/// with others, and one that tells of the last step.
+pub(crate) const MOST_RECORDS: usize = 3;
+
+impl Network {
+    /// The event of something that is due now, as `earliest` told. Each growth comes first: refused,
+    /// only room has changed. After it there is room for one record more.
+    pub fn event<S: Shelf>(
+        &mut self,
+        shelf: &mut S,
+        owner: Owner,
+        at: Moment,
+        due: Due,
+    ) -> Result<(), NoMemory>
+        requires stands { Stands at (S.pocket shelf.old owner) self.old }
+        requires made { self.old.made < 2 ^ 63 }
+        requires due { IsDue due self.old }
+        requires now { due.moment ≡ at.now }
+        ensures ok { OnOk result (Becomes 1 (event_of (setting_of at) due.source.class due.source.number (net_of (S.pocket shelf.old owner) self.old))
+            (S.pocket shelf.old owner) (S.pocket shelf.new owner) self.old self.new) }
+        ensures room { OnOk result (0 < self.new.log.spare) }
+        ensures refused { OnErr result (IsStill self.old self.new) }
+        ensures refused_pocket { OnErr result (S.pocket shelf.new owner ≡ S.pocket shelf.old owner) }
+        ensures others { (o : ℕ) → o ≢ owner → S.pocket shelf.new o ≡ S.pocket shelf.old o }
+    {
+        self.reserve(MOST_RECORDS)?;
+        let number = due.source.number;
+        match due.source.class {
+            Class::NextCommand => return Ok(()),
+            Class::Exit => {
+                if number == 0 {
+                    return self.direct_exit(shelf, owner, at);
+                }
+                let pipe = pipe_number(number);
+                return self.pipe_exit(shelf, owner, at, pipe, (number % 256) as u8);
+            }
+            Class::Finish => {
+                let pipe = pipe_number(number);
+                return self.pipe_finish(shelf, owner, at, pipe, (number % 256) as u8);
+            }
+            Class::Expiry => {
+                let flow = flow_number(number);
+                self.expire(at, flow);
+                return Ok(());
+            }
+            Class::Emission => {
+                let source = flow_number(number);
+                return self.emission(shelf, owner, at, source);
+            }
+        }
+    }
+
+    // What leaves the link of `allow` first.
+    fn direct_front<S: Shelf>(&self, shelf: &S, owner: Owner) -> Option<Packet>
+        requires { IsHoused (S.pocket shelf.now owner) self.now }
+        ensures { result ≡ first_item (net_of (S.pocket shelf.now owner) self.now).direct.flight }
+    {
+        let Some(key) = self.direct.front() else {
+            return None;
+        };
+        shelf.look(owner, key)
+    }
+
+    // Makes the growths of an exit of the link of `allow`.
+    fn direct_ready<S: Shelf>(
+        &mut self,
+        shelf: &mut S,
+        owner: Owner,
+        now: u64,
+    ) -> Result<(), NoMemory>
+        requires { IsHoused (S.pocket shelf.old owner) self.old }
+        ensures still { IsStill self.old self.new }
+        ensures rest { self.new ≡ record self.old { table = self.new.table; direct = self.new.direct; traffic = self.new.traffic } }
+        ensures pockets { (o : ℕ) → S.pocket shelf.new o ≡ S.pocket shelf.old o }
+        ensures ready { OnOk result ((p : Letter) → first_item (net_of (S.pocket shelf.old owner) self.old).direct.flight ≡ Some p → CanDeliver p.load self.new) }
+    {
+        let Some(packet) = self.direct_front(shelf, owner) else {
+            return Ok(());
+        };
+        self.deliver_ready(shelf, owner, now, packet.load)
+    }
+
+    // The first packet under way leaves the link of `allow`.
+    fn leave_direct<S: Shelf>(&mut self, shelf: &mut S, owner: Owner) -> Option<Packet>
+        requires { IsHoused (S.pocket shelf.old owner) self.old }
+        ensures packet { result ≡ first_item (net_of (S.pocket shelf.old owner) self.old).direct.flight }
+        ensures becomes { let n = net_of (S.pocket shelf.old owner) self.old in
+            Becomes 0 (record n { direct = leave n.direct }) (S.pocket shelf.old owner) (S.pocket shelf.new owner) self.old self.new }
+        ensures rest { self.new ≡ record self.old { direct = self.new.direct } }
+        ensures spare { self.old.direct.spare ≤ self.new.direct.spare }
+        ensures freed { OnSome result (0 < S.room shelf.new owner) }
+        ensures others { (o : ℕ) → o ≢ owner → S.pocket shelf.new o ≡ S.pocket shelf.old o }
+    {
+        keys_say_all();
+        let key = self.direct.leave();
+        let Some(key) = key else {
+            return None;
+        };
+        let Some(packet) = shelf.take(owner, key) else {
+            unreachable!();
+        };
+        Some(packet)
+    }
+
+    // The first packet under way leaves the link of `allow`, and is delivered.
+    fn direct_exit<S: Shelf>(
+        &mut self,
+        shelf: &mut S,
+        owner: Owner,
+        at: Moment,
+    ) -> Result<(), NoMemory>
+        requires stands { Stands at (S.pocket shelf.old owner) self.old }
+        requires made { self.old.made < 2 ^ 63 }
+        requires log { 2 < self.old.log.spare }
+        ensures ok { OnOk result (Becomes 1 (exits_direct (setting_of at) (net_of (S.pocket shelf.old owner) self.old))
+            (S.pocket shelf.old owner) (S.pocket shelf.new owner) self.old self.new) }
+        ensures room { OnOk result (0 < self.new.log.spare) }
+        ensures refused { OnErr result (IsStill self.old self.new) }
+        ensures refused_pocket { OnErr result (S.pocket shelf.new owner ≡ S.pocket shelf.old owner) }
+        ensures others { (o : ℕ) → o ≢ owner → S.pocket shelf.new o ≡ S.pocket shelf.old o }
+    {
+        self.direct_ready(shelf, owner, at.now)?;
+        let Some(packet) = self.leave_direct(shelf, owner) else {
+            return Ok(());
+        };
+        self.deliver(shelf, owner, at, &packet);
+        Ok(())
+    }
+
+    // Makes the growths of a packet that leaves a pipe.
+    fn leave_ready<S: Shelf>(
+        &mut self,
+        shelf: &mut S,
+        owner: Owner,
+        now: u64,
+        packet: &Packet,
+    ) -> Result<(), NoMemory>
+        ensures still { IsStill self.old self.new }
+        ensures rest { self.new ≡ record self.old { table = self.new.table; direct = self.new.direct; traffic = self.new.traffic } }
+        ensures pockets { (o : ℕ) → S.pocket shelf.new o ≡ S.pocket shelf.old o }
+        ensures ready { OnOk result (CanLeave packet.now self.new) }
+    {
+        if self.one_pass {
+            return self.deliver_ready(shelf, owner, now, packet.load);
+        }
+        let verdict = self.book.find_after(packet.place, packet);
+        self.arrival_ready(shelf, owner, now, verdict, packet)
+    }
+
+    // Makes the growths of an exit of a pipe.
+    fn exit_ready<S: Shelf>(
+        &mut self,
+        shelf: &mut S,
+        owner: Owner,
+        now: u64,
+        pipe: PipeNumber,
+        instance: u8,
+    ) -> Result<(), NoMemory>
+        requires { IsHoused (S.pocket shelf.old owner) self.old }
+        ensures still { IsStill self.old self.new }
+        ensures rest { self.new ≡ record self.old { table = self.new.table; direct = self.new.direct; traffic = self.new.traffic } }
+        ensures pockets { (o : ℕ) → S.pocket shelf.new o ≡ S.pocket shelf.old o }
+        ensures ready { OnOk result ((p : Letter) → option_and_then (flying_in instance) (find_pipe pipe (net_of (S.pocket shelf.old owner) self.old)) ≡ Some p → CanLeave p self.new) }
+    {
+        let Some(packet) = self.table.front(shelf, owner, pipe, instance) else {
+            return Ok(());
+        };
+        self.leave_ready(shelf, owner, now, &packet)
+    }
+
+    // A packet has left an instance of a pipe: it is delivered, or goes on in the rules.
+    fn leave_pipe<S: Shelf>(
+        &mut self,
+        shelf: &mut S,
+        owner: Owner,
+        at: Moment,
+        pipe: PipeNumber,
+        instance: u8,
+        packet: &Packet,
+    )
+        requires stands { Stands at (S.pocket shelf.old owner) self.old }
+        requires made { self.old.made < 2 ^ 63 }
+        requires budget { (S.pocket shelf.old owner).count < (S.pocket shelf.old owner).budget }
+        requires room { 0 < S.room shelf.old owner }
+        requires log { 1 < self.old.log.spare }
+        requires ready { CanLeave packet.now self.old }
+        ensures becomes { Becomes 1 (leaves_pipe (setting_of at) pipe instance packet.now (net_of (S.pocket shelf.old owner) self.old))
+            (S.pocket shelf.old owner) (S.pocket shelf.new owner) self.old self.new }
+        ensures log { self.old.log.spare ≤ self.new.log.spare + 2 }
+        ensures others { (o : ℕ) → o ≢ owner → S.pocket shelf.new o ≡ S.pocket shelf.old o }
+    {
+        if self.one_pass {
+            self.deliver(shelf, owner, at, packet);
+            return;
+        }
+        self.note(&Record::PacketPassed {
+            moment: at.now,
+            packet: packet.number,
+            pipe,
+            instance,
+        });
+        self.go_on(shelf, owner, at, packet);
+    }
+
+    // The first packet under way leaves an instance of a pipe.
+    fn pipe_exit<S: Shelf>(
+        &mut self,
+        shelf: &mut S,
+        owner: Owner,
+        at: Moment,
+        pipe: PipeNumber,
+        instance: u8,
+    ) -> Result<(), NoMemory>
+        requires stands { Stands at (S.pocket shelf.old owner) self.old }
+        requires made { self.old.made < 2 ^ 63 }
+        requires log { 2 < self.old.log.spare }
+        ensures ok { let n = net_of (S.pocket shelf.old owner) self.old in
+            OnOk result (Becomes 1 (option_map_or (pipe_exits (setting_of at) pipe instance n) (find_pipe pipe n) n)
+            (S.pocket shelf.old owner) (S.pocket shelf.new owner) self.old self.new) }
+        ensures room { OnOk result (0 < self.new.log.spare) }
+        ensures refused { OnErr result (IsStill self.old self.new) }
+        ensures refused_pocket { OnErr result (S.pocket shelf.new owner ≡ S.pocket shelf.old owner) }
+        ensures others { (o : ℕ) → o ≢ owner → S.pocket shelf.new o ≡ S.pocket shelf.old o }
+    {
+        self.exit_ready(shelf, owner, at.now, pipe, instance)?;
+        let gone = self.table.exit(shelf, owner, pipe, instance);
+        let Some(packet) = gone else {
+            return Ok(());
+        };
+        self.leave_pipe(shelf, owner, at, pipe, instance, &packet);
+        Ok(())
+    }
+
+    // The packet in service in an instance of a pipe finishes.
+    fn pipe_finish<S: Shelf>(
+        &mut self,
+        shelf: &mut S,
+        owner: Owner,
+        at: Moment,
+        pipe: PipeNumber,
+        instance: u8,
+    ) -> Result<(), NoMemory>
+        requires stands { Stands at (S.pocket shelf.old owner) self.old }
+        requires due { IsFinishing pipe instance at.now self.old.table.pipes }
+        ensures ok { let n = net_of (S.pocket shelf.old owner) self.old in
+            OnOk result (Becomes 0 (option_map_or (pipe_finishes (setting_of at) pipe instance n) (find_pipe pipe n) n)
+            (S.pocket shelf.old owner) (S.pocket shelf.new owner) self.old self.new) }
+        ensures room { OnOk result (0 < self.new.log.spare) }
+        ensures refused { OnErr result (IsStill self.old self.new) }
+        ensures refused_pocket { OnErr result (S.pocket shelf.new owner ≡ S.pocket shelf.old owner) }
+        ensures others { (o : ℕ) → o ≢ owner → S.pocket shelf.new o ≡ S.pocket shelf.old o }
+    {
+        self.reserve_besides(shelf.count(owner))?;
+        let mut drops = Vec::new(self.alloc);
+        let finished = self
+            .table
+            .finish(shelf, owner, at.now, pipe, instance, &mut drops);
+        let Ok(packet) = finished else {
+            return Err(NoMemory);
+        };
+        self.note(&Record::PacketFinished {
+            moment: at.now,
+            packet: packet.number,
+            pipe,
+            instance,
+        });
+        self.drop_all(at.now, &drops, DropCause::Codel);
+        Ok(())
+    }
+
+    // Records that packets were dropped, in order.
+    pub(crate) fn drop_all(&mut self, now: u64, packets: &[Packet], cause: DropCause)
+        requires { length packets.now ≤ self.old.log.spare }
+        ensures { Notes (map (drop_record now) (map (λ p. record { packet = p; cause = cause }) packets.now)) self.old self.new }
+    {
+        for packet in packets {
+            self.drop_packet(now, packet, cause);
+        }
+    }
+
+    // A flow's timer came due.
+    fn expire(&mut self, at: Moment, flow: FlowNumber)
+        requires early { at.now < 2 * 10 ^ 15 }
+        requires log { 0 < self.old.log.spare }
+        ensures turns { Turns (λ n. option_map_or (expire_flow (setting_of at) n) (find_flow flow n) n) self.old self.new }
+        ensures log { self.old.log.spare ≤ self.new.log.spare + 1 }
+    {
+        let answer = self.traffic.expire(at.now, flow);
+        match answer {
+            Some(window) => {
+                self.note(&Record::TimerExpired {
+                    moment: at.now,
+                    flow,
+                    cwnd: window.cwnd,
+                    ssthresh: window.ssthresh,
+                });
+                return;
+            }
+            None => return,
+        }
+    }
+
+    // Makes the growths of a packet that a source sends.
+    fn emission_ready<S: Shelf>(
+        &mut self,
+        shelf: &mut S,
+        owner: Owner,
+        now: u64,
+        source: FlowNumber,
+    ) -> Result<(), NoMemory>
+        ensures still { IsStill self.old self.new }
+        ensures rest { self.new ≡ record self.old { table = self.new.table; direct = self.new.direct } }
+        ensures pockets { (o : ℕ) → S.pocket shelf.new o ≡ S.pocket shelf.old o }
+        ensures room { OnOk result ((S.pocket shelf.old owner).count < (S.pocket shelf.old owner).budget → 0 < S.room shelf.new owner) }
+        ensures ready { OnOk result ((send : Header) → ((m : Net) → next_send source (with_traffic self.old.traffic m) ≡ Some send) → CanMake send self.new) }
+    {
+        let Ok(()) = shelf.put_ready(owner) else {
+            return Err(NoMemory);
+        };
+        let Some(send) = self.traffic.next_send(source) else {
+            return Ok(());
+        };
+        self.make_ready(shelf, owner, now, &send)
+    }
+
+    // A source sends a packet.
+    fn emission<S: Shelf>(
+        &mut self,
+        shelf: &mut S,
+        owner: Owner,
+        at: Moment,
+        source: FlowNumber,
+    ) -> Result<(), NoMemory>
+        requires stands { Stands at (S.pocket shelf.old owner) self.old }
+        requires made { self.old.made < 2 ^ 63 }
+        requires log { 2 < self.old.log.spare }
+        requires may { IsEmitting source self.old.traffic }
+        ensures ok { OnOk result (Becomes 1 (emitted (setting_of at) source (net_of (S.pocket shelf.old owner) self.old))
+            (S.pocket shelf.old owner) (S.pocket shelf.new owner) self.old self.new) }
+        ensures room { OnOk result (0 < self.new.log.spare) }
+        ensures refused { OnErr result (IsStill self.old self.new) }
+        ensures refused_pocket { OnErr result (S.pocket shelf.new owner ≡ S.pocket shelf.old owner) }
+        ensures others { (o : ℕ) → o ≢ owner → S.pocket shelf.new o ≡ S.pocket shelf.old o }
+    {
+        self.emission_ready(shelf, owner, at.now, source)?;
+        let answer = self.traffic.emit(at.now, source);
+        let Some(sending) = answer else {
+            return Ok(());
+        };
+        self.make(shelf, owner, at, &sending);
+        Ok(())
+    }
+}
+
+// The pipe of an instance's number.
+fn pipe_number(number: u32) -> PipeNumber
+    requires { IsPipeNumber (number / 256) }
+    ensures { result ≡ number / 256 }
+{
+    let Some(pipe) = PipeNumber::new((number / 256) as u16) else {
+        unreachable!();
+    };
+    pipe
+}
+
+// The number of a flow or a train.
+fn flow_number(number: u32) -> FlowNumber
+    requires { IsNumber number }
+    ensures { result ≡ number }
+{
+    let Some(flow) = FlowNumber::new(number as u16) else {
+        unreachable!();
+    };
+    flow
+}

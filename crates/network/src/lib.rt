@@ -1,0 +1,16 @@
+//! What moves packets in one experiment: rules, pipes, the link of `allow`, flows and trains, and
+//! what is recorded. Own, in the words of ipfw(8).
+#![tactic(auto)]
+
+mod arrivals;
+mod commands;
+mod deliveries;
+mod dues;
+mod events;
+mod laws;
+mod state;
+#[cfg(test)]
+mod tests;
+
+pub use laws::still_is_housed;
+pub use state::{Moment, Network};

@@ -1,0 +1,118 @@
+//! What an experiment holds.
+
+ghost use Rattle.std.specs.Prelude.{◌≡◌, ℕ, ◌+◌, ◌<◌, ◌≤◌, ◌∷◌, [], IfOk, OnOk};
+ghost use Rattle.emu_model.specs.Net.{opening_net};
+ghost use Rattle.packet_store.specs.Pocket.{Pocket};
+ghost use Rattle.network.specs.Kept.{net_of, net_keys};
+ghost use Rattle.network.specs.Changes.{IsStill, Notes};
+
+use emu_model::{PacketBudget, Record};
+use emu_rules::RuleList;
+use link_core::DelayLine;
+use packet_store::Key;
+use pipe_table::PipeTable;
+use queue_disc::NoMemory;
+use record_log::RecordLog;
+use std::alloc::Global;
+use std::marker::Model;
+use traffic::Traffic;
+
+/// What an event knows besides: the experiment's seed, how many packets it may hold, and the
+/// moment (ns).
+#[derive(Clone, Copy)]
+pub struct Moment {
+    pub seed: u64,
+    pub room: PacketBudget,
+    pub now: u64,
+}
+
+/// Rules, pipes, the link of `allow`, flows and trains of one experiment, and what it recorded. Its
+/// packets stand on a shelf.
+#[derive(Drop)]
+pub struct Network {
+    pub(crate) alloc: Global,
+    pub(crate) book: RuleList,
+    pub(crate) table: PipeTable,
+    pub(crate) direct: DelayLine<Key>,
+    pub(crate) traffic: Traffic,
+    pub(crate) made: u64,
+    pub(crate) one_pass: bool,
+    pub(crate) log: RecordLog,
+}
+
+impl Model for Network {
+    ghost use Rattle.network.specs.Kept.{KeptNet};
+
+    ghost Value = { KeptNet };
+
+    ghost view = { λ n. record {
+      book = n.book;
+      table = n.table;
+      direct = n.direct;
+      traffic = n.traffic;
+      made = n.made;
+      one_pass = n.one_pass;
+      log = n.log;
+    } };
+}
+
+impl Network {
+    /// The default rule alone, and no packet yet.
+    #[tactic(auto, unfolding(pipe_table::specs::Table::pipe_keys))]
+    pub fn new(alloc: Global, seed: u64) -> Result<Self, NoMemory>
+        ensures shown { IfOk result (λ n. (p : Pocket) → net_of p n ≡ opening_net) }
+        ensures keys { IfOk result (λ n. net_keys n ≡ []) }
+        ensures seed { IfOk result (λ n. n.table.seed ≡ seed) }
+        ensures made { IfOk result (λ n. n.made ≡ 0) }
+    {
+        let Ok(book) = RuleList::new(alloc) else {
+            return Err(NoMemory);
+        };
+        Ok(Network {
+            alloc,
+            book,
+            table: PipeTable::new(alloc, seed),
+            direct: DelayLine::new(alloc),
+            traffic: Traffic::new(alloc),
+            made: 0,
+            one_pass: true,
+            log: RecordLog::new(alloc),
+        })
+    }
+
+    // Records one thing more, for which there is room.
+    pub(crate) fn note(&mut self, entry: &Record)
+        requires { 0 < self.old.log.spare }
+        ensures { Notes (entry.now ∷ []) self.old self.new }
+    {
+        self.log.note(entry);
+    }
+}
+
+impl Network {
+    // Makes room for so many records more.
+    pub(crate) fn reserve(&mut self, additional: usize) -> Result<(), NoMemory>
+        ensures rest { self.new ≡ record self.old { log = self.new.log } }
+        ensures records { self.new.log.records ≡ self.old.log.records }
+        ensures still { IsStill self.old self.new }
+        ensures ready { OnOk result (additional ≤ self.new.log.spare) }
+    {
+        if self.log.reserve(additional).is_err() {
+            return Err(NoMemory);
+        }
+        Ok(())
+    }
+
+    // Makes room for three records besides so many.
+    pub(crate) fn reserve_besides(&mut self, lines: usize) -> Result<(), NoMemory>
+        ensures rest { self.new ≡ record self.old { log = self.new.log } }
+        ensures records { self.new.log.records ≡ self.old.log.records }
+        ensures still { IsStill self.old self.new }
+        ensures ready { OnOk result (lines + 3 ≤ self.new.log.spare) }
+    {
+        let Some(additional) = lines.checked_add(3) else {
+            return Err(NoMemory);
+        };
+        self.reserve(additional)
+    }
+}
