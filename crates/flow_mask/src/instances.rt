@@ -61,6 +61,12 @@ impl Instances {
         ensures index { result ≡ position (same_flow id) self.now.ids }
         ensures found { is_some result ≡ list_any (same_flow id) self.now.ids }
     {
+        // The one instance of a pipe without a mask needs no hash.
+        if let Some(first) = self.ids.first()
+            && id == *first
+        {
+            return Some(0);
+        }
         let index = self.ids.get_index_of(&id)?;
         Some(index as u8)
     }

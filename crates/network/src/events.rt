@@ -20,6 +20,7 @@ use emu_model::{Class, DropCause, Due, FlowNumber, Packet, PipeNumber, Record, S
 use packet_store::{Owner, Shelf};
 use pipe_core::keys_say_all;
 use queue_disc::NoMemory;
+use std::mem;
 
 /// How many records an event makes at most, besides a line for each thing that is listed or dropped
 /// with others, and one that tells of the last step.
@@ -273,11 +274,36 @@ impl Network {
         ensures refused_pocket { OnErr result (S.pocket shelf.new owner ≡ S.pocket shelf.old owner) }
         ensures others { (o : ℕ) → o ≢ owner → S.pocket shelf.new o ≡ S.pocket shelf.old o }
     {
+        let mut drops = mem::replace(&mut self.drops, Vec::new(self.alloc));
+        let finished = self.finish_into(shelf, owner, at, pipe, instance, &mut drops);
+        self.drops = drops;
+        finished
+    }
+
+    // The same, with a list for what CoDel drops.
+    fn finish_into<S: Shelf>(
+        &mut self,
+        shelf: &mut S,
+        owner: Owner,
+        at: Moment,
+        pipe: PipeNumber,
+        instance: u8,
+        drops: &mut Vec<Packet>,
+    ) -> Result<(), NoMemory>
+        requires stands { Stands at (S.pocket shelf.old owner) self.old }
+        requires due { IsFinishing pipe instance at.now self.old.table.pipes }
+        ensures ok { let n = net_of (S.pocket shelf.old owner) self.old in
+            OnOk result (Becomes 0 (option_map_or (pipe_finishes (setting_of at) pipe instance n) (find_pipe pipe n) n)
+            (S.pocket shelf.old owner) (S.pocket shelf.new owner) self.old self.new) }
+        ensures room { OnOk result (0 < self.new.log.spare) }
+        ensures refused { OnErr result (IsStill self.old self.new) }
+        ensures refused_pocket { OnErr result (S.pocket shelf.new owner ≡ S.pocket shelf.old owner) }
+        ensures others { (o : ℕ) → o ≢ owner → S.pocket shelf.new o ≡ S.pocket shelf.old o }
+    {
         self.reserve_besides(shelf.count(owner))?;
-        let mut drops = Vec::new(self.alloc);
         let finished = self
             .table
-            .finish(shelf, owner, at.now, pipe, instance, &mut drops);
+            .finish(shelf, owner, at.now, pipe, instance, drops);
         let Ok(packet) = finished else {
             return Err(NoMemory);
         };
@@ -287,7 +313,7 @@ impl Network {
             pipe,
             instance,
         });
-        self.drop_all(at.now, &drops, DropCause::Codel);
+        self.drop_all(at.now, drops, DropCause::Codel);
         Ok(())
     }
 

@@ -6,7 +6,7 @@ ghost use Rattle.packet_store.specs.Pocket.{Pocket};
 ghost use Rattle.network.specs.Kept.{net_of, net_keys};
 ghost use Rattle.network.specs.Changes.{IsStill, Notes};
 
-use emu_model::{PacketBudget, Record};
+use emu_model::{Packet, PacketBudget, Record};
 use emu_rules::RuleList;
 use link_core::DelayLine;
 use packet_store::Key;
@@ -38,6 +38,8 @@ pub struct Network {
     pub(crate) made: u64,
     pub(crate) one_pass: bool,
     pub(crate) log: RecordLog,
+    // Room for what CoDel drops at a finish.
+    pub(crate) drops: Vec<Packet>,
 }
 
 impl Model for Network {
@@ -77,6 +79,7 @@ impl Network {
             made: 0,
             one_pass: true,
             log: RecordLog::new(alloc),
+            drops: Vec::new(alloc),
         })
     }
 

@@ -10,7 +10,7 @@ use Rattle.network.specs.Changes.{IsStill, Notes}
 use Rattle.network.proofs.Leaving.{finished}
 use Rattle.network.proofs.Obeying.{from_ready, ready-housed}
 use Rattle.network.proofs.Frame.{pipes-named}
-use Rattle.network.proofs.state.Network.pipe_finish.Goals as goal
+use Rattle.network.proofs.state.Network.finish_into.Goals as goal
 
 pub finish-finished-requires-clause-named : goal.finish-finished-requires-clause-named
 finish-finished-requires-clause-named g c =
