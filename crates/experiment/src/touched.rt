@@ -10,8 +10,9 @@ use queue_disc::NoMemory;
 impl Experiment {
     /// Puts into `sources`, in place of what it held, each source whose dues differ between those before
     /// the last step and `dues`, which is to be what is due now. May name others that have dues, and
-    /// one twice. `watch` has the dues before a step kept; without it there are none. Leaves `sources` as it was where memory is refused, and takes none where it has room
-    /// for as many as both lists have.
+    /// one twice. `watch` has the dues before a step kept; without it there are none. Leaves `sources`
+    /// as it was where memory is refused, and takes none where it has room for as many as both lists
+    /// have.
     pub fn touched(&self, dues: &[Due], sources: &mut Vec<Source>) -> Result<(), NoMemory>
         ensures covers { OnOk result (Covers self.now.before dues.now sources.new.items) }
         ensures no_other { OnOk result (NamesNoOther self.now.before dues.now sources.new.items) }

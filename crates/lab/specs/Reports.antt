@@ -50,7 +50,7 @@ Calls says read old new (Err faults.Read) = Keeps old new
 Calls says read old new (Err faults.Write) = WritesCut says read old new
 Calls says read old new (Err faults.Memory) = Keeps old new
 
--- a device is blamed only where it failed in the call
+-- a device is blamed only where it has noted a failure
 abbrev pub Blames : Bool → Bool → Result (Unit {0}) RunFault → Type 0
 Blames reader writer (Err faults.Read) = reader ≡ true
 Blames reader writer (Err faults.Write) = writer ≡ true
