@@ -11,3 +11,12 @@ mod PipeKeeping
 mod Conserved
 mod Numbers
 mod Single
+mod AllFacts
+mod Holding
+mod Ahead
+pub mod CallerLemmas
+mod PipeParts
+mod DueParts
+mod SourceDues
+mod Near
+mod Below

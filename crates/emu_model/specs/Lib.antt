@@ -17,4 +17,5 @@ pub mod Events
 pub mod Step
 pub mod Alone
 pub mod Laws
+pub mod DueLaws
 pub mod ComponentLaws

@@ -4,6 +4,7 @@
 
 mod commands;
 mod component_laws;
+mod due_laws;
 mod laws;
 mod packets;
 mod pipes;
@@ -12,12 +13,13 @@ mod records;
 mod rules;
 mod sources;
 
-pub use commands::{Budget, Command, Spec, Timed};
+pub use commands::{Budget, Command, Spec, Timed, command_in_range};
 pub use component_laws::{
     accepts_within_limit, codel_keeps_order, codel_spares_the_quick, control_step_is_greatest,
     exits_are_folded, exits_never_fall, finishes_are_folded, finishes_round_once,
     loss_has_its_extremes,
 };
+pub use due_laws::{dues_stay_ahead, dues_stay_below};
 pub use laws::{budget_ends, dues_differ, later_commands_wait, packets_add_up, records_grow};
 pub use packets::{Load, Packet, Place, Protocol};
 pub use pipes::{Discipline, Mask, PipeConfig, QueueLimit};
@@ -194,6 +196,28 @@ mod tests {
                 assert_eq!(rt; earlier.is_before(later), i < j, "{i} and {j}");
             }
         }
+    }
+
+    fn inject(size: Size) -> Command {
+        Command::Inject(SendSpec {
+            proto: Protocol::Udp,
+            src: 1,
+            sport: 2,
+            dst: 3,
+            dport: 4,
+            size,
+        })
+    }
+
+    // It reads what it tells the range of, and changes nothing.
+    #[test]
+    fn ranges_of_a_command_are_told(rt: HostRuntime) {
+        let Some(size) = Size::new(1500) else {
+            return assert!(rt; false, "1500 is a size");
+        };
+        let command = inject(size);
+        command_in_range(&command);
+        assert!(rt; command == inject(size));
     }
 
     #[test]
