@@ -1,5 +1,5 @@
 -- What the items on their way stand for.
-use Rattle.std.specs.Prelude.{List, map}
+use Rattle.std.specs.Prelude.{ℕ, zero, suc, List, [], ◌∷◌, map}
 use Rattle.emu_model.specs.Delay.{Leaving}
 use Rattle.link_core.specs.declared.delay.Underway.{Underway}
 
@@ -8,3 +8,9 @@ leaving_of u = record { item = u.item; exit = u.exit }
 
 abbrev pub flight_of : {A : Type 0} → List (Underway A) → List (Leaving A)
 flight_of us = map leaving_of us
+
+-- another item at a place; its exit stays
+abbrev pub with_item : {A : Type 0} → List (Leaving A) → ℕ → A → List (Leaving A)
+with_item [] place item = []
+with_item (x ∷ xs) zero item = record x { item = item } ∷ xs
+with_item (x ∷ xs) (suc place) item = x ∷ with_item xs place item

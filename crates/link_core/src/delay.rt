@@ -1,7 +1,8 @@
 //! A delay line (own): what has finished leaves after its delay, in order.
 
-ghost use Rattle.std.specs.Prelude.{◌≡◌, ◌+◌, ◌*◌, ◌^◌, ◌<◌, ◌≤◌, length, IsOk, OnOk, OnErr};
+ghost use Rattle.std.specs.Prelude.{◌≡◌, ◌+◌, ◌*◌, ◌^◌, ◌<◌, ◌≤◌, length, map, slice_get, IsOk, OnOk, OnErr};
 ghost use Rattle.emu_model.specs.Delay.{enter as entered, leave as left, empty_line, first_exit, first_item, delay_ns};
+ghost use Rattle.link_core.specs.Flight.{with_item};
 
 use emu_model::Delay;
 use std::alloc::{AllocError, Global};
@@ -99,7 +100,8 @@ impl<A: Drop> DelayLine<A> {
 
     /// How many items are on their way.
     pub fn flight(&self) -> usize
-        ensures { result ≡ length self.now.line.flight }
+        ensures flight { result ≡ length self.now.line.flight }
+        ensures fits { result < 2 ^ 63 }
     {
         self.flight.len()
     }
@@ -111,5 +113,25 @@ impl<A: Copy> DelayLine<A> {
         ensures { result ≡ first_item self.now.line.flight }
     {
         self.flight.front().map(|first| first.item)
+    }
+
+    /// The item on its way at a place, what leaves first at 0.
+    pub fn at(&self, place: usize) -> Option<A>
+        ensures { result ≡ slice_get (map (λ x. x.item) self.now.line.flight) place }
+    {
+        match self.flight.get(place) {
+            Some(underway) => Some(underway.item),
+            None => None,
+        }
+    }
+
+    /// Puts another item at a place, what leaves first at 0. Its exit stays. Takes no memory.
+    pub fn replace(&mut self, place: usize, item: A)
+        requires { place < length self.old.line.flight }
+        ensures { self.new ≡ record self.old {
+          line = record self.old.line { flight = with_item self.old.line.flight place item };
+        } }
+    {
+        self.flight[place].item = item;
     }
 }

@@ -94,3 +94,22 @@ fn refused_entries_change_nothing(rt: HostRuntime) -> Result<(), Fail> {
     }
     Ok(())
 }
+
+/// What is on its way stands at its place, and another item that is put there leaves at the same
+/// moment.
+#[test]
+fn items_are_replaced_in_place(rt: HostRuntime) -> Result<(), Fail> {
+    let mut line = DelayLine::new(rt.alloc());
+    assert_eq!(rt; line.at(0), None);
+    line.enter(1u8, 0, milliseconds(1)?)?;
+    line.enter(2u8, 0, milliseconds(2)?)?;
+    line.replace(1, 12);
+    assert_eq!(rt;
+        (line.at(0), line.at(1), line.at(2)),
+        (Some(1), Some(12), None)
+    );
+    line.replace(0, 11);
+    assert_eq!(rt; (line.due(), line.leave()), (Some(1_000_000), Some(11)));
+    assert_eq!(rt; (line.due(), line.leave()), (Some(2_000_000), Some(12)));
+    Ok(())
+}

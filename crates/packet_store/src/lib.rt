@@ -84,7 +84,8 @@ pub trait Shelf {
         ensures freed { OnSome result (0 < room self.new owner) }
         ensures below { OnSome result ((pocket self.new owner).count < (pocket self.new owner).budget) };
 
-    /// How many packets the owner has.
+    /// How many packets the owner has, which are never more than its budget.
     fn count(&self, owner: Owner) -> usize
-        ensures { result ≡ (pocket self.now owner).count };
+        ensures value { result ≡ (pocket self.now owner).count }
+        ensures within { result ≤ (pocket self.now owner).budget };
 }

@@ -1,12 +1,14 @@
 -- A shelf beside a pipe whose keys it names.
-use Rattle.std.proofs.Common.{◌≡◌, ℕ, List, [], refl, ap, ◌∙◌, sym, subst, arith}
-use Rattle.packet_store.specs.Pocket.{Pocket, empty_pocket}
+use Rattle.std.proofs.Common.{◌≡◌, ℕ, List, [], ◌∷◌, None, ap, ◌∙◌, sym, subst, arith}
+use Rattle.emu_model.specs.declared.packets.Packet.{Packet}
+use Rattle.packet_store.specs.Pocket.{Pocket, empty_pocket, with_packet}
 use Rattle.pipe_instance.proofs.UseCounts.{total-nil}
 use Rattle.pipe_instance.specs.Uses.{one_at}
 use Rattle.pipe_core.specs.declared.slot.Slot.{Slot}
 use Rattle.pipe_core.specs.Moves.{AreNamed, Keeps}
 use Rattle.pipe_core.specs.Keyed.{keys_of}
 use Rattle.pipe_core.proofs.KeyMoves.{AreNamed-kept}
+use Rattle.pipe_core.proofs.Rehousings.{Gives-put, AreNamed-given}
 use Rattle.pipe_core.proofs.PipeFacts.{keys_of-nil}
 
 pub bench_new : (p : Pocket) (slots : List Slot) (budget : ℕ) → p ≡ empty_pocket budget → slots ≡ [] →
@@ -20,3 +22,7 @@ bench_new p slots budget e none =
 pub bench_moves : (p q : Pocket) (old new : List ℕ) (budget : ℕ) → AreNamed p old × (p.budget ≡ budget) → Keeps p q old new →
     AreNamed q new × (q.budget ≡ budget)
 bench_moves p q old new budget n k = (AreNamed-kept p q old new n.0 k, k.budget ∙ n.1)
+
+-- a packet that was put is named
+pub bench_put : (p q : Pocket) (key : ℕ) (packet : Packet) → p.find key ≡ None → q ≡ with_packet p key packet → AreNamed q (key ∷ [])
+bench_put p q key packet none put = AreNamed-given p q (key ∷ []) (Gives-put p q key packet none put)

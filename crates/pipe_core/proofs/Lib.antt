@@ -10,3 +10,6 @@ pub mod TakeFacts
 pub mod Finishings
 pub mod FinishViews
 pub mod BenchFacts
+mod Halves
+mod SlotMoves
+pub mod Rehousings

@@ -2,3 +2,4 @@ pub mod Moves
 pub mod Keyed
 pub mod Steps
 pub mod Views
+pub mod Rehousing

@@ -3,12 +3,14 @@
 
 mod laws;
 mod pipe;
+mod rehouse;
 mod slot;
 mod takes;
 
 pub use laws::keys_say_all;
 pub use pipe::Pipe;
 pub use pipe_instance::{InstanceDues, Shown};
+pub use rehouse::rehouse_line;
 
 #[cfg(test)]
 mod tests;

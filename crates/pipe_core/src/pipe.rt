@@ -11,8 +11,10 @@ ghost use Rattle.emu_model.specs.Commands.{mask_refusal};
 ghost use Rattle.pipe_instance.specs.Keyed.{IsTuned};
 ghost use Rattle.pipe_core.specs.Moves.{AreNamed, Keeps};
 ghost use Rattle.pipe_core.specs.Keyed.{seen_pipe, view, shown_of, ids_of, keys_of};
+ghost use Rattle.pipe_core.specs.Rehousing.{Rehouses};
 ghost use Rattle.pipe_core.specs.Steps.{drops_of, drops_by_codel, IsGrown, HasRoomAt, HasRoomAtSlot, IsFreeAt, ComesAt, configured_slot};
 
+use crate::rehouse::rehouse_all;
 use crate::slot::Slot;
 use crate::takes::take_all;
 use emu_model::{DropCause, Packet, PipeConfig, PipeNumber, Refusal, Size};
@@ -348,6 +350,28 @@ impl Pipe {
         let slots = mem::replace(&mut self.slots, vacant);
         take_all(slots, shelf, owner, &mut gone);
         Ok(gone)
+    }
+
+    /// Moves all packets of the pipe from one shelf to another, which has room for them, and keeps the
+    /// keys that they have there. Takes no memory.
+    pub fn rehouse<S: Shelf, T: Shelf>(
+        &mut self,
+        from: &mut S,
+        owner: Owner,
+        to: &mut T,
+        other: Owner,
+    )
+        requires named { AreNamed (S.pocket from.old owner) (keys_of self.old.slots) }
+        requires budget { (T.pocket to.old other).count + length (keys_of self.old.slots) ≤ (T.pocket to.old other).budget }
+        requires room { length (keys_of self.old.slots) ≤ T.room to.old other }
+        ensures shown { view (T.pocket to.new other) self.new ≡ view (S.pocket from.old owner) self.old }
+        ensures moved { Rehouses (S.pocket from.old owner) (S.pocket from.new owner) (T.pocket to.old other) (T.pocket to.new other) (keys_of self.old.slots) (keys_of self.new.slots) }
+        ensures same { self.new ≡ record self.old { slots = self.new.slots } }
+        ensures room { T.room to.old other ≤ T.room to.new other + length (keys_of self.old.slots) }
+        ensures others_from { (o : ℕ) → o ≢ owner → S.pocket from.new o ≡ S.pocket from.old o }
+        ensures others_to { (o : ℕ) → o ≢ other → T.pocket to.new o ≡ T.pocket to.old o }
+    {
+        rehouse_all(&mut self.slots, from, owner, to, other);
     }
 
     // How many packets all instances hold; None where that is more than a `usize` counts.

@@ -1,13 +1,17 @@
 //! Worked pipes, whose moments come from the texts that go with them, and pipes of which an allocation
 //! may be refused.
 
-use crate::{Pipe, Shown};
+ghost use Rattle.std.specs.Prelude.{[], ◌∷◌, IfSome};
+ghost use Rattle.pipe_core.specs.Moves.{AreNamed};
+
+use crate::{Pipe, Shown, rehouse_line};
 use emu_model::{
     Bandwidth, CodelTime, Delay, Discipline, DropCause, KByteLimit, Load, LossRate, Mask, Packet,
     PacketBudget, PipeConfig, PipeNumber, Place, Protocol, QueueLimit, Refusal, RuleNumber, Size,
     SlotLimit,
 };
-use packet_store::{OwnShelf, Shelf};
+use link_core::DelayLine;
+use packet_store::{Key, OwnShelf, Owner, Shelf, Store};
 use std::alloc::Global;
 use std::marker::Model;
 use std::test::Fail;
@@ -174,6 +178,28 @@ impl Bench {
         }
     }
 
+    /// The pipe moves to a store, where another owner has a packet, and from there to a new shelf: how
+    /// many packets stood in the store. None where memory is refused, and the pipe did not move.
+    fn travel(&mut self, alloc: Global) -> Option<usize> {
+        let limit = PacketBudget::new(64)?;
+        let budget = limit.get() as usize;
+        let mut store = Store::new(alloc);
+        let beside = store.admit(limit).ok()?;
+        keep(&mut store, beside, 99)?;
+        let owner = store.admit(limit).ok()?;
+        let mut home = OwnShelf::new(alloc, limit);
+        home.reserve(budget).ok()?;
+        if self.shelf.count(0) > budget {
+            return None;
+        }
+        self.pipe.rehouse(&mut self.shelf, 0, &mut store, owner);
+        let stood = store.count(owner);
+        self.pipe.rehouse(&mut store, owner, &mut home, 0);
+        self.shelf = home;
+        self.budget = budget;
+        Some(stood)
+    }
+
     /// A packet of so many bytes comes. One that is refused changes nothing, and comes again.
     fn send(&mut self, now: u64, number: u64, dst: u32, size: u16) -> Option<Option<DropCause>> {
         let Some(packet) = packet(number, dst, size) else {
@@ -278,6 +304,26 @@ fn packet(number: u64, dst: u32, size: u16) -> Option<Packet> {
             order: 0,
         },
     })
+}
+
+/// Keeps a packet of this number.
+fn keep<S: Shelf>(shelf: &mut S, owner: Owner, number: u64) -> Option<Key>
+    ensures { IfSome result (λ key. AreNamed (S.pocket shelf.new owner) (key ∷ [])) }
+{
+    let Some(packet) = packet(number, FIRST, 1000) else {
+        return None;
+    };
+    match shelf.put(owner, packet) {
+        Ok(key) => Some(key),
+        Err(_) => None,
+    }
+}
+
+fn number_at<S: Shelf>(shelf: &S, owner: Owner, key: Key) -> Option<u64> {
+    match shelf.look(owner, key) {
+        Some(packet) => Some(packet.number),
+        None => None,
+    }
 }
 
 fn pipe(bw: u64, delay: u16, queue: QueueLimit, discipline: Discipline) -> Option<PipeConfig> {
@@ -575,5 +621,50 @@ fn pipe_deleted(rt: HostRuntime) -> Result<(), Fail> {
 fn pipe_deleted_with_a_refused_allocation(rt: HostRuntime) -> Result<(), Fail> {
     let numbers = deleted_pipe(rt.alloc()).ok_or("pipe")?;
     assert_eq!(rt; numbers.as_slice(), [0, 2, 3, 1].as_slice());
+    Ok(())
+}
+
+/// A pipe moves while a packet is on its way, one is in service and one waits, and goes on with the
+/// same moments.
+#[test]
+fn a_pipe_that_moves_goes_on(rt: HostRuntime) -> Result<(), Fail> {
+    let config = plain(1_000_000, 10).ok_or("config")?;
+    let mut bench = Bench::new(rt.alloc(), config).ok_or("bench")?;
+    let mut log = Log::new(rt.alloc()).ok_or("log")?;
+    for number in 0..3 {
+        assert!(rt; bench.send(0, number, FIRST, 1000) == Some(None));
+    }
+    bench.run(10_000_000, &mut log);
+    let stood = match bench.travel(rt.alloc()) {
+        Some(stood) => stood,
+        None => bench.travel(rt.alloc()).ok_or("it stays")?,
+    };
+    assert_eq!(rt; stood, 3);
+    bench.run(END, &mut log);
+    assert_eq!(rt;
+        log.left.as_slice(),
+        [(18_000_000, 0), (26_000_000, 1), (34_000_000, 2)].as_slice()
+    );
+    Ok(())
+}
+
+/// A delay line without a pipe moves alike.
+#[test]
+fn a_line_that_moves_goes_on(rt: HostRuntime) -> Result<(), Fail> {
+    let limit = PacketBudget::new(1).ok_or("limit")?;
+    let delay = Delay::new(1).ok_or("delay")?;
+    let mut store = Store::new(rt.alloc());
+    let owner = store.admit(limit)?;
+    let mut shelf = OwnShelf::new(rt.alloc(), limit);
+    let key = keep(&mut shelf, 0, 7).ok_or("not kept")?;
+    let mut line = DelayLine::new(rt.alloc());
+    if line.enter(key, 0, delay).is_err() {
+        return Err("no memory")?;
+    }
+    rehouse_line(&mut line, &mut shelf, 0, &mut store, owner);
+    assert_eq!(rt; (line.due(), line.flight()), (Some(1_000_000), 1));
+    assert_eq!(rt; (shelf.count(0), store.count(owner)), (0, 1));
+    let key = line.leave().ok_or("nothing on its way")?;
+    assert_eq!(rt; number_at(&store, owner, key), Some(7));
     Ok(())
 }

@@ -1,3 +1,5 @@
 pub mod UseCounts
 pub mod Dequeues
 pub mod Shows
+pub mod KeyPlaces
+pub mod Blanked

@@ -3,3 +3,4 @@ pub mod Uses
 pub mod Kinds
 pub mod Serving
 pub mod Turns
+pub mod Blanks

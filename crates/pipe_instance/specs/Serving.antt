@@ -19,3 +19,7 @@ after_service bw (Some s) given = option_map (next_service bw s) given
 
 abbrev pub cut_key : KeyInService → KeyInService
 cut_key s = record s { period = cut_period s.period }
+
+-- the same period under another key
+abbrev pub with_key : ℕ → KeyInService → KeyInService
+with_key key s = record s { key = key }

@@ -1,7 +1,7 @@
 //! One instance of a pipe, over the keys of its packets. Its arrival, finish and exit do to the keys
 //! what the definitions do to the packets, however the keys are named.
 
-ghost use Rattle.std.specs.Prelude.{min, ◌≡◌, ℕ, ◌+◌, ◌-◌, ◌*◌, ◌^◌, ◌<◌, ◌≤◌, true, [], Some, None, option_map, is_some, IsSome, length, IfOk, OnOk, OnErr, IsOk, map};
+ghost use Rattle.std.specs.Prelude.{min, ◌≡◌, ℕ, ◌+◌, ◌-◌, ◌*◌, ◌^◌, ◌<◌, ◌≤◌, true, [], Some, None, option_map, is_some, IsSome, length, slice_get, slice_set, IfOk, OnOk, OnErr, IsOk, map};
 ghost use Rattle.emu_model.specs.declared.packets.Packet.{Packet};
 ghost use Rattle.emu_model.specs.declared.pipes.PipeConfig.{PipeConfig as Config};
 ghost use Rattle.emu_model.specs.FlowIds.{FlowId};
@@ -11,6 +11,7 @@ ghost use Rattle.emu_model.specs.Delay.{leave, first_item, first_exit};
 ghost use Rattle.emu_model.specs.Pipes.{opening_instance, accept, no_drop, instance_configure};
 ghost use Rattle.emu_model.specs.Commands.{shown_words};
 ghost use Rattle.pipe_instance.specs.Keyed.{taken, seen_instance, keys_in, IsTuned};
+ghost use Rattle.pipe_instance.specs.Blanks.{blank};
 ghost use Rattle.pipe_instance.specs.Turns.{accepted, configured, IsFinish};
 
 use crate::leftovers::Leftovers;
@@ -199,6 +200,57 @@ impl Instance {
         let queue = mem::replace(&mut self.queue, vacant);
         self.queue = queue.configured(old.discipline, new.queue, new.discipline);
         self.service.configure(new.bw);
+    }
+
+    /// How many keys it holds.
+    pub fn held(&self) -> usize
+        ensures { result ≡ length (keys_in self.now) }
+    {
+        let moving = self.line.flight() + usize::from(self.service.is_busy());
+        moving + self.queue.waiting()
+    }
+
+    /// The key at a place, in the order: on their way, in service, waiting.
+    pub fn key_at(&self, place: usize) -> Option<Key>
+        ensures { result ≡ slice_get (keys_in self.now) place }
+    {
+        let flight = self.line.flight();
+        if place < flight {
+            return self.line.at(place);
+        }
+        let behind = place - flight;
+        match self.service.key() {
+            Some(key) => {
+                if behind == 0 {
+                    return Some(key);
+                }
+                self.queue.at(behind - 1)
+            }
+            None => self.queue.at(behind),
+        }
+    }
+
+    /// Puts another key at a place, in the order of `key_at`. Nothing else changes. Takes no memory.
+    pub fn replace_key(&mut self, place: usize, key: Key)
+        requires { place < length (keys_in self.old) }
+        ensures keys { keys_in self.new ≡ slice_set (keys_in self.old) place key }
+        ensures blank { blank self.new ≡ blank self.old }
+    {
+        let flight = self.line.flight();
+        if place < flight {
+            self.line.replace(place, key);
+            return;
+        }
+        let behind = place - flight;
+        if !self.service.is_busy() {
+            self.queue.replace(behind, key);
+            return;
+        }
+        if behind == 0 {
+            self.service.replace(key);
+            return;
+        }
+        self.queue.replace(behind - 1, key);
     }
 
     /// The keys that it holds, one by one: on their way, in service, waiting.

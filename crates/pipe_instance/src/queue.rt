@@ -1,9 +1,10 @@
 //! What waits in an instance: under a limit alone (drop-tail), or under CoDel as well.
 
-ghost use Rattle.std.specs.Prelude.{◌≡◌, ℕ, ◌*◌, ◌^◌, ◌<◌, ◌≤◌, true, if◌then◌else◌, [], ◌∷◌, drop, length, map, MatchOption, IfOk, OnOk, OnErr, IsOk};
+ghost use Rattle.std.specs.Prelude.{◌≡◌, ℕ, ◌*◌, ◌^◌, ◌<◌, ◌≤◌, true, if◌then◌else◌, [], ◌∷◌, drop, length, map, MatchOption, slice_get, IfOk, OnOk, OnErr, IsOk};
 ghost use Rattle.emu_model.specs.DropTail.{bytes_of, accepts};
 ghost use Rattle.emu_model.specs.Codel.{opening_control};
 ghost use Rattle.emu_model.specs.Pipes.{same_discipline};
+ghost use Rattle.queue_disc.specs.Queues.{with_item};
 ghost use Rattle.pipe_instance.specs.Keyed.{taken};
 ghost use Rattle.pipe_instance.specs.Turns.{put_last, passed};
 
@@ -151,9 +152,31 @@ impl Queue {
         Some(first.item)
     }
 
+    /// The key that waits at a place, the head at 0.
+    pub(crate) fn at(&self, place: usize) -> Option<Key>
+        ensures { result ≡ slice_get (map (λ w. w.item) self.now.waiting) place }
+    {
+        match &self.kind {
+            Kind::Tail(queue) => queue.at(place),
+            Kind::Controlled(queue) => queue.at(place),
+        }
+    }
+
+    /// Puts another key at a place, the head at 0. Takes no memory.
+    pub(crate) fn replace(&mut self, place: usize, key: Key)
+        requires { place < length self.old.waiting }
+        ensures { self.new ≡ record self.old { waiting = with_item self.old.waiting place key } }
+    {
+        match &mut self.kind {
+            Kind::Tail(queue) => queue.replace(place, key),
+            Kind::Controlled(queue) => queue.replace(place, key),
+        }
+    }
+
     /// How many wait.
     pub(crate) fn waiting(&self) -> usize
-        ensures { result ≡ length self.now.waiting }
+        ensures waiting { result ≡ length self.now.waiting }
+        ensures fits { result < 2 ^ 63 }
     {
         match &self.kind {
             Kind::Tail(queue) => queue.waiting(),

@@ -3,7 +3,7 @@
 ghost use Rattle.std.specs.Prelude.{◌≡◌, ℕ, ◌*◌, ◌^◌, ◌<◌, Some, None, option_map, is_some, IsSome};
 ghost use Rattle.std.specs.Option.{ForSome};
 ghost use Rattle.emu_model.specs.Rate.{begin};
-ghost use Rattle.pipe_instance.specs.Serving.{after_service, cut_key};
+ghost use Rattle.pipe_instance.specs.Serving.{after_service, cut_key, with_key};
 
 use emu_model::{Bandwidth, Size};
 use link_core::RateServer;
@@ -88,6 +88,14 @@ impl Service {
                 self.key = None;
             }
         }
+    }
+
+    /// Puts another key in the place of the one in service.
+    pub(crate) fn replace(&mut self, key: Key)
+        requires { IsSome self.old.busy }
+        ensures { self.new ≡ record self.old { busy = option_map (with_key key) self.old.busy } }
+    {
+        self.key = Some(key);
     }
 
     /// Changes the rate: the packet in service keeps its finish, at which the next begins a period.

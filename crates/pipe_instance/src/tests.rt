@@ -249,3 +249,42 @@ fn configured_and_given_up(rt: HostRuntime) -> Result<(), Fail> {
     assert!(rt; leftovers.next().is_none());
     Ok(())
 }
+
+/// Three packets, of which one is on its way, one in service and one waits, change places by their
+/// keys: they leave in the new order, at the old moments.
+#[test]
+fn keys_are_replaced_in_place(rt: HostRuntime) -> Result<(), Fail> {
+    let slots = QueueLimit::Slots(SlotLimit::new(50).ok_or("slots")?);
+    let size = Size::new(1000).ok_or("size")?;
+    let config = pipe(1_000_000, 20, slots, Discipline::TailDrop).ok_or("pipe")?;
+    let number = PipeNumber::new(1).ok_or("number")?;
+    let mut instance = Instance::new(rt.alloc(), &config, 0, number, 0);
+    assert_eq!(rt; (instance.held(), instance.key_at(0).is_none()), (0, true));
+    let mut shelf = OwnShelf::new(rt.alloc(), PacketBudget::new(3).ok_or("budget")?);
+    for packet in 0..3 {
+        arrive(&mut instance, &mut shelf, 0, packet, size).ok_or("refused")?;
+    }
+    let mut log = Log::new(rt.alloc());
+    log.step(&mut instance, &shelf, config.delay)
+        .ok_or("no finish")?;
+    let mut keys = Vec::new(rt.alloc());
+    for place in 0..3 {
+        let key = instance.key_at(place).ok_or("no key")?;
+        assert_eq!(rt; number_at(&shelf, key), place as u64);
+        keys.push(key)?;
+    }
+    for place in 0..keys.len() {
+        let held = instance.held();
+        assert!(rt; held == 3 && place < held);
+        instance.replace_key(place, keys[keys.len() - 1 - place]);
+    }
+    for _ in 0..5 {
+        log.step(&mut instance, &shelf, config.delay)
+            .ok_or("no step")?;
+    }
+    assert_eq!(rt;
+        log.left.as_slice(),
+        [(28_000_000, 2), (36_000_000, 1), (44_000_000, 0)].as_slice()
+    );
+    Ok(())
+}

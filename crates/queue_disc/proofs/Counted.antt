@@ -1,10 +1,10 @@
 -- The sum beside what waits, as an item comes and goes.
-use Rattle.std.proofs.Common.{◌≡◌, ℕ, ◌+◌, ◌-◌, ◌*◌, ◌≤◌, List, [], ◌∷◌, ◌++◌, length, arith}
-use Rattle.std.specs.Prelude.{All}
+use Rattle.std.proofs.Common.{◌≡◌, ℕ, zero, suc, ◌+◌, ◌-◌, ◌*◌, ◌<◌, ◌≤◌, List, [], ◌∷◌, ◌++◌, length, map, set, refl, sym, ap, ◌∙◌, slice_index_or, arith}
+use Rattle.std.specs.Prelude.{All, sum}
 use Rattle.std.proofs.lemmas.List.Sums.{sum-map, sum_by-cons, sum_by_push, sum_by-le}
-use Rattle.std.proofs.lemmas.List.Elements.{All-push, All-tail}
+use Rattle.std.proofs.lemmas.List.Elements.{All-push, All-cons, All-head, All-tail}
 use Rattle.emu_model.specs.DropTail.{Waiting, bytes_of}
-use Rattle.queue_disc.specs.Queues.{IsCounted}
+use Rattle.queue_disc.specs.Queues.{IsCounted, with_item}
 
 pub bytes_of-cons : {A : Type 0} (w : Waiting A) (ws : List (Waiting A)) →
     bytes_of (w ∷ ws) ≡ w.size + bytes_of ws
@@ -36,4 +36,35 @@ IsCounted-tail bytes w ws h = record {
   sum = omega (arith, h.sum, bytes_of-cons w ws);
   few = omega (arith, h.few);
   sizes = All-tail (λ v. v.size ≤ 1500) w ws h.sizes;
+}
+
+-- another item at a place
+pub with_item-set : {A : Type 0} (ws : List (Waiting A)) (n : ℕ) (w : Waiting A) (item : A) → n < length ws →
+    w ≡ slice_index_or ws n w → set ws n (record w { item = item }) ≡ with_item ws n item
+with_item-set [] n w item within value = absurd (omega (arith, within))
+with_item-set {A} (x ∷ ws) zero w item within value = ap (λ (v : Waiting A). record v { item = item } ∷ ws) value
+with_item-set {A} (x ∷ ws) (suc n) w item within value =
+    ap (λ (l : List (Waiting A)). x ∷ l) (with_item-set ws n w item (omega (arith, within)) value)
+
+with_item-sizes : {A : Type 0} (ws : List (Waiting A)) (n : ℕ) (item : A) →
+    map (λ w. w.size) (with_item ws n item) ≡ map (λ w. w.size) ws
+with_item-sizes [] n item = refl
+with_item-sizes (w ∷ ws) zero item = refl
+with_item-sizes (w ∷ ws) (suc n) item = ap (λ l. w.size ∷ l) (with_item-sizes ws n item)
+
+with_item-small : {A : Type 0} (ws : List (Waiting A)) (n : ℕ) (item : A) → All (λ w. w.size ≤ 1500) ws →
+    All (λ w. w.size ≤ 1500) (with_item ws n item)
+with_item-small [] n item h = h
+with_item-small (w ∷ ws) zero item h =
+    All-cons (λ v. v.size ≤ 1500) (record w { item = item }) ws (All-head (λ v. v.size ≤ 1500) w ws h) (All-tail (λ v. v.size ≤ 1500) w ws h)
+with_item-small (w ∷ ws) (suc n) item h =
+    All-cons (λ v. v.size ≤ 1500) w (with_item ws n item) (All-head (λ v. v.size ≤ 1500) w ws h)
+    (with_item-small ws n item (All-tail (λ v. v.size ≤ 1500) w ws h))
+
+pub IsCounted-replaced : {A : Type 0} (bytes : ℕ) (ws : List (Waiting A)) (n : ℕ) (item : A) → IsCounted bytes ws →
+    IsCounted bytes (with_item ws n item)
+IsCounted-replaced bytes ws n item h = record {
+  sum = h.sum ∙ ap sum (sym (with_item-sizes ws n item));
+  few = h.few;
+  sizes = with_item-small ws n item h.sizes;
 }

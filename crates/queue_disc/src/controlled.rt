@@ -1,8 +1,9 @@
 //! A queue under CoDel (RFC 8289, section 5).
 
-ghost use Rattle.std.specs.Prelude.{◌≡◌, ◌≢◌, ◌+◌, ◌*◌, ◌^◌, ◌<◌, ◌≤◌, true, false, [], ◌∷◌, ◌++◌, length, drop, IfErr, IfOk, OnOk, OnErr, IsOk, MatchOption};
+ghost use Rattle.std.specs.Prelude.{◌≡◌, ◌≢◌, ◌+◌, ◌*◌, ◌^◌, ◌<◌, ◌≤◌, true, false, [], ◌∷◌, ◌++◌, length, map, drop, IfErr, IfOk, OnOk, OnErr, IsOk, MatchOption, slice_get};
 ghost use Rattle.emu_model.specs.DropTail.{bytes_of, accepts};
 ghost use Rattle.emu_model.specs.Codel.{codel_dequeue, opening_control};
+ghost use Rattle.queue_disc.specs.Queues.{with_item};
 
 use crate::entries::{EnqueueError, NoMemory, Refused, Waiting};
 use crate::state::{Control, Times};
@@ -137,7 +138,8 @@ impl<A> Codel<A> {
 
     /// How many wait.
     pub fn waiting(&self) -> usize
-        ensures { result ≡ length self.now.waiting }
+        ensures waiting { result ≡ length self.now.waiting }
+        ensures fits { result < 2 ^ 63 }
     {
         self.queue.waiting()
     }
@@ -176,5 +178,23 @@ impl<A> Codel<A> {
         ensures { self.new ≡ record self.old { control = opening_control } }
     {
         self.control = Control::opening();
+    }
+}
+
+impl<A: Copy> Codel<A> {
+    /// The item that waits at a place, the head at 0.
+    pub fn at(&self, place: usize) -> Option<A>
+        ensures { result ≡ slice_get (map (λ w. w.item) self.now.waiting) place }
+    {
+        self.queue.at(place)
+    }
+
+    /// Puts another item at a place, the head at 0. Its size, its stamp and CoDel's state stay. Takes
+    /// no memory.
+    pub fn replace(&mut self, place: usize, item: A)
+        requires { place < length self.old.waiting }
+        ensures { self.new ≡ record self.old { waiting = with_item self.old.waiting place item } }
+    {
+        self.queue.replace(place, item);
     }
 }

@@ -1,8 +1,9 @@
 //! Drop-tail (ipfw(8), queue).
 
-ghost use Rattle.std.specs.Prelude.{◌≡◌, ◌+◌, ◌-◌, ◌*◌, ◌^◌, ◌<◌, ◌≤◌, true, false, [], ◌∷◌, ◌++◌, length, drop, IfErr, OnOk, OnErr, IsTrue, MatchOption, take, vec_len, vec_capacity};
+ghost use Rattle.std.specs.Prelude.{◌≡◌, ◌+◌, ◌-◌, ◌*◌, ◌^◌, ◌<◌, ◌≤◌, true, false, [], ◌∷◌, ◌++◌, length, map, drop, IfErr, OnOk, OnErr, IsTrue, MatchOption, slice_get, take, vec_len, vec_capacity};
 ghost use Rattle.emu_model.specs.DropTail.{bytes_of, accepts};
 ghost use Rattle.emu_model.specs.Codel.{opening_control};
+ghost use Rattle.queue_disc.specs.Queues.{with_item};
 
 use crate::controlled::Codel;
 use crate::entries::{EnqueueError, NoMemory, Refused, Waiting};
@@ -111,7 +112,8 @@ impl<A> DropTail<A> {
 
     /// How many wait.
     pub fn waiting(&self) -> usize
-        ensures { result ≡ length self.now.waiting }
+        ensures waiting { result ≡ length self.now.waiting }
+        ensures fits { result < 2 ^ 63 }
     {
         self.waiting.len()
     }
@@ -201,5 +203,23 @@ impl<A> DropTail<A> {
             Ok(()) => Ok(()),
             Err(_) => Err(NoMemory),
         }
+    }
+}
+
+impl<A: Copy> DropTail<A> {
+    /// The item that waits at a place, the head at 0.
+    pub fn at(&self, place: usize) -> Option<A>
+        ensures { result ≡ slice_get (map (λ w. w.item) self.now.waiting) place }
+    {
+        let waiting = self.waiting.get(place)?;
+        Some(waiting.item)
+    }
+
+    /// Puts another item at a place, the head at 0. Its size and its stamp stay. Takes no memory.
+    pub fn replace(&mut self, place: usize, item: A)
+        requires { place < length self.old.waiting }
+        ensures { self.new ≡ record self.old { waiting = with_item self.old.waiting place item } }
+    {
+        self.waiting[place].item = item;
     }
 }

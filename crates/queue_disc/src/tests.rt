@@ -215,3 +215,38 @@ fn memory_that_runs_out_changes_nothing(rt: HostRuntime) -> Result<(), Fail> {
     assert_eq!(rt; served.given.ok_or("nothing is given")?.item, 2);
     Ok(())
 }
+
+/// What waits stands at its place, and another item that is put there keeps its size and its stamp.
+#[test]
+fn items_are_replaced_in_place(rt: HostRuntime) -> Result<(), Fail> {
+    let mut tail = DropTail::new(rt.alloc(), slots(3)?);
+    assert_eq!(rt; tail.at(0), None);
+    for packet in 0..3 {
+        assert_eq!(rt;
+            cause(tail.enqueue(packet, size(100 + packet as u16)?, 7)),
+            None
+        );
+    }
+    assert!(rt; tail.waiting() == 3);
+    tail.replace(1, 11);
+    assert_eq!(rt;
+        (tail.at(0), tail.at(1), tail.at(2), tail.at(3)),
+        (Some(0), Some(11), Some(2), None)
+    );
+    let mut queue = tail.into_codel(time(5 * MILLISECOND)?, time(100 * MILLISECOND)?);
+    assert!(rt; queue.waiting() == 3);
+    queue.replace(0, 10);
+    assert_eq!(rt;
+        (queue.at(0), queue.at(1), queue.at(3)),
+        (Some(10), Some(11), None)
+    );
+    assert_eq!(rt; (queue.waiting(), queue.bytes()), (3, 303));
+    for (item, bytes) in [(10, 100), (11, 101), (2, 102)] {
+        let first = queue.take().ok_or("nothing waits")?;
+        assert_eq!(rt;
+            (first.item, first.size.get(), first.stamp),
+            (item, bytes, 7)
+        );
+    }
+    Ok(())
+}

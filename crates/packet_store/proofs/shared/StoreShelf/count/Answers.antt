@@ -7,14 +7,20 @@ use Rattle.packet_store.proofs.Pockets.{pocket_of-other, pocket_of-put, pocket_o
 use Rattle.packet_store.proofs.Sound.{IsSound-put, IsSound-take, IsSound-account, place_for, HasPlace, not_of, uses_one, elsewhere-set, account-set}
 use Rattle.packet_store.proofs.shared.StoreShelf.count.Goals as goal
 
-pub returns-in-Some : goal.returns-in-Some
-returns-in-Some c =
+pub returns-in-Some-clause-value : goal.returns-in-Some-clause-value
+returns-in-Some-clause-value c =
     let s = c.self.inside in
     let slot : get_or s.accounts.slots c.args.owner None ≡ Some c.in-Some.account.now = sym c.in-Some.ensures in
     sym (ap (λ (a : Option Account). (account_of a).used) slot) ∙ c.self.invariant.used c.args.owner ∙ sym (count_is _ s.slab.slots s.accounts.slots c.args.owner c.self.view_is)
 
-pub returns-in-None : goal.returns-in-None
-returns-in-None c =
+pub returns-in-Some-clause-within : goal.returns-in-Some-clause-within
+returns-in-Some-clause-within c =
+    let s = c.self.inside in
+    let slot : get_or s.accounts.slots c.args.owner None ≡ Some c.in-Some.account.now = sym c.in-Some.ensures in
+    omega (arith, c.self.invariant.within c.args.owner, ap (λ (a : Option Account). (account_of a).used) slot, budget_is _ s.slab.slots s.accounts.slots c.args.owner c.self.view_is)
+
+pub returns-in-None-clause-value : goal.returns-in-None-clause-value
+returns-in-None-clause-value c =
     let s = c.self.inside in
     let slot : get_or s.accounts.slots c.args.owner None ≡ None = sym c.in-None.ensures in
     sym (ap (λ (a : Option Account). (account_of a).used) slot) ∙ c.self.invariant.used c.args.owner ∙ sym (count_is _ s.slab.slots s.accounts.slots c.args.owner c.self.view_is)

@@ -1,0 +1,25 @@
+-- What an instance is beside its keys: each of them is 0.
+use Rattle.std.specs.Prelude.{ℕ, option_map, map}
+use Rattle.emu_model.specs.DropTail.{Waiting}
+use Rattle.emu_model.specs.Delay.{Leaving, Line}
+use Rattle.pipe_instance.specs.Keyed.{KeyInService, KeyedInstance}
+
+abbrev pub blank_waiting : Waiting ℕ → Waiting ℕ
+blank_waiting w = record w { item = 0 }
+
+abbrev pub blank_leaving : Leaving ℕ → Leaving ℕ
+blank_leaving x = record x { item = 0 }
+
+abbrev pub blank_service : KeyInService → KeyInService
+blank_service s = record s { key = 0 }
+
+abbrev pub blank_line : Line ℕ → Line ℕ
+blank_line l = record l { flight = map blank_leaving l.flight }
+
+abbrev pub blank : KeyedInstance → KeyedInstance
+blank i = record {
+  queue = record i.queue { waiting = map blank_waiting i.queue.waiting };
+  service = record i.service { busy = option_map blank_service i.service.busy };
+  lane = record i.lane { line = blank_line i.lane.line };
+  draws = i.draws;
+}
