@@ -61,6 +61,8 @@ module _ (old : KeptExperiment) (latest held : ℕ) (s : IsSound old latest held
   sound-event = record {
     counted = s.counted;
     latest_is = s.latest_is;
+    rising = s.rising;
+    early_all = s.early_all;
     early = s.early;
     seed = same.seed ∙ becomes.seed ∙ s.seed;
     made = omega (arith, same.made, becomes.made, s.made);
@@ -76,6 +78,8 @@ module _ (old : KeptExperiment) (latest held : ℕ) (s : IsSound old latest held
   sound-command c next = record {
     counted = omega (arith, s.counted, ap (λ (o : Option Timed). length (option_to_list o)) next);
     latest_is = s.latest_is;
+    rising = s.rising;
+    early_all = s.early_all;
     early = tt;
     seed = same.seed ∙ becomes.seed ∙ s.seed;
     made = omega (arith, same.made, becomes.made, s.made);
@@ -115,6 +119,8 @@ pub sound-halted : (old : KeptExperiment) (latest held : ℕ) (new : KeptNet) (p
 sound-halted old latest held new p s still = record {
   counted = s.counted;
   latest_is = s.latest_is;
+  rising = s.rising;
+  early_all = s.early_all;
   early = s.early;
   seed = still.seed ∙ s.seed;
   made = omega (arith, ap (λ (n : Net). n.made) (still.shown p), s.made);

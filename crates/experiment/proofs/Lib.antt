@@ -3,3 +3,4 @@ mod ApplyFacts
 mod Keeping
 mod AloneFacts
 mod TouchFacts
+mod DueTimes

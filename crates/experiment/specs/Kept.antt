@@ -1,5 +1,6 @@
 -- What is kept of an experiment, and the state that it shows.
 use Rattle.std.specs.Prelude.{◌≡◌, ℕ, ◌+◌, ◌^◌, ◌<◌, ◌≤◌, Bool, Option, Some, None, option_to_list, IfSome, List, [], ◌∷◌, length}
+use Rattle.std.specs.List.{AllByRecursion}
 use Rattle.emu_model.specs.declared.commands.Spec.{Spec}
 use Rattle.emu_model.specs.declared.commands.Timed.{Timed}
 use Rattle.emu_model.specs.declared.sources.Due.{Due}
@@ -7,6 +8,7 @@ use Rattle.emu_model.specs.declared.records.Ending.{Ending}
 use Rattle.emu_model.specs.declared.records.Ending.TheVariants.{Ended, Spent, Halted}
 use Rattle.emu_model.specs.Step.{State}
 use Rattle.emu_model.specs.Alone.{alone}
+use Rattle.emu_model.specs.DueLaws.{AreRising, IsEarly}
 use Rattle.packet_store.specs.Pocket.{Pocket}
 use Rattle.network.specs.Kept.{KeptNet, net_of, net_keys, IsHoused}
 
@@ -24,6 +26,7 @@ pub record KeptExperiment : Type 0 where
   pub ending : Option Ending
   pub watched : Bool
   pub before : List Due
+  pub spare : ℕ
 
 -- want of memory isn't an ending of the definitions: it leaves the state as it was
 abbrev pub shown_ending : Option Ending → Option Ending
@@ -62,6 +65,8 @@ last_moment moment (c ∷ cs) = last_moment c.moment cs
 pub record IsSound (e : KeptExperiment) (latest held : ℕ) : Type 0 where
   pub counted : e.taken + length (option_to_list e.next) ≡ length e.consumed
   pub latest_is : latest ≡ last_moment 0 e.consumed
+  pub rising : AreRising 0 e.consumed
+  pub early_all : AllByRecursion IsEarly e.consumed
   pub early : IfSome e.next (λ c. c.moment ≤ 10 ^ 15)
   pub seed : e.net.table.seed ≡ e.spec.seed
   pub made : e.net.made ≤ e.steps

@@ -19,7 +19,7 @@ pub record IsStep (p : Pocket) (old : KeptExperiment) (q : Pocket) (new : KeptEx
   pub stepped : view q new ≡ step (view p old)
   pub counted : new.steps ≡ old.steps + 1
   pub going : old.ending ≡ None
-  pub before : old.watched ≡ true → new.before ≡ dues_in (view p old)
+  pub before : old.watched ≡ true → (o : Pocket) → new.before ≡ dues_in (view o old)
 
 -- for want of memory no step was made
 pub record Halts (p : Pocket) (old : KeptExperiment) (q : Pocket) (new : KeptExperiment) : Type 0 where

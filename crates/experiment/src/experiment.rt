@@ -1,9 +1,10 @@
 //! An experiment: commands are applied one at a time, and events are made one at a time.
 
-ghost use Rattle.std.specs.Prelude.{◌≡◌, ◌≢◌, ℕ, ◌+◌, ◌^◌, ◌≤◌, ◌<◌, ◌++◌, ◌==◌, if◌then◌else◌, true, false, [], ◌∷◌, Option, Some, None, IsSome, IfSome, IfOk, OnOk, OnErr, is_some};
+ghost use Rattle.std.specs.Prelude.{◌≡◌, ◌≢◌, ℕ, ◌+◌, ◌^◌, ◌≤◌, ◌<◌, ◌++◌, ◌==◌, if◌then◌else◌, true, false, [], ◌∷◌, Option, Some, None, IsSome, IfSome, IsOk, IfOk, OnOk, OnErr, List, is_some};
 ghost use Rattle.emu_model.specs.declared.commands.Timed.{Timed as Command};
 ghost use Rattle.emu_model.specs.declared.sources.Class.TheVariants.{NextCommand};
 ghost use Rattle.emu_model.specs.declared.records.Ending.TheVariants.{Ended};
+ghost use Rattle.emu_model.specs.declared.records.Record.{Record as Entry};
 ghost use Rattle.emu_model.specs.Step.{opening, next_event};
 ghost use Rattle.emu_model.specs.Commands.{is_end};
 ghost use Rattle.packet_store.specs.Pocket.{Pocket, empty_pocket};
@@ -14,13 +15,14 @@ ghost use Rattle.experiment.specs.Moves.{Makes, Steps, Halts, Closes};
 ghost use Rattle.experiment.specs.Dues.{dues_in};
 
 use crate::told::{append_dues, command_due};
-use emu_model::{Class, Command, Due, Ending, Spec, Timed, later_commands_wait};
+use emu_model::{
+    Class, Command, Due, Ending, Spec, Timed, command_in_range, later_commands_wait, records_grow,
+};
 use network::{Moment, Network};
 use packet_store::{Owner, Shelf};
 use queue_disc::NoMemory;
 use std::alloc::Global;
 use std::marker::Model;
-use std::slice;
 
 /// Why a command was not taken in: the experiment has ended, its next command waits still, or the moment
 /// lies before that of the last command.
@@ -63,6 +65,7 @@ pub struct Experiment {
 }
 
 impl Model for Experiment {
+    ghost use Rattle.std.specs.Prelude.{◌-◌, vec_len, vec_capacity};
     ghost use Rattle.experiment.specs.Kept.{KeptExperiment, IsSound};
 
     ghost Value = { KeptExperiment };
@@ -78,6 +81,7 @@ impl Model for Experiment {
       ending = e.ending;
       watched = e.watched;
       before = e.before.items;
+      spare = vec_capacity e.consumed - vec_len e.consumed;
     } };
 
     ghost invariant = { λ e. IsSound (record {
@@ -91,6 +95,7 @@ impl Model for Experiment {
       ending = e.ending;
       watched = e.watched;
       before = e.before.items;
+      spare = vec_capacity e.consumed - vec_len e.consumed;
     }) e.latest e.held };
 }
 
@@ -122,12 +127,24 @@ impl Experiment {
         })
     }
 
+    /// Makes room for one command more, and changes nothing else: the next `apply` needs no memory then.
+    pub fn apply_ready(&mut self) -> Result<(), NoMemory>
+        ensures ready { OnOk result (0 < self.new.spare) }
+        ensures same { self.new ≡ record self.old { spare = self.new.spare } }
+        ensures succeeds { 0 < self.old.spare → IsOk result }
+    {
+        if self.consumed.reserve(1).is_err() {
+            return Err(NoMemory);
+        }
+        Ok(())
+    }
+
     /// Makes a command the next one. Refused in this order as `Over` where the experiment has ended,
     /// `Busy` where it has a next command, `Backward` where the moment lies before that of the last, and
     /// for want of memory; nothing has changed then.
     pub fn apply(&mut self, command: &Timed) -> Result<(), ApplyError>
         requires { command.now.moment ≤ 10 ^ 15 }
-        ensures ok { OnOk result (self.new ≡ record self.old { next = Some command.now; consumed = self.old.consumed ++ command.now ∷ [] }) }
+        ensures ok { OnOk result (self.new ≡ record self.old { next = Some command.now; consumed = self.old.consumed ++ command.now ∷ []; spare = self.new.spare }) }
         ensures free { OnOk result ((self.old.ending ≡ None) × (self.old.next ≡ None) × (last_moment 0 self.old.consumed ≤ command.now.moment)) }
         ensures err { OnErr result (self.new ≡ self.old) }
         ensures housed { (p : Pocket) → IsHousedIn p self.old → IsHousedIn p self.new }
@@ -135,6 +152,7 @@ impl Experiment {
         ensures over { result ≡ Err ApplyError.Over → IsSome self.old.ending }
         ensures busy { result ≡ Err ApplyError.Busy → (self.old.ending ≡ None) × IsSome self.old.next }
         ensures backward { result ≡ Err ApplyError.Backward → (self.old.ending ≡ None) × (self.old.next ≡ None) × (command.now.moment < last_moment 0 self.old.consumed) }
+        ensures memory { result ≡ Err ApplyError.NoMemory → (self.old.ending ≡ None) × (self.old.next ≡ None) × (last_moment 0 self.old.consumed ≤ command.now.moment) × (self.old.spare ≡ 0) }
     {
         if self.ending.is_some() {
             return Err(ApplyError::Over);
@@ -145,10 +163,12 @@ impl Experiment {
         if command.moment < self.latest {
             return Err(ApplyError::Backward);
         }
-        let Ok(()) = self.consumed.extend_from_slice(slice::from_ref(command)) else {
+        let Ok(()) = self.consumed.reserve(1) else {
             return Err(ApplyError::NoMemory);
         };
         later_commands_wait();
+        command_in_range(&command.command);
+        self.consumed.push_reserved(*command);
         self.next = Some(*command);
         self.latest = command.moment;
         Ok(())
@@ -170,12 +190,15 @@ impl Experiment {
         ensures housed { IsHousedIn (S.pocket shelf.new owner) self.new }
         ensures makes { Makes result (S.pocket shelf.old owner) self.old (S.pocket shelf.new owner) self.new }
         ensures alone { IsAlone (S.pocket shelf.old owner) self.old → IsAlone (S.pocket shelf.new owner) self.new }
+        ensures grows { IsAlone (S.pocket shelf.old owner) self.old → (more : List Entry) × (self.new.net.log.records ≡ self.old.net.log.records ++ more) }
         ensures consumed { self.new.consumed ≡ self.old.consumed }
         ensures spec { self.new.spec ≡ self.old.spec }
+        ensures budget { (S.pocket shelf.new owner).budget ≡ (S.pocket shelf.old owner).budget }
         ensures steps { self.new.steps ≤ self.new.spec.budget.steps }
         ensures watched { self.new.watched ≡ self.old.watched }
         ensures others { (o : ℕ) → o ≢ owner → S.pocket shelf.new o ≡ S.pocket shelf.old o }
     {
+        records_grow();
         if self.ending.is_some() {
             return Event::Still;
         }
@@ -205,10 +228,11 @@ impl Experiment {
         ensures ok { OnOk result (Steps (next_event (view (S.pocket shelf.old owner) self.old) command.now) command.now (S.pocket shelf.old owner) self.old (S.pocket shelf.new owner) self.new) }
         ensures halted { OnErr result (Halts (S.pocket shelf.old owner) self.old (S.pocket shelf.new owner) self.new) }
         ensures housed { IsHousedIn (S.pocket shelf.new owner) self.new }
-        ensures before { OnOk result (self.old.watched ≡ true → self.new.before ≡ dues_in (view (S.pocket shelf.old owner) self.old)) }
+        ensures before { OnOk result (self.old.watched ≡ true → (o : Pocket) → self.new.before ≡ dues_in (view o self.old)) }
         ensures watched { self.new.watched ≡ self.old.watched }
         ensures consumed { self.new.consumed ≡ self.old.consumed }
         ensures spec { self.new.spec ≡ self.old.spec }
+        ensures budget { (S.pocket shelf.new owner).budget ≡ (S.pocket shelf.old owner).budget }
         ensures others { (o : ℕ) → o ≢ owner → S.pocket shelf.new o ≡ S.pocket shelf.old o }
     {
         let Ok(()) = self.keep_dues() else {
@@ -265,6 +289,7 @@ impl Experiment {
         ensures watched { self.new.watched ≡ self.old.watched }
         ensures consumed { self.new.consumed ≡ self.old.consumed }
         ensures spec { self.new.spec ≡ self.old.spec }
+        ensures budget { (S.pocket shelf.new owner).budget ≡ (S.pocket shelf.old owner).budget }
         ensures others { (o : ℕ) → o ≢ owner → S.pocket shelf.new o ≡ S.pocket shelf.old o }
     {
         let at = moment_of(&self.spec, due.moment);
@@ -306,6 +331,7 @@ impl Experiment {
         ensures watched { self.new.watched ≡ self.old.watched }
         ensures consumed { self.new.consumed ≡ self.old.consumed }
         ensures spec { self.new.spec ≡ self.old.spec }
+        ensures budget { (S.pocket shelf.new owner).budget ≡ (S.pocket shelf.old owner).budget }
         ensures others { (o : ℕ) → o ≢ owner → S.pocket shelf.new o ≡ S.pocket shelf.old o }
     {
         let at = moment_of(&self.spec, due.moment);

@@ -3,6 +3,9 @@
 #![tactic(auto)]
 
 mod experiment;
+mod rehousing;
+#[cfg(test)]
+mod rehousing_tests;
 #[cfg(test)]
 mod tests;
 mod told;

@@ -44,6 +44,10 @@ impl Bench {
         self.experiment.apply(&Timed { moment, command })
     }
 
+    fn has_room(&mut self) -> bool {
+        self.experiment.apply_ready().is_ok()
+    }
+
     fn event(&mut self) -> Event {
         self.experiment.event(&mut self.shelf, 0)
     }
@@ -175,7 +179,9 @@ fn commands_are_refused_in_order(rt: HostRuntime) -> Result<(), Fail> {
     assert!(rt; bench.apply(5, Command::Show).is_ok());
     assert!(rt; bench.apply(5, Command::Show) == Err(ApplyError::Busy));
     assert!(rt; bench.apply(4, Command::Show) == Err(ApplyError::Busy));
+    assert!(rt; bench.experiment.has_next());
     assert!(rt; bench.event() == Event::Ran);
+    assert!(rt; !bench.experiment.has_next());
     assert!(rt; bench.event() == Event::Still);
     assert!(rt; bench.apply(4, Command::End) == Err(ApplyError::Backward));
     assert!(rt; bench.apply(5, Command::End).is_ok());
@@ -206,10 +212,15 @@ fn sent(alloc: Global) -> Option<Bench> {
 fn one_packet(rt: HostRuntime) -> Result<(), Fail> {
     let mut bench = sent(rt.alloc()).ok_or("bench")?;
     assert_eq!(rt; bench.experiment.counters().held, 1);
+    assert_eq!(rt; bench.experiment.held(), 1);
+    assert_eq!(rt; bench.experiment.clock(), 0);
     assert!(rt; bench.apply(20_000_000, Command::End).is_ok());
     assert!(rt; bench.event() == Event::Ran);
+    assert_eq!(rt; bench.experiment.clock(), 8_000_000);
     assert!(rt; bench.event() == Event::Ran);
+    assert_eq!(rt; bench.experiment.held(), 0);
     assert!(rt; bench.event() == Event::Ended);
+    assert_eq!(rt; bench.experiment.clock(), 20_000_000);
     let pipe = PipeNumber::new(1).ok_or("1")?;
     let finished = Record::PacketFinished {
         moment: 8_000_000,
@@ -325,6 +336,20 @@ fn last_step_is_the_end(rt: HostRuntime) -> Result<(), Fail> {
     assert!(rt; bench.event() == Event::Ended);
     assert!(rt; matches!(bench.experiment.ending(), Some(Ending::Ended)));
     assert_eq!(rt; bench.experiment.records().len(), 1);
+    Ok(())
+}
+
+/// There is room for a command before it comes, at the second try where memory was refused; nothing has
+/// changed then, and the command needs no memory.
+#[test]
+fn a_command_has_room(rt: HostRuntime) -> Result<(), Fail> {
+    let Some(mut bench) = Bench::new(rt.alloc(), 10, 1000) else {
+        return Ok(());
+    };
+    let before = bench.seen();
+    assert!(rt; bench.has_room() || bench.has_room());
+    assert!(rt; bench.seen() == before);
+    assert!(rt; bench.apply(5, Command::Show).is_ok());
     Ok(())
 }
 

@@ -1,15 +1,18 @@
 //! What is told of an experiment.
 
-ghost use Rattle.std.specs.Prelude.{◌≡◌, ◌++◌, [], option_to_list, IfOk, OnOk, OnErr};
+ghost use Rattle.std.specs.Prelude.{◌≡◌, ◌*◌, ◌^◌, ◌<◌, ◌≤◌, ◌++◌, [], is_some, option_to_list, IfOk, OnOk, OnErr};
+ghost use Rattle.std.specs.List.{AllByRecursion};
 ghost use Rattle.emu_model.specs.Net.{counters_of};
 ghost use Rattle.emu_model.specs.Dues.{dues_of};
 ghost use Rattle.packet_store.specs.Pocket.{Pocket};
 ghost use Rattle.network.specs.Kept.{net_of};
-ghost use Rattle.experiment.specs.Kept.{view, IsHousedIn};
+ghost use Rattle.experiment.specs.Kept.{view, IsAlone, IsHousedIn};
 ghost use Rattle.experiment.specs.Dues.{command_dues, dues_in};
 
 use crate::Experiment;
-use emu_model::{Class, Counters, Due, Ending, Record, Source, Spec, Timed};
+use emu_model::{
+    Class, Counters, Due, Ending, Record, Source, Spec, Timed, dues_stay_ahead, dues_stay_below,
+};
 use network::Network;
 use queue_disc::NoMemory;
 use std::alloc::Global;
@@ -36,6 +39,13 @@ impl Experiment {
         self.net.counters(self.held)
     }
 
+    /// How many packets are on the shelf.
+    pub fn held(&self) -> u64
+        ensures { (p : Pocket) → IsHousedIn p self.now → result ≡ p.count }
+    {
+        self.held
+    }
+
     /// How it ended, if it has.
     pub fn ending(&self) -> Option<Ending>
         ensures { result ≡ self.now.ending }
@@ -57,6 +67,20 @@ impl Experiment {
         self.steps
     }
 
+    /// The moment of the last event (ns), 0 before the first.
+    pub fn clock(&self) -> u64
+        ensures { result ≡ self.now.clock }
+    {
+        self.clock
+    }
+
+    /// Whether a command is the next one.
+    pub fn has_next(&self) -> bool
+        ensures { result ≡ is_some self.now.next }
+    {
+        self.next.is_some()
+    }
+
     /// The commands that came, and the records. Takes no memory.
     pub fn into_lists(self) -> (Vec<Timed>, Vec<Record>)
         ensures consumed { result.0.items ≡ self.consumed }
@@ -74,6 +98,15 @@ impl Experiment {
         let mut dues = Vec::new(alloc);
         self.add_dues(&mut dues)?;
         Ok(dues)
+    }
+
+    /// What is due lies not before the moment of the last event, and before 2 * 10^15 ns.
+    pub fn dues_in_time(&self)
+        ensures { (p : Pocket) → IsAlone p self.now → AllByRecursion (λ d. (self.now.clock ≤ d.moment) × (d.moment < 2 * 10 ^ 15)) (dues_in (view p self.now)) }
+    {
+        let _ = &self.spec;
+        dues_stay_ahead();
+        dues_stay_below();
     }
 
     /// Appends what is due, or leaves `dues` as it was.

@@ -9,3 +9,4 @@ mod Obeying
 mod Leaving
 mod DueFacts
 mod Standing
+mod Rehoused

@@ -8,6 +8,7 @@ mod deliveries;
 mod dues;
 mod events;
 mod laws;
+mod rehousing;
 mod state;
 #[cfg(test)]
 mod tests;

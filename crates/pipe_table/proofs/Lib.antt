@@ -6,3 +6,4 @@ mod Order
 mod At
 mod DueFacts
 mod LineFacts
+pub mod Moving

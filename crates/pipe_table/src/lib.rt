@@ -3,6 +3,7 @@
 
 mod dues;
 mod lines;
+mod rehousing;
 mod table;
 #[cfg(test)]
 mod tests;

@@ -1,3 +1,4 @@
+use Rattle.std.specs.Prelude.{◌-◌, vec_len, vec_capacity}
 use Rattle.experiment.specs.Kept.{KeptExperiment}
 use Rattle.experiment.proofs.Keeping.{sound-halted}
 use Rattle.experiment.proofs.experiment.Experiment.take_command.Goals as goal
@@ -16,5 +17,6 @@ invariant_of-self g c =
       ending = s.ending;
       watched = s.watched;
       before = s.before.items;
+      spare = vec_capacity s.consumed - vec_len s.consumed;
     } in
     sound-halted e s.latest s.held c.obey.new.self (g.S.Shelf.pocket c.args.shelf.now c.args.owner) c.self.invariant c.in_default.ensures.refused

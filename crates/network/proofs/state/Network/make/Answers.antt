@@ -23,7 +23,7 @@ returns-then-count-get-clause-becomes g c =
     from_view 1 (λ m. made_of (setting_of c.args.at) c.args.sending.now.load c.args.sending.now.send (net_of p m)) p _ _ _ _ c.self.view_is
     (made-passes c.keys_say_all.ensures.packets (setting_of c.args.at) p n c.args.sending.now.load c.args.sending.now.send c.packet_of-packet.result
     stands.housed c.packet_of-packet.ensures _ _
-    (omega (arith, c.if-count-get.true, c.count.ensures, c.get.ensures.value)) c.pass_rules.ensures.becomes)
+    (omega (arith, c.if-count-get.true, c.count.ensures.value, c.get.ensures.value)) c.pass_rules.ensures.becomes)
 
 pub returns-clause-becomes : goal.returns-clause-becomes
 returns-clause-becomes g c =
@@ -33,4 +33,4 @@ returns-clause-becomes g c =
     from_view 1 (λ m. made_of (setting_of c.args.at) c.args.sending.now.load c.args.sending.now.send (net_of p m)) p _ _ _ _ c.self.view_is
     (made-dropped c.keys_say_all.ensures.packets (setting_of c.args.at) p n c.args.sending.now.load c.args.sending.now.send c.packet_of-packet.result
     stands.housed c.packet_of-packet.ensures _
-    (omega (arith, c.if-count-get.false, c.count.ensures, c.get.ensures.value)) c.drop_packet.ensures)
+    (omega (arith, c.if-count-get.false, c.count.ensures.value, c.get.ensures.value)) c.drop_packet.ensures)

@@ -1,0 +1,40 @@
+//! An experiment's packets move from one shelf to another.
+
+ghost use Rattle.std.specs.Prelude.{◌≡◌, ◌≢◌, ℕ, ◌≤◌, length};
+ghost use Rattle.packet_store.specs.Pocket.{empty_pocket};
+ghost use Rattle.network.specs.Kept.{net_keys};
+ghost use Rattle.experiment.specs.Kept.{view, IsAlone, IsHousedIn};
+
+use crate::Experiment;
+use packet_store::{Owner, Shelf};
+
+impl Experiment {
+    /// Moves all packets from one shelf to another, where the other owner has none, may hold as many as
+    /// the experiment was given, and there is room for them. The experiment shows then what it showed
+    /// before. Takes no memory.
+    pub fn rehouse<S: Shelf, T: Shelf>(
+        &mut self,
+        from: &mut S,
+        owner: Owner,
+        to: &mut T,
+        other: Owner,
+    )
+        requires housed { IsHousedIn (S.pocket from.old owner) self.old }
+        requires empty { T.pocket to.old other ≡ empty_pocket (T.pocket to.old other).budget }
+        requires room { length (net_keys self.old.net) ≤ T.room to.old other }
+        requires budget { length (net_keys self.old.net) ≤ (T.pocket to.old other).budget }
+        requires fits { self.old.spec.budget.packets ≤ (T.pocket to.old other).budget }
+        ensures view { view (T.pocket to.new other) self.new ≡ view (S.pocket from.old owner) self.old }
+        ensures housed { IsHousedIn (T.pocket to.new other) self.new }
+        ensures alone { IsAlone (S.pocket from.old owner) self.old → IsAlone (T.pocket to.new other) self.new }
+        ensures rest { self.new ≡ record self.old { net = self.new.net } }
+        ensures records { self.new.net.log.records ≡ self.old.net.log.records }
+        ensures count { (T.pocket to.new other).count ≡ (S.pocket from.old owner).count }
+        ensures budget { (T.pocket to.new other).budget ≡ (T.pocket to.old other).budget }
+        ensures gone { S.pocket from.new owner ≡ empty_pocket (S.pocket from.old owner).budget }
+        ensures others_from { (o : ℕ) → o ≢ owner → S.pocket from.new o ≡ S.pocket from.old o }
+        ensures others_to { (o : ℕ) → o ≢ other → T.pocket to.new o ≡ T.pocket to.old o }
+    {
+        self.net.rehouse(from, owner, to, other);
+    }
+}
