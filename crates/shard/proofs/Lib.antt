@@ -1,0 +1,9 @@
+mod Rings
+mod Slots
+mod SlotChanges
+mod RowFacts
+mod KeptFacts
+mod TurnFacts
+mod SeatFacts
+mod RestartFacts
+mod PostFacts

@@ -1,0 +1,115 @@
+use Rattle.std.proofs.Common.{◌≡◌, ◌≢◌, ℕ, ◌+◌, ◌-◌, ◌<◌, ◌≤◌, ◌⊎◌, List, length, get_or, set, Option, Some, None, IsSome, refl, sym, ap, ◌∙◌, arith, subst, inl, inr}
+use Rattle.std.specs.Prelude.{is_some, unwrap_or}
+use Rattle.emu_model.specs.declared.commands.Spec.{Spec}
+use Rattle.std.proofs.lemmas.List.{get_or_read, get_or_past}
+use Rattle.packet_store.specs.Books.{pocket_of}
+use Rattle.packet_store.specs.Pocket.{Pocket}
+use Rattle.packet_store.specs.Own.{own_pocket, own_room}
+use Rattle.network.specs.Kept.{net_keys}
+use Rattle.shard.specs.declared.resident.Resident.{Resident}
+use Rattle.shard.specs.Stand.{Stand, Seat, Seating, seat_at}
+use Rattle.shard.specs.Seats.{resident_at, standing, seat, seat_of, seats_of, IsSeated, IsShard}
+use Rattle.shard.specs.Turns.{PackedAt}
+use Rattle.shard.proofs.SlotChanges.{read_at, seated_at, seat_is, vacant_seat, IsAloneAt, GoesOn, IsChanged, leaves}
+use Rattle.shard.proofs.shard.Shard.pack.Goals as goal
+
+pub returns-then-slot-len-clause-vacant : goal.returns-then-slot-len-clause-vacant
+returns-then-slot-len-clause-vacant g c = λ e.
+    let s = c.self.inside in
+    let past : length s.slots.items ≤ c.args.slot = omega (arith, s.slots.ok.0) in
+    vacant_seat (pocket_of s.store) s.slots.items c.args.self.now.seats c.args.slot (ap (λ (x : Seating _). x.seats) c.self.view_is) (get_or_past s.slots.items c.args.slot None past)
+
+pub returns-in_default-clause-vacant : goal.returns-in_default-clause-vacant
+returns-in_default-clause-vacant g c = λ e.
+    let s = c.self.inside in
+    let within : c.args.slot < length s.slots.items = omega (arith, s.slots.ok.0) in
+    let none : resident_at s.slots.items c.args.slot ≡ None = sym (sym c.in_default.is ∙ get_or_read s.slots.items c.args.slot c.index.result.now within c.index.ensures None) in
+    vacant_seat (pocket_of s.store) s.slots.items c.args.self.now.seats c.args.slot (ap (λ (x : Seating _). x.seats) c.self.view_is) none
+
+pub returns-in_default-reserve-clause-there : goal.returns-in_default-reserve-clause-there
+returns-in_default-reserve-clause-there g c = λ e.
+    let s = c.self.inside in
+    let r = c.in-Some.resident in
+    let within : c.args.slot < length s.slots.items = omega (arith, s.slots.ok.0) in
+    let is : resident_at s.slots.items c.args.slot ≡ Some r = read_at s.slots.items c.args.slot c.index.result.now r within c.index.ensures (sym c.in-Some.is) in
+    ap is_some (seat_is (pocket_of s.store) s.slots.items c.args.self.now.seats c.args.slot r (ap (λ (x : Seating _). x.seats) c.self.view_is) is)
+
+pub leave-requires-clause-going : goal.leave-requires-clause-going
+leave-requires-clause-going g c =
+    let s = c.self.inside in
+    let r = c.in-Some-replace.gone in
+    let within : c.args.slot < length s.slots.items = omega (arith, s.slots.ok.0) in
+    let is : resident_at s.slots.items c.args.slot ≡ Some r = read_at s.slots.items c.args.slot c.index_mut.result.now r within c.index_mut.ensures.value c.in-Some-replace.ensures.value in
+    (seated_at g.M.Mail.given g.M.Mail.letters (pocket_of s.store) (g.A.Agenda.entries s.agenda) (g.A.Agenda.time s.agenda) s.slots.items c.args.slot r c.self.invariant is).going
+
+pub leave-requires-clause-room : goal.leave-requires-clause-room
+leave-requires-clause-room g c =
+    let s = c.self.inside in
+    let r = c.in-Some-replace.gone in
+    let first = c.in-Some.resident in
+    let k : ℕ = c.args.slot in
+    let within : k < length s.slots.items = omega (arith, s.slots.ok.0) in
+    let is : resident_at s.slots.items k ≡ Some r = read_at s.slots.items k c.index_mut.result.now r within c.index_mut.ensures.value c.in-Some-replace.ensures.value in
+    let was : resident_at s.slots.items k ≡ Some first = read_at s.slots.items k c.index.result.now first within c.index.ensures (sym c.in-Some.is) in
+    let same : first ≡ r = ap (λ (o : Option (Resident _)). unwrap_or o r) (sym was ∙ is) in
+    let kept = (seated_at g.M.Mail.given g.M.Mail.letters (pocket_of s.store) (g.A.Agenda.entries s.agenda) (g.A.Agenda.time s.agenda) s.slots.items k r c.self.invariant is).going.kept in
+    let count : c.count.result ≡ (pocket_of s.store r.owner).count = c.count.ensures.value ∙ ap (λ (x : Resident _). (pocket_of s.store x.owner).count) same in
+    let few : c.count.result ≤ (pocket_of s.store r.owner).budget = subst (λ (x : Resident _). c.count.result ≤ (pocket_of s.store x.owner).budget) same c.count.ensures.within in
+    let own : (own_pocket c.new-shelf.result).budget ≡ r.experiment.spec.budget.packets = ap (λ (x : Pocket). x.budget) c.new-shelf.ensures.own ∙ ap (λ (x : Spec). x.budget.packets) c.spec.ensures ∙ ap (λ (x : Resident _). x.experiment.spec.budget.packets) same in
+    let none : (own_pocket c.new-shelf.result).count ≡ 0 = ap (λ (x : Pocket). x.count) c.new-shelf.ensures.own in
+    elim c.in-Ok.ensures.ok [
+      | inl enough ↦ omega (arith, enough, count, kept.housed.housed.count)
+      | inr all ↦ omega (arith, all, own, none, few, count, kept.budget, kept.housed.housed.count)
+    ]
+
+pub leave-requires-clause-fits : goal.leave-requires-clause-fits
+leave-requires-clause-fits g c =
+    let s = c.self.inside in
+    let r = c.in-Some-replace.gone in
+    let first = c.in-Some.resident in
+    let k : ℕ = c.args.slot in
+    let within : k < length s.slots.items = omega (arith, s.slots.ok.0) in
+    let is : resident_at s.slots.items k ≡ Some r = read_at s.slots.items k c.index_mut.result.now r within c.index_mut.ensures.value c.in-Some-replace.ensures.value in
+    let was : resident_at s.slots.items k ≡ Some first = read_at s.slots.items k c.index.result.now first within c.index.ensures (sym c.in-Some.is) in
+    let same : first ≡ r = ap (λ (o : Option (Resident _)). unwrap_or o r) (sym was ∙ is) in
+    let kept = (seated_at g.M.Mail.given g.M.Mail.letters (pocket_of s.store) (g.A.Agenda.entries s.agenda) (g.A.Agenda.time s.agenda) s.slots.items k r c.self.invariant is).going.kept in
+    let count : c.count.result ≡ (pocket_of s.store r.owner).count = c.count.ensures.value ∙ ap (λ (x : Resident _). (pocket_of s.store x.owner).count) same in
+    let few : c.count.result ≤ (pocket_of s.store r.owner).budget = subst (λ (x : Resident _). c.count.result ≤ (pocket_of s.store x.owner).budget) same c.count.ensures.within in
+    omega (arith, few, count, kept.budget, kept.housed.housed.count)
+
+pub invariant_of-self : goal.invariant_of-self
+invariant_of-self g c =
+    let s = c.self.inside in
+    let r = c.in-Some-replace.gone in
+    let k : ℕ = c.args.slot in
+    let clock : ℕ = g.A.Agenda.time s.agenda in
+    let rows = g.A.Agenda.entries s.agenda in
+    let later = g.A.Agenda.entries c.clear_owner.new.self in
+    let within : k < length s.slots.items = omega (arith, s.slots.ok.0) in
+    let is : resident_at s.slots.items k ≡ Some r = read_at s.slots.items k c.index_mut.result.now r within c.index_mut.ensures.value c.in-Some-replace.ensures.value in
+    let a : IsAloneAt (pocket_of s.store) (pocket_of c.leave.new.store) rows later s.slots.items k r = record { is = is; within = omega (arith, within, c.self.invariant.long); rows_stay = c.clear_owner.ensures.others; pockets_stay = c.leave.ensures.others } in
+    let on : GoesOn clock clock = record { on = omega arith; early = c.self.invariant.early } in
+    let h = leaves g.M.Mail.given g.M.Mail.letters (pocket_of s.store) (pocket_of c.leave.new.store) rows later clock clock s.slots.items k r c.self.invariant on a c.clear_owner.ensures.cleared in
+    subst (λ t. IsShard g.M.Mail.given g.M.Mail.letters (pocket_of c.leave.new.store) later t (set s.slots.items k c.replace.new.dest)) (sym c.clear_owner.ensures.time)
+    (subst (λ (o : Option (Resident _)). IsShard g.M.Mail.given g.M.Mail.letters (pocket_of c.leave.new.store) later clock (set s.slots.items k o)) (sym c.replace.ensures.after) h.shard)
+
+pub returns-clause-ok : goal.returns-clause-ok
+returns-clause-ok g c =
+    let s = c.self.inside in
+    let r = c.in-Some-replace.gone in
+    let k : ℕ = c.args.slot in
+    let clock : ℕ = g.A.Agenda.time s.agenda in
+    let rows = g.A.Agenda.entries s.agenda in
+    let later = g.A.Agenda.entries c.clear_owner.new.self in
+    let within : k < length s.slots.items = omega (arith, s.slots.ok.0) in
+    let is : resident_at s.slots.items k ≡ Some r = read_at s.slots.items k c.index_mut.result.now r within c.index_mut.ensures.value c.in-Some-replace.ensures.value in
+    let a : IsAloneAt (pocket_of s.store) (pocket_of c.leave.new.store) rows later s.slots.items k r = record { is = is; within = omega (arith, within, c.self.invariant.long); rows_stay = c.clear_owner.ensures.others; pockets_stay = c.leave.ensures.others } in
+    let on : GoesOn clock clock = record { on = omega arith; early = c.self.invariant.early } in
+    let h = leaves g.M.Mail.given g.M.Mail.letters (pocket_of s.store) (pocket_of c.leave.new.store) rows later clock clock s.slots.items k r c.self.invariant on a c.clear_owner.ensures.cleared in (
+      seat (pocket_of s.store r.owner) r,
+      record {
+        was = seat_is (pocket_of s.store) s.slots.items c.args.self.now.seats k r (ap (λ (x : Seating _). x.seats) c.self.view_is) is;
+        same = c.leave.ensures.same;
+        others = ap (λ (o : Option (Resident _)). seats_of (pocket_of c.leave.new.store) (set s.slots.items k o)) c.replace.ensures.after ∙ h.seats ∙ ap (λ (x : Seating _). set x.seats k None) c.self.view_is;
+      },
+    )

@@ -1,0 +1,66 @@
+use Rattle.std.proofs.Common.{◌≡◌, ◌≢◌, ℕ, ◌+◌, ◌<◌, ◌≤◌, List, length, get_or, set, Option, Some, None, IsSome, refl, sym, ap, ◌∙◌, arith, subst}
+use Rattle.std.specs.Prelude.{is_some}
+use Rattle.packet_store.specs.Books.{pocket_of}
+use Rattle.packet_store.specs.Pocket.{Pocket}
+use Rattle.shard.specs.declared.resident.Resident.{Resident}
+use Rattle.shard.specs.Stand.{Stand, Seat, Seating, seat_at}
+use Rattle.shard.specs.Seats.{resident_at, standing, seat, seat_of, seats_of, IsSeated, IsShard}
+use Rattle.shard.specs.Turns.{TakenIn}
+use Rattle.shard.proofs.SlotChanges.{vacant_seat, filled_seat, IsChanged, comes}
+use Rattle.shard.proofs.shard.Shard.take_in.Goals as goal
+
+pub returns-in_default-clause-back : goal.returns-in_default-clause-back
+returns-in_default-clause-back g c =
+    let s = c.self.inside in (
+      refl,
+      λ k within. filled_seat (pocket_of s.store) s.slots.items c.args.self.now.seats k (ap (λ (x : Seating _). x.seats) c.self.view_is)
+          (subst (λ (l : List (Option (Resident _))). IsSome (resident_at l k)) c.as_slice.ensures.value (c.in_default.ensures.none k (omega (arith, within, c.self.invariant.long, ap length c.as_slice.ensures.value)))),
+    )
+
+pub invariant_of-self-2 : goal.invariant_of-self-2
+invariant_of-self-2 g c =
+    let s = c.self.inside in
+    let k : ℕ = c.in-Some.slot in
+    let owner : ℕ = c.in-Ok.owner in
+    let first = c.settle-resident.result in
+    let t = c.enter.new.self in
+    let clock : ℕ = g.A.Agenda.time s.agenda in
+    let rows = g.A.Agenda.entries s.agenda in
+    let later = g.A.Agenda.entries c.enter.new.agenda in
+    let after = pocket_of c.settle-resident.new.store in
+    let found = subst (λ (l : List (Option (Resident _))). (k < length l) × (resident_at l k ≡ None) × ((j : ℕ) → j < k → IsSome (resident_at l j))) c.as_slice.ensures.value c.in-Some.ensures.some in
+    let inside : k < 256 = omega (arith, found.0, c.self.invariant.long) in
+    let seated = c.enter.ensures.seated (after owner) c.settle-resident.ensures.going in
+    let is : t.owner ≡ owner = ap (λ (x : Resident _). x.owner) c.enter.ensures.same ∙ c.settle-resident.ensures.owner in
+    let fresh : (pocket_of s.store owner).budget ≡ 0 = ap (λ (x : Pocket). x.budget) c.in-Ok.ensures.stranger in
+    let h = comes g.M.Mail.given g.M.Mail.letters (pocket_of s.store) after rows later clock s.slots.items k owner t c.self.invariant inside fresh (λ q n. c.settle-resident.ensures.others q n ∙ c.in-Ok.ensures.others q n) c.enter.ensures.others seated is in
+    subst (λ x. IsShard g.M.Mail.given g.M.Mail.letters after later x (set s.slots.items k (Some t))) (sym c.enter.ensures.time) h.shard
+
+pub returns-clause-ok : goal.returns-clause-ok
+returns-clause-ok g c =
+    let s = c.self.inside in
+    let k : ℕ = c.in-Some.slot in
+    let owner : ℕ = c.in-Ok.owner in
+    let first = c.settle-resident.result in
+    let t = c.enter.new.self in
+    let clock : ℕ = g.A.Agenda.time s.agenda in
+    let rows = g.A.Agenda.entries s.agenda in
+    let later = g.A.Agenda.entries c.enter.new.agenda in
+    let after = pocket_of c.settle-resident.new.store in
+    let found = subst (λ (l : List (Option (Resident _))). (k < length l) × (resident_at l k ≡ None) × ((j : ℕ) → j < k → IsSome (resident_at l j))) c.as_slice.ensures.value c.in-Some.ensures.some in
+    let inside : k < 256 = omega (arith, found.0, c.self.invariant.long) in
+    let seated = c.enter.ensures.seated (after owner) c.settle-resident.ensures.going in
+    let is : t.owner ≡ owner = ap (λ (x : Resident _). x.owner) c.enter.ensures.same ∙ c.settle-resident.ensures.owner in
+    let fresh : (pocket_of s.store owner).budget ≡ 0 = ap (λ (x : Pocket). x.budget) c.in-Ok.ensures.stranger in
+    let h = comes g.M.Mail.given g.M.Mail.letters (pocket_of s.store) after rows later clock s.slots.items k owner t c.self.invariant inside fresh (λ q n. c.settle-resident.ensures.others q n ∙ c.in-Ok.ensures.others q n) c.enter.ensures.others seated is in
+    let seats = ap (λ (x : Seating _). x.seats) c.self.view_is in
+    let stands : standing (after owner) t ≡ c.args.parcel = ap (λ (x : Resident _). standing (after owner) x) c.enter.ensures.same ∙ c.settle-resident.ensures.same in (
+      seat (after t.owner) t,
+      record {
+        vacant = vacant_seat (pocket_of s.store) s.slots.items c.args.self.now.seats k seats found.1;
+        inside = inside;
+        least = λ j l. filled_seat (pocket_of s.store) s.slots.items c.args.self.now.seats j seats (found.2 j l);
+        same = ap (λ o. standing (after o) t) is ∙ stands;
+        others = h.seats ∙ ap (λ (x : Seating _). set x.seats k (seat_of after (Some t))) c.self.view_is;
+      },
+    )

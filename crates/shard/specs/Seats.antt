@@ -1,0 +1,57 @@
+-- The residents of a shard, and their seats.
+use Rattle.std.specs.Prelude.{◌≡◌, ◌≢◌, ℕ, ◌+◌, ◌*◌, ◌^◌, ◌<◌, ◌≤◌, List, length, map, Option, Some, None, IsSome, IfSome, slice_index_or}
+use Rattle.emu_model.specs.declared.commands.Timed.{Timed}
+use Rattle.emu_model.specs.declared.records.Record.{Record}
+use Rattle.emu_model.specs.declared.sources.Source.{Source}
+use Rattle.packet_store.specs.Pocket.{Pocket}
+use Rattle.timer_wheel.specs.Rows.{Row}
+use Rattle.shard.specs.declared.resident.Resident.{Resident}
+use Rattle.shard.specs.Stand.{Stand, Seat}
+use Rattle.shard.specs.Entries.{entries_of}
+use Rattle.shard.specs.Kept.{stand_of, IsGoing, dues_kept}
+
+module _ {M : Type 0} where
+  abbrev pub resident_at : List (Option (Resident M)) → ℕ → Option (Resident M)
+  resident_at slots k = slice_index_or slots k None
+
+  abbrev pub standing : Pocket → Resident M → Stand M
+  standing p r = stand_of p r.name r.experiment r.published r.mail
+
+  abbrev pub seat : Pocket → Resident M → Seat M
+  seat p r = record { stand = standing p r; offset = r.offset }
+
+  abbrev pub seat_of : (ℕ → Pocket) → Option (Resident M) → Option (Seat M)
+  seat_of pockets None = None
+  seat_of pockets (Some r) = Some (seat (pockets r.owner) r)
+
+  -- the same without entries
+  abbrev pub parked : Option (Resident M) → Option (Resident M)
+  parked None = None
+  parked (Some r) = Some (record r { offset = None })
+
+  unfoldable pub seats_of : (ℕ → Pocket) → List (Option (Resident M)) → List (Option (Seat M))
+  seats_of pockets slots = map (seat_of pockets) slots
+
+  -- a resident over its packets and its row of the agenda
+  pub record IsSeated (given : M → List Timed) (letters : M → List Record) (p : Pocket) (row : Row) (clock : ℕ) (r : Resident M) : Type 0 where
+    pub going : IsGoing given letters p r.experiment r.published r.mail
+    pub entries : (s : Source) → row s ≡ entries_of r.offset (dues_kept r.experiment) s
+    pub ready : IsSome r.offset → IsSome r.experiment.next
+    pub late : IfSome r.offset (λ o. o ≤ clock)
+    pub below : (s : Source) (d : ℕ) → row s ≡ Some d → IfSome r.offset (λ o. d < o + 2 * 10 ^ 15)
+
+  abbrev pub Fits : (M → List Timed) → (M → List Record) → (ℕ → Pocket) → Row → ℕ → Option (Resident M) → Type 0
+  Fits given letters pockets row clock None = (s : Source) → row s ≡ None
+  Fits given letters pockets row clock (Some r) = IsSeated given letters (pockets r.owner) row clock r
+
+  -- residents have different owners
+  abbrev pub AreApart : Option (Resident M) → Option (Resident M) → Type 0
+  AreApart None o = Unit {0}
+  AreApart (Some r) None = Unit {0}
+  AreApart (Some r) (Some s) = r.owner ≢ s.owner
+
+  pub record IsShard (given : M → List Timed) (letters : M → List Record) (pockets : ℕ → Pocket) (rows : ℕ → Row) (clock : ℕ) (slots : List (Option (Resident M))) : Type 0 where
+    pub each : (k : ℕ) → Fits given letters pockets (rows k) clock (resident_at slots k)
+    pub apart : (i j : ℕ) → i ≢ j → AreApart (resident_at slots i) (resident_at slots j)
+    pub long : length slots ≡ 256
+    pub early : clock < 2 ^ 62 + 2 * 10 ^ 15

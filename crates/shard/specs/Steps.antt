@@ -1,0 +1,53 @@
+-- What a step does to a resident.
+use Rattle.std.specs.Prelude.{◌≡◌, ℕ, ◌+◌, ◌*◌, ◌^◌, ◌<◌, ◌≤◌, if◌then◌else◌, List, Option, Some, None, IsSome, IfSome}
+use Rattle.emu_model.specs.declared.commands.Timed.{Timed}
+use Rattle.emu_model.specs.declared.records.Record.{Record}
+use Rattle.emu_model.specs.declared.records.Ending.{Ending}
+use Rattle.emu_model.specs.declared.sources.Source.{Source}
+use Rattle.emu_model.specs.Laws.{same_source}
+use Rattle.packet_store.specs.Pocket.{Pocket}
+use Rattle.timer_wheel.specs.Rows.{Row}
+use Rattle.experiment.specs.declared.experiment.Event.{Event}
+use Rattle.experiment.specs.declared.experiment.Event.TheVariants.{Ran, Ended, Halted, Still}
+use Rattle.experiment.specs.Kept.{view}
+use Rattle.shard.specs.declared.resident.Resident.{Resident}
+use Rattle.shard.specs.Entries.{entries_of}
+use Rattle.shard.specs.Kept.{IsKept, IsGoing, dues_kept}
+use Rattle.shard.specs.Seats.{standing, IsSeated}
+use Rattle.shard.specs.Turns.{IsTurn, last_state}
+
+module _ {M : Type 0} where
+  -- a resident, of whose entries one was popped
+  pub record IsPopped (given : M → List Timed) (letters : M → List Record) (p : Pocket) (row : Row) (clock : ℕ) (source : Source) (r : Resident M) : Type 0 where
+    pub going : IsGoing given letters p r.experiment r.published r.mail
+    pub next : IsSome r.experiment.next
+    pub entries : (s : Source) → row s ≡ (if same_source s source then None else entries_of r.offset (dues_kept r.experiment) s)
+    pub ready : IsSome r.offset
+    pub late : IfSome r.offset (λ o. o ≤ clock)
+    pub early : clock < 2 ^ 62 + 2 * 10 ^ 15
+
+  -- a resident that has made a step, and whose entries are still those from before it
+  pub record IsStale (given : M → List Timed) (letters : M → List Record) (p : Pocket) (row : Row) (clock : ℕ) (source : Source) (r : Resident M) : Type 0 where
+    pub going : IsGoing given letters p r.experiment r.published r.mail
+    pub entries : (s : Source) → row s ≡ (if same_source s source then None else entries_of r.offset r.experiment.before s)
+    pub ready : IsSome r.offset
+    pub late : IfSome r.offset (λ o. o ≤ clock)
+    pub early : clock < 2 ^ 62 + 2 * 10 ^ 15
+
+  -- a resident whose experiment has ended
+  pub record IsLeaving (given : M → List Timed) (letters : M → List Record) (p q : Pocket) (ending : Ending) (old new : Resident M) : Type 0 where
+    pub kept : IsKept given letters q new.experiment new.published new.mail
+    pub name : new.name ≡ old.name
+    pub owner : new.owner ≡ old.owner
+    pub spec : new.experiment.spec ≡ old.experiment.spec
+    pub consumed : new.experiment.consumed ≡ old.experiment.consumed
+    pub state : view q new.experiment ≡ last_state ending (view p old.experiment)
+    pub ending_is : new.experiment.ending ≡ Some ending
+    pub given_is : given new.mail ≡ given old.mail
+
+  abbrev pub Steps : (M → List Timed) → (M → List Record) → Event → Pocket → Resident M → Pocket → Row → ℕ → Resident M → Type 0
+  Steps given letters Ran p old q row clock new =
+      IsSeated given letters q row clock new × (new.owner ≡ old.owner) × IsTurn given (standing p old) (standing q new)
+  Steps given letters Ended p old q row clock new = (e : Ending) × IsLeaving given letters p q e old new
+  Steps given letters Halted p old q row clock new = (e : Ending) × IsLeaving given letters p q e old new
+  Steps given letters Still p old q row clock new = ⊥

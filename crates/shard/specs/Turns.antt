@@ -1,0 +1,138 @@
+-- What the answers of a shard say, on its seats.
+use Rattle.std.specs.Prelude.{◌≡◌, ℕ, ◌+◌, ◌^◌, ◌<◌, ◌≤◌, ◌⊎◌, Bool, true, false, if◌then◌else◌, List, [], ◌∷◌, ◌++◌, Option, Some, None, IsSome, slice_set}
+use Rattle.emu_model.specs.declared.commands.Timed.{Timed}
+use Rattle.emu_model.specs.declared.records.Record.{Record}
+use Rattle.emu_model.specs.declared.records.Ending.{Ending}
+use Rattle.emu_model.specs.declared.records.Ending.TheVariants.{Ended as ByEnd, Spent, Halted}
+use Rattle.emu_model.specs.Net.{counters_of}
+use Rattle.emu_model.specs.Step.{State, step}
+use Rattle.emu_model.specs.Laws.{with_more}
+use Rattle.experiment.specs.Kept.{shown_ending}
+use Rattle.shard.specs.declared.shard.Turned.{Turned}
+use Rattle.shard.specs.declared.shard.Turned.TheVariants.{Ran, Ended, Idle}
+use Rattle.shard.specs.declared.shard.Polled.{Polled}
+use Rattle.shard.specs.declared.shard.Polled.TheVariants.{Vacant, Took, Resumed, Held, Empty, NoMemory}
+use Rattle.shard.specs.declared.shard.TakeInError.{TakeInError}
+use Rattle.shard.specs.declared.shard.TakeInError.TheVariants.{Crowded, NoMemory as NoRoom}
+use Rattle.shard.specs.Stand.{Stand, Seat, Final, Seating, seat_at, stands_of}
+
+-- what is shown stays, and the name with it
+pub record SameView {M : Type 0} (s t : Stand M) : Type 0 where
+  pub name : t.name ≡ s.name
+  pub spec : t.spec ≡ s.spec
+  pub consumed : t.consumed ≡ s.consumed
+  pub state : t.state ≡ s.state
+
+-- one step was made, and perhaps records were published
+pub record IsTurn {M : Type 0} (given : M → List Timed) (s t : Stand M) : Type 0 where
+  pub name : t.name ≡ s.name
+  pub spec : t.spec ≡ s.spec
+  pub consumed : t.consumed ≡ s.consumed
+  pub state : t.state ≡ step s.state
+  pub made : t.state.steps ≡ s.state.steps + 1
+  pub given_is : given t.mail ≡ given s.mail
+
+-- the state in which an experiment ends: after its last step, or as it was where it was halted
+abbrev pub last_state : Ending → State → State
+last_state ByEnd s = step s
+last_state Spent s = step s
+last_state Halted s = s
+
+-- an experiment ended
+pub record IsEnd {M : Type 0} (given : M → List Timed) (s : Stand M) (d : Final M) : Type 0 where
+  pub name : d.name ≡ s.name
+  pub spec : d.spec ≡ s.spec
+  pub commands : d.commands ≡ s.consumed
+  pub records : d.records ≡ (last_state d.ending s.state).net.records
+  pub counters : d.counters ≡ counters_of (last_state d.ending s.state).net
+  pub events : d.events ≡ (last_state d.ending s.state).steps
+  pub ending : shown_ending (Some d.ending) ≡ (last_state d.ending s.state).ending
+  pub given_is : given d.mail ≡ given s.mail
+
+-- the time of the agenda began anew: nobody is shown otherwise
+pub record IsRebased {M : Type 0} (old new : Seating M) : Type 0 where
+  pub stands : stands_of new.seats ≡ stands_of old.seats
+  pub clock : new.clock ≡ 0
+  pub offsets : (k : ℕ) (s : Seat M) → seat_at new.seats k ≡ Some s → (s.offset ≡ None) ⊎ (s.offset ≡ Some 0)
+
+-- perhaps the time began anew, which it does where the clock has come to 2^62
+abbrev pub Settles : {M : Type 0} → Seating M → Seating M → Type 0
+Settles old new = (new ≡ old) ⊎ ((2 ^ 62 ≤ old.clock) × IsRebased old new)
+
+-- the resident of a slot made a step, and every other slot is as before
+pub record RanAt {M : Type 0} (given : M → List Timed) (name : ℕ) (old new : Seating M) (slot : ℕ) (s t : Seat M) : Type 0 where
+  pub was : seat_at old.seats slot ≡ Some s
+  pub name_is : s.stand.name ≡ name
+  pub ready : IsSome s.offset
+  pub turn : IsTurn given s.stand t.stand
+  pub others : new.seats ≡ slice_set old.seats slot (Some t)
+
+-- the resident of a slot ended
+pub record EndedAt {M : Type 0} (given : M → List Timed) (d : Final M) (old new : Seating M) (slot : ℕ) (s : Seat M) : Type 0 where
+  pub was : seat_at old.seats slot ≡ Some s
+  pub ready : IsSome s.offset
+  pub end : IsEnd given s.stand d
+  pub others : new.seats ≡ slice_set old.seats slot None
+
+-- one turn
+abbrev pub Turns : {M : Type 0} → (M → List Timed) → Turned M → Seating M → Seating M → Type 0
+Turns {M} given (Ran name) old new = (slot : ℕ) × (s : Seat M) × (t : Seat M) × RanAt given name old new slot s t
+Turns {M} given (Ended d) old new = (slot : ℕ) × (s : Seat M) × EndedAt given d old new slot s
+Turns {M} given Idle old new =
+    (new ≡ old) × ((slot : ℕ) (s : Seat M) → seat_at old.seats slot ≡ Some s → s.offset ≡ None)
+
+-- one turn, before which the time may have begun anew
+abbrev pub TurnsSettled : {M : Type 0} → (M → List Timed) → Turned M → Seating M → Seating M → Type 0
+TurnsSettled {M} given answer old new = (mid : Seating M) × Settles old mid × Turns given answer mid new
+
+-- a parcel came to the least vacant slot
+pub record TakenIn {M : Type 0} (parcel : Stand M) (old new : Seating M) (slot : ℕ) (s : Seat M) : Type 0 where
+  pub vacant : seat_at old.seats slot ≡ None
+  pub inside : slot < 256
+  pub least : (k : ℕ) → k < slot → IsSome (seat_at old.seats k)
+  pub same : s.stand ≡ parcel
+  pub others : new.seats ≡ slice_set old.seats slot (Some s)
+
+-- the parcel comes back; no slot is vacant where it is said so
+abbrev pub ComesBack : {M : Type 0} → Stand M → Seating M → TakeInError M → Type 0
+ComesBack parcel old (Crowded p) = (p ≡ parcel) × ((k : ℕ) → k < 256 → IsSome (seat_at old.seats k))
+ComesBack parcel old (NoRoom p) = p ≡ parcel
+
+-- a resident became a parcel
+pub record PackedAt {M : Type 0} (parcel : Stand M) (old new : Seating M) (slot : ℕ) (s : Seat M) : Type 0 where
+  pub was : seat_at old.seats slot ≡ Some s
+  pub same : parcel ≡ s.stand
+  pub others : new.seats ≡ slice_set old.seats slot None
+
+-- the next command came
+pub record TookNext {M : Type 0} (given : M → List Timed) (s t : Stand M) (c : Timed) : Type 0 where
+  pub name : t.name ≡ s.name
+  pub spec : t.spec ≡ s.spec
+  pub given_is : given t.mail ≡ given s.mail ++ c ∷ []
+  pub waits : s.state.left ≡ []
+  pub consumed : t.consumed ≡ s.consumed ++ c ∷ []
+  pub state : t.state ≡ with_more (c ∷ []) s.state
+
+-- a poll: where a command was taken it stands last and is next; else what is shown stays
+abbrev pub Polls : {M : Type 0} → (M → List Timed) → Polled → Seat M → Seat M → Type 0
+Polls {M} given Vacant s t = ⊥
+Polls {M} given (Took n) s t = (s.stand.name ≡ n) × ((c : Timed) × TookNext given s.stand t.stand c)
+Polls {M} given (Resumed n) s t =
+    (s.stand.name ≡ n) × SameView s.stand t.stand × (given t.stand.mail ≡ given s.stand.mail) × (s.offset ≡ None) × IsSome t.offset
+Polls {M} given (Held n) s t =
+    (s.stand.name ≡ n) × SameView s.stand t.stand × (given t.stand.mail ≡ given s.stand.mail) × IsSome s.offset × (t.offset ≡ s.offset)
+Polls {M} given (Empty n) s t = (s.stand.name ≡ n) × SameView s.stand t.stand × (s.stand.state.left ≡ []) × (t.offset ≡ s.offset)
+Polls {M} given (NoMemory n) s t =
+    (s.stand.name ≡ n) × SameView s.stand t.stand × (given t.stand.mail ≡ given s.stand.mail) × (s.offset ≡ None) × (t.offset ≡ None)
+
+-- the resident of a slot was polled, and every other slot is as before
+pub record PolledAt {M : Type 0} (given : M → List Timed) (answer : Polled) (old new : Seating M) (slot : ℕ) (s t : Seat M) : Type 0 where
+  pub was : seat_at old.seats slot ≡ Some s
+  pub polls : Polls given answer s t
+  pub others : new ≡ record old { seats = slice_set old.seats slot (Some t) }
+
+-- a poll of a slot, if somebody stands there
+abbrev pub IsPoll : {M : Type 0} → (M → List Timed) → Polled → Seating M → Seating M → ℕ → Type 0
+IsPoll {M} given answer old new slot =
+    ((answer ≡ Vacant) × (new ≡ old) × (seat_at old.seats slot ≡ None))
+    ⊎ ((s t : Seat M) × PolledAt given answer old new slot s t)

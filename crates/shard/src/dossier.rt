@@ -1,0 +1,144 @@
+//! What ended experiments leave.
+
+ghost use Rattle.std.specs.Prelude.{◌≡◌, List};
+ghost use Rattle.emu_model.specs.Net.{counters_of};
+ghost use Rattle.emu_model.specs.Alone.{alone};
+
+use crate::list_mail::ListMail;
+use crate::mail::Mail;
+use emu_model::{Counters, Ending, Record, Spec, Timed};
+use std::marker::Model;
+
+/// What an experiment leaves that ended, or was halted for want of memory.
+#[derive(Drop)]
+pub struct Dossier<M: Mail> {
+    pub(crate) name: u32,
+    pub(crate) spec: Spec,
+    pub(crate) commands: Vec<Timed>,
+    pub(crate) records: Vec<Record>,
+    pub(crate) counters: Counters,
+    pub(crate) ending: Ending,
+    pub(crate) events: u64,
+    pub(crate) mail: M,
+    pub(crate) published: usize,
+}
+
+impl<M: Mail> Model for Dossier<M> {
+    ghost use Rattle.shard.specs.Stand.{Final};
+
+    ghost Value = { Final M };
+
+    ghost use Rattle.shard.specs.Stand.{IsFinal};
+
+    ghost view = { λ d. record {
+      name = d.name;
+      spec = d.spec;
+      commands = d.commands.items;
+      records = d.records.items;
+      counters = d.counters;
+      ending = d.ending;
+      events = d.events;
+      mail = d.mail;
+    } };
+
+    ghost invariant = { λ d. IsFinal M.given M.letters (record {
+      name = d.name;
+      spec = d.spec;
+      commands = d.commands.items;
+      records = d.records.items;
+      counters = d.counters;
+      ending = d.ending;
+      events = d.events;
+      mail = d.mail;
+    }) d.published };
+}
+
+impl<M: Mail> Dossier<M> {
+    /// Its name.
+    pub fn name(&self) -> u32
+        ensures { result ≡ self.now.name }
+    {
+        self.name
+    }
+
+    /// What it was given.
+    pub fn spec(&self) -> Spec
+        ensures { result ≡ self.now.spec }
+    {
+        self.spec
+    }
+
+    /// The commands that came.
+    pub fn commands(&self) -> &[Timed]
+        ensures { result.now ≡ self.now.commands }
+    {
+        &self.commands
+    }
+
+    /// What was recorded.
+    pub fn records(&self) -> &[Record]
+        ensures { result.now ≡ self.now.records }
+    {
+        &self.records
+    }
+
+    /// The packets that were made, delivered, are held, and were dropped by cause.
+    pub fn counters(&self) -> Counters
+        ensures { result ≡ self.now.counters }
+    {
+        self.counters
+    }
+
+    /// How it ended.
+    pub fn ending(&self) -> Ending
+        ensures { result ≡ self.now.ending }
+    {
+        self.ending
+    }
+
+    /// How many steps were made.
+    pub fn events(&self) -> u64
+        ensures { result ≡ self.now.events }
+    {
+        self.events
+    }
+
+    /// What every dossier keeps: its records and counters are those of running it alone.
+    pub fn known(&self)
+        ensures records { self.now.records ≡ (alone self.now.spec self.now.commands self.now.events).net.records }
+        ensures counters { self.now.counters ≡ counters_of (alone self.now.spec self.now.commands self.now.events).net }
+    {
+        let _ = &self.name;
+    }
+}
+
+impl Dossier<ListMail> {
+    ghost use Rattle.std.specs.Prelude.{◌≡◌, ◌≤◌, ◌<◌, ◌^◌, OnOk, IfErr, OnErr, length};
+    ghost use Rattle.shard.specs.Posts.{with_command, Reads};
+
+    /// Puts a command into its mail, which nobody takes any more; where 64 wait it comes back. Takes no memory.
+    pub fn put(&mut self, timed: Timed) -> Result<(), Timed>
+        requires { timed.moment ≤ 10 ^ 15 }
+        ensures ok { OnOk result (self.new ≡ record self.old { mail = with_command self.old.mail timed }) }
+        ensures room { OnOk result (length self.old.mail.waiting < 64) }
+        ensures err { OnErr result (self.new ≡ self.old) }
+        ensures back { IfErr result (λ t. t ≡ timed) }
+        ensures full { OnErr result (length self.old.mail.waiting ≡ 64) }
+    {
+        match self.mail.put(timed) {
+            Ok(()) => return Ok(()),
+            Err(timed) => return Err(timed),
+        }
+    }
+
+    /// Takes the first letter that wasn't read from its mail; None where there is none.
+    pub fn read(&mut self) -> Option<Record>
+        ensures reads { Reads result self.old.mail self.new.mail }
+        ensures same { self.new ≡ record self.old { mail = self.new.mail } }
+    {
+        match self.mail.read() {
+            Some(news) => return Some(news),
+            None => return None,
+        }
+    }
+}

@@ -1,0 +1,21 @@
+//! The residents of one worker: experiments on one shared store, due on one agenda, each of which can be packed
+//! into one owned value and taken in elsewhere. Own.
+#![tactic(auto)]
+
+mod dossier;
+mod entries;
+mod list_mail;
+mod mail;
+mod parcel;
+mod posts;
+mod resident;
+mod shard;
+#[cfg(test)]
+mod tests;
+
+pub use dossier::Dossier;
+pub use list_mail::ListMail;
+pub use mail::Mail;
+pub use parcel::{Parcel, Unopened};
+pub use posts::{PostError, Vacant};
+pub use shard::{PackError, Polled, Shard, TakeInError, Turned};

@@ -1,0 +1,89 @@
+//! The other ends of the residents' mails, where a mail is of two lists.
+
+use crate::list_mail::ListMail;
+use crate::resident::Resident;
+use crate::shard::Shard;
+use emu_model::{Record, Timed};
+use timer_wheel::Agenda;
+
+/// A command that was not put.
+#[derive(Clone, Copy, PartialEq)]
+pub enum PostError {
+    /// Nobody is there.
+    Vacant(Timed),
+    /// 64 commands wait.
+    Full(Timed),
+}
+
+/// Nobody is there.
+#[derive(Clone, Copy, Debug, PartialEq, Eq)]
+pub struct Vacant;
+
+impl Resident<ListMail> {
+    ghost use Rattle.std.specs.Prelude.{◌≡◌, ◌≤◌, ◌<◌, ◌^◌, OnOk, IfErr, OnErr, length};
+    ghost use Rattle.shard.specs.Posts.{with_command, Reads};
+
+    // Puts a command into its mail.
+    fn put(&mut self, timed: Timed) -> Result<(), Timed>
+        requires { timed.moment ≤ 10 ^ 15 }
+        ensures ok { OnOk result (self.new ≡ record self.old { mail = with_command self.old.mail timed }) }
+        ensures room { OnOk result (length self.old.mail.waiting < 64) }
+        ensures err { OnErr result (self.new ≡ self.old) }
+        ensures back { IfErr result (λ t. t ≡ timed) }
+        ensures full { OnErr result (length self.old.mail.waiting ≡ 64) }
+    {
+        self.mail.put(timed)
+    }
+
+    // Reads a letter from its mail.
+    fn read(&mut self) -> Option<Record>
+        ensures reads { Reads result self.old.mail self.new.mail }
+        ensures same { self.new ≡ record self.old { mail = self.new.mail } }
+    {
+        self.mail.read()
+    }
+}
+
+impl<A: Agenda> Shard<A, ListMail> {
+    ghost use Rattle.std.specs.Prelude.{◌≡◌, ◌≤◌, ◌<◌, ◌^◌, None, OnOk, IfOk, IfErr, OnErr, length};
+    ghost use Rattle.shard.specs.Mails.{MailBook};
+    ghost use Rattle.shard.specs.Stand.{Seat, seat_at};
+    ghost use Rattle.shard.specs.Posts.{ChangedMail, with_command, IsNotPut, Reads};
+
+    /// Puts a command into the mail of a slot's resident, behind those that wait there. Refused, it comes back,
+    /// and the shard is as before: `Vacant` where nobody is there, and `Full` where 64 wait. Takes no memory.
+    pub fn put(&mut self, slot: usize, timed: Timed) -> Result<(), PostError>
+        requires { timed.moment ≤ 10 ^ 15 }
+        ensures ok { OnOk result ((s : Seat MailBook) × (length s.stand.mail.waiting < 64)
+            × ChangedMail self.old self.new slot s (with_command s.stand.mail timed)) }
+        ensures back { IfErr result (IsNotPut timed self.old slot) }
+        ensures err { OnErr result (self.new ≡ self.old) }
+    {
+        if slot >= self.slots.len() {
+            return Err(PostError::Vacant(timed));
+        }
+        let Some(resident) = &mut self.slots[slot] else {
+            return Err(PostError::Vacant(timed));
+        };
+        match resident.put(timed) {
+            Ok(()) => return Ok(()),
+            Err(timed) => return Err(PostError::Full(timed)),
+        }
+    }
+
+    /// Takes the first letter that wasn't read from the mail of a slot's resident; None where there is none.
+    pub fn read(&mut self, slot: usize) -> Result<Option<Record>, Vacant>
+        ensures ok { IfOk result (λ letter. (s : Seat MailBook) × (mail : MailBook) × Reads letter s.stand.mail mail
+            × ChangedMail self.old self.new slot s mail) }
+        ensures vacant { OnErr result (seat_at self.old.seats slot ≡ None) }
+        ensures err { OnErr result (self.new ≡ self.old) }
+    {
+        if slot >= self.slots.len() {
+            return Err(Vacant);
+        }
+        let Some(resident) = &mut self.slots[slot] else {
+            return Err(Vacant);
+        };
+        Ok(resident.read())
+    }
+}

@@ -1,0 +1,332 @@
+//! One resident's part in a shard's calls.
+
+ghost use Rattle.std.specs.Prelude.{◌≡◌, ◌≢◌, ℕ, ◌+◌, ◌*◌, ◌^◌, ◌<◌, ◌≤◌, length, take, Some, None, IfSome};
+ghost use Rattle.std.specs.Prelude.{true, IsTrue, if◌then◌else◌};
+ghost use Rattle.emu_model.specs.declared.sources.Source.{Source as From};
+ghost use Rattle.emu_model.specs.Laws.{same_source};
+ghost use Rattle.packet_store.specs.Pocket.{Pocket};
+ghost use Rattle.experiment.specs.Kept.{IsAlone};
+ghost use Rattle.shard.specs.Entries.{row_of};
+ghost use Rattle.shard.specs.Kept.{dues_kept};
+
+use crate::dossier::Dossier;
+use crate::entries::{Scratch, enter, renew, renew_all};
+use crate::mail::Mail;
+use crate::parcel::Parcel;
+use crate::shard::Polled;
+use emu_model::{Ending, Record, Source};
+use experiment::{ApplyError, Event, Experiment};
+use packet_store::{OwnShelf, Owner, Shelf, Store};
+use timer_wheel::Agenda;
+
+/// One that lives in a shard.
+#[derive(Drop)]
+pub(crate) struct Resident<M: Mail> {
+    pub(crate) name: u32,
+    pub(crate) owner: Owner,
+    pub(crate) experiment: Experiment,
+    pub(crate) mail: M,
+    pub(crate) published: usize,
+    // What is added to its dues in the agenda (ns); None where it is parked, and has no entries there.
+    pub(crate) offset: Option<u64>,
+}
+
+// Publishes records while the mail takes them, and answers how many are published.
+fn publish<M: Mail>(mail: &mut M, records: &[Record], published: usize) -> usize
+    requires told { M.letters mail.old ≡ take published records.now }
+    requires short { published ≤ length records.now }
+    ensures told { M.letters mail.new ≡ take result records.now }
+    ensures short { result ≤ length records.now }
+    ensures given { M.given mail.new ≡ M.given mail.old }
+{
+    for next in published..records.len() {
+        if mail.letter(records[next]).is_err() {
+            return next;
+        }
+    }
+    records.len()
+}
+
+impl<M: Mail> Resident<M> {
+    ghost use Rattle.std.specs.Prelude.{◌≡◌, ◌≢◌, ◌≤◌, ◌<◌, ◌+◌, ◌-◌, ◌*◌, ◌^◌, ℕ, IsSome, IfSome, Some, None, length};
+    ghost use Rattle.timer_wheel.specs.Rows.{no_dues};
+    ghost use Rattle.packet_store.specs.Books.{pocket_of};
+    ghost use Rattle.packet_store.specs.Pocket.{empty_pocket};
+    ghost use Rattle.packet_store.specs.Own.{own_pocket, own_room};
+    ghost use Rattle.network.specs.Kept.{net_keys};
+    ghost use Rattle.packet_store.specs.Pocket.{Pocket};
+    ghost use Rattle.emu_model.specs.Net.{counters_of};
+    ghost use Rattle.experiment.specs.Kept.{view, IsAlone};
+    ghost use Rattle.shard.specs.Kept.{IsKept, IsGoing};
+    ghost use Rattle.shard.specs.Seats.{IsSeated, standing, seat};
+    ghost use Rattle.shard.specs.Turns.{Polls};
+    ghost use Rattle.shard.specs.Steps.{IsPopped, IsStale, Steps};
+
+    // Sets its entries anew, from the agenda's clock on. Parked where it has no next command, or where memory
+    // is refused.
+    pub(crate) fn enter<A: Agenda>(&mut self, agenda: &mut A, slot: usize, scratch: &mut Scratch)
+        requires alone { (p : Pocket) × IsAlone p self.old.experiment }
+        requires early { A.time agenda.old < 2 ^ 62 + 2 * 10 ^ 15 }
+        ensures seated { (p : Pocket) → IsGoing M.given M.letters p self.old.experiment self.old.published self.old.mail
+            → IsSeated M.given M.letters p (A.entries agenda.new slot) (A.time agenda.old) self.new }
+        ensures same { self.new ≡ record self.old { offset = self.new.offset } }
+        ensures offset { IfSome self.new.offset (λ o. o ≡ A.time agenda.old - self.old.experiment.clock) }
+        ensures others { (o : ℕ) → o ≢ slot → A.entries agenda.new o ≡ A.entries agenda.old o }
+        ensures time { A.time agenda.new ≡ A.time agenda.old }
+    {
+        self.offset = None;
+        if !self.experiment.has_next() {
+            agenda.clear_owner(slot);
+            return;
+        }
+        self.experiment.dues_in_time();
+        scratch.dues.clear();
+        let Ok(()) = self.experiment.add_dues(&mut scratch.dues) else {
+            agenda.clear_owner(slot);
+            return;
+        };
+        let offset = agenda.clock().saturating_sub(self.experiment.clock());
+        if enter(agenda, slot, scratch.dues.as_slice(), offset) {
+            self.offset = Some(offset);
+        }
+    }
+
+    // Makes one step, whose entry was popped from the agenda.
+    pub(crate) fn step<A: Agenda>(
+        &mut self,
+        store: &mut Store,
+        agenda: &mut A,
+        slot: usize,
+        source: Source,
+        scratch: &mut Scratch,
+    ) -> Event
+        requires popped { IsPopped M.given M.letters (pocket_of store.old self.old.owner) (A.entries agenda.old slot) (A.time agenda.old) source self.old }
+        ensures steps { Steps M.given M.letters result (pocket_of store.old self.old.owner) self.old (pocket_of store.new self.old.owner) (A.entries agenda.new slot) (A.time agenda.old) self.new }
+        ensures others { (o : ℕ) → o ≢ self.old.owner → pocket_of store.new o ≡ pocket_of store.old o }
+        ensures rows { (o : ℕ) → o ≢ slot → A.entries agenda.new o ≡ A.entries agenda.old o }
+        ensures time { A.time agenda.new ≡ A.time agenda.old }
+    {
+        let event = self.experiment.event(store, self.owner);
+        self.published = publish(&mut self.mail, self.experiment.records(), self.published);
+        if event == Event::Ran {
+            self.set_again(agenda, slot, source, scratch);
+        }
+        event
+    }
+
+    // Takes a command, or sets the entries of a parked one again.
+    pub(crate) fn poll<A: Agenda>(
+        &mut self,
+        agenda: &mut A,
+        slot: usize,
+        scratch: &mut Scratch,
+    ) -> Polled
+        requires seated { (p : Pocket) × IsSeated M.given M.letters p (A.entries agenda.old slot) (A.time agenda.old) self.old }
+        requires early { A.time agenda.old < 2 ^ 62 + 2 * 10 ^ 15 }
+        ensures seated { (p : Pocket) → IsSeated M.given M.letters p (A.entries agenda.old slot) (A.time agenda.old) self.old
+            → IsSeated M.given M.letters p (A.entries agenda.new slot) (A.time agenda.old) self.new }
+        ensures polls { (p : Pocket) → Polls M.given result (seat p self.old) (seat p self.new) }
+        ensures owner { self.new.owner ≡ self.old.owner }
+        ensures others { (o : ℕ) → o ≢ slot → A.entries agenda.new o ≡ A.entries agenda.old o }
+        ensures time { A.time agenda.new ≡ A.time agenda.old }
+    {
+        let name = self.name;
+        self.published = publish(&mut self.mail, self.experiment.records(), self.published);
+        if self.experiment.has_next() {
+            if self.offset.is_some() {
+                return Polled::Held(name);
+            }
+            self.enter(agenda, slot, scratch);
+            if self.offset.is_some() {
+                return Polled::Resumed(name);
+            }
+            return Polled::NoMemory(name);
+        }
+        let Ok(()) = self.experiment.apply_ready() else {
+            return Polled::NoMemory(name);
+        };
+        let Some(timed) = self.mail.take_command() else {
+            return Polled::Empty(name);
+        };
+        match self.experiment.apply(&timed) {
+            Ok(()) => {
+                self.enter(agenda, slot, scratch);
+                return Polled::Took(name);
+            }
+            Err(ApplyError::Backward) => return Polled::Empty(name),
+            Err(_) => unreachable!(),
+        }
+    }
+
+    // Makes a resident of a parcel, whose owner is admitted. It has no entries yet.
+    pub(crate) fn settle(parcel: Parcel<M>, store: &mut Store, owner: Owner) -> Resident<M>
+        requires admitted { pocket_of store.old owner ≡ empty_pocket parcel.spec.budget.packets }
+        ensures going { IsGoing M.given M.letters (pocket_of store.new owner) result.experiment result.published result.mail }
+        ensures owner { result.owner ≡ owner }
+        ensures same { standing (pocket_of store.new owner) result ≡ parcel }
+        ensures others { (o : ℕ) → o ≢ owner → pocket_of store.new o ≡ pocket_of store.old o }
+    {
+        let Parcel {
+            name,
+            mut experiment,
+            mut shelf,
+            mail,
+            published,
+        } = parcel;
+        // What it holds is within its budget.
+        let _held = shelf.count(0);
+        experiment.rehouse(&mut shelf, 0, store, owner);
+        Resident {
+            name,
+            owner,
+            experiment,
+            mail,
+            published,
+            offset: None,
+        }
+    }
+
+    // Makes a parcel of a resident, on a shelf that has room for its packets.
+    pub(crate) fn leave(self, store: &mut Store, mut shelf: OwnShelf) -> Parcel<M>
+        requires going { IsGoing M.given M.letters (pocket_of store.old self.owner) self.experiment self.published self.mail }
+        requires empty { own_pocket shelf ≡ empty_pocket self.experiment.spec.budget.packets }
+        requires room { length (net_keys self.experiment.net) ≤ own_room shelf 0 }
+        requires fits { length (net_keys self.experiment.net) ≤ self.experiment.spec.budget.packets }
+        ensures same { result ≡ standing (pocket_of store.old self.owner) self }
+        ensures gone { pocket_of store.new self.owner ≡ empty_pocket 0 }
+        ensures others { (o : ℕ) → o ≢ self.owner → pocket_of store.new o ≡ pocket_of store.old o }
+    {
+        let Resident {
+            name,
+            owner,
+            mut experiment,
+            mail,
+            published,
+            offset: _,
+        } = self;
+        experiment.rehouse(store, owner, &mut shelf, 0);
+        store.dismiss(owner);
+        Parcel {
+            name,
+            experiment,
+            shelf,
+            mail,
+            published,
+        }
+    }
+
+    // What is left of a resident that has ended. What it held is dropped.
+    pub(crate) fn end(self, store: &mut Store) -> Dossier<M>
+        requires kept { IsKept M.given M.letters (pocket_of store.old self.owner) self.experiment self.published self.mail }
+        requires ended { IsSome self.experiment.ending }
+        ensures ending { self.experiment.ending ≡ Some result.ending }
+        ensures rest { let s = view (pocket_of store.old self.owner) self.experiment in result ≡ record {
+          name = self.name;
+          spec = self.experiment.spec;
+          commands = self.experiment.consumed;
+          records = s.net.records;
+          counters = counters_of s.net;
+          ending = result.ending;
+          events = s.steps;
+          mail = self.mail;
+        } }
+        ensures gone { pocket_of store.new self.owner ≡ empty_pocket 0 }
+        ensures others { (o : ℕ) → o ≢ self.owner → pocket_of store.new o ≡ pocket_of store.old o }
+    {
+        let Resident {
+            name,
+            owner,
+            experiment,
+            mail,
+            published,
+            offset: _,
+        } = self;
+        let Some(ending) = experiment.ending() else {
+            unreachable!();
+        };
+        store.dismiss(owner);
+        let spec = experiment.spec();
+        let counters = experiment.counters();
+        let events = experiment.events();
+        let (commands, records) = experiment.into_lists();
+        Dossier {
+            name,
+            spec,
+            commands,
+            records,
+            counters,
+            ending,
+            events,
+            mail,
+            published,
+        }
+    }
+
+    // After a step: sets again what it touched, and the entry that was popped. Parked where there is no next
+    // command, or where memory is refused.
+    fn set_again<A: Agenda>(
+        &mut self,
+        agenda: &mut A,
+        slot: usize,
+        source: Source,
+        scratch: &mut Scratch,
+    )
+        requires stale { (p : Pocket) × IsStale M.given M.letters p (A.entries agenda.old slot) (A.time agenda.old) source self.old }
+        ensures seated { (p : Pocket) → IsGoing M.given M.letters p self.old.experiment self.old.published self.old.mail
+            → IsSeated M.given M.letters p (A.entries agenda.new slot) (A.time agenda.old) self.new }
+        ensures same { self.new ≡ record self.old { offset = self.new.offset } }
+        ensures others { (o : ℕ) → o ≢ slot → A.entries agenda.new o ≡ A.entries agenda.old o }
+        ensures time { A.time agenda.new ≡ A.time agenda.old }
+    {
+        let Some(offset) = self.offset else {
+            unreachable!();
+        };
+        // No due lies below the experiment's clock; where that were below the agenda's, all is set anew.
+        if offset < agenda.clock().saturating_sub(self.experiment.clock()) {
+            self.enter(agenda, slot, scratch);
+            return;
+        }
+        self.offset = None;
+        if self.experiment.has_next()
+            && set_touched(&self.experiment, agenda, slot, offset, source, scratch)
+        {
+            self.offset = Some(offset);
+            return;
+        }
+        agenda.clear_owner(slot);
+    }
+}
+
+// Sets again the entries of what the last step touched, and of one source besides. False where memory is refused.
+fn set_touched<A: Agenda>(
+    experiment: &Experiment,
+    agenda: &mut A,
+    slot: usize,
+    offset: u64,
+    source: Source,
+    scratch: &mut Scratch,
+) -> bool
+    requires alone { (p : Pocket) × IsAlone p experiment.now }
+    requires late { offset ≤ A.time agenda.old }
+    requires early { A.time agenda.old < 2 ^ 62 + 2 * 10 ^ 15 }
+    requires ahead { A.time agenda.old ≤ experiment.now.clock + offset }
+    requires stale { (s : From) → A.entries agenda.old slot s ≡ (if same_source s source then None else row_of offset experiment.now.before s) }
+    ensures set { IsTrue result → (s : From) → A.entries agenda.new slot s ≡ row_of offset (dues_kept experiment.now) s }
+    ensures below { IsTrue result → (s : From) (d : ℕ) → A.entries agenda.new slot s ≡ Some d → d < offset + 2 * 10 ^ 15 }
+    ensures others { (o : ℕ) → o ≢ slot → A.entries agenda.new o ≡ A.entries agenda.old o }
+    ensures time { A.time agenda.new ≡ A.time agenda.old }
+{
+    experiment.dues_in_time();
+    scratch.dues.clear();
+    let Ok(()) = experiment.add_dues(&mut scratch.dues) else {
+        return false;
+    };
+    let dues = scratch.dues.as_slice();
+    let Ok(()) = experiment.touched(dues, &mut scratch.sources) else {
+        return false;
+    };
+    if !renew(agenda, slot, dues, offset, source) {
+        return false;
+    }
+    renew_all(agenda, slot, dues, offset, scratch.sources.as_slice())
+}

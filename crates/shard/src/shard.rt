@@ -1,0 +1,318 @@
+//! The residents of one worker, by slot.
+
+ghost use Rattle.std.specs.Prelude.{◌≡◌, ◌<◌, ℕ, None, Some, IsSome, IfSome, IfNone, length, map, slice_index_or};
+ghost use Rattle.shard.specs.Seats.{parked};
+
+use crate::dossier::Dossier;
+use crate::entries::Scratch;
+use crate::mail::Mail;
+use crate::parcel::Parcel;
+use crate::resident::Resident;
+use emu_model::{Record, Timed};
+use experiment::Event;
+use packet_store::{OwnShelf, Shelf, Store};
+use std::alloc::{AllocError, Global};
+use std::marker::Model;
+use std::mem;
+use timer_wheel::Agenda;
+
+/// How many residents a shard may have.
+pub const MOST_RESIDENTS: usize = 256;
+
+/// The agenda's time begins anew once its clock is this far (ns), so that it stays below 2^63.
+const LATEST_CLOCK: u64 = 1 << 62;
+
+/// What a turn was: one event of the resident of that name, the end of one, or nothing, where nobody has a next
+/// command on the agenda.
+#[derive(Drop)]
+pub enum Turned<M: Mail> {
+    Ran(u32),
+    Ended(Dossier<M>),
+    Idle,
+}
+
+/// A parcel that was not taken in.
+#[derive(Drop)]
+pub enum TakeInError<M: Mail> {
+    /// There are 256 residents (30).
+    Crowded(Parcel<M>),
+    NoMemory(Parcel<M>),
+}
+
+/// What a poll was, with the resident's name: nobody is there; a command was taken; a parked one has entries
+/// again; its next command waits still; no command came; or want of memory.
+#[derive(Clone, Copy, Debug, PartialEq, Eq)]
+pub enum Polled {
+    Vacant,
+    Took(u32),
+    Resumed(u32),
+    Held(u32),
+    Empty(u32),
+    NoMemory(u32),
+}
+
+/// Why a resident was not packed.
+#[derive(Clone, Copy, Debug, PartialEq, Eq)]
+pub enum PackError {
+    Vacant = 31,
+    NoMemory = 99,
+}
+
+/// The residents of one worker: each has a slot, a reservation in the one store, and, unless it is parked, entries
+/// in the one agenda. A contract sees who stands in which slot, and the agenda's clock (ns).
+#[derive(Drop)]
+pub struct Shard<A: Agenda, M: Mail> {
+    alloc: Global,
+    store: Store,
+    agenda: A,
+    pub(crate) slots: Vec<Option<Resident<M>>>,
+    scratch: Scratch,
+}
+
+impl<A: Agenda, M: Mail> Model for Shard<A, M> {
+    ghost use Rattle.packet_store.specs.Books.{pocket_of};
+    ghost use Rattle.shard.specs.Stand.{Seating};
+
+    ghost Value = { Seating M };
+
+    ghost use Rattle.shard.specs.Seats.{seats_of, IsShard};
+
+    ghost view = { λ s. record { seats = seats_of (pocket_of s.store) s.slots.items; clock = A.time s.agenda } };
+
+    ghost invariant = { λ s. IsShard M.given M.letters (pocket_of s.store) (A.entries s.agenda) (A.time s.agenda) s.slots.items };
+}
+
+impl<A: Agenda, M: Mail> Shard<A, M> {
+    ghost use Rattle.std.specs.Prelude.{◌≡◌, ◌≢◌, ℕ, ◌≤◌, ◌<◌, ◌^◌, None, Some, IfOk, IfErr, IfSome, IfNone, OnErr, IsSome, MatchOption, length};
+    ghost use Rattle.shard.specs.Stand.{seat_at, stands_of, Seat, IsTold};
+    ghost use Rattle.shard.specs.Turns.{Turns, TurnsSettled, TakenIn, ComesBack, PackedAt, IsPoll, IsRebased};
+
+    /// A shard without residents, whose clock is 0.
+    pub fn new(alloc: Global) -> Result<Self, AllocError>
+        ensures vacant { IfOk result (λ s. (k : ℕ) → seat_at s.seats k ≡ None) }
+        ensures clock { IfOk result (λ s. s.clock ≡ 0) }
+    {
+        Shard::with_clock(alloc, 0)
+    }
+
+    /// A shard without residents, whose clock (ns) is at most 2^62.
+    pub fn with_clock(alloc: Global, clock: u64) -> Result<Self, AllocError>
+        requires { clock ≤ 2 ^ 62 }
+        ensures vacant { IfOk result (λ s. (k : ℕ) → seat_at s.seats k ≡ None) }
+        ensures clock { IfOk result (λ s. s.clock ≡ clock) }
+    {
+        let mut slots = Vec::new(alloc);
+        slots.reserve(MOST_RESIDENTS)?;
+        for _ in 0..MOST_RESIDENTS {
+            slots.push_reserved(None);
+        }
+        Ok(Shard {
+            alloc,
+            store: Store::new(alloc),
+            agenda: A::new(alloc, clock)?,
+            slots,
+            scratch: Scratch {
+                dues: Vec::new(alloc),
+                sources: Vec::new(alloc),
+            },
+        })
+    }
+
+    /// One event of one resident, whose entry is least. Its records are published while its mail takes them. One
+    /// that has ended, or is halted for want of memory, comes out as a dossier. Where the agenda's clock has come
+    /// far, its time begins anew before.
+    pub fn turn(&mut self) -> Turned<M>
+        ensures { TurnsSettled M.given result self.old self.new }
+    {
+        if self.agenda.clock() >= LATEST_CLOCK {
+            self.rebase();
+        }
+        self.turn_now()
+    }
+
+    // One event of one resident.
+    fn turn_now(&mut self) -> Turned<M>
+        requires early { self.old.clock < 2 ^ 62 }
+        ensures { Turns M.given result self.old self.new }
+    {
+        let Some(entry) = self.agenda.pop_least() else {
+            return Turned::Idle;
+        };
+        let slot = entry.owner;
+        let Some(resident) = &mut self.slots[slot] else {
+            unreachable!();
+        };
+        let name = resident.name;
+        let event = resident.step(
+            &mut self.store,
+            &mut self.agenda,
+            slot,
+            entry.source,
+            &mut self.scratch,
+        );
+        if event == Event::Ran {
+            return Turned::Ran(name);
+        }
+        let Some(gone) = mem::replace(&mut self.slots[slot], None) else {
+            unreachable!();
+        };
+        self.agenda.clear_owner(slot);
+        Turned::Ended(gone.end(&mut self.store))
+    }
+
+    /// Takes a command for a resident without a next one, or sets the entries of a parked one again. Room for a
+    /// command is made before one is taken; one whose moment is below the last isn't consumed. Records are
+    /// published while the mail takes them.
+    pub fn poll(&mut self, slot: usize) -> Polled
+        ensures { IsPoll M.given result self.old self.new slot }
+    {
+        if slot >= self.slots.len() {
+            return Polled::Vacant;
+        }
+        let Some(resident) = &mut self.slots[slot] else {
+            return Polled::Vacant;
+        };
+        resident.poll(&mut self.agenda, slot, &mut self.scratch)
+    }
+
+    /// Takes a parcel in, at the least vacant slot; its packets come into the store, and its entries onto the
+    /// agenda, or it is parked where memory is refused for these. Refused itself, it comes back as it was, and the
+    /// shard is as before: `Crowded` before `NoMemory`.
+    pub fn take_in(&mut self, parcel: Parcel<M>) -> Result<usize, TakeInError<M>>
+        ensures ok { IfOk result (λ slot. (s : Seat M) × TakenIn parcel self.old self.new slot s) }
+        ensures back { IfErr result (ComesBack parcel self.old) }
+        ensures err { OnErr result (self.new ≡ self.old) }
+    {
+        let Some(slot) = first_vacant(self.slots.as_slice()) else {
+            return Err(TakeInError::Crowded(parcel));
+        };
+        let Ok(owner) = self.store.admit(parcel.spec().budget.packets) else {
+            return Err(TakeInError::NoMemory(parcel));
+        };
+        let mut resident = Resident::settle(parcel, &mut self.store, owner);
+        resident.enter(&mut self.agenda, slot, &mut self.scratch);
+        self.slots[slot] = Some(resident);
+        Ok(slot)
+    }
+
+    /// Makes a parcel of a resident: one owned value with all that it holds. Refused, nothing has changed.
+    pub fn pack(&mut self, slot: usize) -> Result<Parcel<M>, PackError>
+        ensures ok { IfOk result (λ parcel. (s : Seat M) × PackedAt parcel self.old self.new slot s) }
+        ensures vacant { result ≡ Err PackError.Vacant → seat_at self.old.seats slot ≡ None }
+        ensures there { result ≡ Err PackError.NoMemory → IsSome (seat_at self.old.seats slot) }
+        ensures err { OnErr result (self.new ≡ self.old) }
+    {
+        if slot >= self.slots.len() {
+            return Err(PackError::Vacant);
+        }
+        let Some(resident) = &self.slots[slot] else {
+            return Err(PackError::Vacant);
+        };
+        let mut shelf = OwnShelf::new(self.alloc, resident.experiment.spec().budget.packets);
+        let Ok(()) = shelf.reserve(self.store.count(resident.owner)) else {
+            return Err(PackError::NoMemory);
+        };
+        let Some(gone) = mem::replace(&mut self.slots[slot], None) else {
+            unreachable!();
+        };
+        self.agenda.clear_owner(slot);
+        Ok(gone.leave(&mut self.store, shelf))
+    }
+
+    /// Begins the agenda's time anew: its clock is 0, and all entries are set again from the dues, each below
+    /// 2 * 10^15 ns. One that is refused memory is parked.
+    pub fn rebase(&mut self)
+        ensures { IsRebased self.old self.new }
+    {
+        self.restart();
+        for slot in 0..MOST_RESIDENTS {
+            self.enter(slot);
+        }
+    }
+
+    // Parks everybody, and begins the time anew.
+    fn restart(&mut self)
+        ensures stands { stands_of self.new.seats ≡ stands_of self.old.seats }
+        ensures clock { self.new.clock ≡ 0 }
+        ensures parked { (k : ℕ) (s : Seat M) → seat_at self.new.seats k ≡ Some s → s.offset ≡ None }
+    {
+        self.agenda.restart();
+        park_all(self.slots.as_mut_slice());
+    }
+
+    // Sets the entries of a slot's resident, if there is one, from the agenda's clock on.
+    fn enter(&mut self, slot: usize)
+        requires inside { slot < 256 }
+        ensures stands { stands_of self.new.seats ≡ stands_of self.old.seats }
+        ensures clock { self.new.clock ≡ self.old.clock }
+        ensures offset { (s : Seat M) → seat_at self.new.seats slot ≡ Some s → IfSome s.offset (λ o. o ≤ self.old.clock) }
+        ensures others { (k : ℕ) → k ≢ slot → seat_at self.new.seats k ≡ seat_at self.old.seats k }
+    {
+        if let Some(resident) = &mut self.slots[slot] {
+            resident.enter(&mut self.agenda, slot, &mut self.scratch);
+        }
+    }
+
+    /// The slot of the resident of a name. The time grows with the slots.
+    pub fn slot_of(&self, name: u32) -> Option<usize>
+        ensures some { IfSome result (λ slot. (s : Seat M) × (seat_at self.now.seats slot ≡ Some s) × (s.stand.name ≡ name)) }
+        ensures none { IfNone result ((slot : ℕ) (s : Seat M) → seat_at self.now.seats slot ≡ Some s → s.stand.name ≢ name) }
+    {
+        for slot in 0..self.slots.len() {
+            let Some(resident) = &self.slots[slot] else {
+                continue;
+            };
+            if resident.name == name {
+                return Some(slot);
+            }
+        }
+        None
+    }
+
+    /// What the resident of a slot recorded; None where nobody is.
+    pub fn records(&self, slot: usize) -> Option<&[Record]>
+        ensures { MatchOption result (seat_at self.now.seats slot ≡ None) (λ rs. (s : Seat M) × (seat_at self.now.seats slot ≡ Some s) × (rs.now ≡ s.stand.state.net.records)) }
+    {
+        let resident = self.slots.get(slot)?.as_ref()?;
+        Some(resident.experiment.records())
+    }
+
+    /// The commands that came to the resident of a slot, the next one among them; None where nobody is.
+    pub fn consumed(&self, slot: usize) -> Option<&[Timed]>
+        ensures { MatchOption result (seat_at self.now.seats slot ≡ None) (λ cs. (s : Seat M) × (seat_at self.now.seats slot ≡ Some s) × (cs.now ≡ s.stand.consumed)) }
+    {
+        let resident = self.slots.get(slot)?.as_ref()?;
+        Some(resident.experiment.consumed())
+    }
+
+    /// What each resident keeps: it shows the state of running it alone.
+    pub fn known(&self)
+        ensures { (slot : ℕ) (s : Seat M) → seat_at self.now.seats slot ≡ Some s → IsTold M.given M.letters s.stand }
+    {
+        let _ = &self.agenda;
+    }
+}
+
+// The least slot with nobody.
+fn first_vacant<M: Mail>(slots: &[Option<Resident<M>>]) -> Option<usize>
+    ensures some { IfSome result (λ k. (k < length slots.now) × (slice_index_or slots.now k None ≡ None) × ((j : ℕ) → j < k → IsSome (slice_index_or slots.now j None))) }
+    ensures none { IfNone result ((j : ℕ) → j < length slots.now → IsSome (slice_index_or slots.now j None)) }
+{
+    for k in 0..slots.len() {
+        if slots[k].is_none() {
+            return Some(k);
+        }
+    }
+    None
+}
+
+// Parks all residents.
+fn park_all<M: Mail>(slots: &mut [Option<Resident<M>>])
+    ensures { slots.new ≡ map parked slots.old }
+{
+    for slot in slots.iter_mut() {
+        if let Some(resident) = slot {
+            resident.offset = None;
+        }
+    }
+}

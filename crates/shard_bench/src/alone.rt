@@ -1,0 +1,63 @@
+//! Flows one after the other, each by itself: what turns are compared with.
+
+ghost use Rattle.packet_store.specs.Own.{own_pocket};
+ghost use Rattle.experiment.specs.Kept.{IsHousedIn};
+
+use crate::fault::Fault;
+use crate::plans::{Plan, flow_plan};
+use experiment::{Event, Experiment};
+use packet_store::OwnShelf;
+use std::alloc::Global;
+
+// Makes events until there is nothing more to do.
+fn advance(experiment: &mut Experiment, shelf: &mut OwnShelf) -> Result<(), Fault>
+    requires { IsHousedIn (own_pocket shelf.old) experiment.old }
+    ensures { IsHousedIn (own_pocket shelf.new) experiment.new }
+{
+    for _ in 0..u64::MAX {
+        match experiment.event(shelf, 0) {
+            Event::Ran => {}
+            Event::Halted => return Err(Fault::Memory),
+            Event::Ended | Event::Still => return Ok(()),
+        }
+    }
+    Ok(())
+}
+
+// Applies each command in its turn.
+fn play(experiment: &mut Experiment, shelf: &mut OwnShelf, plan: &Plan) -> Result<(), Fault>
+    requires { IsHousedIn (own_pocket shelf.old) experiment.old }
+{
+    for k in 0..plan.orders.len() {
+        if experiment.apply(&plan.orders[k].timed()).is_err() {
+            return Err(Fault::Memory);
+        }
+        advance(experiment, shelf)?;
+    }
+    Ok(())
+}
+
+// Runs an experiment to its end, and answers how many steps it made.
+fn run(alloc: Global, plan: &Plan) -> Result<u64, Fault> {
+    let mut shelf = OwnShelf::new(alloc, plan.spec.budget.packets);
+    let Ok(mut experiment) = Experiment::new(alloc, plan.spec) else {
+        return Err(Fault::Memory);
+    };
+    play(&mut experiment, &mut shelf, plan)?;
+    if experiment.ending().is_none() {
+        return Err(Fault::Unfinished);
+    }
+    Ok(experiment.events())
+}
+
+/// Runs so many flows one after the other, and answers how many steps they made.
+pub fn steps(alloc: Global, residents: usize) -> Result<u64, Fault> {
+    let Some(plan) = flow_plan() else {
+        return Err(Fault::Range);
+    };
+    let mut steps = 0u64;
+    for _ in 0..residents {
+        steps = steps.saturating_add(run(alloc, &plan)?);
+    }
+    Ok(steps)
+}

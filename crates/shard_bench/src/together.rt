@@ -1,0 +1,134 @@
+//! Experiments in one shard: their turns, and a resident's moves.
+
+use crate::fault::Fault;
+use crate::plans::{Plan, flow_plan, train_plan};
+use emu_model::Ending;
+use shard::{Dossier, ListMail, Parcel, Polled, Shard, Turned};
+use std::alloc::Global;
+use timer_wheel::Wheel;
+
+type Wheels = Shard<Wheel, ListMail>;
+
+/// How many turns ran, and how many packets those held that have ended.
+#[derive(Clone, Copy)]
+struct Tally {
+    turns: u64,
+    held: u64,
+}
+
+impl Tally {
+    // Notes what an experiment left.
+    fn note(&mut self, dossier: &Dossier<ListMail>) -> Result<(), Fault> {
+        match dossier.ending() {
+            Ending::Ended => {
+                self.held = self.held.saturating_add(dossier.counters().held);
+                Ok(())
+            }
+            Ending::Spent => Err(Fault::Unfinished),
+            Ending::Halted => Err(Fault::Memory),
+        }
+    }
+}
+
+// An experiment to which no command came.
+fn parcel(alloc: Global, name: u32, plan: &Plan) -> Result<Parcel<ListMail>, Fault> {
+    let Ok(mail) = ListMail::new(alloc) else {
+        return Err(Fault::Memory);
+    };
+    match Parcel::open(alloc, name, plan.spec, mail) {
+        Ok(parcel) => Ok(parcel),
+        Err(_) => Err(Fault::Memory),
+    }
+}
+
+// A shard with so many residents, from slot 0 on, whose commands wait in their mails.
+fn filled(alloc: Global, residents: usize, plan: &Plan) -> Result<Wheels, Fault> {
+    let Ok(mut shard) = Wheels::new(alloc) else {
+        return Err(Fault::Memory);
+    };
+    let mut name = 0u32;
+    for _ in 0..residents {
+        let Ok(slot) = shard.take_in(parcel(alloc, name, plan)?) else {
+            return Err(Fault::Range);
+        };
+        name = name.wrapping_add(1);
+        for k in 0..plan.orders.len() {
+            if shard.put(slot, plan.orders[k].timed()).is_err() {
+                return Err(Fault::Unfinished);
+            }
+        }
+    }
+    Ok(shard)
+}
+
+// Has each resident take its next command.
+fn poll_all(shard: &mut Wheels, residents: usize) -> Result<(), Fault> {
+    for slot in 0..residents {
+        if let Polled::NoMemory(_) = shard.poll(slot) {
+            return Err(Fault::Memory);
+        }
+    }
+    Ok(())
+}
+
+// Turns until nobody has a next command.
+fn turn_all(shard: &mut Wheels, tally: &mut Tally) -> Result<(), Fault> {
+    for _ in 0..u64::MAX {
+        match shard.turn() {
+            Turned::Ran(_) => {}
+            Turned::Ended(dossier) => tally.note(&dossier)?,
+            Turned::Idle => return Ok(()),
+        }
+        tally.turns = tally.turns.saturating_add(1);
+    }
+    Ok(())
+}
+
+// Has the residents take all commands but the end, and turns until each waits for that. Then they take it.
+fn play(shard: &mut Wheels, residents: usize, plan: &Plan, tally: &mut Tally) -> Result<(), Fault> {
+    poll_all(shard, residents)?;
+    for _ in 1..plan.orders.len() {
+        turn_all(shard, tally)?;
+        poll_all(shard, residents)?;
+    }
+    Ok(())
+}
+
+/// Turns so many flows to their ends, and answers how many turns ran.
+pub fn turns(alloc: Global, residents: usize) -> Result<u64, Fault> {
+    let Some(plan) = flow_plan() else {
+        return Err(Fault::Range);
+    };
+    let mut shard = filled(alloc, residents, &plan)?;
+    let mut tally = Tally { turns: 0, held: 0 };
+    play(&mut shard, residents, &plan, &mut tally)?;
+    turn_all(&mut shard, &mut tally)?;
+    Ok(tally.turns)
+}
+
+// Packs the resident of slot 0, and takes it in again.
+fn move_once(shard: &mut Wheels) -> Result<(), Fault> {
+    let Ok(parcel) = shard.pack(0) else {
+        return Err(Fault::Memory);
+    };
+    match shard.take_in(parcel) {
+        Ok(_) => Ok(()),
+        Err(_) => Err(Fault::Memory),
+    }
+}
+
+/// Moves a resident that holds so many packets out and in again, so many times, and answers how many packets
+/// were moved.
+pub fn moves(alloc: Global, packets: u16, times: u32) -> Result<u64, Fault> {
+    let Some(plan) = train_plan(packets) else {
+        return Err(Fault::Range);
+    };
+    let mut shard = filled(alloc, 1, &plan)?;
+    let mut tally = Tally { turns: 0, held: 0 };
+    play(&mut shard, 1, &plan, &mut tally)?;
+    for _ in 0..times {
+        move_once(&mut shard)?;
+    }
+    turn_all(&mut shard, &mut tally)?;
+    Ok(tally.held.saturating_mul(u64::from(times)))
+}

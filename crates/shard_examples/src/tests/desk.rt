@@ -1,0 +1,188 @@
+//! What the examples share: guests of a shard, whose commands are posted to it in their order.
+
+use super::calls::{Desk, advance, poll, put, read, slot_of, take_in};
+use control::{Experiment as Plan, ParseError, parse_scenario};
+use emu_model::Timed;
+use report::report_text;
+use shard::{Dossier, ListMail, Parcel, Turned};
+use std::alloc::{AllocError, Global};
+use std::process::Abort;
+
+/// How many letters a mail holds.
+const LETTERS: usize = 64;
+
+/// More turns than any of the examples takes.
+pub const MOST_TURNS: u32 = 1_000_000;
+
+/// An experiment of a text, the name that it has on the shards, how many of its commands were posted, and the report
+/// that is wanted of it.
+#[derive(Drop)]
+pub struct Guest {
+    name: u32,
+    plan: Plan,
+    posted: usize,
+    report: &'static str,
+}
+
+impl Guest {
+    pub fn name(&self) -> u32 {
+        self.name
+    }
+
+    pub fn plan(&self) -> &Plan {
+        &self.plan
+    }
+
+    pub fn commands(&self) -> &[Timed] {
+        self.plan.commands.as_slice()
+    }
+
+    pub fn report(&self) -> &'static str {
+        self.report
+    }
+}
+
+/// The guest of a text with just one experiment.
+pub fn invite(
+    rt: &(impl Abort + AllocGlobal),
+    name: u32,
+    text: &str,
+    report: &'static str,
+) -> Result<Guest, AllocError> {
+    let mut plans = match parse_scenario(rt.alloc(), text.as_bytes()) {
+        Ok(scenario) => scenario.into_vec(),
+        Err(error) => {
+            assert!(rt; matches!(error, ParseError::NoMemory), "{text}");
+            return Err(AllocError);
+        }
+    };
+    assert_eq!(rt; plans.len(), 1, "{text}");
+    let plan = plans.remove(0);
+    Ok(Guest {
+        name,
+        plan,
+        posted: 0,
+        report,
+    })
+}
+
+/// A guest's experiment, to which no command came yet.
+pub fn parcel(alloc: Global, guest: &Guest) -> Result<Parcel<ListMail>, AllocError> {
+    let mail = ListMail::new(alloc)?;
+    match Parcel::open(alloc, guest.name, guest.plan.spec, mail) {
+        Ok(parcel) => Ok(parcel),
+        Err(_) => Err(AllocError),
+    }
+}
+
+/// Takes a guest in.
+pub fn settle(alloc: Global, shard: &mut Desk, guest: &Guest) -> Result<usize, AllocError> {
+    let parcel = parcel(alloc, guest)?;
+    match take_in(shard, parcel) {
+        Some(slot) => Ok(slot),
+        None => Err(AllocError),
+    }
+}
+
+/// Puts a guest's commands into its mail until that is full.
+pub fn post(shard: &mut Desk, slot: usize, guest: &mut Guest) {
+    for next in guest.posted..guest.commands().len() {
+        let Some(timed) = guest.commands().get(next) else {
+            return;
+        };
+        if !matches!(put(shard, slot, *timed), Some(Ok(()))) {
+            return;
+        }
+        guest.posted = next + 1;
+    }
+}
+
+// Reads the letters that wait.
+fn read_all(shard: &mut Desk, slot: usize) {
+    for _ in 0..LETTERS {
+        if !matches!(read(shard, slot), Ok(Some(_))) {
+            return;
+        }
+    }
+}
+
+/// Posts the commands of each guest that is there, polls it, and reads its letters where they are to be read.
+pub fn attend(shard: &mut Desk, guests: &mut [Guest], reads: bool) {
+    for guest in guests.iter_mut() {
+        let Some(slot) = slot_of(shard, guest.name) else {
+            continue;
+        };
+        post(shard, slot, guest);
+        poll(shard, slot);
+        if reads {
+            read_all(shard, slot);
+        }
+    }
+}
+
+/// A turn, and the name of whose it was; of one that has ended, its steps too.
+#[derive(Clone, Copy, Debug, PartialEq)]
+pub enum Move {
+    Ran(u32),
+    Ended(u32, u64),
+    Idle,
+}
+
+/// Makes a turn, and wants the report of a guest that ended.
+pub fn turn(
+    rt: &(impl Abort + AllocGlobal),
+    shard: &mut Desk,
+    guests: &[Guest],
+) -> Result<Move, AllocError> {
+    match advance(shard) {
+        Turned::Ran(name) => Ok(Move::Ran(name)),
+        Turned::Idle => Ok(Move::Idle),
+        Turned::Ended(left) => {
+            has_report(rt, guests, &left)?;
+            Ok(Move::Ended(left.name(), left.events()))
+        }
+    }
+}
+
+/// Attends and turns until as many have ended as there are guests, each with its report.
+pub fn host(
+    rt: &(impl Abort + AllocGlobal),
+    shard: &mut Desk,
+    guests: &mut [Guest],
+    reads: bool,
+) -> Result<(), AllocError> {
+    let mut ended = 0usize;
+    for _ in 0..MOST_TURNS {
+        if ended == guests.len() {
+            return Ok(());
+        }
+        attend(shard, guests, reads);
+        if let Move::Ended(..) = turn(rt, shard, guests)? {
+            ended = ended.saturating_add(1);
+        }
+    }
+    assert!(rt; false, "not ended");
+    Ok(())
+}
+
+/// Wants the report of the guest that left this.
+pub fn has_report(
+    rt: &(impl Abort + AllocGlobal),
+    guests: &[Guest],
+    left: &Dossier<ListMail>,
+) -> Result<(), AllocError> {
+    for guest in guests {
+        if guest.name == left.name() {
+            let name = guest.plan.name.as_bytes();
+            let text = report_text(rt.alloc(), name, left.records(), &left.counters())?;
+            assert!(rt;
+                text.as_slice() == guest.report.as_bytes(),
+                "of {}",
+                guest.name
+            );
+            return Ok(());
+        }
+    }
+    assert!(rt; false, "not invited: {}", left.name());
+    Ok(())
+}
