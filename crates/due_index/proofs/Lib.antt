@@ -1,0 +1,4 @@
+pub mod Order
+pub mod LeastDues
+pub mod Runs
+pub mod Trees

@@ -1,0 +1,11 @@
+//! Which of many places is due first: the least of dues that are set place by place (own).
+#![tactic(auto)]
+
+mod index;
+mod tree;
+
+pub use index::DueIndex;
+pub use tree::lesser;
+
+#[cfg(test)]
+mod tests;
