@@ -3,8 +3,16 @@ mod Order
 mod Rows
 mod PlaceFacts
 pub mod MarkFacts
+mod Circles
+mod RingFacts
+mod RingViews
+mod RingPut
+mod RingFirst
+mod IndexFacts
 mod SlotFacts
-mod KeyFacts
-mod Spans
-mod StandFacts
+mod StockFacts
+mod StockThin
+mod MoveFacts
 mod WheelFacts
+mod TieFacts
+mod TieMoves

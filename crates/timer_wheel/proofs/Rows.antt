@@ -1,6 +1,6 @@
 -- The rows of a list of entries.
 use Rattle.std.proofs.Common.{inl, inr, ◌≡◌, ◌≢◌, ℕ, zero, suc, ◌<◌, ◌≤◌, Bool, true, false, not, ◌==◌, ◌&&◌, nat_lt, cond, if◌then◌else◌, List, [], ◌∷◌, ◌++◌, length, get_or, Option, Some, None, filter, refl, sym, ap, subst, ◌∙◌, eq-eqb, arith}
-use Rattle.std.specs.List.{All, IsFirstBest, best_of}
+use Rattle.std.specs.List.{All, IsFirstBest, best_of, list_any}
 use Rattle.std.proofs.lemmas.List.Elements.{All-head, All-tail, All-from_get_or}
 use Rattle.std.proofs.lemmas.List.MinMax.{IsFirstBest-from_best_of}
 use Rattle.std.proofs.lemmas.Bool.{cases_Bool, eqb-true, eqb-false, ne_eqb, ltb-true, ltb-false}
@@ -241,8 +241,38 @@ above-set clock es o s d low above p q x h =
     let found : cond (p == o && same_source q s) (Some d) (row_of es p q) ≡ Some x = sym (set_at es o s d p q) ∙ h in
     set_cases clock d x (p == o && same_source q s) (row_of es p q) low (above p q x) found
 
+-- moved to the least
+pub above-least : (es : List Entry) (e : Entry) → least_of es ≡ Some e → IsAtOrAbove e.due (row_of es)
+above-least es e least o s d was = is_before-low (entry o s d) e (least-first es e least o s d was)
+
 pub above-popped : (es : List Entry) (e : Entry) → least_of es ≡ Some e → IsAtOrAbove e.due (row_of (without_entry e.owner e.source es))
 above-popped es e least o s d h =
     let was : row_of es o s ≡ Some d =
     cond-kept (not (o == e.owner && same_source s e.source)) (row_of es o s) d (sym (row_of-filter (λ a t. not (a == e.owner && same_source t e.source)) es o s) ∙ h) in
     is_before-low (entry o s d) e (least-first es e least o s d was)
+
+-- where there is an entry of a source, those of others are fewer
+pub filter-fewer : (p : Entry → Bool) (es : List Entry) → list_any p es ≡ true → length (filter (λ e. not (p e)) es) < length es
+filter-fewer p [] h = let bad : false ≡ true = h in cc
+filter-fewer p (e ∷ es) h =
+    elim (cases_Bool (p e)) [
+      | inl t ↦ rw t (let l : length (filter (λ e. not (p e)) es) ≤ length es = filter-most (λ e. not (p e)) es in omega arith)
+      | inr f ↦ rw f (let l : length (filter (λ e. not (p e)) es) < length es = filter-fewer p es (rw f at h) in omega arith)
+    ]
+  where
+    filter-most : (q : Entry → Bool) (xs : List Entry) → length (filter q xs) ≤ length xs
+    filter-most q [] = omega arith
+    filter-most q (x ∷ xs) =
+        elim (cases_Bool (q x)) [
+          | inl t ↦ rw t (let l : length (filter q xs) ≤ length xs = filter-most q xs in omega arith)
+          | inr f ↦ rw f (let l : length (filter q xs) ≤ length xs = filter-most q xs in omega arith)
+        ]
+
+-- and where there is none, it has no due
+pub row_of-absent : (o : ℕ) (s : Source) (es : List Entry) → list_any (is_of o s) es ≡ false → row_of es o s ≡ None
+row_of-absent o s [] h = row_of-nil o s
+row_of-absent o s (e ∷ es) h =
+    elim (cases_Bool (is_of o s e)) [
+      | inl t ↦ let bad : true ≡ false = rw t at h in cc
+      | inr f ↦ row_of-miss e es o s f ∙ row_of-absent o s es (rw f at h)
+    ]

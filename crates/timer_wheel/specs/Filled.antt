@@ -1,11 +1,9 @@
 -- Which slots are marked.
-use Rattle.std.specs.Prelude.{◌≡◌, ℕ, List, length}
-use Rattle.timer_wheel.specs.declared.Entry.{Entry}
+use Rattle.std.specs.Prelude.{◌≡◌, ◌≢◌, ℕ, ◌<◌, List, Some, slice_get}
 use Rattle.timer_wheel.specs.declared.marks.Marks.{Marks}
-use Rattle.timer_wheel.specs.Chains.{filled, at}
 use Rattle.timer_wheel.specs.Marks.{mark_at}
 
--- there are 2048 slots, and just those that hold something are marked
-pub record IsMarked (slots : List (List Entry)) (marks : Marks) : Type 0 where
-  pub long : length slots ≡ 2048
-  pub marked : (place : ℕ) → mark_at marks place ≡ filled (at slots place)
+-- just those slots that have a key are marked
+pub record IsMarked (lists : List ℕ) (marks : Marks) : Type 0 where
+  pub there : (place : ℕ) → place < 2048 → mark_at marks place ≡ 1 → (k : ℕ) × (slice_get lists k ≡ Some place)
+  pub none : (place : ℕ) → place < 2048 → mark_at marks place ≡ 0 → (k : ℕ) → slice_get lists k ≢ Some place

@@ -1,17 +1,21 @@
--- A map from owner and source to due, seen as rows.
-use Rattle.std.specs.Prelude.{◌≡◌, ℕ, ◌<◌, ◌^◌, ◌==◌, ◌&&◌, Bool, List, Option, Some}
+-- A map from owner and source to key, seen as rows.
+use Rattle.std.specs.Prelude.{ℕ, ◌==◌, ◌&&◌, Bool, List, Option}
 use Rattle.std.specs.Map.{lookup}
 use Rattle.emu_model.specs.declared.sources.Source.{Source}
-use Rattle.emu_model.specs.Laws.{same_source}
-use Rattle.timer_wheel.specs.declared.dues.Key.{Key}
+use Rattle.emu_model.specs.Dues.{rank}
+use Rattle.timer_wheel.specs.declared.index.Whose.{Whose}
 
-abbrev pub is_key : ℕ → Source → Key → Bool
-is_key o s k = k.owner == o && same_source k.source s
+abbrev pub whose_of : ℕ → Source → Whose
+whose_of o s = record { owner = o; class = rank s.class; number = s.number }
 
--- the due of each owner's source
-unfoldable pub due_in : List (Key × ℕ) → ℕ → Source → Option ℕ
-due_in es o s = lookup (is_key o s) es
+abbrev pub is_whose : ℕ → Source → Whose → Bool
+is_whose o s w = o == w.owner && (rank s.class == w.class && s.number == w.number)
 
--- dues and numbers fit their types
-abbrev pub AreWithin : List (Key × ℕ) → Type 0
-AreWithin es = (o : ℕ) (s : Source) (d : ℕ) → due_in es o s ≡ Some d → (d < 2 ^ 64) × (s.number < 2 ^ 32)
+-- the key of each owner's source
+unfoldable pub key_in : List (Whose × ℕ) → ℕ → Source → Option ℕ
+key_in ws o s = lookup (is_whose o s) ws
+
+-- what a contract sees of an index: the keys, and for how many sources more there is room
+pub record IndexBook : Type 0 where
+  pub keys : List (Whose × ℕ)
+  pub room : ℕ

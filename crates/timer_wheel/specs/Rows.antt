@@ -54,3 +54,4 @@ least_of (e ∷ es) = Some (best_of is_before e es)
 pub record ListBook : Type 0 where
   pub items : List Entry
   pub clock : ℕ
+  pub spare : ℕ

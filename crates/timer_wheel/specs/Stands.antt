@@ -1,32 +1,55 @@
 -- What stands in the slots of a wheel.
-use Rattle.std.specs.Prelude.{◌≡◌, ℕ, ◌==◌, ◌&&◌, not, cond, filter, List, [], ◌∷◌, Some, None, ◌⊎◌}
+use Rattle.std.specs.Prelude.{◌≡◌, ℕ, ◌<◌, ◌≤◌, ◌^◌, ◌==◌, ◌&&◌, ◌⊎◌, [], ◌∷◌, ◌++◌, cond, false, Some, None}
 use Rattle.emu_model.specs.declared.sources.Source.{Source}
 use Rattle.emu_model.specs.Laws.{same_source}
 use Rattle.timer_wheel.specs.declared.Entry.{Entry}
-use Rattle.timer_wheel.specs.declared.dues.Key.{Key}
 use Rattle.timer_wheel.specs.Places.{place_of}
-use Rattle.timer_wheel.specs.Rows.{Row, IsAtOrAbove, is_of}
+use Rattle.timer_wheel.specs.Rows.{Row, IsAtOrAbove, is_before}
+use Rattle.timer_wheel.specs.Stocks.{StockBook, Holds, due_of, room_of}
+use Rattle.timer_wheel.specs.Ties.{TiesBook, Waits, IsRising, tie_of}
 
--- an entry is among these
-unfoldable pub Has : Entry → List Entry → Type 0
-Has e [] = ⊥
-Has e (x ∷ xs) = (e ≡ x) ⊎ Has e xs
+-- what a contract sees of a `Wheel`
+pub record WheelBook : Type 0 where
+  pub stock : StockBook
+  pub ties : TiesBook
+  pub clock : ℕ
 
--- those that aren't of a source of an owner
-abbrev pub others : ℕ → Source → List Entry → List Entry
-others owner source es = filter (λ e. not (is_of owner source e)) es
+-- an entry's list: its place by the clock, or that of the ties, where it is due now and waits
+abbrev pub StandsAt : ℕ → TiesBook → ℕ → Entry → Type 0
+StandsAt clock ties p e = (p ≡ place_of clock e.due) ⊎ ((p ≡ 2048) × (e.due ≡ clock) × Waits ties (tie_of e))
 
--- the slots and a list of loose entries hold just what the rows say, and what a slot holds has its place
--- there by the clock
-pub record Stands (clock : ℕ) (rows : ℕ → Row) (slots : ℕ → List Entry) (loose : List Entry) : Type 0 where
-  pub here : (place : ℕ) (e : Entry) → Has e (slots place) → (place_of clock e.due ≡ place) × (rows e.owner e.source ≡ Some e.due)
-  pub kept : (e : Entry) → Has e loose → rows e.owner e.source ≡ Some e.due
-  pub found : (e : Entry) → rows e.owner e.source ≡ Some e.due → Has e (slots (place_of clock e.due)) ⊎ Has e loose
+abbrev pub IsPlaced : ℕ → StockBook → TiesBook → Type 0
+IsPlaced clock b ties = (k : ℕ) (e : Entry) (p : ℕ) → Holds b.entries b.slots k e p → StandsAt clock ties p e
 
--- nothing is loose, and no due is below the clock
-pub record IsWheel (clock : ℕ) (rows : ℕ → Row) (slots : ℕ → List Entry) : Type 0 where
-  pub stands : Stands clock rows slots []
-  pub low : IsAtOrAbove clock rows
+-- each entry is in its list, the ties are in order, and no due is below the clock
+pub record IsWheel (clock : ℕ) (b : StockBook) (ties : TiesBook) : Type 0 where
+  pub placed : IsPlaced clock b ties
+  pub rising : IsRising ties.items
+  pub low : IsAtOrAbove clock (due_of b)
+  pub small : (o : ℕ) (s : Source) (d : ℕ) → due_of b o s ≡ Some d → d < 2 ^ 64
+
+-- an entry's list, and the ties after it was chosen
+abbrev pub IsSeated : ℕ → Entry → TiesBook → ℕ → TiesBook → Type 0
+IsSeated clock e old p new =
+    ((p ≡ place_of clock e.due) × (new ≡ old))
+    ⊎ ((p ≡ 2048) × (e.due ≡ clock) × (new ≡ record old { items = old.items ++ tie_of e ∷ [] }))
+
+-- what shows the same, and has its entries at the due of the least, which is there still
+pub record IsTurned (clock : ℕ) (old : StockBook) (e : Entry) (new : StockBook) (ties : TiesBook) : Type 0 where
+  pub was : due_of old e.owner e.source ≡ Some e.due
+  pub least : (o : ℕ) (s : Source) (d : ℕ) → due_of old o s ≡ Some d → is_before (record { due = d; owner = o; source = s }) e ≡ false
+  pub low : clock ≤ e.due
+  pub rows : (o : ℕ) (s : Source) → due_of new o s ≡ due_of old o s
+  pub placed : IsPlaced e.due new ties
+  pub rising : IsRising ties.items
+  pub room : room_of new ≡ room_of old
+
+-- nothing is due
+pub record IsStill (clock : ℕ) (old new : StockBook) (ties : TiesBook) : Type 0 where
+  pub empty : (o : ℕ) (s : Source) → due_of old o s ≡ None
+  pub rows : (o : ℕ) (s : Source) → due_of new o s ≡ due_of old o s
+  pub wheel : IsWheel clock new ties
+  pub room : room_of new ≡ room_of old
 
 -- the rows without one due
 abbrev pub without_at : (ℕ → Row) → ℕ → Source → ℕ → Row
@@ -35,8 +58,3 @@ without_at rows owner source o s = cond (o == owner && same_source s source) Non
 -- the rows with one due
 abbrev pub with_at : (ℕ → Row) → ℕ → Source → ℕ → ℕ → Row
 with_at rows owner source due o s = cond (o == owner && same_source s source) (Some due) (rows o s)
-
--- what a contract sees of a `Wheel`
-pub record WheelBook : Type 0 where
-  pub dues : List (Key × ℕ)
-  pub clock : ℕ

@@ -1,21 +1,23 @@
 //! Agendas: which owner's source is due first, and when (own).
 //!
 //! `Agenda` says what one is. `ListAgenda` keeps a plain list, for tests, and `Wheel` a timing wheel; callers
-//! that are generic over `Agenda` can't tell them apart. Only `new` and `set` take memory, and where it is
-//! refused, all is as before.
+//! that are generic over `Agenda` can't tell them apart. Only `new`, `set_ready` and `set` of a source that
+//! has no due take memory, and where it is refused, all is as before.
 #![tactic(auto)]
 
-mod chain;
-mod dues;
+mod index;
 mod list;
 mod marks;
 mod place;
+mod ring;
 mod slots;
+mod stock;
 #[cfg(test)]
 mod tests;
+mod ties;
 mod wheel;
 
-ghost use Rattle.std.specs.Prelude.{◌≡◌, ◌≢◌, ℕ, ◌≤◌, false, Option, Some, None, IfSome, IfNone, IfOk, OnOk, OnErr};
+ghost use Rattle.std.specs.Prelude.{◌≡◌, ◌≢◌, ℕ, ◌+◌, ◌<◌, ◌≤◌, false, Option, Some, None, IfSome, IfNone, IfOk, OnOk, OnErr, IsOk, IsSome, IsTrue};
 ghost use Rattle.emu_model.specs.declared.sources.Source.{Source};
 ghost use Rattle.timer_wheel.specs.Rows.{no_dues, with_due, without_due, is_before, is_of};
 
@@ -43,35 +45,63 @@ pub trait Agenda: Drop {
     /// The clock.
     ghost time: { Self → ℕ };
 
+    /// How many further sources get a due without memory.
+    ghost spare: { Self → ℕ };
+
     /// An empty agenda at a clock.
     fn new(alloc: Global, clock: u64) -> Result<Self, AllocError>
         ensures empty { IfOk result (λ a. (o : ℕ) → entries a o ≡ no_dues) }
         ensures time { IfOk result (λ a. time a ≡ clock) };
 
-    /// The due of the entry that was popped last, or the clock that the agenda began with.
+    /// The due of the entry that was the least one last, or the clock that the agenda began with.
     fn clock(&self) -> u64
         ensures clock { result ≡ time self.now }
         ensures low { (o : ℕ) (s : Source) (d : ℕ) → entries self.now o s ≡ Some d → result ≤ d };
 
-    /// Sets the due of a source, in place of the one that it had.
+    /// Makes room for one further source, and says whether it could.
+    fn set_ready(&mut self) -> bool
+        ensures ready { IsTrue result → 0 < spare self.new }
+        ensures entries { (o : ℕ) → entries self.new o ≡ entries self.old o }
+        ensures time { time self.new ≡ time self.old }
+        ensures spare { spare self.old ≤ spare self.new };
+
+    /// Sets the due of a source, in place of the one that it had. A source that had one needs no memory.
     fn set(&mut self, owner: Owner, source: Source, due: u64) -> Result<(), AllocError>
         requires { time self.old ≤ due }
         ensures ok { OnOk result (entries self.new owner ≡ with_due (entries self.old owner) source due) }
         ensures err { OnErr result (entries self.new owner ≡ entries self.old owner) }
         ensures others { (o : ℕ) → o ≢ owner → entries self.new o ≡ entries self.old o }
-        ensures time { time self.new ≡ time self.old };
+        ensures time { time self.new ≡ time self.old }
+        ensures ready { 0 < spare self.old → IsOk result }
+        ensures again { IsSome (entries self.old owner source) → IsOk result }
+        ensures spare { spare self.old ≤ spare self.new + 1 }
+        ensures kept { IsSome (entries self.old owner source) → spare self.old ≤ spare self.new };
 
     /// Takes a source's entry away, where it has one.
     fn clear(&mut self, owner: Owner, source: Source)
         ensures cleared { entries self.new owner ≡ without_due (entries self.old owner) source }
         ensures others { (o : ℕ) → o ≢ owner → entries self.new o ≡ entries self.old o }
-        ensures time { time self.new ≡ time self.old };
+        ensures time { time self.new ≡ time self.old }
+        ensures spare { spare self.old ≤ spare self.new };
 
     /// Takes all entries of an owner away.
     fn clear_owner(&mut self, owner: Owner)
         ensures cleared { entries self.new owner ≡ no_dues }
         ensures others { (o : ℕ) → o ≢ owner → entries self.new o ≡ entries self.old o }
-        ensures time { time self.new ≡ time self.old };
+        ensures time { time self.new ≡ time self.old }
+        ensures spare { spare self.old ≤ spare self.new };
+
+    /// Tells the least entry by due, owner, class and number, and moves the clock to its due. It stays.
+    fn move_to_least(&mut self) -> Option<Entry>
+        ensures was { IfSome result (λ e. entries self.old e.owner e.source ≡ Some e.due) }
+        ensures least { IfSome result (λ e. (o : ℕ) (s : Source) (d : ℕ) → entries self.old o s ≡ Some d
+            → is_before (record { due = d; owner = o; source = s }) e ≡ false) }
+        ensures entries { (o : ℕ) → entries self.new o ≡ entries self.old o }
+        ensures time { IfSome result (λ e. time self.new ≡ e.due) }
+        ensures rises { time self.old ≤ time self.new }
+        ensures none { IfNone result ((o : ℕ) → entries self.old o ≡ no_dues) }
+        ensures stays { IfNone result (time self.new ≡ time self.old) }
+        ensures spare { spare self.old ≤ spare self.new };
 
     /// Takes the least entry by due, owner, class and number, and moves the clock to its due.
     fn pop_least(&mut self) -> Option<Entry>
@@ -84,12 +114,19 @@ pub trait Agenda: Drop {
         ensures rises { time self.old ≤ time self.new }
         ensures none { IfNone result ((o : ℕ) → entries self.old o ≡ no_dues) }
         ensures unchanged { IfNone result ((o : ℕ) → entries self.new o ≡ entries self.old o) }
-        ensures stays { IfNone result (time self.new ≡ time self.old) };
+        ensures stays { IfNone result (time self.new ≡ time self.old) }
+        ensures spare { spare self.old ≤ spare self.new }
+    {
+        let entry = self.move_to_least()?;
+        self.clear(entry.owner, entry.source);
+        Some(entry)
+    }
 
     /// Takes all entries away, and puts the clock to 0.
     fn restart(&mut self)
         ensures empty { (o : ℕ) → entries self.new o ≡ no_dues }
-        ensures time { time self.new ≡ 0 };
+        ensures time { time self.new ≡ 0 }
+        ensures spare { spare self.old ≤ spare self.new };
 }
 
 impl Entry {

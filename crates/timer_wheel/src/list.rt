@@ -1,5 +1,6 @@
 //! An agenda that is one list: the plainest, for tests.
-ghost use Rattle.std.specs.Prelude.{◌≡◌, ◌≤◌, not, filter, vec_len, vec_capacity};
+ghost use Rattle.std.specs.Prelude.{◌≡◌, ◌+◌, ◌<◌, ◌≤◌, ◌⊎◌, true, not, filter, [], ◌∷◌, ◌++◌, vec_len, vec_capacity};
+ghost use Rattle.std.specs.List.{list_any};
 ghost use Rattle.timer_wheel.specs.Rows.{row_of, is_of, least_of};
 
 use crate::{Agenda, Entry, Owner};
@@ -15,11 +16,12 @@ pub struct ListAgenda {
 }
 
 impl Model for ListAgenda {
+    ghost use Rattle.std.specs.Prelude.{◌-◌, vec_len, vec_capacity};
     ghost use Rattle.timer_wheel.specs.Rows.{ListBook, IsAtOrAbove, row_of};
 
     ghost Value = { ListBook };
 
-    ghost view = { λ a. record { items = a.items.items; clock = a.clock } };
+    ghost view = { λ a. record { items = a.items.items; clock = a.clock; spare = vec_capacity a.items - vec_len a.items } };
 
     ghost invariant = { λ a. IsAtOrAbove a.clock (row_of a.items.items) };
 }
@@ -42,15 +44,37 @@ fn least(items: &[Entry]) -> Option<Entry>
 fn remove(items: &mut Vec<Entry>, owner: Owner, source: Source)
     ensures items { items.new.items ≡ filter (λ e. not (is_of owner source e)) items.old.items }
     ensures len { vec_len items.new ≤ vec_len items.old }
+    ensures fewer { list_any (is_of owner source) items.old.items ≡ true → vec_len items.new < vec_len items.old }
     ensures capacity { vec_capacity items.new ≡ vec_capacity items.old }
 {
     items.retain(|entry| !entry.is_of(owner, source));
+}
+
+// Whether a source of an owner has an entry.
+fn has(items: &[Entry], owner: Owner, source: Source) -> bool
+    ensures { result ≡ list_any (is_of owner source) items.now }
+{
+    items.iter().any(|entry| entry.is_of(owner, source))
+}
+
+// Puts an entry in place of those of its source. There is room, or there is one of its source.
+fn replace(items: &mut Vec<Entry>, entry: Entry)
+    requires { vec_len items.old < vec_capacity items.old ⊎ (list_any (is_of entry.owner entry.source) items.old.items ≡ true) }
+    ensures items { items.new.items ≡ filter (λ e. not (is_of entry.owner entry.source e)) items.old.items ++ entry ∷ [] }
+    ensures len { vec_len items.new ≤ vec_len items.old + 1 }
+    ensures again { list_any (is_of entry.owner entry.source) items.old.items ≡ true → vec_len items.new ≤ vec_len items.old }
+    ensures capacity { vec_capacity items.new ≡ vec_capacity items.old }
+{
+    remove(items, entry.owner, entry.source);
+    items.push_reserved(entry);
 }
 
 impl Agenda for ListAgenda {
     ghost entries = { λ a. row_of a.items };
 
     ghost time = { λ a. a.clock };
+
+    ghost spare = { λ a. a.spare };
 
     fn new(alloc: Global, clock: u64) -> Result<ListAgenda, AllocError> {
         Ok(ListAgenda {
@@ -63,10 +87,18 @@ impl Agenda for ListAgenda {
         self.clock
     }
 
+    fn set_ready(&mut self) -> bool {
+        self.items.reserve(1).is_ok()
+    }
+
     fn set(&mut self, owner: Owner, source: Source, due: u64) -> Result<(), AllocError> {
+        let entry = Entry { due, owner, source };
+        if has(&self.items, owner, source) {
+            replace(&mut self.items, entry);
+            return Ok(());
+        }
         self.items.reserve(1)?;
-        remove(&mut self.items, owner, source);
-        self.items.push_reserved(Entry { due, owner, source });
+        replace(&mut self.items, entry);
         Ok(())
     }
 
@@ -78,9 +110,8 @@ impl Agenda for ListAgenda {
         self.items.retain(|entry| entry.owner != owner);
     }
 
-    fn pop_least(&mut self) -> Option<Entry> {
+    fn move_to_least(&mut self) -> Option<Entry> {
         let entry = least(&self.items)?;
-        remove(&mut self.items, entry.owner, entry.source);
         self.clock = entry.due;
         Some(entry)
     }

@@ -1,106 +1,122 @@
-//! The slots of all levels.
-ghost use Rattle.std.specs.Prelude.{◌≡◌, ℕ, length, ◌<◌, ◌==◌, cond, [], IfOk, IfSome, IfNone};
-ghost use Rattle.timer_wheel.specs.Chains.{tail_of, joined, filled, at};
-ghost use Rattle.timer_wheel.specs.Rows.{least_of};
+//! The slots of all levels, and three lists beside them.
+ghost use Rattle.std.specs.Prelude.{◌≡◌, ◌≢◌, ℕ, ◌<◌, [], ◌∷◌, ◌++◌, length, slice_get, slice_set, Some, IfOk, OnOk, OnErr, IfSome, IfNone};
+ghost use Rattle.timer_wheel.specs.Marks.{mark_at};
 
-use crate::Entry;
-use crate::chain::Chain;
 use crate::marks::Marks;
+use crate::ring::Ring;
 use std::alloc::{AllocError, Global};
 use std::marker::Model;
-use std::mem;
 
-const SLOTS: usize = 2048;
+/// How many slots there are: lists from 0 up.
+pub const SLOTS: usize = 2048;
 
-/// A chain of entries for each of 2048 slots, and a mark for each that isn't empty. Seen as the list of
-/// their lists.
+/// The list of keys whose entries are ties: due now, and in order.
+pub const TIES: usize = 2048;
+
+/// The list of keys that are on their way from slot to slot.
+pub const LOOSE: usize = 2049;
+
+/// The list of keys that hold nothing.
+pub const FREE: usize = 2050;
+
+/// Keys in lists, and a mark for each slot that isn't empty. Seen as the list of each key.
 #[derive(Drop)]
 pub struct Slots {
-    chains: Vec<Chain>,
+    keys: Ring,
     marks: Marks,
 }
 
 impl Model for Slots {
-    ghost use Rattle.std.specs.Prelude.{List};
-    ghost use Rattle.timer_wheel.specs.declared.Entry.{Entry};
+    ghost use Rattle.std.specs.Prelude.{ℕ, List};
 
-    ghost Value = { List (List Entry) };
+    ghost Value = { List ℕ };
 
     ghost use Rattle.timer_wheel.specs.Filled.{IsMarked};
 
-    ghost view = { λ s. s.chains.items };
+    ghost view = { λ s. s.keys };
 
-    ghost invariant = { λ s. IsMarked s.chains.items s.marks };
+    ghost invariant = { λ s. IsMarked s.keys s.marks };
+}
+
+// Marks a slot where it has a key, and takes its mark where it has none. Another list has no mark.
+fn renew(marks: &mut Marks, keys: &Ring, list: usize)
+    ensures other { (q : ℕ) → q ≢ list → mark_at marks.new q ≡ mark_at marks.old q }
+    ensures there { list < 2048 → mark_at marks.new list ≡ 1 → (k : ℕ) × (slice_get keys.now k ≡ Some list) }
+    ensures none { list < 2048 → mark_at marks.new list ≡ 0 → (k : ℕ) → slice_get keys.now k ≢ Some list }
+{
+    if list >= SLOTS {
+        return;
+    }
+    let Some(_) = keys.first(list) else {
+        marks.unmark(list);
+        return;
+    };
+    marks.mark(list);
 }
 
 impl Slots {
-    /// All slots empty.
+    /// No key.
     pub fn new(alloc: Global) -> Result<Slots, AllocError>
-        ensures { IfOk result (λ s. (q : ℕ) → at s q ≡ []) }
+        ensures { IfOk result (λ s. s ≡ []) }
     {
-        let mut chains = Vec::with_capacity(alloc, SLOTS)?;
-        for _ in 0..SLOTS {
-            chains.push(Chain::new())?;
-        }
         Ok(Slots {
-            chains,
+            keys: Ring::new(alloc)?,
             marks: Marks::new(),
         })
     }
 
-    /// The first slot that isn't empty.
+    /// How many keys there are.
+    pub fn len(&self) -> usize
+        ensures { result ≡ length self.now }
+    {
+        self.keys.len()
+    }
+
+    /// The list of a key.
+    pub fn list(&self, key: usize) -> usize
+        requires { key < length self.now }
+        ensures { slice_get self.now key ≡ Some result }
+    {
+        self.keys.list(key)
+    }
+
+    /// The first slot that has a key.
     pub fn first(&self) -> Option<usize>
         ensures within { IfSome result (λ p. p < 2048) }
-        ensures filled { IfSome result (λ p. filled (at self.now p) ≡ 1) }
-        ensures first { IfSome result (λ p. (q : ℕ) → q < p → at self.now q ≡ []) }
-        ensures none { IfNone result ((q : ℕ) → at self.now q ≡ []) }
+        ensures filled { IfSome result (λ p. (k : ℕ) × (slice_get self.now k ≡ Some p)) }
+        ensures first { IfSome result (λ p. (q : ℕ) → q < p → (k : ℕ) → slice_get self.now k ≢ Some q) }
+        ensures none { IfNone result ((q : ℕ) → q < 2048 → (k : ℕ) → slice_get self.now k ≢ Some q) }
     {
         self.marks.first()
     }
 
-    /// The least entry of a slot by due, owner, class and number.
-    pub fn least(&self, place: usize) -> Option<Entry>
-        requires { place < 2048 }
-        ensures { result ≡ least_of (at self.now place) }
+    /// A key of a list.
+    pub fn first_of(&self, list: usize) -> Option<usize>
+        requires { list < 2051 }
+        ensures some { IfSome result (λ k. slice_get self.now k ≡ Some list) }
+        ensures within { IfSome result (λ k. k < length self.now) }
+        ensures none { IfNone result ((k : ℕ) → slice_get self.now k ≢ Some list) }
     {
-        self.chains[place].least()
+        self.keys.first(list)
     }
 
-    /// Empties a slot.
-    pub fn take(&mut self, place: usize) -> Chain
-        requires { place < 2048 }
-        ensures taken { result ≡ at self.old place }
-        ensures rest { (q : ℕ) → at self.new q ≡ cond (q == place) [] (at self.old q) }
+    /// Makes one key more, which holds nothing.
+    pub fn add(&mut self) -> Result<(), AllocError>
+        ensures ok { OnOk result (self.new ≡ self.old ++ 2050 ∷ []) }
+        ensures err { OnErr result (self.new ≡ self.old) }
     {
-        self.marks.unmark(place);
-        mem::replace(&mut self.chains[place], Chain::new())
+        self.keys.add(FREE)
     }
 
-    /// Puts the first entry of a chain into a slot.
-    pub fn put(&mut self, place: usize, from: &mut Chain)
-        requires within { place < 2048 }
-        requires filled { filled from.old ≡ 1 }
-        ensures from { from.new ≡ tail_of from.old }
-        ensures put { (q : ℕ) → at self.new q ≡ cond (q == place) (joined from.old (at self.old place)) (at self.old q) }
+    /// Puts a key into a list.
+    pub fn put(&mut self, key: usize, list: usize)
+        requires known { key < length self.old }
+        requires list { list < 2051 }
+        ensures { self.new ≡ slice_set self.old key list }
     {
-        from.move_first(&mut self.chains[place]);
-        self.marks.mark(place);
-    }
-
-    // How many slots there are.
-    fn known(&self)
-        ensures { length self.now ≡ 2048 }
-    {
-        let _ = &self.chains;
-    }
-
-    /// Empties all slots.
-    pub fn clear(&mut self)
-        ensures { (q : ℕ) → at self.new q ≡ [] }
-    {
-        for place in 0..SLOTS {
-            drop(self.take(place));
-        }
-        self.known();
+        let was = self.keys.list(key);
+        self.keys.put(key, list);
+        renew(&mut self.marks, &self.keys, was);
+        renew(&mut self.marks, &self.keys, list);
     }
 }

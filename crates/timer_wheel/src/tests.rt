@@ -35,9 +35,16 @@ fn put<A: Agenda>(
     agenda.set(owner, source, due)
 }
 
-// The due, owner, class and number of what is popped.
+// The due, owner, class and number of what is popped, which is where the clock moved before.
 fn pop<A: Agenda>(agenda: &mut A) -> Option<(u64, Owner, u8, u32)> {
+    let least = agenda.move_to_least()?;
+    if agenda.clock() != least.due {
+        return None;
+    }
     let entry = agenda.pop_least()?;
+    if entry.due != least.due || entry.owner != least.owner || entry.source != least.source {
+        return None;
+    }
     Some((
         entry.due,
         entry.owner,

@@ -1,16 +1,18 @@
 //! A hierarchical timing wheel, after Varghese and Lauck, "Hashed and hierarchical timing wheels" (1987).
-ghost use Rattle.std.specs.Prelude.{◌≡◌, ℕ, ◌<◌, ◌==◌, ◌&&◌, cond, [], None, Some, length, IsSome, IfSome, IfNone};
+ghost use Rattle.std.specs.Prelude.{◌≡◌, ◌≢◌, ℕ, ◌<◌, ◌≤◌, ◌==◌, ◌&&◌, ◌⊎◌, cond, map, false, Some, None, length, slice_get, IfSome, IfNone, MatchOption, IsTrue, IsFalse};
 ghost use Rattle.emu_model.specs.declared.sources.Source.{Source};
 ghost use Rattle.emu_model.specs.Laws.{same_source};
-ghost use Rattle.timer_wheel.specs.Chains.{at};
-ghost use Rattle.timer_wheel.specs.Index.{due_in};
-ghost use Rattle.timer_wheel.specs.Rows.{Row};
-ghost use Rattle.timer_wheel.specs.Stands.{Stands, others, without_at};
+ghost use Rattle.timer_wheel.specs.declared.Entry.{Entry};
+ghost use Rattle.timer_wheel.specs.Places.{place_of};
+ghost use Rattle.timer_wheel.specs.Rows.{is_before};
+ghost use Rattle.timer_wheel.specs.Stocks.{Holds, due_of, room_of, unless, IsSpread};
+ghost use Rattle.timer_wheel.specs.Ties.{Waits, tie_of};
+ghost use Rattle.timer_wheel.specs.Stands.{StandsAt, IsSeated, IsWheel, IsTurned, IsStill};
 
-use crate::chain::Chain;
-use crate::dues::Dues;
 use crate::place::place;
-use crate::slots::Slots;
+use crate::slots::{LOOSE, TIES};
+use crate::stock::Stock;
+use crate::ties::{Tie, Ties};
 use crate::{Agenda, Entry, Owner};
 use emu_model::Source;
 use std::alloc::{AllocError, Global};
@@ -22,19 +24,19 @@ use std::marker::Model;
 /// where none does, in the slot of that byte of its due. So the least due is in the first slot that holds
 /// something, and where the clock moves to it, only that slot's entries go elsewhere: down.
 ///
-/// - `set` puts one entry into a slot. It takes memory: a block for the entry, and what the index asks.
-/// - `pop_least` looks at 32 words at most and at the entries of one slot. An entry goes down 7 times at
-///   most.
-/// - `clear` looks at one slot, and `clear_owner` at one for each source that the owner has set. Which,
-///   the index says, a tree from owner and source to due.
-/// - `restart` looks at all slots.
+/// - `set` and `clear` move one key from list to list, whatever else is there, and look into the index, which
+///   is by a hash. `set` of a source that has a due takes no memory.
+/// - `pop_least` looks at 32 words at most. Where the clock comes to a slot, it goes over its entries, and an
+///   entry goes down 7 times at most. Those of the clock's own moment are the ties: they are put in order once,
+///   and popped one by one. What is set to that moment afterwards stands in its slot, and is compared with the
+///   first tie at each pop.
+/// - `clear_owner` looks at the entries of the owners with its remainder by 2048, and `restart` at all.
 #[derive(Drop)]
 pub struct Wheel {
-    slots: Slots,
-    // The index: the due of each entry, so that its slot is found.
-    dues: Dues,
+    stock: Stock,
+    // In order, what was due at the clock when it came there. Some may have been cleared or set anew since.
+    ties: Ties,
     clock: u64,
-    alloc: Global,
 }
 
 impl Model for Wheel {
@@ -42,71 +44,177 @@ impl Model for Wheel {
 
     ghost Value = { WheelBook };
 
-    ghost use Rattle.timer_wheel.specs.Chains.{at};
-    ghost use Rattle.timer_wheel.specs.Index.{due_in};
     ghost use Rattle.timer_wheel.specs.Stands.{IsWheel};
 
-    ghost view = { λ w. record { dues = w.dues; clock = w.clock } };
+    ghost view = { λ w. record { stock = w.stock; ties = w.ties; clock = w.clock } };
 
-    ghost invariant = { λ w. IsWheel w.clock (due_in w.dues) (at w.slots) };
+    ghost invariant = { λ w. IsWheel w.clock w.stock w.ties };
 }
 
-// Puts the entries of a chain that aren't of this source of this owner into their slots.
-fn settle(slots: &mut Slots, list: Chain, clock: u64, owner: Owner, source: Source)
-    ensures { (rows : ℕ → Row) → Stands clock rows (at slots.old) (others owner source list) → Stands clock rows (at slots.new) [] }
+// Puts the keys of a slot on their way, and gives the least entry.
+fn gather(stock: &mut Stock, from: usize) -> Option<Entry>
+    requires { from < 2048 }
+    ensures slots { stock.new ≡ record stock.old { slots = map (unless from) stock.old.slots } }
+    ensures there { IfSome result (λ l. (k : ℕ) × Holds stock.old.entries stock.old.slots k l from) }
+    ensures least { IfSome result (λ l. (k : ℕ) (e : Entry) → Holds stock.old.entries stock.old.slots k e from → is_before e l ≡ false) }
+    ensures none { IfNone result ((k : ℕ) → slice_get stock.old.slots k ≢ Some from) }
+    ensures room { room_of stock.new ≡ room_of stock.old }
 {
-    let mut rest = list;
-    while let Some(entry) = rest.first() {
-        if entry.is_of(owner, source) {
-            rest.drop_first();
-        } else {
-            slots.put(place(clock, entry.due), &mut rest);
-        }
+    stock.known();
+    let mut least: Option<Entry> = None;
+    while let Some(key) = stock.first_of(from) {
+        let entry = stock.entry(key);
+        least = Some(lesser(least, entry));
+        stock.put(key, LOOSE);
     }
+    least
 }
 
-// Takes the entry of a source out of the slot of its due, where it has one.
-fn remove(slots: &mut Slots, clock: u64, owner: Owner, source: Source, due: Option<u64>)
-    ensures { (rows : ℕ → Row) → due ≡ rows owner source → Stands clock rows (at slots.old) [] → Stands clock (without_at rows owner source) (at slots.new) [] }
+// The lesser of an entry and what may be there.
+fn lesser(least: Option<Entry>, entry: Entry) -> Entry
+    ensures either { MatchOption least (result ≡ entry) (λ l. (result ≡ entry) ⊎ (result ≡ l)) }
+    ensures entry { is_before entry result ≡ false }
+    ensures least { IfSome least (λ l. is_before l result ≡ false) }
 {
-    let Some(due) = due else {
-        return;
+    let Some(least) = least else {
+        return entry;
     };
-    let list = slots.take(place(clock, due));
-    settle(slots, list, clock, owner, source);
+    if entry.is_before(&least) {
+        return entry;
+    }
+    least
 }
 
-impl Wheel {
-    // Takes a source's entry away, where it has one.
-    fn take_away(&mut self, owner: Owner, source: Source)
-        ensures rest { (o : ℕ) (s : Source) → due_in self.new.dues o s ≡ cond (o == owner && same_source s source) None (due_in self.old.dues o s) }
-        ensures clock { self.new.clock ≡ self.old.clock }
-        ensures fewer { IsSome (due_in self.old.dues owner source) → length self.new.dues < length self.old.dues }
-    {
-        let due = self.dues.remove(owner, source);
-        remove(&mut self.slots, self.clock, owner, source, due);
+// Puts the keys that are on their way into their slots.
+fn spread(stock: &mut Stock, clock: u64)
+    ensures { IsSpread (λ p e. p ≡ place_of clock e.due) stock.old stock.new }
+{
+    while let Some(key) = stock.first_of(LOOSE) {
+        let due = stock.entry(key).due;
+        stock.put(key, place(clock, due));
     }
+}
 
-    // A source of an owner that has a due.
-    fn source_of(&self, owner: Owner) -> Option<Source>
-        ensures some { IfSome result (λ s. IsSome (due_in self.now.dues owner s)) }
-        ensures none { IfNone result ((s : Source) → due_in self.now.dues owner s ≡ None) }
-    {
-        self.dues.source_of(owner)
+// Where an entry goes: among the ties, if it is due now and there is room, and else to its place.
+fn seat(ties: &mut Ties, clock: u64, entry: Entry) -> usize
+    ensures seated { IsSeated clock entry ties.old result ties.new }
+    ensures within { result < 2049 }
+{
+    if entry.due != clock {
+        return place(clock, entry.due);
     }
+    let tie = Tie {
+        owner: entry.owner,
+        source: entry.source,
+    };
+    if !ties.push(tie) {
+        return place(clock, entry.due);
+    }
+    TIES
+}
+
+// Puts the keys that are on their way into their slots or among the ties.
+fn spread_ties(stock: &mut Stock, ties: &mut Ties, clock: u64)
+    requires { ties.old.next ≡ 0 }
+    ensures spread { IsSpread (StandsAt clock ties.new) stock.old stock.new }
+    ensures next { ties.new.next ≡ 0 }
+{
+    while let Some(key) = stock.first_of(LOOSE) {
+        let entry = stock.entry(key);
+        let list = seat(ties, clock, entry);
+        stock.put(key, list);
+    }
+}
+
+// Whether a source's key is among the ties.
+fn is_waiting(stock: &Stock, tie: Tie) -> bool
+    ensures yes { IsTrue result → (k : ℕ) × (e : Entry) × Holds stock.now.entries stock.now.slots k e 2048 × (tie_of e ≡ tie) }
+    ensures no { IsFalse result → (k : ℕ) (e : Entry) → Holds stock.now.entries stock.now.slots k e 2048 → tie_of e ≢ tie }
+{
+    stock.known();
+    let Some(key) = stock.find(tie.owner, tie.source) else {
+        return false;
+    };
+    stock.list(key) == TIES
+}
+
+// The first of the ties whose key is among them still, once those before it were passed.
+fn waiting(stock: &Stock, ties: &mut Ties) -> Option<Tie>
+    ensures items { ties.new.items ≡ ties.old.items }
+    ensures kept { (k : ℕ) (e : Entry) → Holds stock.now.entries stock.now.slots k e 2048 → Waits ties.old (tie_of e) → Waits ties.new (tie_of e) }
+    ensures held { IfSome result (λ t. (k : ℕ) × (e : Entry) × Holds stock.now.entries stock.now.slots k e 2048 × (tie_of e ≡ t)) }
+    ensures top { IfSome result (λ t. slice_get ties.new.items ties.new.next ≡ Some t) }
+    ensures none { IfNone result (length ties.new.items ≤ ties.new.next) }
+{
+    while let Some(tie) = ties.top() {
+        if is_waiting(stock, tie) {
+            return Some(tie);
+        }
+        ties.advance();
+    }
+    None
+}
+
+// The least entry where no tie waits: of the first slot, whose entries go down.
+fn turn(stock: &mut Stock, ties: &mut Ties, clock: u64) -> Option<Entry>
+    requires wheel { IsWheel clock stock.old ties.old }
+    requires passed { length ties.old.items ≤ ties.old.next }
+    ensures some { IfSome result (λ e. IsTurned clock stock.old e stock.new ties.new) }
+    ensures none { IfNone result (IsStill clock stock.old stock.new ties.new) }
+{
+    stock.known();
+    let first = stock.first()?;
+    let Some(entry) = gather(stock, first) else {
+        unreachable!()
+    };
+    ties.clear();
+    spread_ties(stock, ties, entry.due);
+    ties.sort();
+    Some(entry)
+}
+
+// The least entry where a tie waits: it, or one that came to its moment later.
+fn meet(stock: &mut Stock, ties: &Ties, clock: u64, tie: Tie) -> Entry
+    requires wheel { IsWheel clock stock.old ties.now }
+    requires held { (k : ℕ) × (e : Entry) × Holds stock.old.entries stock.old.slots k e 2048 × (tie_of e ≡ tie) }
+    requires top { slice_get ties.now.items ties.now.next ≡ Some tie }
+    ensures { IsTurned clock stock.old result stock.new ties.now }
+{
+    stock.known();
+    let arrival = gather(stock, place(clock, clock));
+    spread(stock, clock);
+    let entry = Entry {
+        due: clock,
+        owner: tie.owner,
+        source: tie.source,
+    };
+    lesser(arrival, entry)
+}
+
+// The least entry, with all others where the clock at its due wants them.
+fn least(stock: &mut Stock, ties: &mut Ties, clock: u64) -> Option<Entry>
+    requires { IsWheel clock stock.old ties.old }
+    ensures some { IfSome result (λ e. IsTurned clock stock.old e stock.new ties.new) }
+    ensures none { IfNone result (IsStill clock stock.old stock.new ties.new) }
+{
+    let Some(tie) = waiting(stock, ties) else {
+        return turn(stock, ties, clock);
+    };
+    Some(meet(stock, ties, clock, tie))
 }
 
 impl Agenda for Wheel {
-    ghost entries = { λ w. due_in w.dues };
+    ghost entries = { λ w. due_of w.stock };
 
     ghost time = { λ w. w.clock };
 
+    ghost spare = { λ w. room_of w.stock };
+
     fn new(alloc: Global, clock: u64) -> Result<Wheel, AllocError> {
         Ok(Wheel {
-            slots: Slots::new(alloc)?,
-            dues: Dues::new(alloc),
+            stock: Stock::new(alloc)?,
+            ties: Ties::new(alloc),
             clock,
-            alloc,
         })
     }
 
@@ -114,40 +222,44 @@ impl Agenda for Wheel {
         self.clock
     }
 
+    fn set_ready(&mut self) -> bool {
+        let ready = self.stock.ready().is_ok();
+        self.ties.ready(self.stock.len());
+        ready
+    }
+
     fn set(&mut self, owner: Owner, source: Source, due: u64) -> Result<(), AllocError> {
-        let mut fresh = Chain::single(self.alloc, Entry { due, owner, source })?;
-        let was = self.dues.insert(owner, source, due)?;
-        remove(&mut self.slots, self.clock, owner, source, was);
-        self.slots.put(place(self.clock, due), &mut fresh);
+        let list = place(self.clock, due);
+        if let Some(key) = self.stock.find(owner, source) {
+            self.stock.reset(key, due, list);
+            return Ok(());
+        }
+        self.stock.ready()?;
+        self.ties.ready(self.stock.len());
+        self.stock.insert(Entry { due, owner, source }, list);
         Ok(())
     }
 
     fn clear(&mut self, owner: Owner, source: Source) {
-        self.take_away(owner, source);
+        let Some(key) = self.stock.find(owner, source) else {
+            return;
+        };
+        self.stock.remove(key);
     }
 
     fn clear_owner(&mut self, owner: Owner) {
-        while let Some(source) = self.source_of(owner) {
-            self.take_away(owner, source);
-        }
+        self.stock.remove_owner(owner);
     }
 
-    fn pop_least(&mut self) -> Option<Entry> {
-        let first = self.slots.first()?;
-        let Some(entry) = self.slots.least(first) else {
-            unreachable!()
-        };
-        self.dues.known();
-        self.dues.remove(entry.owner, entry.source);
-        let list = self.slots.take(first);
+    fn move_to_least(&mut self) -> Option<Entry> {
+        let entry = least(&mut self.stock, &mut self.ties, self.clock)?;
         self.clock = entry.due;
-        settle(&mut self.slots, list, entry.due, entry.owner, entry.source);
         Some(entry)
     }
 
     fn restart(&mut self) {
-        self.slots.clear();
-        self.dues.clear();
+        self.stock.clear();
+        self.ties.clear();
         self.clock = 0;
     }
 }

@@ -1,0 +1,102 @@
+//! Which key each source of each owner has.
+ghost use Rattle.std.specs.Prelude.{◌≡◌, ℕ, ◌+◌, ◌<◌, ◌≤◌, ◌==◌, ◌&&◌, cond, [], Option, None, Some, IfOk, OnOk, OnErr, IfSome, IfNone, IsOk};
+ghost use Rattle.emu_model.specs.declared.sources.Source.{Source};
+ghost use Rattle.emu_model.specs.Laws.{same_source};
+ghost use Rattle.timer_wheel.specs.Index.{key_in, whose_of};
+
+use crate::Owner;
+use emu_model::Source;
+use indexmap::IndexMap;
+use std::alloc::{AllocError, Global};
+use std::marker::Model;
+
+/// A source of an owner, in numbers, of which a hash is made.
+#[derive(Clone, Copy, PartialEq, Eq, Hash)]
+pub struct Whose {
+    owner: Owner,
+    class: u8,
+    number: u32,
+}
+
+/// The key of each source of each owner, by a hash.
+#[derive(Drop)]
+pub struct Index {
+    map: IndexMap<Whose, usize>,
+}
+
+impl Model for Index {
+    ghost use Rattle.indexmap.specs.IndexMap.{spare};
+    ghost use Rattle.timer_wheel.specs.Index.{IndexBook};
+
+    ghost Value = { IndexBook };
+
+    ghost view = { λ i. record { keys = i.map.entries; room = spare i.map } };
+}
+
+impl Whose {
+    // A source of an owner in numbers.
+    fn of(owner: Owner, source: Source) -> Whose
+        ensures { result ≡ whose_of owner source }
+    {
+        Whose {
+            owner,
+            class: source.class as u8,
+            number: source.number,
+        }
+    }
+}
+
+impl Index {
+    /// No source. Takes no memory.
+    pub fn new(alloc: Global) -> Index
+        ensures { (o : ℕ) (s : Source) → key_in result.keys o s ≡ None }
+    {
+        Index {
+            map: IndexMap::new(alloc),
+        }
+    }
+
+    /// The key of a source.
+    pub fn find(&self, owner: Owner, source: Source) -> Option<usize>
+        ensures { result ≡ key_in self.now.keys owner source }
+    {
+        self.map.get(&Whose::of(owner, source)).copied()
+    }
+
+    /// Makes room for one source more.
+    pub fn reserve(&mut self) -> Result<(), AllocError>
+        ensures ok { OnOk result (0 < self.new.room) }
+        ensures succeeds { 0 < self.old.room → IsOk result }
+        ensures keys { self.new.keys ≡ self.old.keys }
+        ensures room { self.old.room ≤ self.new.room }
+    {
+        self.map.reserve(1)
+    }
+
+    /// Gives a source a key, for which there is room.
+    pub fn insert(&mut self, owner: Owner, source: Source, key: usize)
+        requires { 0 < self.old.room }
+        ensures keys { (o : ℕ) (s : Source) → key_in self.new.keys o s ≡ cond (o == owner && same_source s source) (Some key) (key_in self.old.keys o s) }
+        ensures room { self.old.room ≤ self.new.room + 1 }
+    {
+        let Ok(_) = self.map.insert(Whose::of(owner, source), key) else {
+            unreachable!()
+        };
+    }
+
+    /// Takes the key of a source away.
+    pub fn remove(&mut self, owner: Owner, source: Source)
+        ensures keys { (o : ℕ) (s : Source) → key_in self.new.keys o s ≡ cond (o == owner && same_source s source) None (key_in self.old.keys o s) }
+        ensures room { self.old.room ≤ self.new.room }
+    {
+        self.map.swap_remove(&Whose::of(owner, source));
+    }
+
+    /// Takes all keys away.
+    pub fn clear(&mut self)
+        ensures keys { (o : ℕ) (s : Source) → key_in self.new.keys o s ≡ None }
+        ensures room { self.old.room ≤ self.new.room }
+    {
+        self.map.clear();
+    }
+}

@@ -1,0 +1,97 @@
+//! The sources that are due at one moment, in order.
+ghost use Rattle.std.specs.Prelude.{◌≡◌, ◌+◌, ◌<◌, [], ◌∷◌, ◌++◌, length, slice_get, IsTrue, IsFalse};
+ghost use Rattle.std.specs.List.Sorted.{IsPermutation};
+ghost use Rattle.timer_wheel.specs.Ties.{IsRising};
+
+use crate::Owner;
+use emu_model::Source;
+use std::alloc::Global;
+use std::marker::Model;
+
+/// A source of an owner.
+#[derive(Clone, Copy, PartialEq, Eq, PartialOrd, Ord)]
+pub struct Tie {
+    pub owner: Owner,
+    pub source: Source,
+}
+
+/// Sources of owners, and how many of them were passed.
+#[derive(Drop)]
+pub struct Ties {
+    items: Vec<Tie>,
+    next: usize,
+}
+
+impl Model for Ties {
+    ghost use Rattle.timer_wheel.specs.Ties.{TiesBook};
+
+    ghost Value = { TiesBook };
+
+    ghost view = { λ t. record { items = t.items.items; next = t.next } };
+}
+
+impl Ties {
+    /// No source. Takes no memory.
+    pub fn new(alloc: Global) -> Ties
+        ensures { result ≡ record { items = []; next = 0 } }
+    {
+        Ties {
+            items: Vec::new(alloc),
+            next: 0,
+        }
+    }
+
+    /// Makes room for so many sources, if there is memory.
+    pub fn ready(&mut self, count: usize)
+        ensures { self.new ≡ self.old }
+    {
+        if count <= self.items.capacity() {
+            return;
+        }
+        let _ = self.items.reserve(count - self.items.len());
+    }
+
+    /// The first source that was not passed.
+    pub fn top(&self) -> Option<Tie>
+        ensures { result ≡ slice_get self.now.items self.now.next }
+    {
+        self.items.get(self.next).copied()
+    }
+
+    /// Passes a source.
+    pub fn advance(&mut self)
+        requires { self.old.next < length self.old.items }
+        ensures { self.new ≡ record self.old { next = self.old.next + 1 } }
+    {
+        self.next += 1;
+    }
+
+    /// Takes all sources away.
+    pub fn clear(&mut self)
+        ensures { self.new ≡ record { items = []; next = 0 } }
+    {
+        self.items.clear();
+        self.next = 0;
+    }
+
+    /// Takes in a source at the end, where there is room for it, and says whether there was.
+    pub fn push(&mut self, tie: Tie) -> bool
+        ensures pushed { IsTrue result → self.new ≡ record self.old { items = self.old.items ++ tie ∷ [] } }
+        ensures full { IsFalse result → self.new ≡ self.old }
+    {
+        if self.items.len() == self.items.capacity() {
+            return false;
+        }
+        self.items.push_reserved(tie);
+        true
+    }
+
+    /// Puts the sources in order: by owner, class and number.
+    pub fn sort(&mut self)
+        ensures rising { IsRising self.new.items }
+        ensures permutation { IsPermutation self.old.items self.new.items }
+        ensures next { self.new.next ≡ self.old.next }
+    {
+        self.items.sort_unstable();
+    }
+}
