@@ -13,3 +13,4 @@ pub mod BenchFacts
 mod Halves
 mod SlotMoves
 pub mod Rehousings
+pub mod DueLeaves

@@ -3,3 +3,4 @@ pub mod Keyed
 pub mod Steps
 pub mod Views
 pub mod Rehousing
+pub mod Leaves

@@ -11,13 +11,16 @@ ghost use Rattle.emu_model.specs.Commands.{mask_refusal};
 ghost use Rattle.pipe_instance.specs.Keyed.{IsTuned};
 ghost use Rattle.pipe_core.specs.Moves.{AreNamed, Keeps};
 ghost use Rattle.pipe_core.specs.Keyed.{seen_pipe, view, shown_of, ids_of, keys_of};
+ghost use Rattle.pipe_core.specs.declared.slot.Slot.{Slot as AnySlot};
+ghost use Rattle.pipe_core.specs.Leaves.{instance_number as number_of, slot_due, pipe_due};
 ghost use Rattle.pipe_core.specs.Rehousing.{Rehouses};
 ghost use Rattle.pipe_core.specs.Steps.{drops_of, drops_by_codel, IsGrown, HasRoomAt, HasRoomAtSlot, IsFreeAt, ComesAt, configured_slot};
 
 use crate::rehouse::rehouse_all;
 use crate::slot::Slot;
 use crate::takes::take_all;
-use emu_model::{DropCause, Packet, PipeConfig, PipeNumber, Refusal, Size};
+use due_index::DueIndex;
+use emu_model::{DropCause, Due, Packet, PipeConfig, PipeNumber, Refusal, Size};
 use flow_mask::{ApplyMask, FlowId, InstanceError, Instances};
 use packet_store::{Owner, Shelf};
 use pipe_instance::{Instance, InstanceDues, Shown};
@@ -35,11 +38,13 @@ pub struct Pipe {
     config: PipeConfig,
     ids: Instances,
     slots: Vec<Slot>,
+    dues: DueIndex,
 }
 
 impl Model for Pipe {
     ghost use Rattle.std.specs.Prelude.{◌-◌, min, vec_len, vec_capacity};
     ghost use Rattle.pipe_core.specs.Keyed.{KeyedPipe, IsPipe};
+    ghost use Rattle.pipe_core.specs.Leaves.{AreLeaves};
 
     ghost Value = { KeyedPipe };
 
@@ -48,10 +53,10 @@ impl Model for Pipe {
       number = p.number;
       config = p.config;
       slots = p.slots.items;
-      spare = min (vec_capacity p.slots - vec_len p.slots) p.ids.spare;
+      spare = min (min (vec_capacity p.slots - vec_len p.slots) p.ids.spare) p.dues.spare;
     } };
 
-    ghost invariant = { λ p. IsPipe p.config p.seed p.number p.ids.ids p.slots.items };
+    ghost invariant = { λ p. IsPipe p.config p.seed p.number p.ids.ids p.slots.items × AreLeaves p.slots.items p.dues };
 }
 
 impl Pipe {
@@ -61,6 +66,7 @@ impl Pipe {
     {
         let ids = Instances::new(alloc);
         let slots = Vec::new(alloc);
+        let dues = DueIndex::new(alloc);
         Pipe {
             alloc,
             seed,
@@ -68,6 +74,7 @@ impl Pipe {
             config,
             ids,
             slots,
+            dues,
         }
     }
 
@@ -104,6 +111,17 @@ impl Pipe {
     {
         let slot = &self.slots[index];
         slot.instance.dues()
+    }
+
+    /// What it has due first of all exits and finishes; None where nothing is due. Tells the ranges of
+    /// its number and of how many instances it has.
+    pub fn least(&self) -> Option<Due>
+        ensures due { (f : ℕ → Letter) → result ≡ pipe_due f self.now }
+        ensures number { (1 ≤ self.now.number) × (self.now.number ≤ 65535) }
+        ensures few { length self.now.slots ≤ 256 }
+    {
+        let _range = self.number.get();
+        self.dues.least()
     }
 
     /// The numbers of an instance, as a listing has them; None where there is no such instance.
@@ -169,6 +187,9 @@ impl Pipe {
         let Ok(()) = self.slots.reserve(1) else {
             return Err(NoMemory);
         };
+        let Ok(()) = self.dues.push_ready() else {
+            return Err(NoMemory);
+        };
         Ok(())
     }
 
@@ -194,6 +215,7 @@ impl Pipe {
         };
         let instance = Instance::new(self.alloc, &self.config, self.seed, self.number, index);
         self.slots.push_reserved(Slot { id, instance });
+        self.dues.push(None);
         Some(index as usize)
     }
 
@@ -215,8 +237,11 @@ impl Pipe {
         ensures others { (o : ℕ) → o ≢ owner → S.pocket shelf.new o ≡ S.pocket shelf.old o }
     {
         let config = self.config;
+        let number = instance_number(self.number, index);
         let slot = &mut self.slots[index];
-        slot.come(shelf, owner, now, &packet, &config)
+        let answer = slot.come(shelf, owner, now, &packet, &config);
+        self.dues.set(index, slot.due(number));
+        answer
     }
 
     /// A packet comes at the moment `now` (ns): its instance is found or made, its loss word is drawn,
@@ -277,8 +302,11 @@ impl Pipe {
         ensures succeeds { IsFreeAt index now (vec_capacity drops.old) self.old → IsOk result }
     {
         let config = self.config;
+        let number = instance_number(self.number, index);
         let slot = &mut self.slots[index];
-        slot.finish(shelf, owner, now, &config, drops)
+        let finished = slot.finish(shelf, owner, now, &config, drops);
+        self.dues.set(index, slot.due(number));
+        finished
     }
 
     /// The packet that leaves first in an instance, which stays; None where nothing is on its way.
@@ -305,8 +333,11 @@ impl Pipe {
         ensures below { OnSome result ((S.pocket shelf.new owner).count < (S.pocket shelf.new owner).budget) }
         ensures others { (o : ℕ) → o ≢ owner → S.pocket shelf.new o ≡ S.pocket shelf.old o }
     {
+        let number = instance_number(self.number, index);
         let slot = &mut self.slots[index];
-        slot.exit(shelf, owner)
+        let packet = slot.exit(shelf, owner);
+        self.dues.set(index, slot.due(number));
+        packet
     }
 
     /// A new configuration, which each instance takes over with all that it holds; or why it is refused:
@@ -322,6 +353,7 @@ impl Pipe {
             return Some(Refusal::MaskFixed);
         }
         configure_all(&mut self.slots, &self.config, &config);
+        index_all(&self.slots, self.number, &mut self.dues);
         self.config = config;
         None
     }
@@ -348,6 +380,7 @@ impl Pipe {
         self.ids = Instances::new(self.alloc);
         let vacant = Vec::new(self.alloc);
         let slots = mem::replace(&mut self.slots, vacant);
+        self.dues.clear();
         take_all(slots, shelf, owner, &mut gone);
         Ok(gone)
     }
@@ -383,6 +416,27 @@ impl Pipe {
             held = held.checked_add(slot.held()?)?;
         }
         Some(held)
+    }
+}
+
+// The number of a pipe's instance among those of all pipes.
+fn instance_number(pipe: PipeNumber, index: usize) -> u32
+    requires { index < 256 }
+    ensures { result ≡ pipe * 256 + index }
+{
+    u32::from(pipe.get()) * 256 + index as u32
+}
+
+// Each instance's due is set anew.
+fn index_all(slots: &[Slot], number: PipeNumber, dues: &mut DueIndex)
+    requires few { length slots.now ≤ 256 }
+    requires numbered { (i : ℕ) (s : AnySlot) → slice_get slots.now i ≡ Some s → number * 256 + i ≡ number_of s }
+    requires long { length dues.old.leaves ≡ length slots.now }
+    ensures { dues.new ≡ record dues.old { leaves = map slot_due slots.now } }
+{
+    for index in 0..slots.len() {
+        let slot = &slots[index];
+        dues.set(index, slot.due(instance_number(number, index)));
     }
 }
 

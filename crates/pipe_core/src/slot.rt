@@ -4,15 +4,31 @@ ghost use Rattle.std.specs.Prelude.{◌≡◌, ◌≢◌, ℕ, ◌+◌, ◌-◌,
 ghost use Rattle.pipe_instance.specs.Keyed.{IsTuned, keys_in};
 ghost use Rattle.pipe_core.specs.Steps.{Comes, Exits, Finishes, HasRoom, IsFree, most_dropped};
 ghost use Rattle.emu_model.specs.Delay.{first_item};
+ghost use Rattle.emu_model.specs.Dues.{due as due_of};
 ghost use Rattle.pipe_core.specs.Keyed.{seen_slot};
+ghost use Rattle.pipe_core.specs.Leaves.{instance_number, slot_due};
 ghost use Rattle.pipe_core.specs.Moves.{packet_at, AreNamed};
 
 use crate::takes::take_dropped;
-use emu_model::{Discipline, DropCause, Packet, PipeConfig};
+use due_index::lesser;
+use emu_model::{Class, Discipline, DropCause, Due, Packet, PipeConfig, Source};
 use flow_mask::FlowId;
 use packet_store::{Owner, Shelf};
 use pipe_instance::Instance;
 use queue_disc::NoMemory;
+
+// A due, where there is a moment.
+fn due_at(class: Class, number: u32, moment: Option<u64>) -> Option<Due>
+    ensures { result ≡ option_map (due_of class number) moment }
+{
+    match moment {
+        Some(moment) => Some(Due {
+            moment,
+            source: Source { class, number },
+        }),
+        None => None,
+    }
+}
 
 #[derive(Drop)]
 pub(crate) struct Slot {
@@ -21,6 +37,16 @@ pub(crate) struct Slot {
 }
 
 impl Slot {
+    /// What it has due first, by its number among all instances.
+    pub(crate) fn due(&self, number: u32) -> Option<Due>
+        requires { number ≡ instance_number self.now }
+        ensures { result ≡ slot_due self.now }
+    {
+        let dues = self.instance.dues();
+        let exit = due_at(Class::Exit, number, dues.exit);
+        lesser(exit, due_at(Class::Finish, number, dues.finish))
+    }
+
     /// A packet comes: its loss word is drawn, and then the limit decides.
     pub(crate) fn come<S: Shelf>(
         &mut self,

@@ -7,3 +7,5 @@ mod At
 mod DueFacts
 mod LineFacts
 pub mod Moving
+mod Indexes
+mod Reaching

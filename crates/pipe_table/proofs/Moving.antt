@@ -1,19 +1,18 @@
 -- Packets of many pipes that move from one shelf to another; also for the crates above.
-use Rattle.std.proofs.Common.{◌≡◌, ℕ, suc, ◌+◌, ◌<◌, ◌≤◌, true, nat_eq, cond, refl, sym, ap, ◌∙◌, subst, List, [], ◌∷◌, ◌++◌, map, length, take, drop, set, get_or, Option, Some, None, IsSome, append-nil, append_assoc, arith}
+use Rattle.std.proofs.Common.{◌≡◌, ℕ, suc, ◌+◌, ◌<◌, ◌≤◌, true, nat_eq, cond, refl, sym, ap, ◌∙◌, subst, List, [], ◌∷◌, ◌++◌, map, length, take, drop, set, get_or, IsSome, append-nil, append_assoc, arith}
 use Rattle.std.specs.Prelude.{unwrap_or}
 use Rattle.std.proofs.lemmas.Bool.Decides.{nat_tests}
 use Rattle.std.proofs.lemmas.Grind.{drop_more_same}
 use Rattle.std.proofs.lemmas.List.{map-append, drop_more, take_more, take_more_set, drop-set-lt, set_split, set-get_or, length-append, length-map, length-set, take_all, take-append-drop}
 use Rattle.emu_model.specs.declared.packets.Packet.{Packet}
-use Rattle.emu_model.specs.Pipes.{PipeState}
 use Rattle.packet_store.specs.Pocket.{Pocket}
-use Rattle.pipe_instance.specs.Uses.{uses, one_at, one}
+use Rattle.pipe_instance.specs.Uses.{uses, one_at}
 use Rattle.pipe_core.specs.Moves.{some_packet, packet_at, found, AreNamed, Takes}
 use Rattle.pipe_core.specs.Keyed.{KeyedPipe, seen_pipe, view, keys_of}
 use Rattle.pipe_core.specs.Views.{ViewsAgree}
 use Rattle.pipe_core.specs.Rehousing.{Gives, Rehouses}
-use Rattle.pipe_table.specs.Table.{Table, seen_pipes, with_pipes, pipe_keys, IsTable}
-use Rattle.pipe_table.proofs.Sums.{total-nil, total-cons, total-append, total-length}
+use Rattle.pipe_table.specs.Table.{seen_pipes, pipe_keys, IsTable}
+use Rattle.pipe_table.proofs.Sums.{total-nil, total-cons, total-append}
 use Rattle.pipe_table.proofs.TableFacts.{seen-agree, is_found}
 use Rattle.pipe_table.proofs.Order.{IsTable-change}
 

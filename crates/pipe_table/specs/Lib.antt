@@ -1,2 +1,3 @@
 pub mod Table
 pub mod Reach
+pub mod Leaves

@@ -10,43 +10,23 @@ ghost use Rattle.emu_model.specs.Net.{Net};
 ghost use Rattle.packet_store.specs.Pocket.{Pocket};
 ghost use Rattle.pipe_core.specs.Keyed.{KeyedPipe, seen_pipe};
 ghost use Rattle.pipe_table.specs.Table.{with_pipes, pipe_of, IsFinishDue, IsPiped, IsPipeNumber};
-ghost use Rattle.pipe_table.specs.Reach.{Reaches, instance_dues};
+ghost use Rattle.pipe_table.specs.Leaves.{AreIndexed};
+ghost use Rattle.pipe_table.specs.Reach.{instance_dues};
 
 use crate::PipeTable;
+use due_index::DueIndex;
 use emu_model::{Class, Due, Source};
 use pipe_core::Pipe;
 use std::alloc::AllocError;
 
 // The earlier of a due and another that may be there.
-fn earlier(best: Due, class: Class, number: u32, moment: Option<u64>) -> Due
-    ensures least { result ≡ best_of is_before best (option_to_list (option_map (due class number) moment)) }
-    ensures from { (result ≡ best) ⊎ (option_map (due class number) moment ≡ Some result) }
+fn earlier(best: Due, other: Option<Due>) -> Due
+    ensures { result ≡ best_of is_before best (option_to_list other) }
 {
-    let Some(moment) = moment else {
-        return best;
-    };
-    let other = Due {
-        moment,
-        source: Source { class, number },
-    };
-    if other.is_before(&best) {
-        return other;
+    match other {
+        Some(due) if due.is_before(&best) => due,
+        _ => best,
     }
-    best
-}
-
-// The least of a due and those of one instance.
-fn earliest_at(pipe: &Pipe, index: usize, number: u32, best: Due) -> Due
-    requires inside { index < length pipe.now.slots }
-    requires few { index < 256 }
-    requires number { number ≡ pipe.now.number * 256 + index }
-    requires range { IsPipeNumber pipe.now.number }
-    ensures { (ps : List KeyedPipe) → pipe_of pipe.now.number ps ≡ Some pipe.now →
-        Reaches ps (λ f. instance_dues f pipe.now index) best result }
-{
-    let dues = pipe.dues(index);
-    let sooner = earlier(best, Class::Exit, number, dues.exit);
-    earlier(sooner, Class::Finish, number, dues.finish)
 }
 
 // The number of a pipe's first instance.
@@ -57,17 +37,15 @@ fn first_number(pipe: &Pipe) -> u32
     u32::from(pipe.number().get()) * 256
 }
 
-// The least of a due and those of one pipe.
-fn earliest_in(pipe: &Pipe, best: Due) -> Due
-    ensures { (ps : List KeyedPipe) → pipe_of pipe.now.number ps ≡ Some pipe.now →
-        Reaches ps (λ f. pipe_dues (seen_pipe f pipe.now)) best result }
+/// Each pipe's due is set anew.
+pub(crate) fn index_all(pipes: &[Pipe], dues: &mut DueIndex)
+    requires { length pipes.now ≤ length dues.old.leaves + dues.old.spare }
+    ensures { AreIndexed pipes.now dues.new }
 {
-    let first = first_number(pipe);
-    let mut best = best;
-    for index in 0..pipe.instances() {
-        best = earliest_at(pipe, index, first + index as u32, best);
+    dues.clear();
+    for pipe in pipes {
+        dues.push(pipe.least());
     }
-    best
 }
 
 // Appends a due that may be there.
@@ -114,18 +92,14 @@ fn add_in(pipe: &Pipe, dues: &mut Vec<Due>)
 
 impl PipeTable {
     /// The least of a due and those of all pipes, by moment, class and number; the first of equal
-    /// ones. Walks the instances, and nothing of what waits.
+    /// ones. Walks nothing.
     pub fn earliest(&self, best: Due) -> Due
         ensures least { (p : Pocket) (n : Net) → result ≡ best_of is_before best (flat_map pipe_dues (with_pipes p self.now n).pipes) }
         ensures moment { result.moment ≤ best.moment }
         ensures finishing { IsFinishDue best self.now.pipes → IsFinishDue result self.now.pipes }
         ensures piped { IsPiped best → IsPiped result }
     {
-        let mut best = best;
-        for pipe in &self.pipes {
-            best = earliest_in(pipe, best);
-        }
-        best
+        earlier(best, self.dues.least())
     }
 
     /// Appends the dues of all pipes, pipe by pipe and instance by instance, or leaves `dues` as it

@@ -13,6 +13,8 @@ ghost use Rattle.pipe_core.specs.Moves.{AreNamed, Keeps};
 ghost use Rattle.pipe_core.specs.Steps.{drops_of, drops_by_codel};
 ghost use Rattle.pipe_table.specs.Table.{with_pipes, pipe_keys, pipe_of, has_number, HasRoomIn, HasGrown, IsFinishing, IsFreeIn, is_above, drops_by_deletion, refusal_in};
 
+use crate::dues::index_all;
+use due_index::DueIndex;
 use emu_model::{DropCause, Packet, PipeConfig, PipeNumber, Refusal};
 use packet_store::{Owner, Shelf};
 use pipe_core::{Pipe, keys_say_all};
@@ -26,6 +28,7 @@ pub struct PipeTable {
     alloc: Global,
     seed: u64,
     pub(crate) pipes: Vec<Pipe>,
+    pub(crate) dues: DueIndex,
 }
 
 /// Why a pipe was not configured.
@@ -38,12 +41,13 @@ pub enum ConfigureError {
 impl Model for PipeTable {
     ghost use Rattle.std.specs.Prelude.{◌≤◌, length};
     ghost use Rattle.pipe_table.specs.Table.{Table, IsTable};
+    ghost use Rattle.pipe_table.specs.Leaves.{AreIndexed};
 
     ghost Value = { Table };
 
     ghost view = { λ t. record { seed = t.seed; pipes = t.pipes.items } };
 
-    ghost invariant = { λ t. (IsTable t.seed 0 t.pipes.items) × (length t.pipes.items ≤ 64) };
+    ghost invariant = { λ t. (IsTable t.seed 0 t.pipes.items × (length t.pipes.items ≤ 64)) × AreIndexed t.pipes.items t.dues };
 }
 
 impl PipeTable {
@@ -56,6 +60,7 @@ impl PipeTable {
             alloc,
             seed,
             pipes: Vec::new(alloc),
+            dues: DueIndex::new(alloc),
         }
     }
 
@@ -119,6 +124,7 @@ impl PipeTable {
         let Ok(answer) = self.pipes[place].arrive(shelf, owner, now, *packet) else {
             unreachable!();
         };
+        self.dues.set(place, self.pipes[place].least());
         answer
     }
 
@@ -173,7 +179,9 @@ impl PipeTable {
         if self.pipes[place].instances() <= index {
             return None;
         }
-        self.pipes[place].exit(shelf, owner, index)
+        let packet = self.pipes[place].exit(shelf, owner, index);
+        self.dues.set(place, self.pipes[place].least());
+        packet
     }
 
     /// The packet in service in an instance finishes at the moment `now` (ns), at which it is due, and
@@ -206,7 +214,9 @@ impl PipeTable {
         let Some(place) = self.place_of(number) else {
             unreachable!();
         };
-        self.pipes[place].finish(shelf, owner, instance as usize, now, drops)
+        let finished = self.pipes[place].finish(shelf, owner, instance as usize, now, drops);
+        self.dues.set(place, self.pipes[place].least());
+        finished
     }
 
     /// A pipe's new configuration, or a new pipe; refused as `MaskFixed` where a pipe with instances is
@@ -233,6 +243,7 @@ impl PipeTable {
         if let Some(refusal) = self.pipes[place].configure(*config) {
             return Err(ConfigureError::Refused(refusal));
         }
+        self.dues.set(place, self.pipes[place].least());
         Ok(())
     }
 
@@ -253,11 +264,15 @@ impl PipeTable {
         let Ok(()) = self.pipes.reserve(1) else {
             return Err(ConfigureError::NoMemory);
         };
+        let Ok(()) = self.dues.push_ready() else {
+            return Err(ConfigureError::NoMemory);
+        };
         let place = self.place_behind(number);
         let pipe = Pipe::new(self.alloc, self.seed, number, *config);
         let Ok(()) = self.pipes.insert(place, pipe) else {
             unreachable!();
         };
+        index_all(&self.pipes, &mut self.dues);
         Ok(())
     }
 
@@ -309,6 +324,7 @@ impl PipeTable {
         };
         let gone = self.pipes[place].delete(shelf, owner)?;
         self.pipes.remove(place);
+        index_all(&self.pipes, &mut self.dues);
         Ok(Some(gone))
     }
 }

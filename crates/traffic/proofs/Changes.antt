@@ -1,5 +1,5 @@
 -- What one changed flow or train leaves of a net.
-use Rattle.std.proofs.Common.{◌≡◌, ℕ, ◌==◌, Bool, List, get_or, set, map, sym, ◌∙◌, ap, subst}
+use Rattle.std.proofs.Common.{◌≡◌, ℕ, ◌<◌, ◌==◌, Bool, List, length, get_or, set, map, sym, ◌∙◌, ap, subst}
 use Rattle.std.specs.Prelude.{Some, None, option_map, position, find}
 use Rattle.std.proofs.Math.ListN.{get_or-map}
 use Rattle.std.proofs.lemmas.List.{map-set, set-get_or}
@@ -21,6 +21,7 @@ kept fs ts = record { flows = fs; trains = ts }
 
 -- flow k of t stands at place i of fs
 pub record IsFlowAt (k : ℕ) (t : KeptTraffic) (fs : List KeptFlow) (ts : List TrainState) (i : ℕ) (f : KeptFlow) : Type 0 where
+  pub within : i < length fs
   pub number : f.state.number ≡ k
   pub first : find (has_number k) t.flows ≡ Some f
   pub found : (n : Net) → find_flow k (with_traffic t n) ≡ Some f.state
@@ -29,6 +30,7 @@ pub record IsFlowAt (k : ℕ) (t : KeptTraffic) (fs : List KeptFlow) (ts : List 
   pub after : (g : KeptFlow) → g.state.number ≡ k → find (has_number k) (set fs i g) ≡ Some g
 
 pub record IsTrainAt (k : ℕ) (t : KeptTraffic) (fs : List KeptFlow) (ts : List TrainState) (i : ℕ) (u : TrainState) : Type 0 where
+  pub within : i < length ts
   pub number : u.number ≡ k
   pub found : (n : Net) → find_train k (with_traffic t n) ≡ Some u
   pub put : (v : TrainState) (n : Net) → v.number ≡ k → put_train v (with_traffic t n) ≡ with_traffic (kept fs (set ts i v)) n
@@ -54,6 +56,7 @@ flow_here k fs ts i f e at =
     let place = place_from_some (has_number k) fs i e in
     let first = find_place (has_number k) fs i f place at in
     record {
+      within = place.within;
       number = eqb-true _ _ (passes_place (has_number k) fs i f place at);
       first = first;
       found = λ n. find-map (λ (f : KeptFlow). f.state) (λ h. h.number == k) fs ∙ ap (option_map (λ (f : KeptFlow). f.state)) first;
@@ -73,6 +76,7 @@ train_here : (k : ℕ) (fs : List KeptFlow) (ts : List TrainState) (i : ℕ) (u 
 train_here k fs ts i u e at =
     let place = place_from_some (train_has_number k) ts i e in
     record {
+      within = place.within;
       number = eqb-true _ _ (passes_place (train_has_number k) ts i u place at);
       found = λ n. find_place (train_has_number k) ts i u place at;
       put = λ v n e. ap (λ us. let m : Net = record n { flows = states_of fs; trains = us } in m)

@@ -4,7 +4,7 @@ use Rattle.std.specs.Prelude.{Option, Some, None, option_map, option_to_list}
 use Rattle.std.specs.List.{All, best_of, flat_map}
 use Rattle.std.proofs.Math.ListN.{get_or-map}
 use Rattle.std.proofs.lemmas.List.{at_drop_more, at_drop_all, append_assoc, append-nil, get_or_default, length-map}
-use Rattle.std.proofs.lemmas.List.Sums.{fold-append, position_or_len_is}
+use Rattle.std.proofs.lemmas.List.Sums.{position_or_len_is}
 use Rattle.std.proofs.lemmas.List.Folds.{flat_map-map, list_any_none}
 use Rattle.std.proofs.lemmas.List.Elements.{All-nil, All-cons, All-head, All-tail, All-append}
 use Rattle.std.proofs.lemmas.Bool.{cond_both, or_cases, and_parts, ltb-true, eqb-true, eq-eqb, ne_eqb}
@@ -23,17 +23,6 @@ abbrev pub kept_dues : ℕ → KeptFlow → List Due
 kept_dues clock f = flow_dues clock f.state
 
 module _ {X : Type 0} (g : X → List Due) where
-  -- the least, one element on
-  pub best_step : (xs : List X) (i : ℕ) (x : X) (b b' z : Due) → i < length xs → x ≡ get_or xs i x → b' ≡ best_of is_before b (g x) →
-      best_of is_before b (flat_map g (drop i xs)) ≡ z → best_of is_before b' (flat_map g (drop (i + 1) xs)) ≡ z
-  best_step xs i x b b' z l at e h =
-      let rest = flat_map g (drop (i + 1) xs) in
-      ap (λ c. best_of is_before c rest) e
-      ∙ sym (fold-append (λ b x. cond (is_before x b) x b) b (g x) rest)
-      ∙ ap (λ y. best_of is_before b (g y ++ rest)) at
-      ∙ sym (at_drop_more (λ ys. best_of is_before b (flat_map g ys)) xs i x l)
-      ∙ h
-
   -- a list to which an element's are appended
   pub append_step : (xs : List X) (i : ℕ) (x : X) (ds ds' z : List Due) → i < length xs → x ≡ get_or xs i x → ds' ≡ ds ++ g x →
       ds ++ flat_map g (drop i xs) ≡ z → ds' ++ flat_map g (drop (i + 1) xs) ≡ z
@@ -174,27 +163,12 @@ all_numbered clock fs ts n h =
     (λ i u l at. train_dues_all IsNumbered u (λ _ m. (λ _. train i u l at, λ _. train i u l at)))
 
 module _ (clock : ℕ) (t : KeptTraffic) (fs : List KeptFlow) (ts : List TrainState) (is : kept fs ts ≡ t) where
-  dues_are : (n : Net) → flat_map (kept_dues clock) fs ++ flat_map train_dues ts ≡ source_dues clock (with_traffic t n)
+  pub dues_are : (n : Net) → flat_map (kept_dues clock) fs ++ flat_map train_dues ts ≡ source_dues clock (with_traffic t n)
   dues_are n =
       ap (λ ds. ds ++ flat_map train_dues ts) (sym (flat_map-map (flow_dues clock) (λ (f : KeptFlow). f.state) fs))
       ∙ ap (λ (t : KeptTraffic). source_dues clock (with_traffic t n)) is
 
   -- after both loops
-  pub least_is : (gs : List KeptFlow) (us : List TrainState) (i j : ℕ) (b b1 b2 : Due) → gs ≡ fs → us ≡ ts → length gs ≤ i → length us ≤ j →
-      best_of is_before b1 (flat_map (kept_dues clock) (drop i gs)) ≡ best_of is_before b (flat_map (kept_dues clock) gs) →
-      best_of is_before b2 (flat_map train_dues (drop j us)) ≡ best_of is_before b1 (flat_map train_dues us) →
-      (n : Net) → b2 ≡ best_of is_before b (source_dues clock (with_traffic t n))
-  least_is gs us i j b b1 b2 g u gi uj h1 h2 n =
-      let first : b1 ≡ best_of is_before b (flat_map (kept_dues clock) fs) =
-      sym (at_drop_all (λ xs. best_of is_before b1 (flat_map (kept_dues clock) xs)) gs i gi) ∙ h1
-      ∙ ap (λ xs. best_of is_before b (flat_map (kept_dues clock) xs)) g in
-      let second : b2 ≡ best_of is_before b1 (flat_map train_dues ts) =
-      sym (at_drop_all (λ xs. best_of is_before b2 (flat_map train_dues xs)) us j uj) ∙ h2
-      ∙ ap (λ xs. best_of is_before b1 (flat_map train_dues xs)) u in
-      second ∙ ap (λ c. best_of is_before c (flat_map train_dues ts)) first
-      ∙ sym (fold-append (λ b x. cond (is_before x b) x b) b (flat_map (kept_dues clock) fs) (flat_map train_dues ts))
-      ∙ ap (best_of is_before b) (dues_are n)
-
   pub appended_is : (gs : List KeptFlow) (us : List TrainState) (i j : ℕ) (ds ds1 ds2 : List Due) → gs ≡ fs → us ≡ ts → length gs ≤ i → length us ≤ j →
       ds1 ++ flat_map (kept_dues clock) (drop i gs) ≡ ds ++ flat_map (kept_dues clock) gs →
       ds2 ++ flat_map train_dues (drop j us) ≡ ds1 ++ flat_map train_dues us →

@@ -3,3 +3,4 @@ pub mod Changes
 pub mod Beginnings
 pub mod Sendings
 pub mod DueFacts
+pub mod Indexes

@@ -1,8 +1,9 @@
 //! Dues of sources.
 
-ghost use Rattle.std.specs.Prelude.{◌≡◌, ◌+◌, ◌≤◌, ◌++◌, option_to_list, vec_len, vec_capacity};
+ghost use Rattle.std.specs.Prelude.{◌≡◌, ◌+◌, ◌≤◌, ◌++◌, option_map, option_to_list, vec_len, vec_capacity};
 ghost use Rattle.std.specs.List.{best_of};
 ghost use Rattle.emu_model.specs.Dues.{is_before, due as due_of};
+ghost use Rattle.emu_model.specs.declared.sources.Due.{Due as AnyDue};
 
 use emu_model::{Class, Due, FlowNumber, Source};
 
@@ -26,6 +27,16 @@ pub(crate) fn lesser(best: Due, other: Option<Due>) -> Due
     match other {
         Some(due) if due.is_before(&best) => due,
         _ => best,
+    }
+}
+
+/// The same at another moment (ns), where there is one.
+pub(crate) fn at_moment(moment: u64, due: Option<Due>) -> Option<Due>
+    ensures { result ≡ option_map (λ (d : AnyDue). record d { moment = moment }) due }
+{
+    match due {
+        Some(due) => Some(Due { moment, ..due }),
+        None => None,
     }
 }
 

@@ -6,6 +6,7 @@ ghost use Rattle.emu_model.specs.Net.{Net, Setting, put_flow, note, data_send, a
 ghost use Rattle.emu_model.specs.Reno.{emit as sent, emitted, expire as expired, with_segment, missing};
 ghost use Rattle.emu_model.specs.declared.records.Record.TheVariants.{AckTaken};
 ghost use Rattle.traffic.specs.Kept.{opened_flow};
+ghost use Rattle.traffic.specs.Leaves.{expiry_due, emission_due};
 ghost use Rattle.traffic.specs.Sends.{may_send};
 
 use crate::dues::due;
@@ -205,7 +206,9 @@ impl Flow {
 
     /// What it has due, where the last event was at the moment `clock`.
     pub(crate) fn dues(&self, clock: u64) -> FlowDues
-        ensures { option_to_list result.expiry ++ option_to_list result.emission ≡ flow_dues clock self.now.state }
+        ensures expiry { result.expiry ≡ expiry_due self.now.state }
+        ensures emission { result.emission ≡ emission_due clock self.now.state }
+        ensures all { option_to_list result.expiry ++ option_to_list result.emission ≡ flow_dues clock self.now.state }
     {
         if self.stopped {
             return FlowDues {

@@ -4,6 +4,7 @@
 
 mod dues;
 mod flow;
+mod index;
 mod sends;
 mod sources;
 mod train;

@@ -11,8 +11,9 @@ ghost use Rattle.emu_model.specs.Events.{emission, expire_flow};
 ghost use Rattle.traffic.specs.Kept.{with_traffic, IsFree, HasRoomFor};
 ghost use Rattle.traffic.specs.Sends.{IsEmitting, IsAllowed, IsNumbered, next_send, reply_send, source_dues};
 
-use crate::dues::{append, lesser};
+use crate::dues::append;
 use crate::flow::Flow;
+use crate::index::SourceIndex;
 use crate::sends::{Sending, Window};
 use crate::train::Train;
 use emu_model::{Class, Due, FlowNumber, FlowSpec, Refusal, SendSpec, TrainSpec};
@@ -30,16 +31,18 @@ pub struct Traffic {
     alloc: Global,
     flows: Vec<Flow>,
     trains: Vec<Train>,
+    index: SourceIndex,
 }
 
 impl Model for Traffic {
     ghost use Rattle.traffic.specs.Kept.{KeptTraffic, IsSound};
+    ghost use Rattle.traffic.specs.Leaves.{AreIndexed};
 
     ghost Value = { KeptTraffic };
 
     ghost view = { λ t. record { flows = t.flows.items; trains = t.trains.items } };
 
-    ghost invariant = { λ t. IsSound t.flows.items t.trains.items };
+    ghost invariant = { λ t. IsSound t.flows.items t.trains.items × AreIndexed t.flows.items t.trains.items t.index };
 }
 
 impl Traffic {
@@ -51,6 +54,7 @@ impl Traffic {
             alloc,
             flows: Vec::new(alloc),
             trains: Vec::new(alloc),
+            index: SourceIndex::new(alloc),
         }
     }
 
@@ -84,7 +88,9 @@ impl Traffic {
     {
         let _range = number.get();
         self.flows.reserve(1)?;
+        self.index.flow_ready()?;
         let flow = Flow::new(self.alloc, number, flow);
+        self.index.add_flow(&flow);
         self.flows.push_reserved(flow);
         Ok(())
     }
@@ -103,7 +109,9 @@ impl Traffic {
     {
         let _range = number.get();
         self.trains.reserve(1)?;
+        self.index.train_ready()?;
         let train = Train::new(number, train, now);
+        self.index.add_train(&train);
         self.trains.push_reserved(train);
         Ok(())
     }
@@ -118,6 +126,7 @@ impl Traffic {
         };
         let flow = &mut self.flows[place];
         flow.stop();
+        self.index.set_flow(place, flow);
     }
 
     /// The header of what `emit` sends; None where there is no source of this number.
@@ -145,13 +154,17 @@ impl Traffic {
     {
         if let Some(place) = self.train_place(number) {
             let train = &mut self.trains[place];
-            return Some(train.emit());
+            let sending = train.emit();
+            self.index.set_train(place, train);
+            return Some(sending);
         }
         let Some(place) = self.flow_place(number) else {
             return None;
         };
         let flow = &mut self.flows[place];
-        Some(flow.emit(now))
+        let sending = flow.emit(now);
+        self.index.set_flow(place, flow);
+        Some(sending)
     }
 
     /// The header of the acknowledgement that `take` makes; None where there is no such flow.
@@ -205,7 +218,9 @@ impl Traffic {
             return None;
         };
         let flow = &mut self.flows[place];
-        flow.take_ack(now, upto)
+        let window = flow.take_ack(now, upto);
+        self.index.set_flow(place, flow);
+        window
     }
 
     /// A flow's timer came due: its sender's windows after it; None where there is no such flow.
@@ -219,7 +234,9 @@ impl Traffic {
             return None;
         };
         let flow = &mut self.flows[place];
-        Some(flow.expire(now))
+        let window = flow.expire(now);
+        self.index.set_flow(place, flow);
+        Some(window)
     }
 
     /// The least of a due and those of all flows and trains, where the last event was at the moment
@@ -230,16 +247,7 @@ impl Traffic {
         ensures allowed { IsAllowed self.now best → IsAllowed self.now result }
         ensures numbered { IsNumbered best → IsNumbered result }
     {
-        let mut best = best;
-        for flow in &self.flows {
-            let dues = flow.dues(clock);
-            best = lesser(best, dues.expiry);
-            best = lesser(best, dues.emission);
-        }
-        for train in &self.trains {
-            best = lesser(best, train.due());
-        }
-        best
+        self.index.earliest(clock, best)
     }
 
     /// Appends the dues of all flows and trains, or leaves `dues` as it was.

@@ -225,6 +225,46 @@ fn timer_expires(rt: HostRuntime) -> Result<(), Fail> {
     Ok(())
 }
 
+/// Which flow sends a segment now, if any does.
+fn sender(traffic: &mut Traffic, now: u64) -> Option<u16>
+    requires { now < 2 * 10 ^ 15 }
+{
+    let Sending { load, .. } = sends(traffic, now, now + 1)?;
+    match load {
+        Load::Seg { flow, .. } => Some(flow.get()),
+        _ => None,
+    }
+}
+
+// Of flows that may send, the least number does, whichever began first; their first timers come after a
+// second, and one that is stopped has none.
+#[test]
+fn least_number_sends_and_first_timer_expires(rt: HostRuntime) -> Result<(), Fail> {
+    let mut traffic = Traffic::new(rt.alloc());
+    for n in [9, 2, 5] {
+        let begun = begins_flow(&mut traffic, n);
+        assert!(rt; begun, "{n}");
+    }
+    for (now, n) in [(3, 2), (4, 5), (6, 9)] {
+        for _ in 0..3 {
+            assert!(rt; sender(&mut traffic, now) == Some(n), "at {now}");
+        }
+    }
+    assert!(rt; sender(&mut traffic, 6).is_none(), "all windows are full");
+    for (now, n) in [(3, 2), (4, 5), (6, 9)] {
+        let due = traffic.earliest(6, command(9000 * MS));
+        assert!(rt; due.source.class == Class::Expiry, "the timer of {n}");
+        assert_eq!(rt;
+            (due.source.number, due.moment),
+            (u32::from(n), now + 1000 * MS)
+        );
+        traffic.stop(number(n)?);
+    }
+    let due = traffic.earliest(6, command(9000 * MS));
+    assert!(rt; due.source.class == Class::NextCommand, "all are stopped");
+    Ok(())
+}
+
 // The example of a train of three packets, 5 ns apart.
 #[test]
 fn train_sends_its_packets(rt: HostRuntime) -> Result<(), Fail> {

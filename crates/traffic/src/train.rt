@@ -2,6 +2,7 @@
 
 ghost use Rattle.std.specs.Prelude.{◌≡◌, ◌+◌, ◌*◌, ◌^◌, ◌<◌, ◌≤◌, option_to_list, true};
 ghost use Rattle.emu_model.specs.Dues.{train_dues};
+ghost use Rattle.traffic.specs.Leaves.{packet_due};
 ghost use Rattle.traffic.specs.Sends.{has_left};
 
 use crate::dues::due;
@@ -70,7 +71,8 @@ impl Train {
 
     /// When its next packet is due, if any is left.
     pub(crate) fn due(&self) -> Option<Due>
-        ensures { option_to_list result ≡ train_dues self.now }
+        ensures due { result ≡ packet_due self.now }
+        ensures all { option_to_list result ≡ train_dues self.now }
     {
         if self.sent >= self.train.count.get() {
             return None;

@@ -1,7 +1,7 @@
-use Rattle.std.proofs.Common.{◌≡◌, ℕ, ◌+◌, ◌≤◌, length, take, refl, ap, ◌∙◌, arith}
+use Rattle.std.proofs.Common.{take, refl, ap, ◌∙◌, arith}
 use Rattle.pipe_core.specs.Keyed.{KeyedPipe}
 use Rattle.pipe_table.specs.Table.{pipe_keys}
-use Rattle.pipe_table.proofs.Moving.{as-many, none-moved, named-next, count-next, keys-next, moved-next, table-next, all-moved, all-shown, all-keys}
+use Rattle.pipe_table.proofs.Moving.{as-many, none-moved, named-next, count-next, keys-next, moved-next, table-next}
 use Rattle.pipe_table.proofs.rehousing.rehouse_all.Goals as goal
 
 pub loop-i-init : goal.loop-i-init

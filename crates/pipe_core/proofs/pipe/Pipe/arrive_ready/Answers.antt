@@ -15,7 +15,7 @@ returns-in-Some-clause-ready g c =
     let id : FlowId = c.apply-id.result in
     let k : ℕ = c.in-Some.index in
     let ids : ids_of new.slots ≡ made =
-    c.accept_ready.ensures.ids ∙ sym (ap (λ (z : KeyedPipe). ids_of z.slots) c.self.view_is) ∙ sym c.self.invariant.ids_are in
+    c.accept_ready.ensures.ids ∙ sym (ap (λ (z : KeyedPipe). ids_of z.slots) c.self.view_is) ∙ sym c.self.invariant.0.ids_are in
     let flow : flow_id new.config.mask c.args.packet ≡ id =
     ap (λ (z : KeyedPipe). flow_id z.config.mask c.args.packet) c.accept_ready.ensures.grown.same
     ∙ sym (ap (λ (z : KeyedPipe). flow_id z.config.mask c.args.packet) c.self.view_is) ∙ sym c.apply-id.ensures in
@@ -30,7 +30,7 @@ returns-in-None-clause-ready g c =
     let made : List FlowId = c.self.inside.ids.ids in
     let id : FlowId = c.apply-id.result in
     let before : ids_of old.slots ≡ made =
-    sym (ap (λ (z : KeyedPipe). ids_of z.slots) c.self.view_is) ∙ sym c.self.invariant.ids_are in
+    sym (ap (λ (z : KeyedPipe). ids_of z.slots) c.self.view_is) ∙ sym c.self.invariant.0.ids_are in
     let ids : ids_of new.slots ≡ made = ap (λ (z : KeyedPipe). ids_of z.slots) c.make_ready.ensures.same ∙ before in
     let flow : flow_id new.config.mask c.args.packet ≡ id =
     ap (λ (z : KeyedPipe). flow_id z.config.mask c.args.packet) c.make_ready.ensures.same

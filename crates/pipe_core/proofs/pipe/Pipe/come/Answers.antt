@@ -1,24 +1,26 @@
-use Rattle.std.proofs.Common.{ℕ, ◌-◌, ◌<◌, length, sym, subst, vec_len, vec_capacity}
+use Rattle.std.proofs.Common.{ℕ, ◌-◌, ◌<◌, length, set, sym, subst, ap, ◌∙◌, vec_len, vec_capacity}
 use Rattle.std.specs.Prelude.{min}
 use Rattle.packet_store.specs.Pocket.{Pocket}
 use Rattle.pipe_core.specs.declared.slot.Slot.{Slot}
 use Rattle.pipe_core.specs.Keyed.{KeyedPipe}
-use Rattle.pipe_core.specs.Steps.{HasRoomAtSlot}
+use Rattle.pipe_core.specs.Steps.{HasRoomAtSlot, ComesAt}
 use Rattle.pipe_core.proofs.Places.{IsPlace, place_of, slot_at, pipe_at, get_at}
 use Rattle.pipe_core.proofs.Arrivals.{comes_at}
+use Rattle.pipe_core.proofs.DueLeaves.{leaves_set, number_at}
+use Rattle.due_index.specs.Places.{Places}
 use Rattle.pipe_core.proofs.pipe.Pipe.come.Goals as goal
 
-pub come-requires-clause-tuned : goal.come-requires-clause-tuned
-come-requires-clause-tuned g c =
+pub come-answer-requires-clause-tuned : goal.come-answer-requires-clause-tuned
+come-answer-requires-clause-tuned g c =
     let s = c.self.inside in
     let k : ℕ = c.args.index in
     let x : Slot = c.index_mut-slot.result.now in
     let within : k < length s.slots.items = subst (λ (e : KeyedPipe). k < length e.slots) (sym c.self.view_is) c.requires.inside in
     let at : IsPlace k s.slots.items x = place_of s.slots.items k x c.index_mut-slot.ensures.value within in
-    (slot_at k s.slots.items x at s.config s.seed s.number s.ids.ids c.self.invariant).tuned
+    (slot_at k s.slots.items x at s.config s.seed s.number s.ids.ids c.self.invariant.0).tuned
 
-pub come-requires-clause-ready : goal.come-requires-clause-ready
-come-requires-clause-ready g c =
+pub come-answer-requires-clause-ready : goal.come-answer-requires-clause-ready
+come-answer-requires-clause-ready g c =
     let s = c.self.inside in
     let k : ℕ = c.args.index in
     let x : Slot = c.index_mut-slot.result.now in
@@ -33,8 +35,11 @@ invariant_of-self g c =
     let k : ℕ = c.args.index in
     let x : Slot = c.index_mut-slot.result.now in
     let within : k < length s.slots.items = subst (λ (e : KeyedPipe). k < length e.slots) (sym c.self.view_is) c.requires.inside in
-    let at : IsPlace k s.slots.items x = place_of s.slots.items k x c.index_mut-slot.ensures.value within in
-    pipe_at k s.slots.items x at s.config s.seed s.number s.ids.ids c.come.new.self c.come.ensures.came.place c.self.invariant
+    let at : IsPlace k s.slots.items x = place_of s.slots.items k x c.index_mut-slot.ensures.value within in (
+      pipe_at k s.slots.items x at s.config s.seed s.number s.ids.ids c.come-answer.new.self c.come-answer.ensures.came.place c.self.invariant.0,
+      leaves_set s.slots.items k c.come-answer.new.self s.dues c.set.new.self c.due.result c.self.invariant.1
+          c.due.ensures c.set.ensures,
+    )
 
 pub returns-clause-came : goal.returns-clause-came
 returns-clause-came g c =
@@ -44,6 +49,21 @@ returns-clause-came g c =
     let within : k < length s.slots.items = subst (λ (e : KeyedPipe). k < length e.slots) (sym c.self.view_is) c.requires.inside in
     let at : IsPlace k s.slots.items x = place_of s.slots.items k x c.index_mut-slot.ensures.value within in
     let p : Pocket = g.S.Shelf.pocket c.args.shelf.now c.args.owner in
-    let q : Pocket = g.S.Shelf.pocket c.come.new.shelf c.args.owner in
-    let old : KeyedPipe = record { seed = s.seed; number = s.number; config = s.config; slots = s.slots.items; spare = min (vec_capacity s.slots - vec_len s.slots) s.ids.spare } in
-    rw (← c.self.view_is) (comes_at k c.args.now c.args.packet c.come.result p q old x c.come.new.self s.ids.ids at c.self.invariant c.come.ensures.came)
+    let q : Pocket = g.S.Shelf.pocket c.come-answer.new.shelf c.args.owner in
+    let old : KeyedPipe = record { seed = s.seed; number = s.number; config = s.config; slots = s.slots.items; spare = min (min (vec_capacity s.slots - vec_len s.slots) s.ids.spare) s.dues.spare } in
+    let spare = sym (ap (λ (p : Places). p.spare) c.set.ensures) in
+    rw (← c.self.view_is) (subst (λ n. ComesAt k c.args.now c.args.packet c.come-answer.result p q old (record old {
+      slots = set s.slots.items k c.come-answer.new.self;
+      spare = min (min (vec_capacity s.slots - vec_len s.slots) s.ids.spare) n;
+    })) spare (comes_at k c.args.now c.args.packet c.come-answer.result p q old x c.come-answer.new.self s.ids.ids at c.self.invariant.0 c.come-answer.ensures.came))
+
+pub due-requires : goal.due-requires
+due-requires g c =
+    let s = c.self.inside in
+    let k : ℕ = c.args.index in
+    let x : Slot = c.index_mut-slot.result.now in
+    let within : k < length s.slots.items = subst (λ (e : KeyedPipe). k < length e.slots) (sym c.self.view_is) c.requires.inside in
+    let at : IsPlace k s.slots.items x = place_of s.slots.items k x c.index_mut-slot.ensures.value within in
+    c.instance_number-number.ensures
+    ∙ number_at s.config s.seed s.number k x c.come-answer.new.self
+    (slot_at k s.slots.items x at s.config s.seed s.number s.ids.ids c.self.invariant.0) c.come-answer.ensures.came.place

@@ -6,13 +6,17 @@ use Rattle.pipe_core.specs.Moves.{packet_at, Taking}
 use Rattle.pipe_core.specs.Keyed.{keys_of}
 use Rattle.pipe_core.proofs.PipeFacts.{IsPipe-none, packets-named, keys_of-nil}
 use Rattle.pipe_core.proofs.TakeFacts.{all_taken, all_came, keeps_none}
+use Rattle.pipe_core.specs.Leaves.{slot_due}
 use Rattle.pipe_core.proofs.pipe.Pipe.delete.Goals as goal
 
 pub invariant_of-self : goal.invariant_of-self
 invariant_of-self g c =
     let s = c.self.inside in
-    IsPipe-none s.config s.seed s.number c.new.result.ids c.replace-slots.new.dest.items c.new.ensures
-    (ap (λ (v : Vec Slot Global). v.items) c.replace-slots.ensures.after ∙ c.new-vacant.ensures.items)
+    let none : c.replace-slots.new.dest.items ≡ [] =
+    ap (λ (v : Vec Slot Global). v.items) c.replace-slots.ensures.after ∙ c.new-vacant.ensures.items in (
+      IsPipe-none s.config s.seed s.number c.new.result.ids c.replace-slots.new.dest.items c.new.ensures none,
+      c.clear.ensures.leaves ∙ ap (map slot_due) (sym none),
+    )
 
 pub returns-clause-gone : goal.returns-clause-gone
 returns-clause-gone g c =

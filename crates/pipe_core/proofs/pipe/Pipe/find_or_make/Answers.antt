@@ -5,6 +5,8 @@ use Rattle.emu_model.specs.FlowIds.{instance_of}
 use Rattle.pipe_core.specs.declared.slot.Slot.{Slot}
 use Rattle.pipe_core.specs.Keyed.{KeyedPipe, seen_pipe, keys_of, IsPipe}
 use Rattle.pipe_core.proofs.Makings.{made_next, made_few, IsPipe-push, with_new, new_room, keys-push}
+use Rattle.pipe_core.specs.Leaves.{AreLeaves}
+use Rattle.pipe_core.proofs.DueLeaves.{leaves_push}
 use Rattle.pipe_core.proofs.pipe.Pipe.find_or_make.Goals as goal
 
 pub invariant_of-self-2 : goal.invariant_of-self-2
@@ -14,19 +16,23 @@ invariant_of-self-2 c =
     let new : Slot = record { id = c.args.id; instance = i } in
     let number : instance_of s.ids.ids c.args.id ≡ Some c.in-Ok.index = c.in-Ok.ensures.ok in
     let unknown = sym c.in_default.ensures.index in
-    let many : length s.ids.ids ≡ length s.slots.items = ap length c.self.invariant.ids_are ∙ length-map s.slots.items (λ (t : Slot). t.id) in
+    let many : length s.ids.ids ≡ length s.slots.items = ap length c.self.invariant.0.ids_are ∙ length-map s.slots.items (λ (t : Slot). t.id) in
     let last : c.in-Ok.index ≡ length s.slots.items = made_next s.ids.ids c.args.id c.in-Ok.index unknown number ∙ many in
     let few : length s.slots.items < 256 = omega (arith, made_few s.ids.ids c.args.id c.in-Ok.index unknown number, many) in
-    let d = c.new-instance.ensures.draws in
-    subst (λ ss. IsPipe s.config s.seed s.number c.find_or_make.new.self.ids ss) (sym c.push_reserved.ensures.items)
-    (IsPipe-push s.config s.seed s.number s.ids.ids c.find_or_make.new.self.ids s.slots.items new c.self.invariant
-    (sym c.in_default.ensures.found) c.in-Ok.ensures.made few
-    (record {
-      tuned = c.new-instance.ensures.tuned;
-      seed_is = ap (λ z. z.seed) d;
-      pipe_is = ap (λ z. z.pipe) d;
-      number_is = ap (λ z. z.instance) d ∙ last;
-    }))
+    let d = c.new-instance.ensures.draws in (
+      subst (λ ss. IsPipe s.config s.seed s.number c.find_or_make.new.self.ids ss) (sym c.push_reserved.ensures.items)
+          (IsPipe-push s.config s.seed s.number s.ids.ids c.find_or_make.new.self.ids s.slots.items new c.self.invariant.0
+          (sym c.in_default.ensures.found) c.in-Ok.ensures.made few
+          (record {
+            tuned = c.new-instance.ensures.tuned;
+            seed_is = ap (λ z. z.seed) d;
+            pipe_is = ap (λ z. z.pipe) d;
+            number_is = ap (λ z. z.instance) d ∙ last;
+          })),
+      subst (λ ss. AreLeaves ss c.push.new.self) (sym c.push_reserved.ensures.items)
+          (leaves_push s.slots.items c.args.id i s.dues c.push.new.self (s.dues.spare - 1) c.self.invariant.1
+          c.new-instance.ensures.opening c.push.ensures),
+    )
 
 pub returns-clause-made : goal.returns-clause-made
 returns-clause-made c =
@@ -35,9 +41,9 @@ returns-clause-made c =
     let new : Slot = record { id = c.args.id; instance = i } in
     let number : instance_of s.ids.ids c.args.id ≡ Some c.in-Ok.index = c.in-Ok.ensures.ok in
     let unknown = sym c.in_default.ensures.index in
-    let many : length s.ids.ids ≡ length s.slots.items = ap length c.self.invariant.ids_are ∙ length-map s.slots.items (λ (t : Slot). t.id) in
+    let many : length s.ids.ids ≡ length s.slots.items = ap length c.self.invariant.0.ids_are ∙ length-map s.slots.items (λ (t : Slot). t.id) in
     let last : c.in-Ok.index ≡ length s.slots.items = made_next s.ids.ids c.args.id c.in-Ok.index unknown number ∙ many in
-    let old : KeyedPipe = record { seed = s.seed; number = s.number; config = s.config; slots = s.slots.items; spare = min (vec_capacity s.slots - vec_len s.slots) s.ids.spare } in
+    let old : KeyedPipe = record { seed = s.seed; number = s.number; config = s.config; slots = s.slots.items; spare = min (min (vec_capacity s.slots - vec_len s.slots) s.ids.spare) s.dues.spare } in
     rw (← c.self.view_is) (λ f. with_new f c.args.id c.in-Ok.index old new last (c.new-instance.ensures.opening f c.args.id)
     ∙ (λ t. seen_pipe f (record old { slots = sym c.push_reserved.ensures.items t })))
 
@@ -48,7 +54,7 @@ returns-clause-ready c =
     let new : Slot = record { id = c.args.id; instance = i } in
     let number : instance_of s.ids.ids c.args.id ≡ Some c.in-Ok.index = c.in-Ok.ensures.ok in
     let unknown = sym c.in_default.ensures.index in
-    let many : length s.ids.ids ≡ length s.slots.items = ap length c.self.invariant.ids_are ∙ length-map s.slots.items (λ (t : Slot). t.id) in
+    let many : length s.ids.ids ≡ length s.slots.items = ap length c.self.invariant.0.ids_are ∙ length-map s.slots.items (λ (t : Slot). t.id) in
     let last : c.in-Ok.index ≡ length s.slots.items = made_next s.ids.ids c.args.id c.in-Ok.index unknown number ∙ many in
     λ size room t e. new_room size c.in-Ok.index s.slots.items c.push_reserved.new.self.items c.args.id i t last
     c.push_reserved.ensures.items c.new-instance.ensures.opening e
@@ -60,7 +66,7 @@ returns-clause-keys c =
     let new : Slot = record { id = c.args.id; instance = i } in
     let number : instance_of s.ids.ids c.args.id ≡ Some c.in-Ok.index = c.in-Ok.ensures.ok in
     let unknown = sym c.in_default.ensures.index in
-    let many : length s.ids.ids ≡ length s.slots.items = ap length c.self.invariant.ids_are ∙ length-map s.slots.items (λ (t : Slot). t.id) in
+    let many : length s.ids.ids ≡ length s.slots.items = ap length c.self.invariant.0.ids_are ∙ length-map s.slots.items (λ (t : Slot). t.id) in
     let last : c.in-Ok.index ≡ length s.slots.items = made_next s.ids.ids c.args.id c.in-Ok.index unknown number ∙ many in
     ap keys_of c.push_reserved.ensures.items ∙ keys-push s.slots.items new c.new-instance.ensures.keys
     ∙ ap (λ (z : KeyedPipe). keys_of z.slots) c.self.view_is

@@ -6,6 +6,8 @@ use Rattle.pipe_core.specs.Keyed.{seen_slot, keys_of, IsPipe}
 use Rattle.pipe_core.specs.Rehousing.{blank_slot}
 use Rattle.pipe_core.proofs.PipeFacts.{written}
 use Rattle.pipe_core.proofs.SlotMoves.{blank-long, slots-shown, IsPipe-blank}
+use Rattle.pipe_core.specs.Leaves.{AreLeaves}
+use Rattle.pipe_core.proofs.DueLeaves.{leaves_blank}
 use Rattle.pipe_core.proofs.pipe.Pipe.rehouse.Goals as goal
 
 pub invariant_of-self : goal.invariant_of-self
@@ -15,9 +17,11 @@ invariant_of-self g c =
     let new : List Slot = c.rehouse_all.new.slots in
     let blanks : map blank_slot new ≡ map blank_slot items = c.rehouse_all.ensures.blank ∙ ap (map blank_slot) c.deref_mut.ensures.value in
     let whole : take s.slots.len (new ++ drop (length new) items) ≡ new =
-    written s.slots.len new items (omega (arith, s.slots.ok.0)) (blank-long items new blanks) in
-    subst (IsPipe s.config s.seed s.number s.ids.ids) (sym whole)
-    (IsPipe-blank s.config s.seed s.number s.ids.ids items new blanks c.self.invariant)
+    written s.slots.len new items (omega (arith, s.slots.ok.0)) (blank-long items new blanks) in (
+      subst (IsPipe s.config s.seed s.number s.ids.ids) (sym whole)
+          (IsPipe-blank s.config s.seed s.number s.ids.ids items new blanks c.self.invariant.0),
+      subst (λ ss. AreLeaves ss s.dues) (sym whole) (leaves_blank items new s.dues blanks c.self.invariant.1),
+    )
 
 pub returns-clause-shown : goal.returns-clause-shown
 returns-clause-shown g c =

@@ -5,6 +5,8 @@ use Rattle.pipe_table.specs.Table.{Table, pipe_of, has_number}
 use Rattle.pipe_table.proofs.Splits.{position-none}
 use Rattle.pipe_table.proofs.NetFacts.{arrive-nowhere}
 use Rattle.pipe_table.proofs.At.{sound-at, pipe-at, named-at, keys-at, seed-at, arrive-at}
+use Rattle.pipe_table.proofs.Splits.{position-within}
+use Rattle.pipe_table.proofs.Indexes.{indexed-set, indexed-within}
 use Rattle.pipe_table.proofs.table.PipeTable.arrive.Goals as goal
 
 pub returns-in_default-clause-arrived : goal.returns-in_default-clause-arrived
@@ -24,12 +26,16 @@ unreachable-requires g c =
     let ok = c.in_default-arrive.ensures.succeeds ((rw (← c.self.view_is) at c.requires.room) there) ready in absurd (cc)
 
 pub invariant_of-self : goal.invariant_of-self
-invariant_of-self g c =
-    sound-at c.args.number c.in-Some.place c.self.inside.pipes.items c.index_mut.result.now (rw (← c.self.view_is) at c.in-Some.ensures) c.index_mut.ensures.value c.self.inside.seed c.arrive.new.self c.self.invariant (ap (λ (p : KeyedPipe). p.seed) c.in-Ok.ensures.same) (ap (λ (p : KeyedPipe). p.number) c.in-Ok.ensures.same)
+invariant_of-self g c = (
+  sound-at c.args.number c.in-Some.place c.self.inside.pipes.items c.index_mut.result.now (rw (← c.self.view_is) at c.in-Some.ensures) c.index_mut.ensures.value c.self.inside.seed c.arrive.new.self c.self.invariant.0 (ap (λ (p : KeyedPipe). p.seed) c.in-Ok.ensures.same) (ap (λ (p : KeyedPipe). p.number) c.in-Ok.ensures.same),
+  indexed-set c.self.inside.pipes.items c.in-Some.place c.arrive.new.self c.index.result.now c.self.inside.dues c.set.new.self
+      c.least.result c.self.invariant.1 (position-within (has_number c.args.number) c.self.inside.pipes.items c.in-Some.place c.index_mut.result.now (rw (← c.self.view_is) at c.in-Some.ensures))
+      c.index.ensures c.least.ensures.due c.least.ensures.number c.least.ensures.few c.set.ensures,
+)
 
 pub returns-clause-arrived : goal.returns-clause-arrived
 returns-clause-arrived g c = λ at n same now.
-    let seeds : at.seed ≡ c.index_mut.result.now.seed = same ∙ ap (λ (t : Table). t.seed) (sym c.self.view_is) ∙ sym (seed-at c.args.number c.in-Some.place c.self.inside.pipes.items c.index_mut.result.now (rw (← c.self.view_is) at c.in-Some.ensures) c.index_mut.ensures.value c.self.inside.seed 0 c.self.invariant.0) in
+    let seeds : at.seed ≡ c.index_mut.result.now.seed = same ∙ ap (λ (t : Table). t.seed) (sym c.self.view_is) ∙ sym (seed-at c.args.number c.in-Some.place c.self.inside.pipes.items c.index_mut.result.now (rw (← c.self.view_is) at c.in-Some.ensures) c.index_mut.ensures.value c.self.inside.seed 0 c.self.invariant.0.0) in
     rw (← c.self.view_is, ← now) (arrive-at c.args.number c.in-Some.place c.self.inside.pipes.items c.index_mut.result.now (rw (← c.self.view_is) at c.in-Some.ensures) c.index_mut.ensures.value c.keys_say_all.ensures.agree (g.S.Shelf.pocket c.args.shelf.now c.args.owner)
     (g.S.Shelf.pocket c.arrive.new.shelf c.args.owner) c.arrive.new.self (rw (← c.self.view_is) at c.requires.named) c.in-Ok.ensures.keys
     at c.args.packet.now _ n c.self.inside.seed
@@ -38,3 +44,8 @@ returns-clause-arrived g c = λ at n same now.
 pub returns-clause-keys : goal.returns-clause-keys
 returns-clause-keys g c =
     rw (← c.self.view_is) (keys-at c.args.number c.in-Some.place c.self.inside.pipes.items c.index_mut.result.now (rw (← c.self.view_is) at c.in-Some.ensures) c.index_mut.ensures.value (g.S.Shelf.pocket c.args.shelf.now c.args.owner) (g.S.Shelf.pocket c.arrive.new.shelf c.args.owner) c.arrive.new.self c.in-Ok.ensures.keys)
+
+pub set-requires : goal.set-requires
+set-requires g c =
+    indexed-within c.self.inside.pipes.items c.self.inside.dues c.in-Some.place c.self.invariant.1
+    (position-within (has_number c.args.number) c.self.inside.pipes.items c.in-Some.place c.index_mut.result.now (rw (← c.self.view_is) at c.in-Some.ensures))

@@ -7,6 +7,7 @@ use Rattle.queue_disc.specs.declared.entries.NoMemory.{NoMemory}
 use Rattle.pipe_table.specs.Table.{pipe_of, has_number, HasRoomIn}
 use Rattle.pipe_table.proofs.Splits.{position-none}
 use Rattle.pipe_table.proofs.At.{sound-at, grown-set, ready-set, pipe-at}
+use Rattle.pipe_table.specs.Leaves.{IsIndexed}
 use Rattle.pipe_table.proofs.table.PipeTable.arrive_ready.Goals as goal
 
 pub returns-in_default-clause-room : goal.returns-in_default-clause-room
@@ -22,9 +23,13 @@ returns-in_default-clause-ready g c = λ p found.
     absurd (cc)
 
 pub invariant_of-self : goal.invariant_of-self
-invariant_of-self g c =
-    sound-at c.args.number c.in-Some.place c.self.inside.pipes.items c.index_mut.result.now (rw (← c.self.view_is) at c.in-Some.ensures) c.index_mut.ensures.value c.self.inside.seed c.arrive_ready.new.self c.self.invariant (ap (λ (p : KeyedPipe). p.seed) c.arrive_ready.ensures.grown.same)
-    (ap (λ (s : PipeState). s.number) (c.arrive_ready.ensures.grown.shown (packet_at (g.S.Shelf.pocket c.args.shelf.now c.args.owner).find)))
+invariant_of-self g c = (
+  sound-at c.args.number c.in-Some.place c.self.inside.pipes.items c.index_mut.result.now (rw (← c.self.view_is) at c.in-Some.ensures) c.index_mut.ensures.value c.self.inside.seed c.arrive_ready.new.self c.self.invariant.0 (ap (λ (p : KeyedPipe). p.seed) c.arrive_ready.ensures.grown.same)
+      (ap (λ (s : PipeState). s.number) (c.arrive_ready.ensures.grown.shown (packet_at (g.S.Shelf.pocket c.args.shelf.now c.args.owner).find))),
+  λ f. subst (λ ss. IsIndexed ss c.self.inside.dues)
+      (sym ((grown-set c.args.number c.in-Some.place c.self.inside.pipes.items c.index_mut.result.now (rw (← c.self.view_is) at c.in-Some.ensures)
+      c.index_mut.ensures.value c.arrive_ready.new.self c.arrive_ready.ensures.grown).shown f)) (c.self.invariant.1 f),
+)
 
 pub returns-clause-grown : goal.returns-clause-grown
 returns-clause-grown g c = rw (← c.self.view_is) (grown-set c.args.number c.in-Some.place c.self.inside.pipes.items c.index_mut.result.now (rw (← c.self.view_is) at c.in-Some.ensures) c.index_mut.ensures.value c.arrive_ready.new.self c.arrive_ready.ensures.grown)

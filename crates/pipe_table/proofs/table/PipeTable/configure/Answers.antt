@@ -4,6 +4,8 @@ use Rattle.pipe_core.specs.Moves.{some_packet, packet_at}
 use Rattle.pipe_table.specs.Table.{has_number}
 use Rattle.pipe_table.proofs.Splits.{position-none}
 use Rattle.pipe_table.proofs.At.{sound-at, configure-at, refusal-at, configure-none, refusal-none, ok-by, match-by, keys-set}
+use Rattle.pipe_table.proofs.Splits.{position-within}
+use Rattle.pipe_table.proofs.Indexes.{indexed-set, indexed-within}
 use Rattle.pipe_table.proofs.table.PipeTable.configure.Goals as goal
 
 pub make-requires : goal.make-requires
@@ -30,9 +32,13 @@ returns-in-Some-configure-clause-refusal c = λ p n.
     rw (← c.self.view_is) (refusal-at c.args.number c.in-Some.place c.self.inside.pipes.items c.index_mut.result.now (rw (← c.self.view_is) at c.in-Some.ensures) c.index_mut.ensures.value c.args.config.now c.self.inside.seed p n ∙ sym (c.in-Some-configure.ensures.refusal (packet_at p.find)))
 
 pub invariant_of-self-2 : goal.invariant_of-self-2
-invariant_of-self-2 c =
-    sound-at c.args.number c.in-Some.place c.self.inside.pipes.items c.index_mut.result.now (rw (← c.self.view_is) at c.in-Some.ensures) c.index_mut.ensures.value c.self.inside.seed c.configure.new.self c.self.invariant c.configure.ensures.seed
-    (ap (λ (s : PipeState). s.number) (c.in_default-configure.ensures.done (λ k. some_packet)))
+invariant_of-self-2 c = (
+  sound-at c.args.number c.in-Some.place c.self.inside.pipes.items c.index_mut.result.now (rw (← c.self.view_is) at c.in-Some.ensures) c.index_mut.ensures.value c.self.inside.seed c.configure.new.self c.self.invariant.0 c.configure.ensures.seed
+      (ap (λ (s : PipeState). s.number) (c.in_default-configure.ensures.done (λ k. some_packet))),
+  indexed-set c.self.inside.pipes.items c.in-Some.place c.configure.new.self c.index.result.now c.self.inside.dues c.set.new.self
+      c.least.result c.self.invariant.1 (position-within (has_number c.args.number) c.self.inside.pipes.items c.in-Some.place c.index_mut.result.now (rw (← c.self.view_is) at c.in-Some.ensures))
+      c.index.ensures c.least.ensures.due c.least.ensures.number c.least.ensures.few c.set.ensures,
+)
 
 pub returns-clause-ok : goal.returns-clause-ok
 returns-clause-ok c = λ p n.
@@ -47,3 +53,8 @@ returns-clause-keys c = rw (← c.self.view_is) (keys-set c.args.number c.in-Som
 
 pub returns-in_default-clause-memory : goal.returns-in_default-clause-memory
 returns-in_default-clause-memory c = λ refused. position-none (has_number c.args.number) c.args.self.now.pipes c.in_default.ensures
+
+pub set-requires : goal.set-requires
+set-requires c =
+    indexed-within c.self.inside.pipes.items c.self.inside.dues c.in-Some.place c.self.invariant.1
+    (position-within (has_number c.args.number) c.self.inside.pipes.items c.in-Some.place c.index_mut.result.now (rw (← c.self.view_is) at c.in-Some.ensures))

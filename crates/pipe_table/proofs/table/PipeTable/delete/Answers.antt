@@ -1,4 +1,4 @@
-use Rattle.std.proofs.Common.{refl, sym, ap, ◌∙◌, subst, IsSome}
+use Rattle.std.proofs.Common.{refl, sym, ap, ◌∙◌, subst, IsSome, arith}
 use Rattle.std.specs.Prelude.{is_some}
 use Rattle.std.proofs.lemmas.List.{append-nil}
 use Rattle.std.specs.Option.{option_map_or}
@@ -8,6 +8,8 @@ use Rattle.pipe_table.specs.Table.{with_pipes, pipe_of, has_number}
 use Rattle.pipe_table.proofs.Splits.{position-none}
 use Rattle.pipe_table.proofs.NetFacts.{find-none, find-some}
 use Rattle.pipe_table.proofs.At.{on_any_err, sound-by, sound-removed, delete-at, count-at, keys-removed, pipe-at, named-at}
+use Rattle.pipe_table.specs.Leaves.{AreIndexed}
+use Rattle.pipe_table.proofs.Indexes.{indexed-long}
 use Rattle.pipe_table.proofs.table.PipeTable.delete.Goals as goal
 
 pub returns-in_default-clause-ok : goal.returns-in_default-clause-ok
@@ -28,8 +30,10 @@ delete-requires g c =
     named-at c.args.number c.in-Some.place c.self.inside.pipes.items c.index_mut.result.now (rw (← c.self.view_is) at c.in-Some.ensures) c.index_mut.ensures.value (g.S.Shelf.pocket c.args.shelf.now c.args.owner) (rw (← c.self.view_is) at c.requires)
 
 pub invariant_of-self-2 : goal.invariant_of-self-2
-invariant_of-self-2 g c =
-    sound-by c.self.inside.seed (sym c.remove.ensures.items) (sound-removed c.args.number c.in-Some.place c.self.inside.pipes.items c.index_mut.result.now (rw (← c.self.view_is) at c.in-Some.ensures) c.index_mut.ensures.value c.self.inside.seed c.delete.new.self c.self.invariant)
+invariant_of-self-2 g c = (
+  sound-by c.self.inside.seed (sym c.remove.ensures.items) (sound-removed c.args.number c.in-Some.place c.self.inside.pipes.items c.index_mut.result.now (rw (← c.self.view_is) at c.in-Some.ensures) c.index_mut.ensures.value c.self.inside.seed c.delete.new.self c.self.invariant.0),
+  subst (λ ps. AreIndexed ps c.index_all.new.dues) c.deref.ensures.value c.index_all.ensures,
+)
 
 pub returns-clause-ok : goal.returns-clause-ok
 returns-clause-ok g c = λ now n.
@@ -59,3 +63,13 @@ pub returns-in_err-gone-clause-memory : goal.returns-in_err-gone-clause-memory
 returns-in_err-gone-clause-memory g c =
     let there : IsSome (pipe_of c.args.number c.self.inside.pipes.items) = subst IsSome (sym (pipe-at c.args.number c.in-Some.place c.self.inside.pipes.items c.index_mut.result.now (rw (← c.self.view_is) at c.in-Some.ensures) c.index_mut.ensures.value)) refl in
     rw (← c.self.view_is) (on_any_err c.from_residual.result there)
+
+pub index_all-requires : goal.index_all-requires
+index_all-requires g c =
+    omega (
+      arith,
+      c.deref.ensures.len,
+      c.remove.ensures.len,
+      indexed-long c.self.inside.pipes.items c.self.inside.dues c.self.invariant.1,
+      c.self.inside.pipes.ok.0,
+    )

@@ -1,24 +1,28 @@
-use Rattle.std.proofs.Common.{◌≡◌, ◌+◌, ◌++◌, ◌<◌, length, get_or, suc, take, ap, ◌∙◌, subst, arith}
+use Rattle.std.proofs.Common.{◌≡◌, ℕ}
 use Rattle.std.specs.Prelude.{flat_map}
-use Rattle.emu_model.specs.Dues.{pipe_dues}
-use Rattle.pipe_core.specs.Keyed.{seen_pipe}
-use Rattle.pipe_table.specs.Table.{Table, seen_pipes, IsTable}
-use Rattle.pipe_table.proofs.DueFacts.{Reaches-then, Reaches-by, pipes-more, standing}
+use Rattle.std.specs.List.{best_of}
+use Rattle.emu_model.specs.declared.packets.Packet.{Packet}
+use Rattle.emu_model.specs.Dues.{is_before, pipe_dues}
+use Rattle.pipe_core.specs.Moves.{packet_at}
+use Rattle.pipe_table.specs.Table.{seen_pipes}
+use Rattle.pipe_table.specs.Reach.{Reaches}
+use Rattle.pipe_table.proofs.Indexes.{least-is}
+use Rattle.pipe_table.proofs.Reaching.{reach_least}
 use Rattle.pipe_table.proofs.table.PipeTable.earliest.Goals as goal
 
-pub loop-pipe-preserved : goal.loop-pipe-preserved
-loop-pipe-preserved c =
-    let ps = c.args.self.now.pipes in
-    let i = c.loop-pipe.pipe-index in
-    let x = c.pipe-item.result in
-    let next : suc i ≡ i + 1 = omega arith in
-    let items : c.self.inside.pipes.items ≡ ps = ap (λ (t : Table). t.pipes) c.self.view_is in
-    let table : IsTable c.self.inside.seed 0 ps = subst (IsTable c.self.inside.seed 0) items c.self.invariant.0 in
-    let read_as : c.deref-pipe-items.result.now ≡ ps = c.deref-pipe-items.ensures.value ∙ items in
-    let within : i < length ps = subst (λ l. i < length l) read_as c.loop-pipe-test.true in
-    let read : x ≡ get_or ps i x = c.pipe-item.is ∙ ap (λ l. get_or l i x) read_as in
-    Reaches-by ps (λ f. flat_map pipe_dues (seen_pipes f (take i ps)) ++ pipe_dues (seen_pipe f x))
-    (λ f. flat_map pipe_dues (seen_pipes f (take (i + 1) ps))) c.args.best c.earliest_in-best.result
-    (λ f. pipes-more f ps i x within read ∙ ap (λ n. flat_map pipe_dues (seen_pipes f (take n ps))) next)
-    (Reaches-then ps (λ f. flat_map pipe_dues (seen_pipes f (take i ps))) (λ f. pipe_dues (seen_pipe f x))
-    c.args.best c.loop-pipe.best c.earliest_in-best.result c.loop-pipe.invariant (c.earliest_in-best.ensures ps (standing c.self.inside.seed ps i x table within read)))
+pub returns : goal.returns
+returns c =
+    let ps = c.self.inside.pipes.items in
+    let x = c.self.inside.dues in
+    let b = c.args.best in
+    let d = c.earlier.result in
+    let least : (f : ℕ → Packet) → d ≡ best_of is_before b (flat_map pipe_dues (seen_pipes f ps)) =
+    least-is ps x b d c.least.result c.self.invariant.1 c.least.ensures c.earlier.ensures in
+    let r : Reaches ps (λ f. flat_map pipe_dues (seen_pipes f ps)) b d =
+    reach_least c.self.inside.seed ps b d c.self.invariant.0.0 (λ f. (c.self.invariant.1 f).fit) least in
+    rw (← c.self.view_is) (record {
+      least = λ p n. r.least (packet_at p.find);
+      moment = r.moment;
+      finishing = r.finishing;
+      piped = r.piped;
+    })

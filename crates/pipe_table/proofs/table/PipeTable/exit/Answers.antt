@@ -7,6 +7,8 @@ use Rattle.pipe_table.specs.Table.{with_pipes, has_number}
 use Rattle.pipe_table.proofs.Splits.{position-none}
 use Rattle.pipe_table.proofs.NetFacts.{find-none, find-some}
 use Rattle.pipe_table.proofs.At.{sound-at, set-same, flying-beyond, exit-beyond, Keeps-same, pipe-at, named-at, keys-at, ready-at, exit-at}
+use Rattle.pipe_table.proofs.Splits.{position-within}
+use Rattle.pipe_table.proofs.Indexes.{indexed-set, indexed-within}
 use Rattle.pipe_table.proofs.table.PipeTable.exit.Goals as goal
 
 pub returns-in_default-clause-gone : goal.returns-in_default-clause-gone
@@ -41,32 +43,41 @@ returns-then-instances-index-clause-packet g c = λ n.
     (flying-beyond p x c.args.instance (omega (arith, c.if-instances-index.true, c.instances.ensures.instances))
     ∙ sym (ap (option_and_then (flying_in c.args.instance)) (find-some p c.args.number c.self.inside.pipes.items x n (pipe-at c.args.number c.in-Some.place c.self.inside.pipes.items c.index.result.now (rw (← c.self.view_is) at c.in-Some.ensures) c.index.ensures))))
 
-pub exit-requires-clause-named : goal.exit-requires-clause-named
-exit-requires-clause-named g c =
+pub exit-packet-requires-clause-named : goal.exit-packet-requires-clause-named
+exit-packet-requires-clause-named g c =
     named-at c.args.number c.in-Some.place c.self.inside.pipes.items c.index_mut.result.now (rw (← c.self.view_is) at c.in-Some.ensures) c.index_mut.ensures.value (g.S.Shelf.pocket c.args.shelf.now c.args.owner) (rw (← c.self.view_is) at c.requires.named)
 
 pub invariant_of-self : goal.invariant_of-self
-invariant_of-self g c =
-    sound-at c.args.number c.in-Some.place c.self.inside.pipes.items c.index_mut.result.now (rw (← c.self.view_is) at c.in-Some.ensures) c.index_mut.ensures.value c.self.inside.seed c.exit.new.self c.self.invariant (ap (λ (p : KeyedPipe). p.seed) c.exit.ensures.same) (ap (λ (p : KeyedPipe). p.number) c.exit.ensures.same)
+invariant_of-self g c = (
+  sound-at c.args.number c.in-Some.place c.self.inside.pipes.items c.index_mut.result.now (rw (← c.self.view_is) at c.in-Some.ensures) c.index_mut.ensures.value c.self.inside.seed c.exit-packet.new.self c.self.invariant.0 (ap (λ (p : KeyedPipe). p.seed) c.exit-packet.ensures.same) (ap (λ (p : KeyedPipe). p.number) c.exit-packet.ensures.same),
+  indexed-set c.self.inside.pipes.items c.in-Some.place c.exit-packet.new.self c.index-2.result.now c.self.inside.dues c.set.new.self
+      c.least.result c.self.invariant.1 (position-within (has_number c.args.number) c.self.inside.pipes.items c.in-Some.place c.index_mut.result.now (rw (← c.self.view_is) at c.in-Some.ensures))
+      c.index-2.ensures c.least.ensures.due c.least.ensures.number c.least.ensures.few c.set.ensures,
+)
 
 pub returns-clause-gone : goal.returns-clause-gone
 returns-clause-gone g c = λ at n.
     rw (← c.self.view_is)
-    (exit-at c.args.number c.in-Some.place c.self.inside.pipes.items c.index_mut.result.now (rw (← c.self.view_is) at c.in-Some.ensures) c.index_mut.ensures.value c.keys_say_all.ensures.agree (g.S.Shelf.pocket c.args.shelf.now c.args.owner) (g.S.Shelf.pocket c.exit.new.shelf c.args.owner)
-    c.exit.new.self (rw (← c.self.view_is) at c.requires.named) c.exit.ensures.keys
-    at c.args.instance c.exit.result n c.self.inside.seed c.exit.ensures.packet c.exit.ensures.shown)
+    (exit-at c.args.number c.in-Some.place c.self.inside.pipes.items c.index_mut.result.now (rw (← c.self.view_is) at c.in-Some.ensures) c.index_mut.ensures.value c.keys_say_all.ensures.agree (g.S.Shelf.pocket c.args.shelf.now c.args.owner) (g.S.Shelf.pocket c.exit-packet.new.shelf c.args.owner)
+    c.exit-packet.new.self (rw (← c.self.view_is) at c.requires.named) c.exit-packet.ensures.keys
+    at c.args.instance c.exit-packet.result n c.self.inside.seed c.exit-packet.ensures.packet c.exit-packet.ensures.shown)
 
 pub returns-clause-packet : goal.returns-clause-packet
 returns-clause-packet g c = λ n.
     let p = g.S.Shelf.pocket c.args.shelf.now c.args.owner in
     rw (← c.self.view_is)
-    (c.exit.ensures.packet
+    (c.exit-packet.ensures.packet
     ∙ sym (ap (option_and_then (flying_in c.args.instance)) (find-some p c.args.number c.self.inside.pipes.items c.index_mut.result.now n (pipe-at c.args.number c.in-Some.place c.self.inside.pipes.items c.index_mut.result.now (rw (← c.self.view_is) at c.in-Some.ensures) c.index_mut.ensures.value))))
 
 pub returns-clause-keys : goal.returns-clause-keys
 returns-clause-keys g c =
-    rw (← c.self.view_is) (keys-at c.args.number c.in-Some.place c.self.inside.pipes.items c.index_mut.result.now (rw (← c.self.view_is) at c.in-Some.ensures) c.index_mut.ensures.value (g.S.Shelf.pocket c.args.shelf.now c.args.owner) (g.S.Shelf.pocket c.exit.new.shelf c.args.owner) c.exit.new.self c.exit.ensures.keys)
+    rw (← c.self.view_is) (keys-at c.args.number c.in-Some.place c.self.inside.pipes.items c.index_mut.result.now (rw (← c.self.view_is) at c.in-Some.ensures) c.index_mut.ensures.value (g.S.Shelf.pocket c.args.shelf.now c.args.owner) (g.S.Shelf.pocket c.exit-packet.new.shelf c.args.owner) c.exit-packet.new.self c.exit-packet.ensures.keys)
 
 pub returns-clause-ready : goal.returns-clause-ready
 returns-clause-ready g c =
-    rw (← c.self.view_is) (ready-at c.args.number c.in-Some.place c.self.inside.pipes.items c.index_mut.result.now (rw (← c.self.view_is) at c.in-Some.ensures) c.index_mut.ensures.value c.exit.new.self (ap (λ (p : KeyedPipe). p.number) c.exit.ensures.same) c.exit.ensures.ready)
+    rw (← c.self.view_is) (ready-at c.args.number c.in-Some.place c.self.inside.pipes.items c.index_mut.result.now (rw (← c.self.view_is) at c.in-Some.ensures) c.index_mut.ensures.value c.exit-packet.new.self (ap (λ (p : KeyedPipe). p.number) c.exit-packet.ensures.same) c.exit-packet.ensures.ready)
+
+pub set-requires : goal.set-requires
+set-requires g c =
+    indexed-within c.self.inside.pipes.items c.self.inside.dues c.in-Some.place c.self.invariant.1
+    (position-within (has_number c.args.number) c.self.inside.pipes.items c.in-Some.place c.index_mut.result.now (rw (← c.self.view_is) at c.in-Some.ensures))

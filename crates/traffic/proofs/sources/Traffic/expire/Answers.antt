@@ -7,6 +7,7 @@ use Rattle.emu_model.specs.Events.{expire_flow}
 use Rattle.traffic.specs.declared.sends.Window.{Window}
 use Rattle.traffic.specs.Kept.{KeptFlow, KeptTraffic, with_traffic}
 use Rattle.traffic.proofs.Changes.{kept, IsFlowAt, flow_at, no_flow, sound_flow}
+use Rattle.traffic.proofs.Indexes.{flow_indexed}
 use Rattle.traffic.proofs.sources.Traffic.expire.Goals as goal
 
 -- what an expiry leaves
@@ -32,8 +33,10 @@ returns-in_default c = λ s n moment.
     ap (λ o. option_map_or (expire_flow s m) o m) (no_flow c.args.number c.args.self.now (sym c.in_default.is ∙ c.flow_place.ensures) n)
 
 pub invariant_of-self : goal.invariant_of-self
-invariant_of-self c =
-    sound_flow c.self.inside.flows.items c.self.inside.trains.items _ c.index_mut-flow.result.now c.expire.new.self c.self.invariant c.index_mut-flow.ensures.value (ap (λ (g : KeptFlow). g.state.number) c.expire.ensures.flow)
+invariant_of-self c = (
+  sound_flow c.self.inside.flows.items c.self.inside.trains.items _ c.index_mut-flow.result.now c.expire-window.new.self c.self.invariant.0 c.index_mut-flow.ensures.value (ap (λ (g : KeptFlow). g.state.number) c.expire-window.ensures.flow),
+  c.set_flow.ensures c.self.inside.flows.items c.self.inside.trains.items c.self.invariant.1,
+)
 
 pub returns : goal.returns
 returns c = λ s n moment.
@@ -43,4 +46,13 @@ returns c = λ s n moment.
     let at = flow_at c.args.number c.args.self.now fs ts c.in-Some.place f c.self.view_is (sym c.in-Some.is ∙ c.flow_place.ensures) c.index_mut-flow.ensures.value in
     let m = with_traffic c.args.self.now n in
     ap (λ o. option_map_or (expire_flow s m) o m) (at.found n)
-    ∙ expired_at at c.expire.new.self c.args.now c.expire.result c.expire.ensures.flow c.expire.ensures.window s n moment
+    ∙ expired_at at c.expire-window.new.self c.args.now c.expire-window.result c.expire-window.ensures.flow c.expire-window.ensures.window s n moment
+
+pub set_flow-requires : goal.set_flow-requires
+set_flow-requires c =
+    let fs = c.self.inside.flows.items in
+    let ts = c.self.inside.trains.items in
+    let f = c.index_mut-flow.result.now in
+    let at = flow_at c.args.number c.args.self.now fs ts c.in-Some.place f c.self.view_is
+    (sym c.in-Some.is ∙ c.flow_place.ensures) c.index_mut-flow.ensures.value in
+    flow_indexed fs ts c.self.inside.index c.in-Some.place c.self.invariant.1 at.within

@@ -4,6 +4,7 @@ use Rattle.std.specs.Option.{option_map_or}
 use Rattle.emu_model.specs.Commands.{stop_flow}
 use Rattle.traffic.specs.Kept.{KeptFlow, with_traffic}
 use Rattle.traffic.proofs.Changes.{kept, flow_at, no_flow, sound_flow}
+use Rattle.traffic.proofs.Indexes.{flow_indexed}
 use Rattle.traffic.proofs.sources.Traffic.stop.Goals as goal
 
 pub returns-in_default : goal.returns-in_default
@@ -12,8 +13,10 @@ returns-in_default c = λ n.
     ap (λ o. option_map_or (stop_flow m) o m) (no_flow c.args.number c.args.self.now (sym c.in_default.is ∙ c.flow_place.ensures) n)
 
 pub invariant_of-self : goal.invariant_of-self
-invariant_of-self c =
-    sound_flow c.self.inside.flows.items c.self.inside.trains.items _ c.index_mut-flow.result.now c.stop.new.self c.self.invariant c.index_mut-flow.ensures.value (ap (λ (g : KeptFlow). g.state.number) c.stop.ensures)
+invariant_of-self c = (
+  sound_flow c.self.inside.flows.items c.self.inside.trains.items _ c.index_mut-flow.result.now c.stop.new.self c.self.invariant.0 c.index_mut-flow.ensures.value (ap (λ (g : KeptFlow). g.state.number) c.stop.ensures),
+  c.set_flow.ensures c.self.inside.flows.items c.self.inside.trains.items c.self.invariant.1,
+)
 
 pub returns : goal.returns
 returns c = λ n.
@@ -26,3 +29,12 @@ returns c = λ n.
     ap (λ o. option_map_or (stop_flow m) o m) (at.found n)
     ∙ at.put g n at.number
     ∙ ap (λ g. with_traffic (kept (set fs c.in-Some.place g) ts) n) (sym c.stop.ensures)
+
+pub set_flow-requires : goal.set_flow-requires
+set_flow-requires c =
+    let fs = c.self.inside.flows.items in
+    let ts = c.self.inside.trains.items in
+    let f = c.index_mut-flow.result.now in
+    let at = flow_at c.args.number c.args.self.now fs ts c.in-Some.place f c.self.view_is
+    (sym c.in-Some.is ∙ c.flow_place.ensures) c.index_mut-flow.ensures.value in
+    flow_indexed fs ts c.self.inside.index c.in-Some.place c.self.invariant.1 at.within

@@ -8,6 +8,8 @@ use Rattle.emu_model.specs.Net.{FlowState, put_flow, make, ack_send, take_segmen
 use Rattle.traffic.specs.declared.sends.Sending.{Sending}
 use Rattle.traffic.specs.Kept.{KeptFlow, with_traffic}
 use Rattle.traffic.proofs.Changes.{kept, flow_at, no_flow, sound_flow}
+use Rattle.traffic.specs.Leaves.{expiry_due, emission_due}
+use Rattle.traffic.proofs.Indexes.{flow_as_before}
 use Rattle.traffic.proofs.sources.Traffic.take.Goals as goal
 
 pub returns-in_default-clause-taken : goal.returns-in_default-clause-taken
@@ -28,8 +30,12 @@ take-requires c =
     ltb-true 0 f.room (sym (ap (λ o. option_map_or (λ (f : KeptFlow). nat_lt 0 f.room) o true) at.first) ∙ c.requires)
 
 pub invariant_of-self : goal.invariant_of-self
-invariant_of-self c =
-    sound_flow c.self.inside.flows.items c.self.inside.trains.items _ c.index_mut-flow.result.now c.take.new.self c.self.invariant c.index_mut-flow.ensures.value (ap (λ (s : FlowState). s.number) c.take.ensures.flow)
+invariant_of-self c = (
+  sound_flow c.self.inside.flows.items c.self.inside.trains.items _ c.index_mut-flow.result.now c.take.new.self c.self.invariant.0 c.index_mut-flow.ensures.value (ap (λ (s : FlowState). s.number) c.take.ensures.flow),
+  flow_as_before c.self.inside.flows.items c.self.inside.trains.items c.self.inside.index c.in-Some.place
+      c.index_mut-flow.result.now c.take.new.self c.self.invariant.1 c.index_mut-flow.ensures.value
+      (ap expiry_due c.take.ensures.flow) (ap (emission_due 0) c.take.ensures.flow),
+)
 
 pub returns-clause-taken : goal.returns-clause-taken
 returns-clause-taken c = λ at' n.

@@ -7,6 +7,7 @@ use Rattle.emu_model.specs.Net.{take_ack as acknowledged}
 use Rattle.traffic.specs.declared.sends.Window.{Window}
 use Rattle.traffic.specs.Kept.{KeptFlow, KeptTraffic, with_traffic}
 use Rattle.traffic.proofs.Changes.{kept, IsFlowAt, flow_at, no_flow, sound_flow}
+use Rattle.traffic.proofs.Indexes.{flow_indexed}
 use Rattle.traffic.proofs.sources.Traffic.take_ack.Goals as goal
 
 -- what an acknowledgement leaves, taken or not
@@ -30,8 +31,10 @@ returns-in_default c = λ n.
     ap (λ o. option_map_or (acknowledged c.args.now c.args.upto m) o m) (no_flow c.args.number c.args.self.now (sym c.in_default.is ∙ c.flow_place.ensures) n)
 
 pub invariant_of-self : goal.invariant_of-self
-invariant_of-self c =
-    sound_flow c.self.inside.flows.items c.self.inside.trains.items _ c.index_mut-flow.result.now c.take_ack.new.self c.self.invariant c.index_mut-flow.ensures.value (c.take_ack.ensures.number)
+invariant_of-self c = (
+  sound_flow c.self.inside.flows.items c.self.inside.trains.items _ c.index_mut-flow.result.now c.take_ack-window.new.self c.self.invariant.0 c.index_mut-flow.ensures.value (c.take_ack-window.ensures.number),
+  c.set_flow.ensures c.self.inside.flows.items c.self.inside.trains.items c.self.invariant.1,
+)
 
 pub returns : goal.returns
 returns c = λ n.
@@ -41,4 +44,13 @@ returns c = λ n.
     let at = flow_at c.args.number c.args.self.now fs ts c.in-Some.place f c.self.view_is (sym c.in-Some.is ∙ c.flow_place.ensures) c.index_mut-flow.ensures.value in
     let m = with_traffic c.args.self.now n in
     ap (λ o. option_map_or (acknowledged c.args.now c.args.upto m) o m) (at.found n)
-    ∙ taken_at at c.take_ack.new.self c.args.now c.args.upto c.take_ack.result c.take_ack.ensures.number c.take_ack.ensures.taken c.take_ack.ensures.ignored c.take_ack.ensures.same n
+    ∙ taken_at at c.take_ack-window.new.self c.args.now c.args.upto c.take_ack-window.result c.take_ack-window.ensures.number c.take_ack-window.ensures.taken c.take_ack-window.ensures.ignored c.take_ack-window.ensures.same n
+
+pub set_flow-requires : goal.set_flow-requires
+set_flow-requires c =
+    let fs = c.self.inside.flows.items in
+    let ts = c.self.inside.trains.items in
+    let f = c.index_mut-flow.result.now in
+    let at = flow_at c.args.number c.args.self.now fs ts c.in-Some.place f c.self.view_is
+    (sym c.in-Some.is ∙ c.flow_place.ensures) c.index_mut-flow.ensures.value in
+    flow_indexed fs ts c.self.inside.index c.in-Some.place c.self.invariant.1 at.within

@@ -6,6 +6,8 @@ use Rattle.traffic.specs.Kept.{KeptFlow}
 use Rattle.traffic.proofs.Changes.{flow_at, no_first, sound_flow}
 use Rattle.std.specs.Prelude.{Result, Ok, Err}
 use Rattle.std.proofs.lemmas.Bool.{lt-ltb}
+use Rattle.traffic.specs.Leaves.{expiry_due, emission_due}
+use Rattle.traffic.proofs.Indexes.{flow_as_before}
 use Rattle.traffic.proofs.sources.Traffic.take_ready.Goals as goal
 
 on_ok : {T E : Type 0} (P Q : Type 0) (r : Result T E) → (P → Q) → OnOk r P → OnOk r Q
@@ -17,8 +19,12 @@ returns-in_default-clause-ready c =
     ap (λ o. option_map_or (λ (f : KeptFlow). nat_lt 0 f.room) o true) (no_first c.args.number c.args.self.now (sym c.in_default.is ∙ c.flow_place.ensures))
 
 pub invariant_of-self : goal.invariant_of-self
-invariant_of-self c =
-    sound_flow c.self.inside.flows.items c.self.inside.trains.items _ c.index_mut-flow.result.now c.take_ready.new.self c.self.invariant c.index_mut-flow.ensures.value (ap (λ (s : FlowState). s.number) c.take_ready.ensures.state)
+invariant_of-self c = (
+  sound_flow c.self.inside.flows.items c.self.inside.trains.items _ c.index_mut-flow.result.now c.take_ready.new.self c.self.invariant.0 c.index_mut-flow.ensures.value (ap (λ (s : FlowState). s.number) c.take_ready.ensures.state),
+  flow_as_before c.self.inside.flows.items c.self.inside.trains.items c.self.inside.index c.in-Some.place
+      c.index_mut-flow.result.now c.take_ready.new.self c.self.invariant.1 c.index_mut-flow.ensures.value
+      (ap expiry_due c.take_ready.ensures.state) (ap (emission_due 0) c.take_ready.ensures.state),
+)
 
 pub returns-clause-ready : goal.returns-clause-ready
 returns-clause-ready c =

@@ -1,0 +1,180 @@
+-- What holds of a due and of all dues of pipes holds of the least.
+use Rattle.std.proofs.Common.{◌≡◌, ℕ, zero, suc, ◌+◌, ◌*◌, ◌<◌, ◌≤◌, Bool, true, false, cond, refl, sym, ap, ◌∙◌, subst, List, [], ◌∷◌, ◌++◌, length, map, take, get_or, ◌⊎◌, inl, inr, Option, Some, None, arith}
+use Rattle.std.specs.Prelude.{option_and_then, option_map, option_to_list, slice_get, flat_map}
+use Rattle.std.specs.List.{All, best_of}
+use Rattle.std.proofs.Math.ListN.{get_or-map}
+use Rattle.std.proofs.lemmas.List.{length-map, get_or_default, take_all}
+use Rattle.std.proofs.lemmas.Option.{slice_get-map}
+use Rattle.emu_model.specs.declared.packets.Packet.{Packet}
+use Rattle.emu_model.specs.declared.sources.Due.{Due}
+use Rattle.emu_model.specs.declared.sources.Class.TheVariants.{Exit, Finish}
+use Rattle.emu_model.specs.Delay.{first_exit}
+use Rattle.emu_model.specs.Dues.{due, is_before, instances_dues, pipe_dues}
+use Rattle.emu_model.specs.Events.{served_in}
+use Rattle.emu_model.specs.Pipes.{Instance, InService}
+use Rattle.pipe_core.specs.declared.slot.Slot.{Slot}
+use Rattle.pipe_core.specs.Moves.{some_packet}
+use Rattle.pipe_core.specs.Keyed.{KeyedPipe, seen_slot, seen_pipe}
+use Rattle.pipe_core.proofs.PipeFacts.{first_exit-seen, finish-seen}
+use Rattle.pipe_table.specs.Table.{pipe_of, seen_pipes, IsPipeNumber, IsTable}
+use Rattle.pipe_table.specs.Reach.{Reaches, instance_dues}
+use Rattle.pipe_table.specs.Leaves.{IsFit}
+use Rattle.pipe_table.proofs.DueFacts.{Reaches-none, Reaches-then, Reaches-by, Reaches-at, instances-more, instances-all, pipes-more, standing}
+
+-- the least of a due and one that may be there is one of them
+one-from : (b : Due) (o : Option Due) →
+    (best_of is_before b (option_to_list o) ≡ b) ⊎
+    (o ≡ Some (best_of is_before b (option_to_list o)))
+one-from b None = inl refl
+one-from b (Some d) = by (is_before d b)
+  where
+    by : (t : Bool) → (cond t d b ≡ b) ⊎ (Some d ≡ Some (cond t d b))
+    by true = inr refl
+    by false = inl refl
+
+abbrev finish_of : Option Instance → Option ℕ
+finish_of o =
+    option_map (λ (s : InService). s.period.finish)
+    (option_and_then (λ (i : Instance). i.service) o)
+
+-- when an instance exits and finishes, however its keys are named
+module _ (f g : ℕ → Packet) (slots : List Slot) (index : ℕ) where
+  exit-alike : option_and_then (λ (i : Instance). first_exit i.line.flight)
+      (slice_get (map (seen_slot f) slots) index)
+      ≡ option_and_then (λ (i : Instance). first_exit i.line.flight)
+      (slice_get (map (seen_slot g) slots) index)
+  exit-alike =
+      ap (option_and_then (λ (i : Instance). first_exit i.line.flight))
+      (slice_get-map (seen_slot f) slots index)
+      ∙ by (slice_get slots index)
+      ∙ sym (ap (option_and_then (λ (i : Instance). first_exit i.line.flight))
+      (slice_get-map (seen_slot g) slots index))
+    where
+      by : (o : Option Slot) →
+          option_and_then (λ (i : Instance). first_exit i.line.flight) (option_map (seen_slot f) o)
+          ≡ option_and_then (λ (i : Instance). first_exit i.line.flight)
+          (option_map (seen_slot g) o)
+      by None = refl
+      by (Some s) =
+          first_exit-seen f s.instance.lane.line.flight
+          ∙ sym (first_exit-seen g s.instance.lane.line.flight)
+
+  finish-alike : option_map (λ (s : InService). s.period.finish)
+      (option_and_then (λ (i : Instance). i.service) (slice_get (map (seen_slot f) slots) index))
+      ≡ option_map (λ (s : InService). s.period.finish)
+      (option_and_then (λ (i : Instance). i.service) (slice_get (map (seen_slot g) slots) index))
+  finish-alike =
+      ap finish_of (slice_get-map (seen_slot f) slots index) ∙ by (slice_get slots index)
+      ∙ sym (ap finish_of (slice_get-map (seen_slot g) slots index))
+    where
+      by : (o : Option Slot) →
+          finish_of (option_map (seen_slot f) o) ≡ finish_of (option_map (seen_slot g) o)
+      by None = refl
+      by (Some s) = finish-seen f s.instance.service.busy
+          ∙ sym (finish-seen g s.instance.service.busy)
+
+-- a due that is reached from another over some dues
+abbrev Reached : List KeyedPipe → ((ℕ → Packet) → List Due) → Due → Type 0
+Reached ps dues first = (last : Due) × Reaches ps dues first last
+
+reach_instance : (ps : List KeyedPipe) (pipe : KeyedPipe) (index : ℕ) (best : Due) → index < 256 →
+    IsPipeNumber pipe.number →
+    pipe_of pipe.number ps ≡ Some pipe → Reached ps (λ f. instance_dues f pipe index) best
+reach_instance ps pipe index best few range here =
+    let g : ℕ → Packet = λ k. some_packet in
+    let exit : Option ℕ =
+    option_and_then (λ (i : Instance). first_exit i.line.flight)
+    (slice_get (seen_pipe g pipe).instances index) in
+    let finish : Option ℕ =
+    option_map (λ (s : InService). s.period.finish) (served_in index (seen_pipe g pipe)) in
+    let exit_due : Option Due = option_map (due Exit (pipe.number * 256 + index)) exit in
+    let finish_due : Option Due = option_map (due Finish (pipe.number * 256 + index)) finish in
+    let sooner : Due = best_of is_before best (option_to_list exit_due) in
+    let last : Due = best_of is_before sooner (option_to_list finish_due) in (
+      last,
+      Reaches-at ps pipe index best sooner last exit finish few range here
+          (λ f. exit-alike g f pipe.slots index)
+          (λ f. finish-alike g f pipe.slots index) refl (one-from best exit_due) refl
+          (one-from sooner finish_due),
+    )
+
+module _ (ps : List KeyedPipe) (pipe : KeyedPipe) (best : Due) (range : IsPipeNumber pipe.number)
+    (few : length pipe.slots ≤ 256)
+    (here : pipe_of pipe.number ps ≡ Some pipe) where
+  reach_instances : (n : ℕ) → n ≤ length pipe.slots →
+      Reached ps (λ f. instances_dues (pipe.number * 256) (take n (map (seen_slot f) pipe.slots)))
+      best
+  reach_instances zero l = (best, Reaches-none ps best)
+  reach_instances (suc n) l =
+      let r = reach_instances n (omega arith) in
+      let s = reach_instance ps pipe n r.0 (omega arith) range here in (
+        s.0,
+        Reaches-by ps
+            (λ f. instances_dues (pipe.number * 256)
+            (take n (map (seen_slot f) pipe.slots)) ++ instance_dues f pipe n)
+            (λ f. instances_dues (pipe.number * 256)
+            (take (suc n) (map (seen_slot f) pipe.slots))) best s.0
+            (λ f. instances-more f pipe n (omega arith))
+            (Reaches-then ps
+            (λ f. instances_dues (pipe.number * 256) (take n (map (seen_slot f) pipe.slots)))
+            (λ f. instance_dues f pipe n) best r.0 s.0 r.1 s.1),
+      )
+
+  reach_pipe : Reached ps (λ f. pipe_dues (seen_pipe f pipe)) best
+  reach_pipe =
+      let r = reach_instances (length pipe.slots) (omega arith) in (
+        r.0,
+        Reaches-by ps
+            (λ f. instances_dues (pipe.number * 256)
+            (take (length pipe.slots) (map (seen_slot f) pipe.slots)))
+            (λ f. pipe_dues (seen_pipe f pipe)) best r.0 (λ f. instances-all f pipe) r.1,
+      )
+
+module _ (seed : ℕ) (ps : List KeyedPipe) (best : Due) (table : IsTable seed 0 ps)
+    (fit : (f : ℕ → Packet) → All IsFit (seen_pipes f ps)) (any : KeyedPipe) where
+  reach_first : (n : ℕ) → n ≤ length ps →
+      Reached ps (λ f. flat_map pipe_dues (seen_pipes f (take n ps))) best
+  reach_first zero l = (best, Reaches-none ps best)
+  reach_first (suc n) l =
+      let g : ℕ → Packet = λ k. some_packet in
+      let within : n < length ps = omega arith in
+      let x : KeyedPipe = get_or ps n any in
+      let read : x ≡ get_or ps n x = get_or_default ps n any x within in
+      let long : n < length (seen_pipes g ps) = omega (arith, length-map ps (seen_pipe g)) in
+      let own : IsFit (seen_pipe g x) =
+      subst IsFit (get_or-map (seen_pipe g) ps n x
+      ∙ ap (seen_pipe g) (sym read)) (fit g n (seen_pipe g x) long) in
+      let few : length x.slots ≤ 256 = omega (arith, own.few, length-map x.slots (seen_slot g)) in
+      let r = reach_first n (omega arith) in
+      let s = reach_pipe ps x r.0 own.number few (standing seed ps n x table within read) in (
+        s.0,
+        Reaches-by ps
+            (λ f. flat_map pipe_dues (seen_pipes f (take n ps)) ++ pipe_dues (seen_pipe f x))
+            (λ f. flat_map pipe_dues (seen_pipes f (take (suc n) ps))) best s.0
+            (λ f. pipes-more f ps n x within read)
+            (Reaches-then ps (λ f. flat_map pipe_dues (seen_pipes f (take n ps)))
+            (λ f. pipe_dues (seen_pipe f x))
+            best r.0 s.0 r.1 s.1),
+      )
+
+  reach_all : Reached ps (λ f. flat_map pipe_dues (seen_pipes f ps)) best
+  reach_all =
+      let r = reach_first (length ps) (omega arith) in (
+        r.0,
+        Reaches-by ps (λ f. flat_map pipe_dues (seen_pipes f (take (length ps) ps)))
+            (λ f. flat_map pipe_dues (seen_pipes f ps)) best r.0
+            (λ f. ap (λ l. flat_map pipe_dues (seen_pipes f l))
+            (take_all (length ps) ps (omega arith))) r.1,
+      )
+
+-- the least of a table's dues
+pub reach_least : (seed : ℕ) (ps : List KeyedPipe) (best last : Due) → IsTable seed 0 ps →
+    ((f : ℕ → Packet) → All IsFit (seen_pipes f ps)) →
+    ((f : ℕ → Packet) → last ≡ best_of is_before best (flat_map pipe_dues (seen_pipes f ps))) →
+    Reaches ps (λ f. flat_map pipe_dues (seen_pipes f ps)) best last
+reach_least seed [] best last table fit is =
+    subst (Reaches [] (λ f. []) best) (sym (is (λ k. some_packet))) (Reaches-none [] best)
+reach_least seed (p ∷ ps) best last table fit is =
+    let r = reach_all seed (p ∷ ps) best table fit p in
+    subst (Reaches (p ∷ ps) (λ f. flat_map pipe_dues (seen_pipes f (p ∷ ps))) best)
+    (r.1.least (λ k. some_packet) ∙ sym (is (λ k. some_packet))) r.1

@@ -1,0 +1,14 @@
+use Rattle.std.proofs.Common.{set, sym, ◌∙◌, ap}
+use Rattle.std.proofs.lemmas.List.{map-set}
+use Rattle.due_index.specs.Places.{Places}
+use Rattle.traffic.specs.Leaves.{packet_due}
+use Rattle.traffic.proofs.index.SourceIndex.set_train.Goals as goal
+
+pub returns : goal.returns
+returns c = λ fs ts h. record {
+  timers = h.timers;
+  segments = h.segments;
+  packets = ap (λ (p : Places). p.leaves) c.set.ensures
+      ∙ (λ t. set (h.packets t) c.args.place (c.due.ensures.due t))
+      ∙ sym (map-set packet_due ts c.args.place c.args.train.now);
+}
