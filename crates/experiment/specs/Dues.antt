@@ -1,5 +1,5 @@
 -- What is due in a state.
-use Rattle.std.specs.Prelude.{◌≡◌, false, List, [], ◌∷◌, ◌++◌, filter}
+use Rattle.std.specs.Prelude.{◌≡◌, Bool, false, List, [], ◌∷◌, ◌++◌, filter}
 use Rattle.std.specs.List.{list_any}
 use Rattle.emu_model.specs.declared.commands.Timed.{Timed}
 use Rattle.emu_model.specs.declared.sources.Due.{Due}
@@ -22,12 +22,16 @@ dues_in s = command_dues s.left ++ dues_of s.clock s.net
 abbrev pub dues_at : Source → List Due → List Due
 dues_at s dues = filter (λ d. same_source d.source s) dues
 
+-- a source is among those that are named
+abbrev pub names : Source → List Source → Bool
+names s named = list_any (λ t. same_source t s) named
+
 -- each source is named whose dues differ
 abbrev pub Covers : List Due → List Due → List Source → Type 0
-Covers before now named = (s : Source) → list_any (λ t. same_source t s) named ≡ false →
+Covers before now named = (s : Source) → names s named ≡ false →
     dues_at s before ≡ dues_at s now
 
 -- no source is named that has none, before and now
 abbrev pub NamesNoOther : List Due → List Due → List Source → Type 0
 NamesNoOther before now named = (s : Source) → dues_at s before ≡ [] → dues_at s now ≡ [] →
-    list_any (λ t. same_source t s) named ≡ false
+    names s named ≡ false

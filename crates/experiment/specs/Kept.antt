@@ -14,7 +14,7 @@ use Rattle.network.specs.Kept.{KeptNet, net_of, net_keys, IsHoused}
 
 -- what it was given, what moves packets, the next command if there is one, all commands that came, how
 -- many were taken, the moment of the last event, how many steps were made, how it ended, and what was
--- due before the last step
+-- due when that was noted last
 pub record KeptExperiment : Type 0 where
   pub spec : Spec
   pub net : KeptNet
@@ -24,8 +24,7 @@ pub record KeptExperiment : Type 0 where
   pub clock : ℕ
   pub steps : ℕ
   pub ending : Option Ending
-  pub watched : Bool
-  pub before : List Due
+  pub noted : List Due
   pub spare : ℕ
 
 -- want of memory isn't an ending of the definitions: it leaves the state as it was

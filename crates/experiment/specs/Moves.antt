@@ -12,14 +12,12 @@ use Rattle.network.specs.Changes.{Notes}
 use Rattle.experiment.specs.declared.experiment.Event.{Event}
 use Rattle.experiment.specs.declared.experiment.Event.TheVariants.{Ran, Ended, Halted, Still}
 use Rattle.experiment.specs.Kept.{KeptExperiment, view, shown_ending}
-use Rattle.experiment.specs.Dues.{dues_in}
 
 -- one step of the definitions was made
 pub record IsStep (p : Pocket) (old : KeptExperiment) (q : Pocket) (new : KeptExperiment) : Type 0 where
   pub stepped : view q new ≡ step (view p old)
   pub counted : new.steps ≡ old.steps + 1
   pub going : old.ending ≡ None
-  pub before : old.watched ≡ true → (o : Pocket) → new.before ≡ dues_in (view o old)
 
 -- for want of memory no step was made
 pub record Halts (p : Pocket) (old : KeptExperiment) (q : Pocket) (new : KeptExperiment) : Type 0 where

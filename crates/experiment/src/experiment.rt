@@ -12,9 +12,8 @@ ghost use Rattle.network.specs.Kept.{net_of, IsHoused};
 ghost use Rattle.network.specs.Due.{IsDue};
 ghost use Rattle.experiment.specs.Kept.{view, IsAlone, IsHousedIn, last_moment};
 ghost use Rattle.experiment.specs.Moves.{Makes, Steps, Halts, Closes};
-ghost use Rattle.experiment.specs.Dues.{dues_in};
 
-use crate::told::{append_dues, command_due};
+use crate::told::command_due;
 use emu_model::{
     Class, Command, Due, Ending, Spec, Timed, command_in_range, later_commands_wait, records_grow,
 };
@@ -57,9 +56,9 @@ pub struct Experiment {
     pub(crate) ending: Option<Ending>,
     // The moment of the last command.
     latest: u64,
-    // What was due before the last step, where it is watched.
-    watched: bool,
-    pub(crate) before: Vec<Due>,
+    // What was due when it was noted last, and room for what is due now.
+    pub(crate) noted: Vec<Due>,
+    pub(crate) fresh: Vec<Due>,
     // How many packets are on the shelf.
     pub(crate) held: u64,
 }
@@ -79,8 +78,7 @@ impl Model for Experiment {
       clock = e.clock;
       steps = e.steps;
       ending = e.ending;
-      watched = e.watched;
-      before = e.before.items;
+      noted = e.noted.items;
       spare = vec_capacity e.consumed - vec_len e.consumed;
     } };
 
@@ -93,8 +91,7 @@ impl Model for Experiment {
       clock = e.clock;
       steps = e.steps;
       ending = e.ending;
-      watched = e.watched;
-      before = e.before.items;
+      noted = e.noted.items;
       spare = vec_capacity e.consumed - vec_len e.consumed;
     }) e.latest e.held };
 }
@@ -104,7 +101,7 @@ impl Experiment {
     pub fn new(alloc: Global, spec: Spec) -> Result<Self, NoMemory>
         ensures opening { IfOk result (λ e. (p : Pocket) → view p e ≡ opening spec []) }
         ensures alone { IfOk result (λ e. (p : Pocket) → IsAlone p e) }
-        ensures given { IfOk result (λ e. (e.spec ≡ spec) × (e.next ≡ None) × (e.consumed ≡ []) × (e.steps ≡ 0) × (e.ending ≡ None) × (e.watched ≡ false)) }
+        ensures given { IfOk result (λ e. (e.spec ≡ spec) × (e.next ≡ None) × (e.consumed ≡ []) × (e.steps ≡ 0) × (e.ending ≡ None) × (e.noted ≡ [])) }
         ensures housed { IfOk result (λ e. (budget : ℕ) → spec.budget.packets ≤ budget → IsHousedIn (empty_pocket budget) e) }
     {
         few_steps(&spec);
@@ -121,8 +118,8 @@ impl Experiment {
             steps: 0,
             ending: None,
             latest: 0,
-            watched: false,
-            before: Vec::new(alloc),
+            noted: Vec::new(alloc),
+            fresh: Vec::new(alloc),
             held: 0,
         })
     }
@@ -174,13 +171,6 @@ impl Experiment {
         Ok(())
     }
 
-    /// Has the dues before each step kept, for `touched`; before, none are.
-    pub fn watch(&mut self)
-        ensures { self.new ≡ record self.old { watched = true } }
-    {
-        self.watched = true;
-    }
-
     /// Makes the next event: one step of the definitions. `Ran` and `Ended` where the step was made,
     /// `Still` without a next command or after the end, `Halted` for want of memory: the experiment
     /// stands then as before, and ends so.
@@ -195,7 +185,7 @@ impl Experiment {
         ensures spec { self.new.spec ≡ self.old.spec }
         ensures budget { (S.pocket shelf.new owner).budget ≡ (S.pocket shelf.old owner).budget }
         ensures steps { self.new.steps ≤ self.new.spec.budget.steps }
-        ensures watched { self.new.watched ≡ self.old.watched }
+        ensures noted { self.new.noted ≡ self.old.noted }
         ensures others { (o : ℕ) → o ≢ owner → S.pocket shelf.new o ≡ S.pocket shelf.old o }
     {
         records_grow();
@@ -228,35 +218,18 @@ impl Experiment {
         ensures ok { OnOk result (Steps (next_event (view (S.pocket shelf.old owner) self.old) command.now) command.now (S.pocket shelf.old owner) self.old (S.pocket shelf.new owner) self.new) }
         ensures halted { OnErr result (Halts (S.pocket shelf.old owner) self.old (S.pocket shelf.new owner) self.new) }
         ensures housed { IsHousedIn (S.pocket shelf.new owner) self.new }
-        ensures before { OnOk result (self.old.watched ≡ true → (o : Pocket) → self.new.before ≡ dues_in (view o self.old)) }
-        ensures watched { self.new.watched ≡ self.old.watched }
+        ensures noted { self.new.noted ≡ self.old.noted }
         ensures consumed { self.new.consumed ≡ self.old.consumed }
         ensures spec { self.new.spec ≡ self.old.spec }
         ensures budget { (S.pocket shelf.new owner).budget ≡ (S.pocket shelf.old owner).budget }
         ensures others { (o : ℕ) → o ≢ owner → S.pocket shelf.new o ≡ S.pocket shelf.old o }
     {
-        let Ok(()) = self.keep_dues() else {
-            self.ending = Some(Ending::Halted);
-            return Err(NoMemory);
-        };
         let due = self.next_due(command);
         if due.source.class == Class::NextCommand {
             self.take_command(shelf, owner, due, command)
         } else {
             self.take_event(shelf, owner, due, command)
         }
-    }
-
-    // Keeps what is due, where it is watched.
-    fn keep_dues(&mut self) -> Result<(), NoMemory>
-        ensures rest { self.new ≡ record self.old { before = self.new.before } }
-        ensures before { OnOk result (self.old.watched ≡ true → (p : Pocket) → self.new.before ≡ dues_in (view p self.old)) }
-    {
-        if !self.watched {
-            return Ok(());
-        }
-        self.before.clear();
-        append_dues(&self.net, self.next, self.clock, &mut self.before)
     }
 
     // The next event, where this is the next command.
@@ -285,8 +258,7 @@ impl Experiment {
         ensures ok { OnOk result (Steps due command.now (S.pocket shelf.old owner) self.old (S.pocket shelf.new owner) self.new) }
         ensures halted { OnErr result (Halts (S.pocket shelf.old owner) self.old (S.pocket shelf.new owner) self.new) }
         ensures housed { IsHousedIn (S.pocket shelf.new owner) self.new }
-        ensures before { self.new.before ≡ self.old.before }
-        ensures watched { self.new.watched ≡ self.old.watched }
+        ensures noted { self.new.noted ≡ self.old.noted }
         ensures consumed { self.new.consumed ≡ self.old.consumed }
         ensures spec { self.new.spec ≡ self.old.spec }
         ensures budget { (S.pocket shelf.new owner).budget ≡ (S.pocket shelf.old owner).budget }
@@ -327,8 +299,7 @@ impl Experiment {
         ensures ok { OnOk result (Steps due command.now (S.pocket shelf.old owner) self.old (S.pocket shelf.new owner) self.new) }
         ensures halted { OnErr result (Halts (S.pocket shelf.old owner) self.old (S.pocket shelf.new owner) self.new) }
         ensures housed { IsHousedIn (S.pocket shelf.new owner) self.new }
-        ensures before { self.new.before ≡ self.old.before }
-        ensures watched { self.new.watched ≡ self.old.watched }
+        ensures noted { self.new.noted ≡ self.old.noted }
         ensures consumed { self.new.consumed ≡ self.old.consumed }
         ensures spec { self.new.spec ≡ self.old.spec }
         ensures budget { (S.pocket shelf.new owner).budget ≡ (S.pocket shelf.old owner).budget }

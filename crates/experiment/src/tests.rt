@@ -35,10 +35,6 @@ impl Bench {
         Some(Bench { shelf, experiment })
     }
 
-    fn watch(&mut self) {
-        self.experiment.watch();
-    }
-
     fn apply(&mut self, moment: u32, command: Command) -> Result<(), ApplyError> {
         let moment = u64::from(moment);
         self.experiment.apply(&Timed { moment, command })
@@ -92,15 +88,14 @@ impl Bench {
         }
     }
 
-    /// What the last step touched, at the second try where memory was refused.
-    fn touched_in_the_end(&self, alloc: Global) -> Option<Vec<Source>> {
-        let dues = self.dues_in_the_end(alloc)?;
+    /// What was touched since this was asked last, at the second try where memory was refused.
+    fn touched_in_the_end(&mut self, alloc: Global) -> Option<Vec<Source>> {
         let mut sources = Vec::new(alloc);
-        if self.experiment.touched(&dues, &mut sources).is_err() {
+        if self.experiment.touched(&mut sources).is_err() {
             if !sources.is_empty() {
                 return None;
             }
-            self.experiment.touched(&dues, &mut sources).ok()?;
+            self.experiment.touched(&mut sources).ok()?;
         }
         Some(sources)
     }
@@ -257,7 +252,6 @@ fn names(sources: &[Source], due: Due) -> bool {
 #[test]
 fn dues_of_one_packet(rt: HostRuntime) -> Result<(), Fail> {
     let mut bench = sent(rt.alloc()).ok_or("bench")?;
-    bench.watch();
     assert!(rt; bench.apply(20_000_000, Command::End).is_ok());
     let end = due(Class::NextCommand, 0, 20_000_000);
     let finish = due(Class::Finish, 256, 8_000_000);
@@ -266,6 +260,10 @@ fn dues_of_one_packet(rt: HostRuntime) -> Result<(), Fail> {
     assert_eq!(rt; dues.len(), 2);
     assert!(rt; dues[0] == end);
     assert!(rt; dues[1] == finish);
+    let touched = bench.touched_in_the_end(rt.alloc()).ok_or("touched")?;
+    assert!(rt; names(&touched, finish));
+    assert!(rt; names(&touched, end));
+    assert!(rt; bench.experiment.noted() == dues.as_slice());
 
     assert!(rt; bench.event() == Event::Ran);
     let dues = bench.dues_in_the_end(rt.alloc()).ok_or("dues")?;
@@ -360,7 +358,6 @@ fn refused_memory_changes_nothing(rt: HostRuntime) -> Result<(), Fail> {
     let Some(mut bench) = Bench::new(rt.alloc(), 10, 1000) else {
         return Ok(());
     };
-    bench.watch();
     let commands = [
         config().ok_or("config")?,
         rule().ok_or("rule")?,

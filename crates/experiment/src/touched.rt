@@ -1,25 +1,42 @@
-//! Which sources have other dues since the last step.
+//! Which sources have other dues than when that was noted last.
 
-ghost use Rattle.std.specs.Prelude.{◌≡◌, ◌+◌, ◌≤◌, ◌++◌, length, map, take, drop, vec_len, vec_capacity, IsOk, OnOk, OnErr};
-ghost use Rattle.experiment.specs.Dues.{Covers, NamesNoOther};
+ghost use Rattle.std.specs.Prelude.{◌≡◌, ◌+◌, ◌≤◌, ◌++◌, ◌||◌, true, length, map, take, drop, slice_get, vec_len, vec_capacity, Some, IsTrue, OnOk, OnErr};
+ghost use Rattle.emu_model.specs.declared.sources.Due.{Due as Moment};
+ghost use Rattle.emu_model.specs.declared.sources.Source.{Source as From};
+ghost use Rattle.emu_model.specs.Laws.{same_source};
+ghost use Rattle.packet_store.specs.Pocket.{Pocket};
+ghost use Rattle.experiment.specs.Kept.{view};
+ghost use Rattle.experiment.specs.Dues.{dues_in, Covers, NamesNoOther, names};
 
 use crate::Experiment;
+use crate::told::append_dues;
 use emu_model::{Due, Source};
 use queue_disc::NoMemory;
+use std::mem;
 
 impl Experiment {
-    /// Puts into `sources`, in place of what it held, each source whose dues differ between those before
-    /// the last step and `dues`, which is to be what is due now. May name others that have dues, and
-    /// one twice. `watch` has the dues before a step kept; without it there are none. Leaves `sources`
-    /// as it was where memory is refused, and takes none where it has room for as many as both lists
-    /// have.
-    pub fn touched(&self, dues: &[Due], sources: &mut Vec<Source>) -> Result<(), NoMemory>
-        ensures covers { OnOk result (Covers self.now.before dues.now sources.new.items) }
-        ensures no_other { OnOk result (NamesNoOther self.now.before dues.now sources.new.items) }
-        ensures err { OnErr result (sources.new.items ≡ sources.old.items) }
-        ensures succeeds { length self.now.before + length dues.now ≤ vec_capacity sources.old → IsOk result }
+    /// Notes what is due, and puts into `sources`, in place of what it held, each source whose dues differ
+    /// from those that were noted before; none were in a new experiment. May name others that have dues, and
+    /// one twice. Refused memory, it leaves all as it was.
+    pub fn touched(&mut self, sources: &mut Vec<Source>) -> Result<(), NoMemory>
+        ensures covers { OnOk result (Covers self.old.noted self.new.noted sources.new.items) }
+        ensures no_other { OnOk result (NamesNoOther self.old.noted self.new.noted sources.new.items) }
+        ensures noted { OnOk result ((p : Pocket) → self.new.noted ≡ dues_in (view p self.old)) }
+        ensures same { self.new ≡ record self.old { noted = self.new.noted } }
+        ensures err { OnErr result ((sources.new.items ≡ sources.old.items) × (self.new ≡ self.old)) }
     {
-        name_changed(self.before.as_slice(), dues, sources)
+        self.fresh.clear();
+        append_dues(&self.net, self.next, self.clock, &mut self.fresh)?;
+        name_changed(self.noted.as_slice(), self.fresh.as_slice(), sources)?;
+        mem::swap(&mut self.noted, &mut self.fresh);
+        Ok(())
+    }
+
+    /// What was due when that was noted last.
+    pub fn noted(&self) -> &[Due]
+        ensures { result.now ≡ self.now.noted }
+    {
+        self.noted.as_slice()
     }
 }
 
@@ -28,7 +45,6 @@ fn name_changed(old: &[Due], new: &[Due], sources: &mut Vec<Source>) -> Result<(
     ensures covers { OnOk result (Covers old.now new.now sources.new.items) }
     ensures no_other { OnOk result (NamesNoOther old.now new.now sources.new.items) }
     ensures err { OnErr result (sources.new.items ≡ sources.old.items) }
-    ensures succeeds { length old.now + length new.now ≤ vec_capacity sources.old → IsOk result }
 {
     let front = common_front(old, new);
     let (_, gone) = old.split_at(front);
@@ -42,7 +58,7 @@ fn name_changed(old: &[Due], new: &[Due], sources: &mut Vec<Source>) -> Result<(
     };
     sources.clear();
     name_all(gone, sources);
-    name_all(come, sources);
+    name_others(come, gone, sources);
     Ok(())
 }
 
@@ -82,5 +98,30 @@ fn name_all(dues: &[Due], sources: &mut Vec<Source>)
 {
     for due in dues {
         sources.push_reserved(due.source);
+    }
+}
+
+// Whether a place of a list is of a source.
+fn is_of(dues: &[Due], place: usize, source: Source) -> bool
+    ensures { IsTrue result → (d : Moment) × (slice_get dues.now place ≡ Some d) × (same_source d.source source ≡ true) }
+{
+    let Some(due) = dues.get(place) else {
+        return false;
+    };
+    due.source == source
+}
+
+// Appends the sources of dues, but for one that stands at the same place of others, which are named: a due that
+// only moved is named once.
+fn name_others(dues: &[Due], others: &[Due], sources: &mut Vec<Source>)
+    requires room { vec_len sources.old + length dues.now ≤ vec_capacity sources.old }
+    requires named { (s : From) → names s (map (λ d. d.source) others.now) ≡ true → names s sources.old.items ≡ true }
+    ensures { (s : From) → names s sources.new.items ≡ (names s sources.old.items || names s (map (λ d. d.source) dues.now)) }
+{
+    for place in 0..dues.len() {
+        let due = &dues[place];
+        if !is_of(others, place, due.source) {
+            sources.push_reserved(due.source);
+        }
     }
 }

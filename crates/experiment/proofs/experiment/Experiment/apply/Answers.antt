@@ -17,8 +17,7 @@ invariant_of-self-2 c =
       clock = s.clock;
       steps = s.steps;
       ending = s.ending;
-      watched = s.watched;
-      before = s.before.items;
+      noted = s.noted.items;
       spare = vec_capacity s.consumed - vec_len s.consumed;
     } in
     let items : c.push_reserved.new.self.items ≡ s.consumed.items ++ c.args.command.now ∷ [] =

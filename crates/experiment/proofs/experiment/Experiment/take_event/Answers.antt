@@ -15,8 +15,7 @@ invariant_of-self g c =
       clock = s.clock;
       steps = s.steps;
       ending = s.ending;
-      watched = s.watched;
-      before = s.before.items;
+      noted = s.noted.items;
       spare = vec_capacity s.consumed - vec_len s.consumed;
     } in
     sound-halted e s.latest s.held c.event.new.self (g.S.Shelf.pocket c.args.shelf.now c.args.owner) c.self.invariant c.in_default.ensures.refused
