@@ -1,20 +1,20 @@
 -- A command is put, or a letter read: one mail changes.
-use Rattle.std.proofs.Common.{◌≡◌, ◌≢◌, ℕ, ◌+◌, ◌*◌, ◌^◌, ◌<◌, ◌≤◌, List, [], ◌∷◌, ◌++◌, length, map, get_or, set, Option, Some, None, refl, sym, ap, ◌∙◌, arith, subst}
+use Rattle.std.proofs.Common.{◌≡◌, ℕ, ◌<◌, List, [], ◌∷◌, ◌++◌, set, Option, Some, None, refl, sym, ap, ◌∙◌, arith, subst}
 use Rattle.std.proofs.lemmas.List.{set-get_or, append_assoc}
-use Rattle.emu_model.specs.declared.commands.Timed.{Timed}
 use Rattle.emu_model.specs.declared.records.Record.{Record}
 use Rattle.packet_store.specs.Pocket.{Pocket}
 use Rattle.timer_wheel.specs.Rows.{Row}
+use Rattle.shard.specs.Seen.{Seen}
 use Rattle.shard.specs.declared.resident.Resident.{Resident}
 use Rattle.shard.specs.Mails.{MailBook, letters_of}
-use Rattle.shard.specs.Stand.{Stand, Seat, Seating, seat_at, heard_from}
-use Rattle.shard.specs.Seats.{resident_at, standing, seat, seat_of, seats_of, IsSeated, IsShard}
+use Rattle.shard.specs.Stand.{Seat, Seating, heard_from}
+use Rattle.shard.specs.Seats.{resident_at, seat, seat_of, seats_of, IsSeated, IsShard}
 use Rattle.shard.specs.Posts.{with_mail, ChangedMail, Reads}
 use Rattle.shard.proofs.SlotChanges.{IsChanged, stays, seated_at, seat_is}
 
 module _ {M : Type 0} where
-  seated_with : (given : M → List Timed) (letters : M → List Record) (p : Pocket) (row : Row) (clock : ℕ) (r : Resident M) (mail : M) → IsSeated given letters p row clock r → given mail ≡ given r.mail → letters mail ≡ letters r.mail → IsSeated given letters p row clock (record r { mail = mail })
-  seated_with given letters p row clock r mail s g l =
+  seated_with : (seen : M → Seen) (p : Pocket) (row : Row) (clock : ℕ) (r : Resident M) (mail : M) → IsSeated seen p row clock r → (seen mail).given ≡ (seen r.mail).given → (seen mail).letters ≡ (seen r.mail).letters → IsSeated seen p row clock (record r { mail = mail })
+  seated_with seen p row clock r mail s g l =
       let k = s.going.kept in
       record {
         going = record {
@@ -26,36 +26,37 @@ module _ {M : Type 0} where
             told = l ∙ k.told;
             short = k.short;
             heard = k.heard ∙ ap (heard_from []) (sym g);
-            watched = k.watched;
+            few = k.few;
           };
           going = s.going.going;
         };
         entries = s.entries;
+        noted = s.noted;
         ready = s.ready;
         late = s.late;
         below = s.below;
       }
 
   -- a resident with another mail, which gave and took the same
-  pub record HasMail (given : M → List Timed) (letters : M → List Record) (slots : List (Option (Resident M))) (k : ℕ) (r t : Resident M) (mail : M) : Type 0 where
+  pub record HasMail (seen : M → Seen) (slots : List (Option (Resident M))) (k : ℕ) (r t : Resident M) (mail : M) : Type 0 where
     pub is : resident_at slots k ≡ Some r
     pub within : k < 256
     pub same : t ≡ record r { mail = mail }
-    pub given_is : given mail ≡ given r.mail
-    pub letters_is : letters mail ≡ letters r.mail
+    pub given_is : (seen mail).given ≡ (seen r.mail).given
+    pub letters_is : (seen mail).letters ≡ (seen r.mail).letters
 
-  pub mail_changed : (given : M → List Timed) (letters : M → List Record) (pockets : ℕ → Pocket) (rows : ℕ → Row) (clock : ℕ) (slots : List (Option (Resident M))) (k : ℕ) (r t : Resident M) (mail : M) → IsShard given letters pockets rows clock slots → HasMail given letters slots k r t mail → IsChanged given letters pockets pockets rows clock slots (set slots k (Some t)) k (Some t)
-  mail_changed given letters pockets rows clock slots k r t mail s h =
-      let f = seated_at given letters pockets rows clock slots k r s h.is in
-      stays given letters pockets pockets rows rows clock clock slots k r t s
+  pub mail_changed : (seen : M → Seen) (pockets : ℕ → Pocket) (rows : ℕ → Row) (clock : ℕ) (slots : List (Option (Resident M))) (k : ℕ) (r t : Resident M) (mail : M) → IsShard seen pockets rows clock slots → HasMail seen slots k r t mail → IsChanged seen pockets pockets rows clock slots (set slots k (Some t)) k (Some t)
+  mail_changed seen pockets rows clock slots k r t mail s h =
+      let f = seated_at seen pockets rows clock slots k r s h.is in
+      stays seen pockets pockets rows rows clock clock slots k r t s
       (record { on = omega arith; early = s.early })
       (record { is = h.is; within = h.within; rows_stay = λ o n. refl; pockets_stay = λ o n. refl })
-      (subst (IsSeated given letters (pockets r.owner) (rows k) clock) (sym h.same) (seated_with given letters (pockets r.owner) (rows k) clock r mail f h.given_is h.letters_is))
+      (subst (IsSeated seen (pockets r.owner) (rows k) clock) (sym h.same) (seated_with seen (pockets r.owner) (rows k) clock r mail f h.given_is h.letters_is))
       (ap (λ (x : Resident M). x.owner) h.same)
 
-  pub mail_seating : (given : M → List Timed) (letters : M → List Record) (pockets : ℕ → Pocket) (rows : ℕ → Row) (clock : ℕ) (slots : List (Option (Resident M))) (k : ℕ) (r t : Resident M) (mail : M) (old : Seating M) → IsShard given letters pockets rows clock slots → HasMail given letters slots k r t mail → record { seats = seats_of pockets slots; clock = clock } ≡ old → ChangedMail old (record { seats = seats_of pockets (set slots k (Some t)); clock = clock }) k (seat (pockets r.owner) r) mail
-  mail_seating given letters pockets rows clock slots k r t mail old s h v =
-      let c = mail_changed given letters pockets rows clock slots k r t mail s h in
+  pub mail_seating : (seen : M → Seen) (pockets : ℕ → Pocket) (rows : ℕ → Row) (clock : ℕ) (slots : List (Option (Resident M))) (k : ℕ) (r t : Resident M) (mail : M) (old : Seating M) → IsShard seen pockets rows clock slots → HasMail seen slots k r t mail → record { seats = seats_of pockets slots; clock = clock } ≡ old → ChangedMail old (record { seats = seats_of pockets (set slots k (Some t)); clock = clock }) k (seat (pockets r.owner) r) mail
+  mail_seating seen pockets rows clock slots k r t mail old s h v =
+      let c = mail_changed seen pockets rows clock slots k r t mail s h in
       let w : seats_of pockets slots ≡ old.seats = ap (λ (x : Seating M). x.seats) v in
       let e : seats_of pockets (set slots k (Some t)) ≡ set old.seats k (Some (with_mail (seat (pockets r.owner) r) mail)) =
       c.seats

@@ -1,19 +1,17 @@
 -- The time of a shard's agenda begins anew.
-use Rattle.std.proofs.Common.{◌≡◌, ◌≢◌, ℕ, zero, suc, ◌+◌, ◌*◌, ◌^◌, ◌<◌, ◌≤◌, ◌⊎◌, Bool, true, false, List, [], ◌∷◌, ◌++◌, take, drop, length, map, get_or, set, Option, Some, None, IsSome, refl, sym, ap, ◌∙◌, arith, subst, inl, inr}
+use Rattle.std.proofs.Common.{◌≡◌, ◌≢◌, ℕ, ◌<◌, ◌≤◌, ◌⊎◌, List, [], ◌∷◌, ◌++◌, take, drop, length, map, set, Option, Some, None, refl, sym, ap, ◌∙◌, arith, subst, inl, inr}
 use Rattle.std.specs.Prelude.{IfSome, unwrap_or}
 use Rattle.std.proofs.Math.ListN.{get_or-map}
-use Rattle.std.proofs.lemmas.List.{length-map, get_or-set_same, get_or-set_other}
+use Rattle.std.proofs.lemmas.List.{length-map}
 use Rattle.std.proofs.Math.Seq.{map-set_same}
-use Rattle.emu_model.specs.declared.commands.Timed.{Timed}
-use Rattle.emu_model.specs.declared.records.Record.{Record}
-use Rattle.emu_model.specs.declared.sources.Source.{Source}
 use Rattle.packet_store.specs.Pocket.{Pocket}
 use Rattle.timer_wheel.specs.Rows.{Row, no_dues}
+use Rattle.shard.specs.Seen.{Seen}
 use Rattle.shard.specs.declared.resident.Resident.{Resident}
-use Rattle.shard.specs.Stand.{Stand, Seat, Seating, seat_at, stand_in, stands_of}
-use Rattle.shard.specs.Seats.{resident_at, standing, seat, seat_of, seats_of, parked, IsSeated, Fits, AreApart, IsShard}
+use Rattle.shard.specs.Stand.{Seat, seat_at, stand_in, stands_of}
+use Rattle.shard.specs.Seats.{resident_at, seat, seat_of, seats_of, parked, IsSeated, Fits, AreApart, IsShard}
 use Rattle.shard.proofs.Slots.{seat_at-seats_of}
-use Rattle.shard.proofs.SlotChanges.{GoesOn, IsAloneAt, IsChanged, stays, seated_at, seat_is}
+use Rattle.shard.proofs.SlotChanges.{IsChanged, stays, seated_at, seat_is}
 use Rattle.shard.proofs.SeatFacts.{seat_written}
 use Rattle.shard.specs.Kept.{IsGoing}
 
@@ -34,11 +32,12 @@ at_start None clock z h = inl refl
 at_start (Some x) clock z h = let e : x ≡ 0 = omega (arith, z, h) in inr (ap (λ (n : ℕ). let s : Option ℕ = Some n in s) e)
 
 module _ {M : Type 0} where
-  parked_fits : (given : M → List Timed) (letters : M → List Record) (pockets : ℕ → Pocket) (row later : Row) (clock : ℕ) (o : Option (Resident M)) → later ≡ no_dues → Fits given letters pockets row clock o → Fits given letters pockets later 0 (parked o)
-  parked_fits given letters pockets row later clock None e f = λ s. ap (λ (w : Row). w s) e
-  parked_fits given letters pockets row later clock (Some r) e f = record {
+  parked_fits : (seen : M → Seen) (pockets : ℕ → Pocket) (row later : Row) (clock : ℕ) (o : Option (Resident M)) → later ≡ no_dues → Fits seen pockets row clock o → Fits seen pockets later 0 (parked o)
+  parked_fits seen pockets row later clock None e f = λ s. ap (λ (w : Row). w s) e
+  parked_fits seen pockets row later clock (Some r) e f = record {
     going = f.going;
     entries = λ s. ap (λ (w : Row). w s) e;
+    noted = λ h. absurd (cc);
     ready = λ h. absurd (cc);
     late = tt;
     below = λ x d e. tt;
@@ -54,10 +53,10 @@ module _ {M : Type 0} where
   parked_at slots k = get_or-map parked slots k None
 
   -- everybody is parked
-  pub IsShard-parked : (given : M → List Timed) (letters : M → List Record) (pockets : ℕ → Pocket) (rows later : ℕ → Row) (clock time : ℕ) (slots : List (Option (Resident M))) → IsShard given letters pockets rows clock slots → ((o : ℕ) → later o ≡ no_dues) → time ≡ 0 → IsShard given letters pockets later time (map parked slots)
-  IsShard-parked given letters pockets rows later clock time slots s none z =
-      subst (λ t. IsShard given letters pockets later t (map parked slots)) (sym z) (record {
-        each = λ k. subst (Fits given letters pockets (later k) 0) (sym (parked_at slots k)) (parked_fits given letters pockets (rows k) (later k) clock (resident_at slots k) (none k) (s.each k));
+  pub IsShard-parked : (seen : M → Seen) (pockets : ℕ → Pocket) (rows later : ℕ → Row) (clock time : ℕ) (slots : List (Option (Resident M))) → IsShard seen pockets rows clock slots → ((o : ℕ) → later o ≡ no_dues) → time ≡ 0 → IsShard seen pockets later time (map parked slots)
+  IsShard-parked seen pockets rows later clock time slots s none z =
+      subst (λ t. IsShard seen pockets later t (map parked slots)) (sym z) (record {
+        each = λ k. subst (Fits seen pockets (later k) 0) (sym (parked_at slots k)) (parked_fits seen pockets (rows k) (later k) clock (resident_at slots k) (none k) (s.each k));
         apart = λ i j n.
             subst (λ a. AreApart a (resident_at (map parked slots) j)) (sym (parked_at slots i))
             (subst (AreApart (parked (resident_at slots i))) (sym (parked_at slots j)) (parked_apart (resident_at slots i) (resident_at slots j) (s.apart i j n)));
@@ -83,26 +82,26 @@ module _ {M : Type 0} where
       parked_seat pockets (resident_at slots k) s (sym (seat_at-seats_of pockets (map parked slots) k ∙ ap (seat_of pockets) (parked_at slots k)) ∙ h)
 
   -- a resident whose entries are set anew
-  pub record Enters (given : M → List Timed) (letters : M → List Record) (rows later : ℕ → Row) (clock time : ℕ) (slots : List (Option (Resident M))) (k : ℕ) (r t : Resident M) : Type 0 where
+  pub record Enters (seen : M → Seen) (rows later : ℕ → Row) (clock time : ℕ) (slots : List (Option (Resident M))) (k : ℕ) (r t : Resident M) : Type 0 where
     pub is : resident_at slots k ≡ Some r
     pub within : k < 256
-    pub same : t ≡ record r { offset = t.offset }
-    pub seated : (p : Pocket) → IsGoing given letters p r.experiment r.published r.mail → IsSeated given letters p (later k) clock t
+    pub same : t ≡ record r { experiment = record r.experiment { noted = t.experiment.noted }; offset = t.offset }
+    pub seated : (p : Pocket) → IsGoing seen p r.experiment r.published r.mail → IsSeated seen p (later k) clock t
     pub others : (o : ℕ) → o ≢ k → later o ≡ rows o
     pub stays : time ≡ clock
 
-  pub entered : (given : M → List Timed) (letters : M → List Record) (pockets : ℕ → Pocket) (rows later : ℕ → Row) (clock time : ℕ) (slots : List (Option (Resident M))) (k : ℕ) (r t : Resident M) → IsShard given letters pockets rows clock slots → Enters given letters rows later clock time slots k r t → IsChanged given letters pockets pockets later time slots (set slots k (Some t)) k (Some t)
-  entered given letters pockets rows later clock time slots k r t s e =
-      let f = seated_at given letters pockets rows clock slots k r s e.is in
-      stays given letters pockets pockets rows later clock time slots k r t s
+  pub entered : (seen : M → Seen) (pockets : ℕ → Pocket) (rows later : ℕ → Row) (clock time : ℕ) (slots : List (Option (Resident M))) (k : ℕ) (r t : Resident M) → IsShard seen pockets rows clock slots → Enters seen rows later clock time slots k r t → IsChanged seen pockets pockets later time slots (set slots k (Some t)) k (Some t)
+  entered seen pockets rows later clock time slots k r t s e =
+      let f = seated_at seen pockets rows clock slots k r s e.is in
+      stays seen pockets pockets rows later clock time slots k r t s
       (record { on = omega (arith, e.stays); early = omega (arith, e.stays, s.early) })
       (record { is = e.is; within = e.within; rows_stay = e.others; pockets_stay = λ o n. refl })
-      (subst (λ c. IsSeated given letters (pockets r.owner) (later k) c t) (sym e.stays) (e.seated (pockets r.owner) f.going))
+      (subst (λ c. IsSeated seen (pockets r.owner) (later k) c t) (sym e.stays) (e.seated (pockets r.owner) f.going))
       (ap (λ (x : Resident M). x.owner) e.same)
 
-  pub stands-entered : (given : M → List Timed) (letters : M → List Record) (pockets : ℕ → Pocket) (rows later : ℕ → Row) (clock time : ℕ) (slots : List (Option (Resident M))) (k : ℕ) (r t : Resident M) → IsShard given letters pockets rows clock slots → Enters given letters rows later clock time slots k r t → stands_of (seats_of pockets (set slots k (Some t))) ≡ stands_of (seats_of pockets slots)
-  stands-entered given letters pockets rows later clock time slots k r t s e =
-      let h = entered given letters pockets rows later clock time slots k r t s e in
+  pub stands-entered : (seen : M → Seen) (pockets : ℕ → Pocket) (rows later : ℕ → Row) (clock time : ℕ) (slots : List (Option (Resident M))) (k : ℕ) (r t : Resident M) → IsShard seen pockets rows clock slots → Enters seen rows later clock time slots k r t → stands_of (seats_of pockets (set slots k (Some t))) ≡ stands_of (seats_of pockets slots)
+  stands-entered seen pockets rows later clock time slots k r t s e =
+      let h = entered seen pockets rows later clock time slots k r t s e in
       let there : seat_at (seats_of pockets slots) k ≡ Some (seat (pockets r.owner) r) = seat_is pockets slots (seats_of pockets slots) k r refl e.is in
       let alike : stand_in (seat_of pockets (Some t)) ≡ stand_in (seat_at (seats_of pockets slots) k) =
       ap (λ (x : Resident M). stand_in (seat_of pockets (Some x))) e.same ∙ ap stand_in (sym there) in

@@ -1,6 +1,6 @@
 -- A row of entries, source by source.
 use Rattle.std.proofs.Common.{◌≡◌, ℕ, ◌+◌, ◌*◌, ◌^◌, ◌<◌, ◌≤◌, Bool, true, false, cond, nat_eq, List, [], ◌∷◌, Option, Some, None, refl, sym, ap, ◌∙◌, arith}
-use Rattle.std.specs.Prelude.{filter, ◌==◌, ◌&&◌}
+use Rattle.std.specs.Prelude.{◌&&◌}
 use Rattle.std.specs.List.{list_any, AllByRecursion}
 use Rattle.std.proofs.lemmas.Bool.Decides.{nat_tests}
 use Rattle.emu_model.specs.declared.sources.Due.{Due}
@@ -30,19 +30,15 @@ row_at : (o : ℕ) (ds : List Due) (s : Source) → row_of o ds s ≡ row_of o (
 row_at o [] s = refl
 row_at o (d ∷ ds) s = row_more o d ds s (same_source d.source s) refl (row_at o ds s)
 
--- what was touched was set again, and the source whose entry was popped; all others' dues are as before
-pub set_again : (o : ℕ) (before now : List Due) (named : List Source) (popped s : Source) (row0 row1 row2 : Option ℕ) → Covers before now named →
-    row0 ≡ cond (same_source s popped) None (row_of o before s) →
-    row1 ≡ cond (same_source s popped) (row_of o now s) row0 →
-    row2 ≡ cond (list_any (λ t. same_source t s) named) (row_of o now s) row1 → row2 ≡ row_of o now s
-set_again o before now named popped s row0 row1 row2 covers was one all =
-    go (same_source s popped) (list_any (λ t. same_source t s) named) refl was one all
+-- what was touched was set again; all others' dues are as before
+pub set_again : (o : ℕ) (before now : List Due) (named : List Source) (s : Source) (row0 row1 : Option ℕ) → Covers before now named →
+    row0 ≡ row_of o before s →
+    row1 ≡ cond (list_any (λ t. same_source t s) named) (row_of o now s) row0 → row1 ≡ row_of o now s
+set_again o before now named s row0 row1 covers was all = go (list_any (λ t. same_source t s) named) refl all
   where
-    go : (p n : Bool) → list_any (λ t. same_source t s) named ≡ n → row0 ≡ cond p None (row_of o before s) →
-        row1 ≡ cond p (row_of o now s) row0 → row2 ≡ cond n (row_of o now s) row1 → row2 ≡ row_of o now s
-    go p true e w x y = y
-    go true false e w x y = y ∙ x
-    go false false e w x y = y ∙ x ∙ w ∙ row_at o before s ∙ ap (λ (ds : List Due). row_of o ds s) (covers s e) ∙ sym (row_at o now s)
+    go : (n : Bool) → list_any (λ t. same_source t s) named ≡ n → row1 ≡ cond n (row_of o now s) row0 → row1 ≡ row_of o now s
+    go true e x = x
+    go false e x = x ∙ was ∙ row_at o before s ∙ ap (λ (ds : List Due). row_of o ds s) (covers s e) ∙ sym (row_at o now s)
 
 -- an entry is its due and the offset
 pub entry-below : (clock o : ℕ) (ds : List Due) → AllByRecursion (λ d. (clock ≤ d.moment) × (d.moment < 2 * 10 ^ 15)) ds → (s : Source) (x : ℕ) → row_of o ds s ≡ Some x → x < o + 2 * 10 ^ 15

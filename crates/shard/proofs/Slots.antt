@@ -1,18 +1,14 @@
 -- One slot of a shard changes.
-use Rattle.std.proofs.Common.{◌≡◌, ◌≢◌, ℕ, zero, suc, ◌+◌, ◌*◌, ◌^◌, ◌<◌, ◌≤◌, Bool, true, false, List, [], ◌∷◌, length, map, get_or, set, Option, Some, None, IsSome, refl, sym, ap, ◌∙◌, arith, subst, inl, inr}
+use Rattle.std.proofs.Common.{◌≡◌, ◌≢◌, ℕ, zero, suc, ◌+◌, ◌*◌, ◌^◌, ◌<◌, ◌≤◌, List, [], ◌∷◌, length, map, get_or, set, Option, Some, None, refl, sym, ap, ◌∙◌, arith, subst, inl, inr}
 use Rattle.std.specs.Prelude.{IfSome}
 use Rattle.std.proofs.lemmas.Bool.{cases_eq, cases_lt}
 use Rattle.std.proofs.lemmas.List.{get_or-set_same, get_or-set_other, get_or_past, length-set}
-use Rattle.emu_model.specs.declared.commands.Timed.{Timed}
-use Rattle.emu_model.specs.declared.records.Record.{Record}
-use Rattle.emu_model.specs.declared.sources.Source.{Source}
 use Rattle.packet_store.specs.Pocket.{Pocket}
-use Rattle.timer_wheel.specs.Rows.{Row, no_dues}
+use Rattle.timer_wheel.specs.Rows.{Row}
+use Rattle.shard.specs.Seen.{Seen}
 use Rattle.shard.specs.declared.resident.Resident.{Resident}
-use Rattle.shard.specs.Stand.{Stand, Seat, seat_at}
-use Rattle.shard.specs.Kept.{dues_kept}
-use Rattle.shard.specs.Entries.{entries_of}
-use Rattle.shard.specs.Seats.{resident_at, standing, seat, seat_of, seats_of, IsSeated, Fits, AreApart, IsShard}
+use Rattle.shard.specs.Stand.{Seat, seat_at}
+use Rattle.shard.specs.Seats.{resident_at, seat, seat_of, seats_of, IsSeated, Fits, AreApart, IsShard}
 
 -- a write over a write
 pub set-set : {X : Type 0} (xs : List X) (k : ℕ) (x y : X) → set (set xs k x) k y ≡ set xs k y
@@ -59,12 +55,13 @@ module _ {M : Type 0} where
   seat_at-seats_of pockets (o ∷ os) zero = refl
   seat_at-seats_of pockets (o ∷ os) (suc k) = seat_at-seats_of pockets os k
 
-  Fits-keeps : (given : M → List Timed) (letters : M → List Record) (before after : ℕ → Pocket) (row later : Row) (clock time : ℕ) (o : Option (Resident M)) → KeepsOwner before after o → later ≡ row → clock ≤ time → Fits given letters before row clock o → Fits given letters after later time o
-  Fits-keeps given letters before after row later clock time None k e c f = λ s. ap (λ (w : Row). w s) e ∙ f s
-  Fits-keeps given letters before after row later clock time (Some r) k e c f =
-      subst (λ (p : Pocket). IsSeated given letters p later time r) (sym k) (record {
+  Fits-keeps : (seen : M → Seen) (before after : ℕ → Pocket) (row later : Row) (clock time : ℕ) (o : Option (Resident M)) → KeepsOwner before after o → later ≡ row → clock ≤ time → Fits seen before row clock o → Fits seen after later time o
+  Fits-keeps seen before after row later clock time None k e c f = λ s. ap (λ (w : Row). w s) e ∙ f s
+  Fits-keeps seen before after row later clock time (Some r) k e c f =
+      subst (λ (p : Pocket). IsSeated seen p later time r) (sym k) (record {
         going = f.going;
         entries = λ s. ap (λ (w : Row). w s) e ∙ f.entries s;
+        noted = f.noted;
         ready = f.ready;
         late = late-later r.offset clock time c f.late;
         below = λ s d is. f.below s d (sym (ap (λ (w : Row). w s) e) ∙ is);
@@ -77,13 +74,13 @@ module _ {M : Type 0} where
   AreApart-sym (Some r) (Some s) h = λ e. h (sym e)
 
   -- a shard after one slot changed, and time went on
-  pub IsShard-set : (given : M → List Timed) (letters : M → List Record) (before after : ℕ → Pocket) (rows later : ℕ → Row) (clock time : ℕ) (slots : List (Option (Resident M))) (k : ℕ) (x : Option (Resident M)) → IsShard given letters before rows clock slots → k < 256 → clock ≤ time → time < 2 ^ 62 + 2 * 10 ^ 15 → Fits given letters after (later k) time x → ((j : ℕ) → j ≢ k → later j ≡ rows j) → ((j : ℕ) → j ≢ k → KeepsOwner before after (resident_at slots j)) → ((j : ℕ) → j ≢ k → AreApart x (resident_at slots j)) → IsShard given letters after later time (set slots k x)
-  IsShard-set given letters before after rows later clock time slots k x s within on early fits same keeps apart =
+  pub IsShard-set : (seen : M → Seen) (before after : ℕ → Pocket) (rows later : ℕ → Row) (clock time : ℕ) (slots : List (Option (Resident M))) (k : ℕ) (x : Option (Resident M)) → IsShard seen before rows clock slots → k < 256 → clock ≤ time → time < 2 ^ 62 + 2 * 10 ^ 15 → Fits seen after (later k) time x → ((j : ℕ) → j ≢ k → later j ≡ rows j) → ((j : ℕ) → j ≢ k → KeepsOwner before after (resident_at slots j)) → ((j : ℕ) → j ≢ k → AreApart x (resident_at slots j)) → IsShard seen after later time (set slots k x)
+  IsShard-set seen before after rows later clock time slots k x s within on early fits same keeps apart =
       let inside : k < length slots = omega (arith, within, s.long) in
       record {
         each = λ j. elim (cases_eq j k) [
-          | inl e ↦ subst (λ i. Fits given letters after (later i) time (resident_at (set slots k x) i)) (sym e) (subst (Fits given letters after (later k) time) (sym (get_or-set_same slots k x None inside)) fits)
-          | inr n ↦ subst (Fits given letters after (later j) time) (sym (get_or-set_other slots k j x None n)) (Fits-keeps given letters before after (rows j) (later j) clock time (resident_at slots j) (keeps j n) (same j n) on (s.each j))
+          | inl e ↦ subst (λ i. Fits seen after (later i) time (resident_at (set slots k x) i)) (sym e) (subst (Fits seen after (later k) time) (sym (get_or-set_same slots k x None inside)) fits)
+          | inr n ↦ subst (Fits seen after (later j) time) (sym (get_or-set_other slots k j x None n)) (Fits-keeps seen before after (rows j) (later j) clock time (resident_at slots j) (keeps j n) (same j n) on (s.each j))
         ];
         apart = λ i j n. elim (cases_eq i k) [
           | inl ik ↦ (let jk : j ≢ k = λ e. n (ik ∙ sym e) in

@@ -1,9 +1,7 @@
--- What a turn does to the resident whose entry was popped.
-use Rattle.std.proofs.Common.{◌≡◌, ◌≢◌, ℕ, ◌+◌, ◌*◌, ◌^◌, ◌<◌, ◌≤◌, Bool, true, false, cond, List, set, Option, Some, None, IsSome, refl, sym, ap, ◌∙◌, arith, subst}
+-- What a turn does to the resident whose entry is least.
+use Rattle.std.proofs.Common.{◌≡◌, ◌≢◌, ℕ, ◌+◌, ◌*◌, ◌^◌, ◌<◌, ◌≤◌, true, false, cond, List, set, Option, Some, None, IsSome, sym, ap, ◌∙◌, arith, subst}
 use Rattle.std.specs.Prelude.{IfSome, unwrap_or}
 use denote.Enum.Bare.{sameb}
-use Rattle.emu_model.specs.declared.commands.Timed.{Timed}
-use Rattle.emu_model.specs.declared.records.Record.{Record}
 use Rattle.emu_model.specs.declared.records.Ending.{Ending}
 use Rattle.emu_model.specs.declared.sources.Source.{Source}
 use Rattle.emu_model.specs.Laws.{same_source}
@@ -15,11 +13,13 @@ use Rattle.experiment.specs.contracts.experiment.Event.{the_type}
 use Rattle.experiment.specs.declared.experiment.Event.{Event}
 use Rattle.experiment.specs.declared.experiment.Event.TheVariants.{Ran, Ended, Halted, Still}
 use Rattle.experiment.specs.Kept.{view, shown_ending}
+use Rattle.shard.specs.Seen.{Seen, IsToldMore, IsPublished}
 use Rattle.shard.specs.declared.resident.Resident.{Resident}
-use Rattle.shard.specs.Stand.{Stand, Final}
+use Rattle.shard.specs.Stand.{Final}
+use Rattle.shard.specs.Entries.{entries_of}
 use Rattle.shard.specs.Kept.{dues_kept}
 use Rattle.shard.specs.Seats.{resident_at, standing, IsSeated, IsShard}
-use Rattle.shard.specs.Steps.{IsPopped, IsLeaving, Steps}
+use Rattle.shard.specs.Steps.{IsLeast, IsLeaving, Steps}
 use Rattle.shard.specs.Turns.{IsTurn, IsEnd, last_state}
 use Rattle.shard.proofs.Slots.{late-later}
 use Rattle.shard.proofs.SlotChanges.{seated_at, runs, IsAloneAt, GoesOn, IsChanged, stays, leaves}
@@ -28,16 +28,18 @@ within_limit : (o : Option ℕ) (clock due : ℕ) → IsSome o → IfSome o (λ 
 within_limit None clock due some late below early = absurd (cc)
 within_limit (Some x) clock due some late below early = omega (arith, late, below, early)
 
-module _ {M : Type 0} (given : M → List Timed) (letters : M → List Record) where
-  -- the resident whose entry was popped
-  pub popped : (pockets : ℕ → Pocket) (rows : ℕ → Row) (clock : ℕ) (slots : List (Option (Resident M))) (k : ℕ) (r : Resident M) (source : Source) (due : ℕ) (row : Row) (time : ℕ) → IsShard given letters pockets rows clock slots → resident_at slots k ≡ Some r → rows k source ≡ Some due → row ≡ without_due (rows k) source → time ≡ due → clock ≤ time → clock < 2 ^ 62 → IsPopped given letters (pockets r.owner) row time source r
-  popped pockets rows clock slots k r source due row time s is was taken at on early =
-      let f = seated_at given letters pockets rows clock slots k r s is in
+module _ {M : Type 0} (seen : M → Seen) where
+  -- the resident whose entry is least
+  pub least : (pockets : ℕ → Pocket) (rows : ℕ → Row) (clock : ℕ) (slots : List (Option (Resident M))) (k : ℕ) (r : Resident M) (source : Source) (due : ℕ) (row : Row) (time : ℕ) →
+      IsShard seen pockets rows clock slots → resident_at slots k ≡ Some r → rows k source ≡ Some due → row ≡ rows k → time ≡ due → clock ≤ time → clock < 2 ^ 62 →
+      IsLeast seen (pockets r.owner) row time r
+  least pockets rows clock slots k r source due row time s is was same at on early =
+      let f = seated_at seen pockets rows clock slots k r s is in
       let running : IsSome r.offset = runs r.offset (dues_kept r.experiment) source due (sym (f.entries source) ∙ was) in
       record {
         going = f.going;
         next = f.ready running;
-        entries = λ x. ap (λ (w : Row). w x) taken ∙ ap (λ v. cond (same_source x source) None v) (f.entries x);
+        entries = λ x. ap (λ (w : Row). w x) same ∙ f.entries x ∙ ap (λ ds. entries_of r.offset ds x) (sym (f.noted running));
         ready = running;
         late = late-later r.offset clock time on f.late;
         early = subst (λ t. t < 2 ^ 62 + 2 * 10 ^ 15) (sym at) (within_limit r.offset clock due running f.late (f.below source due was) early);
@@ -45,24 +47,24 @@ module _ {M : Type 0} (given : M → List Timed) (letters : M → List Record) w
 
   -- it stays
   pub record Stayed (p : Pocket) (old : Resident M) (q : Pocket) (row : Row) (clock : ℕ) (new : Resident M) : Type 0 where
-    pub seated : IsSeated given letters q row clock new
+    pub seated : IsSeated seen q row clock new
     pub owner : new.owner ≡ old.owner
-    pub turn : IsTurn given (standing p old) (standing q new)
+    pub turn : IsTurn seen (standing p old) (standing q new)
 
-  pub stayed : (a : Event) (p : Pocket) (old : Resident M) (q : Pocket) (row : Row) (clock : ℕ) (new : Resident M) → sameb the_type a Ran ≡ true → Steps given letters a p old q row clock new → Stayed p old q row clock new
+  pub stayed : (a : Event) (p : Pocket) (old : Resident M) (q : Pocket) (row : Row) (clock : ℕ) (new : Resident M) → sameb the_type a Ran ≡ true → Steps seen a p old q row clock new → Stayed p old q row clock new
   stayed Ran p old q row clock new e s = record { seated = s.0; owner = s.1; turn = s.2 }
   stayed Ended p old q row clock new e s = absurd (cc)
   stayed Halted p old q row clock new e s = absurd (cc)
   stayed Still p old q row clock new e s = absurd s
 
   -- it has ended
-  pub over : (a : Event) (p : Pocket) (old : Resident M) (q : Pocket) (row : Row) (clock : ℕ) (new : Resident M) → sameb the_type a Ran ≡ false → Steps given letters a p old q row clock new → (e : Ending) × IsLeaving given letters p q e old new
+  pub over : (a : Event) (p : Pocket) (old : Resident M) (q : Pocket) (row : Row) (clock : ℕ) (new : Resident M) → sameb the_type a Ran ≡ false → Steps seen a p old q row clock new → (e : Ending) × IsLeaving seen p q e old new
   over Ran p old q row clock new e s = absurd (cc)
   over Ended p old q row clock new e s = s
   over Halted p old q row clock new e s = s
   over Still p old q row clock new e s = absurd s
 
-  pub ended : (p q : Pocket) (e : Ending) (old new : Resident M) (d : Final M) → IsLeaving given letters p q e old new → new.experiment.ending ≡ Some d.ending →
+  pub ended : (p q : Pocket) (e : Ending) (old new : Resident M) (d : Final M) → IsLeaving seen p q e old new → new.experiment.ending ≡ Some d.ending →
       (let s = view q new.experiment in d ≡ record {
         name = new.name;
         spec = new.experiment.spec;
@@ -72,9 +74,10 @@ module _ {M : Type 0} (given : M → List Timed) (letters : M → List Record) w
         ending = d.ending;
         events = s.steps;
         mail = new.mail;
-      }) → IsEnd given (standing p old) d
+      }) → IsEnd seen (standing p old) d
   ended p q e old new d l ends rest =
       let same : e ≡ d.ending = ap (λ (o : Option Ending). unwrap_or o e) (sym l.ending_is ∙ ends) in
+      let mail : d.mail ≡ new.mail = ap (λ (x : Final M). x.mail) rest in
       let state : view q new.experiment ≡ last_state d.ending (view p old.experiment) = l.state ∙ ap (λ x. last_state x (view p old.experiment)) same in
       record {
         name = ap (λ (x : Final M). x.name) rest ∙ l.name;
@@ -84,7 +87,8 @@ module _ {M : Type 0} (given : M → List Timed) (letters : M → List Record) w
         counters = ap (λ (x : Final M). x.counters) rest ∙ ap (λ (s : State). counters_of s.net) state;
         events = ap (λ (x : Final M). x.events) rest ∙ ap (λ (s : State). s.steps) state;
         ending = sym (ap shown_ending ends) ∙ ap (λ (s : State). s.ending) state;
-        given_is = ap (λ (x : Final M). given x.mail) rest ∙ l.given_is;
+        mail = subst (IsToldMore seen old.mail) (sym mail) l.mail;
+        published = subst (λ (x : Final M). IsPublished seen x.records x.mail) (sym rest) l.published;
       }
 
 -- a resident's call, before it and after it, with the agenda's rows and clock
@@ -92,21 +96,21 @@ pub record Called {M : Type 0} (before after : ℕ → Pocket) (rows later : ℕ
   pub at : IsAloneAt before after rows later slots k r
   pub on : GoesOn clock time
 
-module _ {M : Type 0} (given : M → List Timed) (letters : M → List Record) where
+module _ {M : Type 0} (seen : M → Seen) where
   -- the resident of a slot made a step and stays
-  pub ran : (before after : ℕ → Pocket) (rows later : ℕ → Row) (clock middle time : ℕ) (slots : List (Option (Resident M))) (k : ℕ) (r t : Resident M) (event : Event) → IsShard given letters before rows clock slots → Called before after rows later clock time slots k r → time ≡ middle → sameb the_type event Ran ≡ true → Steps given letters event (before r.owner) r (after r.owner) (later k) middle t →
-      IsChanged given letters before after later time slots (set slots k (Some t)) k (Some t) × IsTurn given (standing (before r.owner) r) (standing (after t.owner) t)
+  pub ran : (before after : ℕ → Pocket) (rows later : ℕ → Row) (clock middle time : ℕ) (slots : List (Option (Resident M))) (k : ℕ) (r t : Resident M) (event : Event) → IsShard seen before rows clock slots → Called before after rows later clock time slots k r → time ≡ middle → sameb the_type event Ran ≡ true → Steps seen event (before r.owner) r (after r.owner) (later k) middle t →
+      IsChanged seen before after later time slots (set slots k (Some t)) k (Some t) × IsTurn seen (standing (before r.owner) r) (standing (after t.owner) t)
   ran before after rows later clock middle time slots k r t event s a same e steps =
-      let m = stayed given letters event (before r.owner) r (after r.owner) (later k) middle t e steps in
-      let seated : IsSeated given letters (after r.owner) (later k) time t = subst (λ x. IsSeated given letters (after r.owner) (later k) x t) (sym same) m.seated in (
-        stays given letters before after rows later clock time slots k r t s a.on a.at seated m.owner,
-        subst (λ o. IsTurn given (standing (before r.owner) r) (standing (after o) t)) (sym m.owner) m.turn,
+      let m = stayed seen event (before r.owner) r (after r.owner) (later k) middle t e steps in
+      let seated : IsSeated seen (after r.owner) (later k) time t = subst (λ x. IsSeated seen (after r.owner) (later k) x t) (sym same) m.seated in (
+        stays seen before after rows later clock time slots k r t s a.on a.at seated m.owner,
+        subst (λ o. IsTurn seen (standing (before r.owner) r) (standing (after o) t)) (sym m.owner) m.turn,
       )
 
   -- the resident of a slot has ended and goes
-  pub gone : (before after last : ℕ → Pocket) (rows later : ℕ → Row) (clock time : ℕ) (slots : List (Option (Resident M))) (k : ℕ) (r : Resident M) → IsShard given letters before rows clock slots → Called before after rows later clock time slots k r → later k ≡ no_dues → ((o : ℕ) → o ≢ r.owner → last o ≡ after o) →
-      IsChanged given letters before last later time slots (set slots k None) k None
+  pub gone : (before after last : ℕ → Pocket) (rows later : ℕ → Row) (clock time : ℕ) (slots : List (Option (Resident M))) (k : ℕ) (r : Resident M) → IsShard seen before rows clock slots → Called before after rows later clock time slots k r → later k ≡ no_dues → ((o : ℕ) → o ≢ r.owner → last o ≡ after o) →
+      IsChanged seen before last later time slots (set slots k None) k None
   gone before after last rows later clock time slots k r s a none stay =
-      leaves given letters before last rows later clock time slots k r s a.on
+      leaves seen before last rows later clock time slots k r s a.on
       (record { is = a.at.is; within = a.at.within; rows_stay = a.at.rows_stay; pockets_stay = λ o n. stay o n ∙ a.at.pockets_stay o n })
       none

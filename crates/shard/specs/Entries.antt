@@ -1,5 +1,5 @@
 -- What stands on an agenda for an experiment's dues.
-use Rattle.std.specs.Prelude.{◌≡◌, ℕ, ◌+◌, ◌≤◌, ◌<◌, ◌^◌, List, [], ◌∷◌, Option, Some, None}
+use Rattle.std.specs.Prelude.{ℕ, ◌+◌, ◌≤◌, ◌<◌, ◌^◌, List, [], ◌∷◌, Option, Some, None}
 use Rattle.std.specs.List.{AllByRecursion}
 use Rattle.emu_model.specs.declared.sources.Due.{Due}
 use Rattle.timer_wheel.specs.Rows.{Row, no_dues, with_due}

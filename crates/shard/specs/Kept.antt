@@ -1,14 +1,13 @@
 -- What an experiment that stands somewhere keeps over its packets.
 use Rattle.std.specs.Prelude.{◌≡◌, ℕ, ◌≤◌, ◌<◌, true, None, List, [], length, take}
 use Rattle.emu_model.specs.declared.commands.Spec.{Spec}
-use Rattle.emu_model.specs.declared.commands.Timed.{Timed}
 use Rattle.emu_model.specs.Step.{opening}
-use Rattle.emu_model.specs.declared.records.Record.{Record}
 use Rattle.packet_store.specs.Pocket.{Pocket}
 use Rattle.packet_store.specs.Pocket.{empty_pocket}
 use Rattle.emu_model.specs.declared.sources.Due.{Due}
 use Rattle.experiment.specs.Kept.{KeptExperiment, view, IsHousedIn, IsAlone}
 use Rattle.experiment.specs.Dues.{dues_in}
+use Rattle.shard.specs.Seen.{Seen}
 use Rattle.shard.specs.Stand.{Stand, heard_from}
 
 -- an experiment over its packets, as it stands
@@ -22,23 +21,23 @@ stand_of p name e published mail = record {
   mail = mail;
 }
 
-pub record IsKept {M : Type 0} (given : M → List Timed) (letters : M → List Record) (p : Pocket) (e : KeptExperiment) (published : ℕ) (mail : M) : Type 0 where
+pub record IsKept {M : Type 0} (seen : M → Seen) (p : Pocket) (e : KeptExperiment) (published : ℕ) (mail : M) : Type 0 where
   pub housed : IsHousedIn p e
   pub budget : p.budget ≡ e.spec.budget.packets
   pub some : 0 < e.spec.budget.packets
   pub alone : IsAlone p e
-  pub told : letters mail ≡ take published e.net.log.records
+  pub told : (seen mail).letters ≡ take published e.net.log.records
   pub short : published ≤ length e.net.log.records
-  pub heard : e.consumed ≡ heard_from [] (given mail)
-  pub watched : e.watched ≡ true
+  pub heard : e.consumed ≡ heard_from [] (seen mail).given
+  pub few : e.steps ≤ e.spec.budget.steps
 
 -- what is due doesn't rest on packets, so any pocket serves
 abbrev pub dues_kept : KeptExperiment → List Due
 dues_kept e = dues_in (view (empty_pocket 0) e)
 
 -- one that goes on
-pub record IsGoing {M : Type 0} (given : M → List Timed) (letters : M → List Record) (p : Pocket) (e : KeptExperiment) (published : ℕ) (mail : M) : Type 0 where
-  pub kept : IsKept given letters p e published mail
+pub record IsGoing {M : Type 0} (seen : M → Seen) (p : Pocket) (e : KeptExperiment) (published : ℕ) (mail : M) : Type 0 where
+  pub kept : IsKept seen p e published mail
   pub going : e.ending ≡ None
 
 -- one to which no command came
@@ -49,4 +48,4 @@ pub record IsNew (spec : Spec) (e : KeptExperiment) : Type 0 where
   pub spec_is : e.spec ≡ spec
   pub consumed : e.consumed ≡ []
   pub going : e.ending ≡ None
-  pub watched : e.watched ≡ true
+  pub steps : e.steps ≡ 0

@@ -1,3 +1,4 @@
+pub mod Seen
 pub mod Stand
 pub mod Entries
 pub mod Kept

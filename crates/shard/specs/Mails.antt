@@ -1,9 +1,10 @@
 -- What a contract sees of a mail of two lists.
-use Rattle.std.specs.Prelude.{◌≡◌, ℕ, ◌≤◌, ◌^◌, ◌++◌, List, length, map}
+use Rattle.std.specs.Prelude.{◌++◌, ◌==◌, List, length, map}
 use Rattle.emu_model.specs.declared.commands.Timed.{Timed}
 use Rattle.emu_model.specs.declared.records.Record.{Record}
 use Rattle.shard.specs.declared.list_mail.Posted.{Posted}
 use Rattle.shard.specs.declared.list_mail.News.{News}
+use Rattle.shard.specs.Seen.{Seen}
 
 -- the commands that it gave, those that wait, the letters that were read, and those that weren't
 pub record MailBook : Type 0 where
@@ -15,6 +16,20 @@ pub record MailBook : Type 0 where
 -- all letters that it took
 abbrev pub letters_of : MailBook → List Record
 letters_of m = m.read ++ m.unread
+
+-- all commands that were put into it
+abbrev pub posted_of : MailBook → List Timed
+posted_of m = m.given ++ m.waiting
+
+abbrev pub mail_seen : MailBook → Seen
+mail_seen m = record {
+  given = m.given;
+  letters = letters_of m;
+  posted = posted_of m;
+  read = m.read;
+  dry = length m.waiting == 0;
+  full = length m.unread == 64;
+}
 
 abbrev pub commands_of : List Posted → List Timed
 commands_of ps = map (λ p. p.timed) ps

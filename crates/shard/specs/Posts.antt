@@ -1,11 +1,11 @@
 -- What putting a command and reading a letter do to a seat.
-use Rattle.std.specs.Prelude.{◌≡◌, ℕ, ◌<◌, List, [], ◌∷◌, ◌++◌, length, Option, Some, None, slice_set}
+use Rattle.std.specs.Prelude.{◌≡◌, ℕ, [], ◌∷◌, ◌++◌, length, Option, Some, None, slice_set}
 use Rattle.emu_model.specs.declared.commands.Timed.{Timed}
 use Rattle.emu_model.specs.declared.records.Record.{Record}
 use Rattle.shard.specs.declared.posts.PostError.{PostError}
 use Rattle.shard.specs.declared.posts.PostError.TheVariants.{Vacant, Full}
 use Rattle.shard.specs.Mails.{MailBook}
-use Rattle.shard.specs.Stand.{Stand, Seat, Seating, seat_at}
+use Rattle.shard.specs.Stand.{Seat, Seating, seat_at}
 
 -- the same seat with another mail
 abbrev pub with_mail : {M : Type 0} → Seat M → M → Seat M

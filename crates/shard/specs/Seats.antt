@@ -1,10 +1,9 @@
 -- The residents of a shard, and their seats.
 use Rattle.std.specs.Prelude.{◌≡◌, ◌≢◌, ℕ, ◌+◌, ◌*◌, ◌^◌, ◌<◌, ◌≤◌, List, length, map, Option, Some, None, IsSome, IfSome, slice_index_or}
-use Rattle.emu_model.specs.declared.commands.Timed.{Timed}
-use Rattle.emu_model.specs.declared.records.Record.{Record}
 use Rattle.emu_model.specs.declared.sources.Source.{Source}
 use Rattle.packet_store.specs.Pocket.{Pocket}
 use Rattle.timer_wheel.specs.Rows.{Row}
+use Rattle.shard.specs.Seen.{Seen}
 use Rattle.shard.specs.declared.resident.Resident.{Resident}
 use Rattle.shard.specs.Stand.{Stand, Seat}
 use Rattle.shard.specs.Entries.{entries_of}
@@ -33,16 +32,17 @@ module _ {M : Type 0} where
   seats_of pockets slots = map (seat_of pockets) slots
 
   -- a resident over its packets and its row of the agenda
-  pub record IsSeated (given : M → List Timed) (letters : M → List Record) (p : Pocket) (row : Row) (clock : ℕ) (r : Resident M) : Type 0 where
-    pub going : IsGoing given letters p r.experiment r.published r.mail
+  pub record IsSeated (seen : M → Seen) (p : Pocket) (row : Row) (clock : ℕ) (r : Resident M) : Type 0 where
+    pub going : IsGoing seen p r.experiment r.published r.mail
     pub entries : (s : Source) → row s ≡ entries_of r.offset (dues_kept r.experiment) s
+    pub noted : IsSome r.offset → r.experiment.noted ≡ dues_kept r.experiment
     pub ready : IsSome r.offset → IsSome r.experiment.next
     pub late : IfSome r.offset (λ o. o ≤ clock)
     pub below : (s : Source) (d : ℕ) → row s ≡ Some d → IfSome r.offset (λ o. d < o + 2 * 10 ^ 15)
 
-  abbrev pub Fits : (M → List Timed) → (M → List Record) → (ℕ → Pocket) → Row → ℕ → Option (Resident M) → Type 0
-  Fits given letters pockets row clock None = (s : Source) → row s ≡ None
-  Fits given letters pockets row clock (Some r) = IsSeated given letters (pockets r.owner) row clock r
+  abbrev pub Fits : (M → Seen) → (ℕ → Pocket) → Row → ℕ → Option (Resident M) → Type 0
+  Fits seen pockets row clock None = (s : Source) → row s ≡ None
+  Fits seen pockets row clock (Some r) = IsSeated seen (pockets r.owner) row clock r
 
   -- residents have different owners
   abbrev pub AreApart : Option (Resident M) → Option (Resident M) → Type 0
@@ -50,8 +50,8 @@ module _ {M : Type 0} where
   AreApart (Some r) None = Unit {0}
   AreApart (Some r) (Some s) = r.owner ≢ s.owner
 
-  pub record IsShard (given : M → List Timed) (letters : M → List Record) (pockets : ℕ → Pocket) (rows : ℕ → Row) (clock : ℕ) (slots : List (Option (Resident M))) : Type 0 where
-    pub each : (k : ℕ) → Fits given letters pockets (rows k) clock (resident_at slots k)
+  pub record IsShard (seen : M → Seen) (pockets : ℕ → Pocket) (rows : ℕ → Row) (clock : ℕ) (slots : List (Option (Resident M))) : Type 0 where
+    pub each : (k : ℕ) → Fits seen pockets (rows k) clock (resident_at slots k)
     pub apart : (i j : ℕ) → i ≢ j → AreApart (resident_at slots i) (resident_at slots j)
     pub long : length slots ≡ 256
     pub early : clock < 2 ^ 62 + 2 * 10 ^ 15

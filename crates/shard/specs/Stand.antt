@@ -9,6 +9,7 @@ use Rattle.emu_model.specs.Net.{counters_of}
 use Rattle.emu_model.specs.Step.{State, opening}
 use Rattle.emu_model.specs.Alone.{alone}
 use Rattle.experiment.specs.Kept.{last_moment, shown_ending}
+use Rattle.shard.specs.Seen.{Seen}
 
 -- a resident, or a parcel: its name, what it was given, the commands that came, the state that it shows, how
 -- many records were published, and its mail
@@ -60,20 +61,23 @@ module _ {M : Type 0} where
 
   -- it shows the state of running it alone on the commands that came; its mail gave these, and took the first
   -- of the records
-  pub record IsTold (given : M → List Timed) (letters : M → List Record) (s : Stand M) : Type 0 where
+  pub record IsTold (seen : M → Seen) (s : Stand M) : Type 0 where
     pub shown : s.state ≡ alone s.spec s.consumed s.state.steps
-    pub told : letters s.mail ≡ take s.published s.state.net.records
+    pub told : (seen s.mail).letters ≡ take s.published s.state.net.records
     pub short : s.published ≤ length s.state.net.records
-    pub heard : s.consumed ≡ heard_from [] (given s.mail)
+    pub heard : s.consumed ≡ heard_from [] (seen s.mail).given
+    pub few : s.state.steps ≤ s.spec.budget.steps
 
   -- what an ended one keeps: its records and counters are those of running it alone
-  pub record IsFinal (given : M → List Timed) (letters : M → List Record) (d : Final M) (published : ℕ) : Type 0 where
+  pub record IsFinal (seen : M → Seen) (d : Final M) (published : ℕ) : Type 0 where
     pub records : d.records ≡ (alone d.spec d.commands d.events).net.records
     pub counters : d.counters ≡ counters_of (alone d.spec d.commands d.events).net
     pub ending : shown_ending (Some d.ending) ≡ (alone d.spec d.commands d.events).ending
-    pub told : letters d.mail ≡ take published d.records
+    pub told : (seen d.mail).letters ≡ take published d.records
     pub short : published ≤ length d.records
-    pub heard : d.commands ≡ heard_from [] (given d.mail)
+    pub heard : d.commands ≡ heard_from [] (seen d.mail).given
+    pub few : d.events ≤ d.spec.budget.steps
+    pub made : (alone d.spec d.commands d.events).steps ≡ d.events
 
 -- one to which no command came
 abbrev pub opened_stand : {M : Type 0} → ℕ → Spec → M → Stand M

@@ -1,13 +1,13 @@
 -- What the answers of a shard say, on its seats.
-use Rattle.std.specs.Prelude.{◌≡◌, ℕ, ◌+◌, ◌^◌, ◌<◌, ◌≤◌, ◌⊎◌, Bool, true, false, if◌then◌else◌, List, [], ◌∷◌, ◌++◌, Option, Some, None, IsSome, slice_set}
+use Rattle.std.specs.Prelude.{◌≡◌, ℕ, ◌+◌, ◌^◌, ◌<◌, ◌≤◌, ◌⊎◌, true, [], ◌∷◌, ◌++◌, Some, None, IsSome, slice_set}
 use Rattle.emu_model.specs.declared.commands.Timed.{Timed}
-use Rattle.emu_model.specs.declared.records.Record.{Record}
 use Rattle.emu_model.specs.declared.records.Ending.{Ending}
 use Rattle.emu_model.specs.declared.records.Ending.TheVariants.{Ended as ByEnd, Spent, Halted}
 use Rattle.emu_model.specs.Net.{counters_of}
 use Rattle.emu_model.specs.Step.{State, step}
 use Rattle.emu_model.specs.Laws.{with_more}
-use Rattle.experiment.specs.Kept.{shown_ending}
+use Rattle.experiment.specs.Kept.{last_moment, shown_ending}
+use Rattle.shard.specs.Seen.{Seen, IsToldMore, IsPublished}
 use Rattle.shard.specs.declared.shard.Turned.{Turned}
 use Rattle.shard.specs.declared.shard.Turned.TheVariants.{Ran, Ended, Idle}
 use Rattle.shard.specs.declared.shard.Polled.{Polled}
@@ -23,14 +23,15 @@ pub record SameView {M : Type 0} (s t : Stand M) : Type 0 where
   pub consumed : t.consumed ≡ s.consumed
   pub state : t.state ≡ s.state
 
--- one step was made, and perhaps records were published
-pub record IsTurn {M : Type 0} (given : M → List Timed) (s t : Stand M) : Type 0 where
+-- one step was made, and records were published
+pub record IsTurn {M : Type 0} (seen : M → Seen) (s t : Stand M) : Type 0 where
   pub name : t.name ≡ s.name
   pub spec : t.spec ≡ s.spec
   pub consumed : t.consumed ≡ s.consumed
   pub state : t.state ≡ step s.state
   pub made : t.state.steps ≡ s.state.steps + 1
-  pub given_is : given t.mail ≡ given s.mail
+  pub mail : IsToldMore seen s.mail t.mail
+  pub published : IsPublished seen t.state.net.records t.mail
 
 -- the state in which an experiment ends: after its last step, or as it was where it was halted
 abbrev pub last_state : Ending → State → State
@@ -39,7 +40,7 @@ last_state Spent s = step s
 last_state Halted s = s
 
 -- an experiment ended
-pub record IsEnd {M : Type 0} (given : M → List Timed) (s : Stand M) (d : Final M) : Type 0 where
+pub record IsEnd {M : Type 0} (seen : M → Seen) (s : Stand M) (d : Final M) : Type 0 where
   pub name : d.name ≡ s.name
   pub spec : d.spec ≡ s.spec
   pub commands : d.commands ≡ s.consumed
@@ -47,7 +48,8 @@ pub record IsEnd {M : Type 0} (given : M → List Timed) (s : Stand M) (d : Fina
   pub counters : d.counters ≡ counters_of (last_state d.ending s.state).net
   pub events : d.events ≡ (last_state d.ending s.state).steps
   pub ending : shown_ending (Some d.ending) ≡ (last_state d.ending s.state).ending
-  pub given_is : given d.mail ≡ given s.mail
+  pub mail : IsToldMore seen s.mail d.mail
+  pub published : IsPublished seen d.records d.mail
 
 -- the time of the agenda began anew: nobody is shown otherwise
 pub record IsRebased {M : Type 0} (old new : Seating M) : Type 0 where
@@ -60,30 +62,30 @@ abbrev pub Settles : {M : Type 0} → Seating M → Seating M → Type 0
 Settles old new = (new ≡ old) ⊎ ((2 ^ 62 ≤ old.clock) × IsRebased old new)
 
 -- the resident of a slot made a step, and every other slot is as before
-pub record RanAt {M : Type 0} (given : M → List Timed) (name : ℕ) (old new : Seating M) (slot : ℕ) (s t : Seat M) : Type 0 where
+pub record RanAt {M : Type 0} (seen : M → Seen) (name : ℕ) (old new : Seating M) (slot : ℕ) (s t : Seat M) : Type 0 where
   pub was : seat_at old.seats slot ≡ Some s
   pub name_is : s.stand.name ≡ name
   pub ready : IsSome s.offset
-  pub turn : IsTurn given s.stand t.stand
+  pub turn : IsTurn seen s.stand t.stand
   pub others : new.seats ≡ slice_set old.seats slot (Some t)
 
 -- the resident of a slot ended
-pub record EndedAt {M : Type 0} (given : M → List Timed) (d : Final M) (old new : Seating M) (slot : ℕ) (s : Seat M) : Type 0 where
+pub record EndedAt {M : Type 0} (seen : M → Seen) (d : Final M) (old new : Seating M) (slot : ℕ) (s : Seat M) : Type 0 where
   pub was : seat_at old.seats slot ≡ Some s
   pub ready : IsSome s.offset
-  pub end : IsEnd given s.stand d
+  pub end : IsEnd seen s.stand d
   pub others : new.seats ≡ slice_set old.seats slot None
 
 -- one turn
-abbrev pub Turns : {M : Type 0} → (M → List Timed) → Turned M → Seating M → Seating M → Type 0
-Turns {M} given (Ran name) old new = (slot : ℕ) × (s : Seat M) × (t : Seat M) × RanAt given name old new slot s t
-Turns {M} given (Ended d) old new = (slot : ℕ) × (s : Seat M) × EndedAt given d old new slot s
-Turns {M} given Idle old new =
+abbrev pub Turns : {M : Type 0} → (M → Seen) → Turned M → Seating M → Seating M → Type 0
+Turns {M} seen (Ran name) old new = (slot : ℕ) × (s : Seat M) × (t : Seat M) × RanAt seen name old new slot s t
+Turns {M} seen (Ended d) old new = (slot : ℕ) × (s : Seat M) × EndedAt seen d old new slot s
+Turns {M} seen Idle old new =
     (new ≡ old) × ((slot : ℕ) (s : Seat M) → seat_at old.seats slot ≡ Some s → s.offset ≡ None)
 
 -- one turn, before which the time may have begun anew
-abbrev pub TurnsSettled : {M : Type 0} → (M → List Timed) → Turned M → Seating M → Seating M → Type 0
-TurnsSettled {M} given answer old new = (mid : Seating M) × Settles old mid × Turns given answer mid new
+abbrev pub TurnsSettled : {M : Type 0} → (M → Seen) → Turned M → Seating M → Seating M → Type 0
+TurnsSettled {M} seen answer old new = (mid : Seating M) × Settles old mid × Turns seen answer mid new
 
 -- a parcel came to the least vacant slot
 pub record TakenIn {M : Type 0} (parcel : Stand M) (old new : Seating M) (slot : ℕ) (s : Seat M) : Type 0 where
@@ -91,6 +93,7 @@ pub record TakenIn {M : Type 0} (parcel : Stand M) (old new : Seating M) (slot :
   pub inside : slot < 256
   pub least : (k : ℕ) → k < slot → IsSome (seat_at old.seats k)
   pub same : s.stand ≡ parcel
+  pub there : seat_at new.seats slot ≡ Some s
   pub others : new.seats ≡ slice_set old.seats slot (Some s)
 
 -- the parcel comes back; no slot is vacant where it is said so
@@ -104,35 +107,53 @@ pub record PackedAt {M : Type 0} (parcel : Stand M) (old new : Seating M) (slot 
   pub same : parcel ≡ s.stand
   pub others : new.seats ≡ slice_set old.seats slot None
 
+-- a command came out of a mail, after letters were put into it
+pub record Gives {M : Type 0} (seen : M → Seen) (old : M) (c : Timed) (new : M) : Type 0 where
+  pub given : (seen new).given ≡ (seen old).given ++ c ∷ []
+  pub posted : (seen new).posted ≡ (seen old).posted
+  pub read : (seen new).read ≡ (seen old).read
+
 -- the next command came
-pub record TookNext {M : Type 0} (given : M → List Timed) (s t : Stand M) (c : Timed) : Type 0 where
+pub record TookNext {M : Type 0} (seen : M → Seen) (s t : Stand M) (c : Timed) : Type 0 where
   pub name : t.name ≡ s.name
   pub spec : t.spec ≡ s.spec
-  pub given_is : given t.mail ≡ given s.mail ++ c ∷ []
+  pub mail : Gives seen s.mail c t.mail
   pub waits : s.state.left ≡ []
   pub consumed : t.consumed ≡ s.consumed ++ c ∷ []
   pub state : t.state ≡ with_more (c ∷ []) s.state
 
+-- no command came that could be consumed: none is known to wait, or its moment was below the last one
+abbrev pub NothingCame : {M : Type 0} → (M → Seen) → Stand M → Stand M → Type 0
+NothingCame seen s t =
+    (((seen t.mail).dry ≡ true) × (seen t.mail ≡ record (seen s.mail) {
+      letters = (seen t.mail).letters;
+      dry = (seen t.mail).dry;
+      full = (seen t.mail).full;
+    }))
+    ⊎ ((c : Timed) × (c.moment < last_moment 0 s.consumed) × Gives seen s.mail c t.mail)
+
 -- a poll: where a command was taken it stands last and is next; else what is shown stays
-abbrev pub Polls : {M : Type 0} → (M → List Timed) → Polled → Seat M → Seat M → Type 0
-Polls {M} given Vacant s t = ⊥
-Polls {M} given (Took n) s t = (s.stand.name ≡ n) × ((c : Timed) × TookNext given s.stand t.stand c)
-Polls {M} given (Resumed n) s t =
-    (s.stand.name ≡ n) × SameView s.stand t.stand × (given t.stand.mail ≡ given s.stand.mail) × (s.offset ≡ None) × IsSome t.offset
-Polls {M} given (Held n) s t =
-    (s.stand.name ≡ n) × SameView s.stand t.stand × (given t.stand.mail ≡ given s.stand.mail) × IsSome s.offset × (t.offset ≡ s.offset)
-Polls {M} given (Empty n) s t = (s.stand.name ≡ n) × SameView s.stand t.stand × (s.stand.state.left ≡ []) × (t.offset ≡ s.offset)
-Polls {M} given (NoMemory n) s t =
-    (s.stand.name ≡ n) × SameView s.stand t.stand × (given t.stand.mail ≡ given s.stand.mail) × (s.offset ≡ None) × (t.offset ≡ None)
+abbrev pub Polls : {M : Type 0} → (M → Seen) → Polled → Seat M → Seat M → Type 0
+Polls {M} seen Vacant s t = ⊥
+Polls {M} seen (Took n) s t = (s.stand.name ≡ n) × ((c : Timed) × TookNext seen s.stand t.stand c)
+Polls {M} seen (Resumed n) s t =
+    (s.stand.name ≡ n) × SameView s.stand t.stand × IsToldMore seen s.stand.mail t.stand.mail × (s.offset ≡ None) × IsSome t.offset
+Polls {M} seen (Held n) s t =
+    (s.stand.name ≡ n) × SameView s.stand t.stand × IsToldMore seen s.stand.mail t.stand.mail × IsSome s.offset × (t.offset ≡ s.offset)
+Polls {M} seen (Empty n) s t =
+    (s.stand.name ≡ n) × SameView s.stand t.stand × NothingCame seen s.stand t.stand × (s.stand.state.left ≡ []) × (t.offset ≡ s.offset)
+Polls {M} seen (NoMemory n) s t =
+    (s.stand.name ≡ n) × SameView s.stand t.stand × IsToldMore seen s.stand.mail t.stand.mail × (s.offset ≡ None) × (t.offset ≡ None)
 
 -- the resident of a slot was polled, and every other slot is as before
-pub record PolledAt {M : Type 0} (given : M → List Timed) (answer : Polled) (old new : Seating M) (slot : ℕ) (s t : Seat M) : Type 0 where
+pub record PolledAt {M : Type 0} (seen : M → Seen) (answer : Polled) (old new : Seating M) (slot : ℕ) (s t : Seat M) : Type 0 where
   pub was : seat_at old.seats slot ≡ Some s
-  pub polls : Polls given answer s t
+  pub polls : Polls seen answer s t
+  pub published : IsPublished seen t.stand.state.net.records t.stand.mail
   pub others : new ≡ record old { seats = slice_set old.seats slot (Some t) }
 
 -- a poll of a slot, if somebody stands there
-abbrev pub IsPoll : {M : Type 0} → (M → List Timed) → Polled → Seating M → Seating M → ℕ → Type 0
-IsPoll {M} given answer old new slot =
+abbrev pub IsPoll : {M : Type 0} → (M → Seen) → Polled → Seating M → Seating M → ℕ → Type 0
+IsPoll {M} seen answer old new slot =
     ((answer ≡ Vacant) × (new ≡ old) × (seat_at old.seats slot ≡ None))
-    ⊎ ((s t : Seat M) × PolledAt given answer old new slot s t)
+    ⊎ ((s t : Seat M) × PolledAt seen answer old new slot s t)

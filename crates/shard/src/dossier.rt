@@ -1,8 +1,10 @@
 //! What ended experiments leave.
 
-ghost use Rattle.std.specs.Prelude.{◌≡◌, List};
+ghost use Rattle.std.specs.Prelude.{◌≡◌, ◌≤◌, ℕ, List, [], take, Some};
 ghost use Rattle.emu_model.specs.Net.{counters_of};
 ghost use Rattle.emu_model.specs.Alone.{alone};
+ghost use Rattle.experiment.specs.Kept.{shown_ending};
+ghost use Rattle.shard.specs.Stand.{heard_from};
 
 use crate::list_mail::ListMail;
 use crate::mail::Mail;
@@ -41,7 +43,7 @@ impl<M: Mail> Model for Dossier<M> {
       mail = d.mail;
     } };
 
-    ghost invariant = { λ d. IsFinal M.given M.letters (record {
+    ghost invariant = { λ d. IsFinal M.seen (record {
       name = d.name;
       spec = d.spec;
       commands = d.commands.items;
@@ -103,12 +105,37 @@ impl<M: Mail> Dossier<M> {
         self.events
     }
 
-    /// What every dossier keeps: its records and counters are those of running it alone.
+    /// The commands that came, and what was recorded.
+    pub fn into_lists(self) -> (Vec<Timed>, Vec<Record>)
+        ensures commands { result.0.items ≡ self.commands }
+        ensures records { result.1.items ≡ self.records }
+    {
+        let Dossier {
+            name: _,
+            spec: _,
+            commands,
+            records,
+            counters: _,
+            ending: _,
+            events: _,
+            mail: _,
+            published: _,
+        } = self;
+        (commands, records)
+    }
+
+    /// What every dossier keeps: its records and counters are those of running it alone on the commands that came,
+    /// which its mail gave; the letters that its mail took are the first of its records.
     pub fn known(&self)
         ensures records { self.now.records ≡ (alone self.now.spec self.now.commands self.now.events).net.records }
         ensures counters { self.now.counters ≡ counters_of (alone self.now.spec self.now.commands self.now.events).net }
+        ensures ending { shown_ending (Some self.now.ending) ≡ (alone self.now.spec self.now.commands self.now.events).ending }
+        ensures few { self.now.events ≤ self.now.spec.budget.steps }
+        ensures made { (alone self.now.spec self.now.commands self.now.events).steps ≡ self.now.events }
+        ensures heard { self.now.commands ≡ heard_from [] (M.seen self.now.mail).given }
+        ensures told { (published : ℕ) × ((M.seen self.now.mail).letters ≡ take published self.now.records) }
     {
-        let _ = &self.name;
+        let _ = &self.published;
     }
 }
 

@@ -10,10 +10,9 @@ ghost use Rattle.shard.specs.Entries.{row_of, AreSettable};
 use emu_model::{Due, Source};
 use timer_wheel::Agenda;
 
-/// Room for what is looked at between two steps: what is due, and which sources were touched.
+/// Room for what is looked at between two steps: which sources were touched.
 #[derive(Drop)]
 pub(crate) struct Scratch {
-    pub(crate) dues: Vec<Due>,
     pub(crate) sources: Vec<Source>,
 }
 

@@ -2,7 +2,7 @@
 
 ghost use Rattle.std.specs.Prelude.{◌≡◌, ◌≤◌, ◌<◌, ◌^◌, [], ◌∷◌, ◌++◌, length, IfOk, IfErr, OnOk, OnErr, IfSome, IfNone, IsOk};
 ghost use Rattle.rtrb.specs.Ring.{sent, received, known_items, known_free, producer_capacity, IsPair};
-ghost use Rattle.shard.specs.Mails.{letters_of};
+ghost use Rattle.shard.specs.Mails.{mail_seen};
 
 use crate::mail::Mail;
 use emu_model::{Record, Timed};
@@ -109,9 +109,7 @@ impl ListMail {
 }
 
 impl Mail for ListMail {
-    ghost given = { λ m. m.given };
-
-    ghost letters = { letters_of };
+    ghost seen = { mail_seen };
 
     fn take_command(&mut self) -> Option<Timed> {
         if self.commands.slots_beside(&mut self.put) == 0 {

@@ -40,15 +40,14 @@ impl<M: Mail> Model for Parcel<M> {
 
     ghost view = { λ p. stand_of (own_pocket p.shelf) p.name p.experiment p.published p.mail };
 
-    ghost invariant = { λ p. IsGoing M.given M.letters (own_pocket p.shelf) p.experiment p.published p.mail };
+    ghost invariant = { λ p. IsGoing M.seen (own_pocket p.shelf) p.experiment p.published p.mail };
 }
 
-// An experiment to which no command came, and whose dues before each step are kept.
-fn watched(alloc: Global, spec: Spec) -> Result<Experiment, NoMemory>
+// An experiment to which no command came.
+fn unused(alloc: Global, spec: Spec) -> Result<Experiment, NoMemory>
     ensures { IfOk result (IsNew spec) }
 {
-    let mut experiment = Experiment::new(alloc, spec)?;
-    experiment.watch();
+    let experiment = Experiment::new(alloc, spec)?;
     Ok(experiment)
 }
 
@@ -56,11 +55,11 @@ impl<M: Mail> Parcel<M> {
     /// An experiment to which no command came, and whose mail gave and took nothing yet. Refused for want of
     /// memory, the mail comes back.
     pub fn open(alloc: Global, name: u32, spec: Spec, mail: M) -> Result<Self, Unopened<M>>
-        requires given { M.given mail ≡ [] }
-        requires letters { M.letters mail ≡ [] }
+        requires given { (M.seen mail).given ≡ [] }
+        requires letters { (M.seen mail).letters ≡ [] }
         ensures { MatchResult result (λ p. p ≡ opened_stand name spec mail) (λ e. e.mail ≡ mail) }
     {
-        match watched(alloc, spec) {
+        match unused(alloc, spec) {
             Ok(experiment) => {
                 let packets = experiment.spec().budget.packets;
                 // At least one.
@@ -114,7 +113,7 @@ impl<M: Mail> Parcel<M> {
 
     /// What every parcel keeps: it shows the state of running it alone.
     pub fn known(&self)
-        ensures { IsTold M.given M.letters self.now }
+        ensures { IsTold M.seen self.now }
     {
         let _ = &self.name;
     }

@@ -7,10 +7,11 @@ ghost use Rattle.emu_model.specs.Laws.{same_source};
 ghost use Rattle.packet_store.specs.Pocket.{Pocket};
 ghost use Rattle.experiment.specs.Kept.{IsAlone};
 ghost use Rattle.shard.specs.Entries.{row_of};
+ghost use Rattle.shard.specs.Seen.{IsToldMore, IsPublished};
 ghost use Rattle.shard.specs.Kept.{dues_kept};
 
 use crate::dossier::Dossier;
-use crate::entries::{Scratch, enter, renew, renew_all};
+use crate::entries::{Scratch, enter, renew_all};
 use crate::mail::Mail;
 use crate::parcel::Parcel;
 use crate::shard::Polled;
@@ -33,16 +34,17 @@ pub(crate) struct Resident<M: Mail> {
 
 // Publishes records while the mail takes them, and answers how many are published.
 fn publish<M: Mail>(mail: &mut M, records: &[Record], published: usize) -> usize
-    requires told { M.letters mail.old ≡ take published records.now }
+    requires told { (M.seen mail.old).letters ≡ take published records.now }
     requires short { published ≤ length records.now }
-    ensures told { M.letters mail.new ≡ take result records.now }
+    ensures told { (M.seen mail.new).letters ≡ take result records.now }
     ensures short { result ≤ length records.now }
-    ensures given { M.given mail.new ≡ M.given mail.old }
+    ensures published { IsPublished M.seen records.now mail.new }
+    ensures same { IsToldMore M.seen mail.old mail.new }
 {
     for next in published..records.len() {
-        if mail.letter(records[next]).is_err() {
+        let Ok(()) = mail.letter(records[next]) else {
             return next;
-        }
+        };
     }
     records.len()
 }
@@ -60,16 +62,16 @@ impl<M: Mail> Resident<M> {
     ghost use Rattle.shard.specs.Kept.{IsKept, IsGoing};
     ghost use Rattle.shard.specs.Seats.{IsSeated, standing, seat};
     ghost use Rattle.shard.specs.Turns.{Polls};
-    ghost use Rattle.shard.specs.Steps.{IsPopped, IsStale, Steps};
+    ghost use Rattle.shard.specs.Steps.{IsLeast, IsStale, Steps};
 
     // Sets its entries anew, from the agenda's clock on. Parked where it has no next command, or where memory
     // is refused.
     pub(crate) fn enter<A: Agenda>(&mut self, agenda: &mut A, slot: usize, scratch: &mut Scratch)
         requires alone { (p : Pocket) × IsAlone p self.old.experiment }
         requires early { A.time agenda.old < 2 ^ 62 + 2 * 10 ^ 15 }
-        ensures seated { (p : Pocket) → IsGoing M.given M.letters p self.old.experiment self.old.published self.old.mail
-            → IsSeated M.given M.letters p (A.entries agenda.new slot) (A.time agenda.old) self.new }
-        ensures same { self.new ≡ record self.old { offset = self.new.offset } }
+        ensures seated { (p : Pocket) → IsGoing M.seen p self.old.experiment self.old.published self.old.mail
+            → IsSeated M.seen p (A.entries agenda.new slot) (A.time agenda.old) self.new }
+        ensures same { self.new ≡ record self.old { experiment = record self.old.experiment { noted = self.new.experiment.noted }; offset = self.new.offset } }
         ensures offset { IfSome self.new.offset (λ o. o ≡ A.time agenda.old - self.old.experiment.clock) }
         ensures others { (o : ℕ) → o ≢ slot → A.entries agenda.new o ≡ A.entries agenda.old o }
         ensures time { A.time agenda.new ≡ A.time agenda.old }
@@ -80,28 +82,26 @@ impl<M: Mail> Resident<M> {
             return;
         }
         self.experiment.dues_in_time();
-        scratch.dues.clear();
-        let Ok(()) = self.experiment.add_dues(&mut scratch.dues) else {
+        let Ok(()) = self.experiment.touched(&mut scratch.sources) else {
             agenda.clear_owner(slot);
             return;
         };
         let offset = agenda.clock().saturating_sub(self.experiment.clock());
-        if enter(agenda, slot, scratch.dues.as_slice(), offset) {
+        if enter(agenda, slot, self.experiment.noted(), offset) {
             self.offset = Some(offset);
         }
     }
 
-    // Makes one step, whose entry was popped from the agenda.
+    // Makes one step, whose entry is the agenda's least.
     pub(crate) fn step<A: Agenda>(
         &mut self,
         store: &mut Store,
         agenda: &mut A,
         slot: usize,
-        source: Source,
         scratch: &mut Scratch,
     ) -> Event
-        requires popped { IsPopped M.given M.letters (pocket_of store.old self.old.owner) (A.entries agenda.old slot) (A.time agenda.old) source self.old }
-        ensures steps { Steps M.given M.letters result (pocket_of store.old self.old.owner) self.old (pocket_of store.new self.old.owner) (A.entries agenda.new slot) (A.time agenda.old) self.new }
+        requires least { IsLeast M.seen (pocket_of store.old self.old.owner) (A.entries agenda.old slot) (A.time agenda.old) self.old }
+        ensures steps { Steps M.seen result (pocket_of store.old self.old.owner) self.old (pocket_of store.new self.old.owner) (A.entries agenda.new slot) (A.time agenda.old) self.new }
         ensures others { (o : ℕ) → o ≢ self.old.owner → pocket_of store.new o ≡ pocket_of store.old o }
         ensures rows { (o : ℕ) → o ≢ slot → A.entries agenda.new o ≡ A.entries agenda.old o }
         ensures time { A.time agenda.new ≡ A.time agenda.old }
@@ -109,7 +109,7 @@ impl<M: Mail> Resident<M> {
         let event = self.experiment.event(store, self.owner);
         self.published = publish(&mut self.mail, self.experiment.records(), self.published);
         if event == Event::Ran {
-            self.set_again(agenda, slot, source, scratch);
+            self.set_again(agenda, slot, scratch);
         }
         event
     }
@@ -121,11 +121,12 @@ impl<M: Mail> Resident<M> {
         slot: usize,
         scratch: &mut Scratch,
     ) -> Polled
-        requires seated { (p : Pocket) × IsSeated M.given M.letters p (A.entries agenda.old slot) (A.time agenda.old) self.old }
+        requires seated { (p : Pocket) × IsSeated M.seen p (A.entries agenda.old slot) (A.time agenda.old) self.old }
         requires early { A.time agenda.old < 2 ^ 62 + 2 * 10 ^ 15 }
-        ensures seated { (p : Pocket) → IsSeated M.given M.letters p (A.entries agenda.old slot) (A.time agenda.old) self.old
-            → IsSeated M.given M.letters p (A.entries agenda.new slot) (A.time agenda.old) self.new }
-        ensures polls { (p : Pocket) → Polls M.given result (seat p self.old) (seat p self.new) }
+        ensures seated { (p : Pocket) → IsSeated M.seen p (A.entries agenda.old slot) (A.time agenda.old) self.old
+            → IsSeated M.seen p (A.entries agenda.new slot) (A.time agenda.old) self.new }
+        ensures polls { (p : Pocket) → Polls M.seen result (seat p self.old) (seat p self.new) }
+        ensures published { IsPublished M.seen self.new.experiment.net.log.records self.new.mail }
         ensures owner { self.new.owner ≡ self.old.owner }
         ensures others { (o : ℕ) → o ≢ slot → A.entries agenda.new o ≡ A.entries agenda.old o }
         ensures time { A.time agenda.new ≡ A.time agenda.old }
@@ -161,7 +162,7 @@ impl<M: Mail> Resident<M> {
     // Makes a resident of a parcel, whose owner is admitted. It has no entries yet.
     pub(crate) fn settle(parcel: Parcel<M>, store: &mut Store, owner: Owner) -> Resident<M>
         requires admitted { pocket_of store.old owner ≡ empty_pocket parcel.spec.budget.packets }
-        ensures going { IsGoing M.given M.letters (pocket_of store.new owner) result.experiment result.published result.mail }
+        ensures going { IsGoing M.seen (pocket_of store.new owner) result.experiment result.published result.mail }
         ensures owner { result.owner ≡ owner }
         ensures same { standing (pocket_of store.new owner) result ≡ parcel }
         ensures others { (o : ℕ) → o ≢ owner → pocket_of store.new o ≡ pocket_of store.old o }
@@ -188,7 +189,7 @@ impl<M: Mail> Resident<M> {
 
     // Makes a parcel of a resident, on a shelf that has room for its packets.
     pub(crate) fn leave(self, store: &mut Store, mut shelf: OwnShelf) -> Parcel<M>
-        requires going { IsGoing M.given M.letters (pocket_of store.old self.owner) self.experiment self.published self.mail }
+        requires going { IsGoing M.seen (pocket_of store.old self.owner) self.experiment self.published self.mail }
         requires empty { own_pocket shelf ≡ empty_pocket self.experiment.spec.budget.packets }
         requires room { length (net_keys self.experiment.net) ≤ own_room shelf 0 }
         requires fits { length (net_keys self.experiment.net) ≤ self.experiment.spec.budget.packets }
@@ -217,7 +218,7 @@ impl<M: Mail> Resident<M> {
 
     // What is left of a resident that has ended. What it held is dropped.
     pub(crate) fn end(self, store: &mut Store) -> Dossier<M>
-        requires kept { IsKept M.given M.letters (pocket_of store.old self.owner) self.experiment self.published self.mail }
+        requires kept { IsKept M.seen (pocket_of store.old self.owner) self.experiment self.published self.mail }
         requires ended { IsSome self.experiment.ending }
         ensures ending { self.experiment.ending ≡ Some result.ending }
         ensures rest { let s = view (pocket_of store.old self.owner) self.experiment in result ≡ record {
@@ -262,19 +263,12 @@ impl<M: Mail> Resident<M> {
         }
     }
 
-    // After a step: sets again what it touched, and the entry that was popped. Parked where there is no next
-    // command, or where memory is refused.
-    fn set_again<A: Agenda>(
-        &mut self,
-        agenda: &mut A,
-        slot: usize,
-        source: Source,
-        scratch: &mut Scratch,
-    )
-        requires stale { (p : Pocket) × IsStale M.given M.letters p (A.entries agenda.old slot) (A.time agenda.old) source self.old }
-        ensures seated { (p : Pocket) → IsGoing M.given M.letters p self.old.experiment self.old.published self.old.mail
-            → IsSeated M.given M.letters p (A.entries agenda.new slot) (A.time agenda.old) self.new }
-        ensures same { self.new ≡ record self.old { offset = self.new.offset } }
+    // After a step: sets again what it touched. Parked where there is no next command, or where memory is refused.
+    fn set_again<A: Agenda>(&mut self, agenda: &mut A, slot: usize, scratch: &mut Scratch)
+        requires stale { (p : Pocket) × IsStale M.seen p (A.entries agenda.old slot) (A.time agenda.old) self.old }
+        ensures seated { (p : Pocket) → IsGoing M.seen p self.old.experiment self.old.published self.old.mail
+            → IsSeated M.seen p (A.entries agenda.new slot) (A.time agenda.old) self.new }
+        ensures same { self.new ≡ record self.old { experiment = record self.old.experiment { noted = self.new.experiment.noted }; offset = self.new.offset } }
         ensures others { (o : ℕ) → o ≢ slot → A.entries agenda.new o ≡ A.entries agenda.old o }
         ensures time { A.time agenda.new ≡ A.time agenda.old }
     {
@@ -288,7 +282,7 @@ impl<M: Mail> Resident<M> {
         }
         self.offset = None;
         if self.experiment.has_next()
-            && set_touched(&self.experiment, agenda, slot, offset, source, scratch)
+            && set_touched(&mut self.experiment, agenda, slot, offset, scratch)
         {
             self.offset = Some(offset);
             return;
@@ -297,36 +291,35 @@ impl<M: Mail> Resident<M> {
     }
 }
 
-// Sets again the entries of what the last step touched, and of one source besides. False where memory is refused.
+// Sets again the entries of what the last step touched. False where memory is refused.
 fn set_touched<A: Agenda>(
-    experiment: &Experiment,
+    experiment: &mut Experiment,
     agenda: &mut A,
     slot: usize,
     offset: u64,
-    source: Source,
     scratch: &mut Scratch,
 ) -> bool
-    requires alone { (p : Pocket) × IsAlone p experiment.now }
+    requires alone { (p : Pocket) × IsAlone p experiment.old }
     requires late { offset ≤ A.time agenda.old }
     requires early { A.time agenda.old < 2 ^ 62 + 2 * 10 ^ 15 }
-    requires ahead { A.time agenda.old ≤ experiment.now.clock + offset }
-    requires stale { (s : From) → A.entries agenda.old slot s ≡ (if same_source s source then None else row_of offset experiment.now.before s) }
-    ensures set { IsTrue result → (s : From) → A.entries agenda.new slot s ≡ row_of offset (dues_kept experiment.now) s }
+    requires ahead { A.time agenda.old ≤ experiment.old.clock + offset }
+    requires stale { (s : From) → A.entries agenda.old slot s ≡ row_of offset experiment.old.noted s }
+    ensures set { IsTrue result → (s : From) → A.entries agenda.new slot s ≡ row_of offset (dues_kept experiment.old) s }
+    ensures noted { IsTrue result → experiment.new.noted ≡ dues_kept experiment.old }
+    ensures same { experiment.new ≡ record experiment.old { noted = experiment.new.noted } }
     ensures below { IsTrue result → (s : From) (d : ℕ) → A.entries agenda.new slot s ≡ Some d → d < offset + 2 * 10 ^ 15 }
     ensures others { (o : ℕ) → o ≢ slot → A.entries agenda.new o ≡ A.entries agenda.old o }
     ensures time { A.time agenda.new ≡ A.time agenda.old }
 {
     experiment.dues_in_time();
-    scratch.dues.clear();
-    let Ok(()) = experiment.add_dues(&mut scratch.dues) else {
+    let Ok(()) = experiment.touched(&mut scratch.sources) else {
         return false;
     };
-    let dues = scratch.dues.as_slice();
-    let Ok(()) = experiment.touched(dues, &mut scratch.sources) else {
-        return false;
-    };
-    if !renew(agenda, slot, dues, offset, source) {
-        return false;
-    }
-    renew_all(agenda, slot, dues, offset, scratch.sources.as_slice())
+    renew_all(
+        agenda,
+        slot,
+        experiment.noted(),
+        offset,
+        scratch.sources.as_slice(),
+    )
 }

@@ -67,6 +67,8 @@ pub struct Shard<A: Agenda, M: Mail> {
     agenda: A,
     pub(crate) slots: Vec<Option<Resident<M>>>,
     scratch: Scratch,
+    // The slot of the last turn, where `slot_of` looks first.
+    turned: usize,
 }
 
 impl<A: Agenda, M: Mail> Model for Shard<A, M> {
@@ -79,11 +81,11 @@ impl<A: Agenda, M: Mail> Model for Shard<A, M> {
 
     ghost view = { λ s. record { seats = seats_of (pocket_of s.store) s.slots.items; clock = A.time s.agenda } };
 
-    ghost invariant = { λ s. IsShard M.given M.letters (pocket_of s.store) (A.entries s.agenda) (A.time s.agenda) s.slots.items };
+    ghost invariant = { λ s. IsShard M.seen (pocket_of s.store) (A.entries s.agenda) (A.time s.agenda) s.slots.items };
 }
 
 impl<A: Agenda, M: Mail> Shard<A, M> {
-    ghost use Rattle.std.specs.Prelude.{◌≡◌, ◌≢◌, ℕ, ◌≤◌, ◌<◌, ◌^◌, None, Some, IfOk, IfErr, IfSome, IfNone, OnErr, IsSome, MatchOption, length};
+    ghost use Rattle.std.specs.Prelude.{◌≡◌, ◌≢◌, ℕ, ◌≤◌, ◌<◌, ◌^◌, None, Some, IfOk, IfErr, IfSome, IfNone, OnErr, IsSome, MatchOption, length, IsTrue, IsFalse};
     ghost use Rattle.shard.specs.Stand.{seat_at, stands_of, Seat, IsTold};
     ghost use Rattle.shard.specs.Turns.{Turns, TurnsSettled, TakenIn, ComesBack, PackedAt, IsPoll, IsRebased};
 
@@ -112,9 +114,9 @@ impl<A: Agenda, M: Mail> Shard<A, M> {
             agenda: A::new(alloc, clock)?,
             slots,
             scratch: Scratch {
-                dues: Vec::new(alloc),
                 sources: Vec::new(alloc),
             },
+            turned: 0,
         })
     }
 
@@ -122,7 +124,7 @@ impl<A: Agenda, M: Mail> Shard<A, M> {
     /// that has ended, or is halted for want of memory, comes out as a dossier. Where the agenda's clock has come
     /// far, its time begins anew before.
     pub fn turn(&mut self) -> Turned<M>
-        ensures { TurnsSettled M.given result self.old self.new }
+        ensures { TurnsSettled M.seen result self.old self.new }
     {
         if self.agenda.clock() >= LATEST_CLOCK {
             self.rebase();
@@ -133,23 +135,18 @@ impl<A: Agenda, M: Mail> Shard<A, M> {
     // One event of one resident.
     fn turn_now(&mut self) -> Turned<M>
         requires early { self.old.clock < 2 ^ 62 }
-        ensures { Turns M.given result self.old self.new }
+        ensures { Turns M.seen result self.old self.new }
     {
-        let Some(entry) = self.agenda.pop_least() else {
+        let Some(entry) = self.agenda.move_to_least() else {
             return Turned::Idle;
         };
         let slot = entry.owner;
         let Some(resident) = &mut self.slots[slot] else {
             unreachable!();
         };
+        self.turned = slot;
         let name = resident.name;
-        let event = resident.step(
-            &mut self.store,
-            &mut self.agenda,
-            slot,
-            entry.source,
-            &mut self.scratch,
-        );
+        let event = resident.step(&mut self.store, &mut self.agenda, slot, &mut self.scratch);
         if event == Event::Ran {
             return Turned::Ran(name);
         }
@@ -164,7 +161,7 @@ impl<A: Agenda, M: Mail> Shard<A, M> {
     /// command is made before one is taken; one whose moment is below the last isn't consumed. Records are
     /// published while the mail takes them.
     pub fn poll(&mut self, slot: usize) -> Polled
-        ensures { IsPoll M.given result self.old self.new slot }
+        ensures { IsPoll M.seen result self.old self.new slot }
     {
         if slot >= self.slots.len() {
             return Polled::Vacant;
@@ -253,20 +250,35 @@ impl<A: Agenda, M: Mail> Shard<A, M> {
         }
     }
 
-    /// The slot of the resident of a name. The time grows with the slots.
+    /// The slot of the resident of a name. That of the last turn is found at once; else the time grows with the
+    /// slots.
     pub fn slot_of(&self, name: u32) -> Option<usize>
         ensures some { IfSome result (λ slot. (s : Seat M) × (seat_at self.now.seats slot ≡ Some s) × (s.stand.name ≡ name)) }
         ensures none { IfNone result ((slot : ℕ) (s : Seat M) → seat_at self.now.seats slot ≡ Some s → s.stand.name ≢ name) }
     {
+        if self.is_named(self.turned, name) {
+            return Some(self.turned);
+        }
         for slot in 0..self.slots.len() {
-            let Some(resident) = &self.slots[slot] else {
-                continue;
-            };
-            if resident.name == name {
+            if self.is_named(slot, name) {
                 return Some(slot);
             }
         }
         None
+    }
+
+    // Whether the resident of a slot has a name.
+    fn is_named(&self, slot: usize, name: u32) -> bool
+        ensures yes { IsTrue result → (s : Seat M) × (seat_at self.now.seats slot ≡ Some s) × (s.stand.name ≡ name) }
+        ensures no { IsFalse result → (s : Seat M) → seat_at self.now.seats slot ≡ Some s → s.stand.name ≢ name }
+    {
+        if slot >= self.slots.len() {
+            return false;
+        }
+        let Some(resident) = &self.slots[slot] else {
+            return false;
+        };
+        resident.name == name
     }
 
     /// What the resident of a slot recorded; None where nobody is.
@@ -287,7 +299,7 @@ impl<A: Agenda, M: Mail> Shard<A, M> {
 
     /// What each resident keeps: it shows the state of running it alone.
     pub fn known(&self)
-        ensures { (slot : ℕ) (s : Seat M) → seat_at self.now.seats slot ≡ Some s → IsTold M.given M.letters s.stand }
+        ensures { (slot : ℕ) (s : Seat M) → seat_at self.now.seats slot ≡ Some s → IsTold M.seen s.stand }
     {
         let _ = &self.agenda;
     }

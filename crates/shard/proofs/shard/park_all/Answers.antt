@@ -1,6 +1,5 @@
-use Rattle.std.proofs.Common.{◌≡◌, List, Option, Some, None, length, map, take, drop, get_or, set, sym, ap, ◌∙◌, ◌<◌, arith}
+use Rattle.std.proofs.Common.{set, sym, ap, ◌∙◌}
 use Rattle.std.proofs.lemmas.List.Edits.{map_over_more}
-use Rattle.shard.specs.declared.resident.Resident.{Resident}
 use Rattle.shard.specs.Seats.{parked}
 use Rattle.shard.proofs.shard.park_all.Goals.{in-Some, in_default}
 use Rattle.shard.proofs.shard.park_all.Goals as goal

@@ -1,6 +1,6 @@
-use Rattle.std.proofs.Common.{◌≡◌, ◌<◌, [], take, refl, sym, ap, ◌∙◌, subst, arith}
+use Rattle.std.proofs.Common.{◌≡◌, ◌≤◌, [], sym, ap, ◌∙◌, subst, arith}
 use Rattle.emu_model.specs.declared.commands.Spec.{Spec}
-use Rattle.packet_store.specs.Pocket.{Pocket, empty_pocket}
+use Rattle.packet_store.specs.Pocket.{Pocket}
 use Rattle.packet_store.specs.Own.{own_pocket}
 use Rattle.experiment.specs.Kept.{KeptExperiment, IsHousedIn}
 use Rattle.shard.specs.Stand.{heard_from}
@@ -22,7 +22,7 @@ invariant_of-result g c =
         told = c.requires.letters;
         short = omega arith;
         heard = new.consumed ∙ ap (heard_from []) (sym c.requires.given);
-        watched = new.watched;
+        few = subst (λ s. s ≤ e.spec.budget.steps) (sym new.steps) (omega arith);
       };
       going = new.going;
     }

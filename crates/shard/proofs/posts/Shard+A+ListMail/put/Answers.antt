@@ -1,13 +1,12 @@
-use Rattle.std.proofs.Common.{◌≡◌, ◌≢◌, ℕ, ◌≤◌, ◌<◌, ◌++◌, [], ◌∷◌, refl, sym, ap, ◌∙◌, arith, subst, Option, Some, None, length}
+use Rattle.std.proofs.Common.{◌≡◌, ◌≤◌, ◌<◌, refl, sym, ap, ◌∙◌, arith, subst, Some, None, length}
 use Rattle.std.proofs.lemmas.List.{get_or_past, get_or_read}
 use Rattle.packet_store.specs.Books.{pocket_of}
-use Rattle.shard.specs.declared.resident.Resident.{Resident}
-use Rattle.shard.specs.Mails.{MailBook, letters_of}
-use Rattle.shard.specs.Posts.{ChangedMail, with_command}
-use Rattle.shard.specs.Stand.{Seat, Seating}
+use Rattle.shard.specs.Mails.{MailBook, mail_seen}
+use Rattle.shard.specs.Posts.{with_command}
+use Rattle.shard.specs.Stand.{Seating}
 use Rattle.shard.specs.Seats.{resident_at, seat, seats_of, IsShard}
 use Rattle.shard.proofs.SlotChanges.{read_at, seat_is, vacant_seat}
-use Rattle.shard.proofs.PostFacts.{HasMail, mail_changed, mail_seating, written_same, letters-read, given-read}
+use Rattle.shard.proofs.PostFacts.{HasMail, mail_changed, mail_seating, written_same}
 use Rattle.shard.proofs.posts.Shard+A+ListMail.put.Goals as goal
 
 pub returns-then-slot-len-clause-back : goal.returns-then-slot-len-clause-back
@@ -31,8 +30,8 @@ invariant_of-self-in-Ok g c =
     let within : c.args.slot < length s.slots.items = omega (arith, c.if-slot-len.false, c.len.ensures, s.slots.ok.0) in
     let is : resident_at s.slots.items c.args.slot ≡ Some r = read_at s.slots.items c.args.slot c.index_mut.result.now r within c.index_mut.ensures.value (sym c.in-Some.is) in
     let m = with_command r.mail c.args.timed in
-    let h : HasMail (λ (m : MailBook). m.given) letters_of s.slots.items c.args.slot r t m = record { is = is; within = omega (arith, within, c.self.invariant.long); same = c.in-Ok.ensures.ok; given_is = refl; letters_is = refl } in
-    (mail_changed (λ (m : MailBook). m.given) letters_of (pocket_of s.store) (g.A.Agenda.entries s.agenda) (g.A.Agenda.time s.agenda) s.slots.items c.args.slot r t m c.self.invariant h).shard
+    let h : HasMail mail_seen s.slots.items c.args.slot r t m = record { is = is; within = omega (arith, within, c.self.invariant.long); same = c.in-Ok.ensures.ok; given_is = refl; letters_is = refl } in
+    (mail_changed mail_seen (pocket_of s.store) (g.A.Agenda.entries s.agenda) (g.A.Agenda.time s.agenda) s.slots.items c.args.slot r t m c.self.invariant h).shard
 
 pub returns-in-Ok-clause-ok : goal.returns-in-Ok-clause-ok
 returns-in-Ok-clause-ok g c =
@@ -42,8 +41,8 @@ returns-in-Ok-clause-ok g c =
     let within : c.args.slot < length s.slots.items = omega (arith, c.if-slot-len.false, c.len.ensures, s.slots.ok.0) in
     let is : resident_at s.slots.items c.args.slot ≡ Some r = read_at s.slots.items c.args.slot c.index_mut.result.now r within c.index_mut.ensures.value (sym c.in-Some.is) in
     let m = with_command r.mail c.args.timed in
-    let h : HasMail (λ (m : MailBook). m.given) letters_of s.slots.items c.args.slot r t m = record { is = is; within = omega (arith, within, c.self.invariant.long); same = c.in-Ok.ensures.ok; given_is = refl; letters_is = refl } in
-    (seat (pocket_of s.store r.owner) r, c.in-Ok.ensures.room, mail_seating (λ (m : MailBook). m.given) letters_of (pocket_of s.store) (g.A.Agenda.entries s.agenda) (g.A.Agenda.time s.agenda) s.slots.items c.args.slot r t m c.args.self.now c.self.invariant h c.self.view_is)
+    let h : HasMail mail_seen s.slots.items c.args.slot r t m = record { is = is; within = omega (arith, within, c.self.invariant.long); same = c.in-Ok.ensures.ok; given_is = refl; letters_is = refl } in
+    (seat (pocket_of s.store r.owner) r, c.in-Ok.ensures.room, mail_seating mail_seen (pocket_of s.store) (g.A.Agenda.entries s.agenda) (g.A.Agenda.time s.agenda) s.slots.items c.args.slot r t m c.args.self.now c.self.invariant h c.self.view_is)
 
 pub invariant_of-self-in-Err : goal.invariant_of-self-in-Err
 invariant_of-self-in-Err g c =
@@ -52,7 +51,7 @@ invariant_of-self-in-Err g c =
     let t = c.put.new.self in
     let within : c.args.slot < length s.slots.items = omega (arith, c.if-slot-len.false, c.len.ensures, s.slots.ok.0) in
     let is : resident_at s.slots.items c.args.slot ≡ Some r = read_at s.slots.items c.args.slot c.index_mut.result.now r within c.index_mut.ensures.value (sym c.in-Some.is) in
-    subst (λ l. IsShard (λ (m : MailBook). m.given) letters_of (pocket_of s.store) (g.A.Agenda.entries s.agenda) (g.A.Agenda.time s.agenda) l) (sym (written_same s.slots.items c.args.slot r t is c.in-Err.ensures.err)) c.self.invariant
+    subst (λ l. IsShard mail_seen (pocket_of s.store) (g.A.Agenda.entries s.agenda) (g.A.Agenda.time s.agenda) l) (sym (written_same s.slots.items c.args.slot r t is c.in-Err.ensures.err)) c.self.invariant
 
 pub returns-in-Err-clause-back : goal.returns-in-Err-clause-back
 returns-in-Err-clause-back g c =

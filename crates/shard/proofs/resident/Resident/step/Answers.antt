@@ -2,23 +2,22 @@ use Rattle.std.proofs.Common.{◌≡◌, ◌<◌, [], sym, ap, ◌∙◌, subst,
 use denote.Enum.Bare.{same_true}
 use Rattle.emu_model.specs.declared.commands.Spec.{Spec}
 use Rattle.experiment.specs.contracts.experiment.Event.{the_type}
+use Rattle.shard.specs.Seen.{Seen}
 use Rattle.shard.specs.Stand.{heard_from}
 use Rattle.emu_model.specs.declared.sources.Due.{Due}
 use Rattle.emu_model.specs.Laws.{same_source}
 use Rattle.packet_store.specs.Pocket.{empty_pocket}
 use Rattle.packet_store.specs.Books.{pocket_of}
-use Rattle.experiment.specs.declared.experiment.Event.{Event}
 use Rattle.experiment.specs.declared.experiment.Event.TheVariants.{Ran}
 use Rattle.experiment.specs.Moves.{Makes}
 use Rattle.experiment.specs.Kept.{KeptExperiment}
 use Rattle.shard.specs.Entries.{entries_of}
-use Rattle.shard.specs.Kept.{dues_kept}
 use Rattle.shard.proofs.resident.Resident.step.Goals as goal
 
 pub set_again-requires : goal.set_again-requires
 set_again-requires g c =
     let r = c.args.self.now in
-    let k = c.requires.popped.going.kept in
+    let k = c.requires.least.going.kept in
     let p = pocket_of c.args.store.now r.owner in
     let q = pocket_of c.event-event.new.shelf r.owner in
     let e : KeptExperiment = r.experiment in
@@ -26,7 +25,6 @@ set_again-requires g c =
     let was = c.event-event.ensures in
     let ran : c.event-event.result ≡ Ran = same_true the_type (search rules) _ _ (sym c.if-eq.ensures) in
     let makes : Makes Ran p e q f = subst (λ a. Makes a p e q f) ran was.makes in
-    let before = makes.0.before k.watched (empty_pocket 0) in
     record {
       stale = (
         q,
@@ -39,15 +37,15 @@ set_again-requires g c =
               alone = was.alone k.alone;
               told = c.publish-self.ensures.told ∙ ap (take c.publish-self.result) c.records.ensures;
               short = omega (arith, c.publish-self.ensures.short, ap length c.records.ensures);
-              heard = was.consumed ∙ k.heard ∙ ap (heard_from []) (sym c.publish-self.ensures.given);
-              watched = was.watched ∙ k.watched;
+              heard = was.consumed ∙ k.heard ∙ ap (λ (x : Seen). heard_from [] x.given) (sym c.publish-self.ensures.same);
+              few = was.steps;
             };
             going = makes.1;
           };
-          entries = λ s. c.requires.popped.entries s ∙ ap (λ (ds : List Due). cond (same_source s c.args.source) None (entries_of r.offset ds s)) (sym before);
-          ready = c.requires.popped.ready;
-          late = c.requires.popped.late;
-          early = c.requires.popped.early;
+          entries = λ s. c.requires.least.entries s ∙ ap (λ (ds : List Due). entries_of r.offset ds s) (sym was.noted);
+          ready = c.requires.least.ready;
+          late = c.requires.least.late;
+          early = c.requires.least.early;
         },
       );
     }

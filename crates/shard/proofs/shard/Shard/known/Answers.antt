@@ -7,4 +7,4 @@ pub returns : goal.returns
 returns g c =
     λ slot x h.
     let s = c.self.inside in
-    told_at g.M.Mail.given g.M.Mail.letters (pocket_of s.store) (g.A.Agenda.entries s.agenda) (g.A.Agenda.time s.agenda) s.slots.items c.args.self.now.seats slot x c.self.invariant (ap (λ v. v.seats) c.self.view_is) h
+    told_at g.M.Mail.seen (pocket_of s.store) (g.A.Agenda.entries s.agenda) (g.A.Agenda.time s.agenda) s.slots.items c.args.self.now.seats slot x c.self.invariant (ap (λ v. v.seats) c.self.view_is) h

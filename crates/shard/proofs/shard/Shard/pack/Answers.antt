@@ -1,16 +1,14 @@
-use Rattle.std.proofs.Common.{◌≡◌, ◌≢◌, ℕ, ◌+◌, ◌-◌, ◌<◌, ◌≤◌, ◌⊎◌, List, length, get_or, set, Option, Some, None, IsSome, refl, sym, ap, ◌∙◌, arith, subst, inl, inr}
+use Rattle.std.proofs.Common.{◌≡◌, ℕ, ◌<◌, ◌≤◌, length, set, Option, Some, None, sym, ap, ◌∙◌, arith, subst, inl, inr}
 use Rattle.std.specs.Prelude.{is_some, unwrap_or}
 use Rattle.emu_model.specs.declared.commands.Spec.{Spec}
 use Rattle.std.proofs.lemmas.List.{get_or_read, get_or_past}
 use Rattle.packet_store.specs.Books.{pocket_of}
 use Rattle.packet_store.specs.Pocket.{Pocket}
-use Rattle.packet_store.specs.Own.{own_pocket, own_room}
-use Rattle.network.specs.Kept.{net_keys}
+use Rattle.packet_store.specs.Own.{own_pocket}
 use Rattle.shard.specs.declared.resident.Resident.{Resident}
-use Rattle.shard.specs.Stand.{Stand, Seat, Seating, seat_at}
-use Rattle.shard.specs.Seats.{resident_at, standing, seat, seat_of, seats_of, IsSeated, IsShard}
-use Rattle.shard.specs.Turns.{PackedAt}
-use Rattle.shard.proofs.SlotChanges.{read_at, seated_at, seat_is, vacant_seat, IsAloneAt, GoesOn, IsChanged, leaves}
+use Rattle.shard.specs.Stand.{Seating}
+use Rattle.shard.specs.Seats.{resident_at, seat, seats_of, IsShard}
+use Rattle.shard.proofs.SlotChanges.{read_at, seated_at, seat_is, vacant_seat, IsAloneAt, GoesOn, leaves}
 use Rattle.shard.proofs.shard.Shard.pack.Goals as goal
 
 pub returns-then-slot-len-clause-vacant : goal.returns-then-slot-len-clause-vacant
@@ -40,7 +38,7 @@ leave-requires-clause-going g c =
     let r = c.in-Some-replace.gone in
     let within : c.args.slot < length s.slots.items = omega (arith, s.slots.ok.0) in
     let is : resident_at s.slots.items c.args.slot ≡ Some r = read_at s.slots.items c.args.slot c.index_mut.result.now r within c.index_mut.ensures.value c.in-Some-replace.ensures.value in
-    (seated_at g.M.Mail.given g.M.Mail.letters (pocket_of s.store) (g.A.Agenda.entries s.agenda) (g.A.Agenda.time s.agenda) s.slots.items c.args.slot r c.self.invariant is).going
+    (seated_at g.M.Mail.seen (pocket_of s.store) (g.A.Agenda.entries s.agenda) (g.A.Agenda.time s.agenda) s.slots.items c.args.slot r c.self.invariant is).going
 
 pub leave-requires-clause-room : goal.leave-requires-clause-room
 leave-requires-clause-room g c =
@@ -52,7 +50,7 @@ leave-requires-clause-room g c =
     let is : resident_at s.slots.items k ≡ Some r = read_at s.slots.items k c.index_mut.result.now r within c.index_mut.ensures.value c.in-Some-replace.ensures.value in
     let was : resident_at s.slots.items k ≡ Some first = read_at s.slots.items k c.index.result.now first within c.index.ensures (sym c.in-Some.is) in
     let same : first ≡ r = ap (λ (o : Option (Resident _)). unwrap_or o r) (sym was ∙ is) in
-    let kept = (seated_at g.M.Mail.given g.M.Mail.letters (pocket_of s.store) (g.A.Agenda.entries s.agenda) (g.A.Agenda.time s.agenda) s.slots.items k r c.self.invariant is).going.kept in
+    let kept = (seated_at g.M.Mail.seen (pocket_of s.store) (g.A.Agenda.entries s.agenda) (g.A.Agenda.time s.agenda) s.slots.items k r c.self.invariant is).going.kept in
     let count : c.count.result ≡ (pocket_of s.store r.owner).count = c.count.ensures.value ∙ ap (λ (x : Resident _). (pocket_of s.store x.owner).count) same in
     let few : c.count.result ≤ (pocket_of s.store r.owner).budget = subst (λ (x : Resident _). c.count.result ≤ (pocket_of s.store x.owner).budget) same c.count.ensures.within in
     let own : (own_pocket c.new-shelf.result).budget ≡ r.experiment.spec.budget.packets = ap (λ (x : Pocket). x.budget) c.new-shelf.ensures.own ∙ ap (λ (x : Spec). x.budget.packets) c.spec.ensures ∙ ap (λ (x : Resident _). x.experiment.spec.budget.packets) same in
@@ -72,7 +70,7 @@ leave-requires-clause-fits g c =
     let is : resident_at s.slots.items k ≡ Some r = read_at s.slots.items k c.index_mut.result.now r within c.index_mut.ensures.value c.in-Some-replace.ensures.value in
     let was : resident_at s.slots.items k ≡ Some first = read_at s.slots.items k c.index.result.now first within c.index.ensures (sym c.in-Some.is) in
     let same : first ≡ r = ap (λ (o : Option (Resident _)). unwrap_or o r) (sym was ∙ is) in
-    let kept = (seated_at g.M.Mail.given g.M.Mail.letters (pocket_of s.store) (g.A.Agenda.entries s.agenda) (g.A.Agenda.time s.agenda) s.slots.items k r c.self.invariant is).going.kept in
+    let kept = (seated_at g.M.Mail.seen (pocket_of s.store) (g.A.Agenda.entries s.agenda) (g.A.Agenda.time s.agenda) s.slots.items k r c.self.invariant is).going.kept in
     let count : c.count.result ≡ (pocket_of s.store r.owner).count = c.count.ensures.value ∙ ap (λ (x : Resident _). (pocket_of s.store x.owner).count) same in
     let few : c.count.result ≤ (pocket_of s.store r.owner).budget = subst (λ (x : Resident _). c.count.result ≤ (pocket_of s.store x.owner).budget) same c.count.ensures.within in
     omega (arith, few, count, kept.budget, kept.housed.housed.count)
@@ -89,9 +87,9 @@ invariant_of-self g c =
     let is : resident_at s.slots.items k ≡ Some r = read_at s.slots.items k c.index_mut.result.now r within c.index_mut.ensures.value c.in-Some-replace.ensures.value in
     let a : IsAloneAt (pocket_of s.store) (pocket_of c.leave.new.store) rows later s.slots.items k r = record { is = is; within = omega (arith, within, c.self.invariant.long); rows_stay = c.clear_owner.ensures.others; pockets_stay = c.leave.ensures.others } in
     let on : GoesOn clock clock = record { on = omega arith; early = c.self.invariant.early } in
-    let h = leaves g.M.Mail.given g.M.Mail.letters (pocket_of s.store) (pocket_of c.leave.new.store) rows later clock clock s.slots.items k r c.self.invariant on a c.clear_owner.ensures.cleared in
-    subst (λ t. IsShard g.M.Mail.given g.M.Mail.letters (pocket_of c.leave.new.store) later t (set s.slots.items k c.replace.new.dest)) (sym c.clear_owner.ensures.time)
-    (subst (λ (o : Option (Resident _)). IsShard g.M.Mail.given g.M.Mail.letters (pocket_of c.leave.new.store) later clock (set s.slots.items k o)) (sym c.replace.ensures.after) h.shard)
+    let h = leaves g.M.Mail.seen (pocket_of s.store) (pocket_of c.leave.new.store) rows later clock clock s.slots.items k r c.self.invariant on a c.clear_owner.ensures.cleared in
+    subst (λ t. IsShard g.M.Mail.seen (pocket_of c.leave.new.store) later t (set s.slots.items k c.replace.new.dest)) (sym c.clear_owner.ensures.time)
+    (subst (λ (o : Option (Resident _)). IsShard g.M.Mail.seen (pocket_of c.leave.new.store) later clock (set s.slots.items k o)) (sym c.replace.ensures.after) h.shard)
 
 pub returns-clause-ok : goal.returns-clause-ok
 returns-clause-ok g c =
@@ -105,7 +103,7 @@ returns-clause-ok g c =
     let is : resident_at s.slots.items k ≡ Some r = read_at s.slots.items k c.index_mut.result.now r within c.index_mut.ensures.value c.in-Some-replace.ensures.value in
     let a : IsAloneAt (pocket_of s.store) (pocket_of c.leave.new.store) rows later s.slots.items k r = record { is = is; within = omega (arith, within, c.self.invariant.long); rows_stay = c.clear_owner.ensures.others; pockets_stay = c.leave.ensures.others } in
     let on : GoesOn clock clock = record { on = omega arith; early = c.self.invariant.early } in
-    let h = leaves g.M.Mail.given g.M.Mail.letters (pocket_of s.store) (pocket_of c.leave.new.store) rows later clock clock s.slots.items k r c.self.invariant on a c.clear_owner.ensures.cleared in (
+    let h = leaves g.M.Mail.seen (pocket_of s.store) (pocket_of c.leave.new.store) rows later clock clock s.slots.items k r c.self.invariant on a c.clear_owner.ensures.cleared in (
       seat (pocket_of s.store r.owner) r,
       record {
         was = seat_is (pocket_of s.store) s.slots.items c.args.self.now.seats k r (ap (λ (x : Seating _). x.seats) c.self.view_is) is;

@@ -1,6 +1,6 @@
-use Rattle.std.proofs.Common.{◌≡◌, ◌≢◌, ℕ, ◌⊎◌, inl, inr, sym, ap, ◌∙◌, subst, Some, None}
+use Rattle.std.proofs.Common.{◌≡◌, inl, inr, sym, ◌∙◌, subst, Some}
 use Rattle.std.proofs.lemmas.Bool.{cases_eq}
-use Rattle.shard.specs.Stand.{seat_at, stands_of, Seat}
+use Rattle.shard.specs.Stand.{seat_at}
 use Rattle.shard.proofs.RestartFacts.{at_start}
 use Rattle.shard.proofs.shard.Shard.rebase.Goals as goal
 

@@ -1,11 +1,9 @@
-use Rattle.std.proofs.Common.{◌≡◌, ◌≢◌, ℕ, ◌+◌, ◌≤◌, ◌<◌, refl, sym, ap, ◌∙◌, arith, subst, Option, Some, None, length, get_or}
-use Rattle.std.specs.Prelude.{MatchOption}
-use Rattle.std.proofs.lemmas.List.{get_or_past, get_or_read}
+use Rattle.std.proofs.Common.{◌≡◌, ◌≤◌, sym, ap, ◌∙◌, None, length}
+use Rattle.std.proofs.lemmas.List.{get_or_past}
 use Rattle.packet_store.specs.Books.{pocket_of}
-use Rattle.shard.specs.declared.resident.Resident.{Resident}
 use Rattle.shard.specs.Seats.{resident_at, seat}
-use Rattle.shard.proofs.SlotChanges.{read_at, seat_is, vacant_seat}
-use Rattle.shard.proofs.SeatFacts.{past_end, before_end}
+use Rattle.shard.proofs.SlotChanges.{seat_is, vacant_seat}
+use Rattle.shard.proofs.SeatFacts.{past_end}
 use Rattle.shard.proofs.shard.Shard.records.Goals as goal
 
 pub returns-in_err-get : goal.returns-in_err-get

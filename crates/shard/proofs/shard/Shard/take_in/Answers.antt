@@ -1,12 +1,11 @@
-use Rattle.std.proofs.Common.{◌≡◌, ◌≢◌, ℕ, ◌+◌, ◌<◌, ◌≤◌, List, length, get_or, set, Option, Some, None, IsSome, refl, sym, ap, ◌∙◌, arith, subst}
-use Rattle.std.specs.Prelude.{is_some}
+use Rattle.std.proofs.Common.{◌≡◌, ℕ, ◌<◌, List, length, set, Option, Some, None, IsSome, refl, sym, ap, ◌∙◌, arith, subst}
+use Rattle.std.proofs.lemmas.List.{get_or-set_same}
 use Rattle.packet_store.specs.Books.{pocket_of}
 use Rattle.packet_store.specs.Pocket.{Pocket}
 use Rattle.shard.specs.declared.resident.Resident.{Resident}
-use Rattle.shard.specs.Stand.{Stand, Seat, Seating, seat_at}
-use Rattle.shard.specs.Seats.{resident_at, standing, seat, seat_of, seats_of, IsSeated, IsShard}
-use Rattle.shard.specs.Turns.{TakenIn}
-use Rattle.shard.proofs.SlotChanges.{vacant_seat, filled_seat, IsChanged, comes}
+use Rattle.shard.specs.Stand.{Seating}
+use Rattle.shard.specs.Seats.{resident_at, standing, seat, seat_of, seats_of, IsShard}
+use Rattle.shard.proofs.SlotChanges.{seat_is, vacant_seat, filled_seat, comes}
 use Rattle.shard.proofs.shard.Shard.take_in.Goals as goal
 
 pub returns-in_default-clause-back : goal.returns-in_default-clause-back
@@ -33,8 +32,8 @@ invariant_of-self-2 g c =
     let seated = c.enter.ensures.seated (after owner) c.settle-resident.ensures.going in
     let is : t.owner ≡ owner = ap (λ (x : Resident _). x.owner) c.enter.ensures.same ∙ c.settle-resident.ensures.owner in
     let fresh : (pocket_of s.store owner).budget ≡ 0 = ap (λ (x : Pocket). x.budget) c.in-Ok.ensures.stranger in
-    let h = comes g.M.Mail.given g.M.Mail.letters (pocket_of s.store) after rows later clock s.slots.items k owner t c.self.invariant inside fresh (λ q n. c.settle-resident.ensures.others q n ∙ c.in-Ok.ensures.others q n) c.enter.ensures.others seated is in
-    subst (λ x. IsShard g.M.Mail.given g.M.Mail.letters after later x (set s.slots.items k (Some t))) (sym c.enter.ensures.time) h.shard
+    let h = comes g.M.Mail.seen (pocket_of s.store) after rows later clock s.slots.items k owner t c.self.invariant inside fresh (λ q n. c.settle-resident.ensures.others q n ∙ c.in-Ok.ensures.others q n) c.enter.ensures.others seated is in
+    subst (λ x. IsShard g.M.Mail.seen after later x (set s.slots.items k (Some t))) (sym c.enter.ensures.time) h.shard
 
 pub returns-clause-ok : goal.returns-clause-ok
 returns-clause-ok g c =
@@ -52,7 +51,7 @@ returns-clause-ok g c =
     let seated = c.enter.ensures.seated (after owner) c.settle-resident.ensures.going in
     let is : t.owner ≡ owner = ap (λ (x : Resident _). x.owner) c.enter.ensures.same ∙ c.settle-resident.ensures.owner in
     let fresh : (pocket_of s.store owner).budget ≡ 0 = ap (λ (x : Pocket). x.budget) c.in-Ok.ensures.stranger in
-    let h = comes g.M.Mail.given g.M.Mail.letters (pocket_of s.store) after rows later clock s.slots.items k owner t c.self.invariant inside fresh (λ q n. c.settle-resident.ensures.others q n ∙ c.in-Ok.ensures.others q n) c.enter.ensures.others seated is in
+    let h = comes g.M.Mail.seen (pocket_of s.store) after rows later clock s.slots.items k owner t c.self.invariant inside fresh (λ q n. c.settle-resident.ensures.others q n ∙ c.in-Ok.ensures.others q n) c.enter.ensures.others seated is in
     let seats = ap (λ (x : Seating _). x.seats) c.self.view_is in
     let stands : standing (after owner) t ≡ c.args.parcel = ap (λ (x : Resident _). standing (after owner) x) c.enter.ensures.same ∙ c.settle-resident.ensures.same in (
       seat (after t.owner) t,
@@ -61,6 +60,7 @@ returns-clause-ok g c =
         inside = inside;
         least = λ j l. filled_seat (pocket_of s.store) s.slots.items c.args.self.now.seats j seats (found.2 j l);
         same = ap (λ o. standing (after o) t) is ∙ stands;
+        there = seat_is after (set s.slots.items k (Some t)) (seats_of after (set s.slots.items k (Some t))) k t refl (get_or-set_same s.slots.items k (Some t) None found.0);
         others = h.seats ∙ ap (λ (x : Seating _). set x.seats k (seat_of after (Some t))) c.self.view_is;
       },
     )

@@ -1,17 +1,16 @@
-use Rattle.std.proofs.Common.{◌≡◌, ◌≢◌, ℕ, ◌+◌, ◌*◌, ◌^◌, ◌<◌, ◌≤◌, Bool, true, false, List, length, get_or, set, Option, Some, None, IsSome, refl, sym, ap, ◌∙◌, arith, subst}
+use Rattle.std.proofs.Common.{◌≡◌, ℕ, ◌^◌, ◌<◌, List, length, get_or, set, Option, Some, None, IsSome, refl, sym, ap, ◌∙◌, arith, subst}
 use Rattle.std.specs.Prelude.{is_some, unwrap_or}
 use Rattle.std.proofs.lemmas.List.{get_or_read, get_or-set_same, length-set}
 use Rattle.emu_model.specs.Net.{counters_of}
 use Rattle.experiment.specs.Kept.{view}
 use Rattle.packet_store.specs.Books.{pocket_of}
 use Rattle.shard.specs.declared.resident.Resident.{Resident}
-use Rattle.shard.specs.Stand.{Stand, Seat, Seating, seat_at}
+use Rattle.shard.specs.Stand.{Seating, seat_at}
 use Rattle.shard.specs.Kept.{IsKept}
 use Rattle.shard.proofs.Slots.{set-set}
-use Rattle.shard.specs.Seats.{resident_at, standing, seat, seat_of, seats_of, IsSeated, IsShard}
-use Rattle.shard.specs.Turns.{RanAt, EndedAt, IsTurn}
-use Rattle.shard.proofs.SlotChanges.{read_at, seated_at, seat_is, due_at, all_parked, HasDue, IsAloneAt, GoesOn, IsChanged, stays, leaves, IsShard-rows}
-use Rattle.shard.proofs.TurnFacts.{popped, over, ended, Called, ran, gone}
+use Rattle.shard.specs.Seats.{resident_at, seat, seat_of, seats_of, IsShard}
+use Rattle.shard.proofs.SlotChanges.{read_at, seat_is, due_at, all_parked}
+use Rattle.shard.proofs.TurnFacts.{least, over, ended, Called, ran, gone}
 use Rattle.shard.proofs.shard.Shard.turn_now.Goals as goal
 
 pub returns-in_default : goal.returns-in_default
@@ -19,7 +18,7 @@ returns-in_default g c =
     let s = c.self.inside in
     let e = c.in_default.ensures in (
       (λ i. record { seats = seats_of (pocket_of s.store) s.slots.items; clock = e.stays i }) ∙ c.self.view_is,
-      λ slot x h. all_parked g.M.Mail.given g.M.Mail.letters (pocket_of s.store) (g.A.Agenda.entries s.agenda) (g.A.Agenda.time s.agenda) s.slots.items c.self.invariant e.none slot x
+      λ slot x h. all_parked g.M.Mail.seen (pocket_of s.store) (g.A.Agenda.entries s.agenda) (g.A.Agenda.time s.agenda) s.slots.items c.self.invariant e.none slot x
           (subst (λ (l : Seating _). seat_at l.seats slot ≡ Some x) (sym c.self.view_is) h),
     )
 
@@ -27,7 +26,7 @@ pub index_mut-requires : goal.index_mut-requires
 index_mut-requires g c =
     let s = c.self.inside in
     let e = c.in-Some.entry in
-    let d = due_at g.M.Mail.given g.M.Mail.letters (pocket_of s.store) (g.A.Agenda.entries s.agenda) (g.A.Agenda.time s.agenda) s.slots.items e.owner e.source e.due c.self.invariant c.in-Some.ensures.was in
+    let d = due_at g.M.Mail.seen (pocket_of s.store) (g.A.Agenda.entries s.agenda) (g.A.Agenda.time s.agenda) s.slots.items e.owner e.source e.due c.self.invariant c.in-Some.ensures.was in
     omega (arith, d.within, s.slots.ok.0)
 
 pub step-event-requires : goal.step-event-requires
@@ -36,9 +35,9 @@ step-event-requires g c =
     let e = c.in-Some.entry in
     let r = c.in-Some-index_mut.resident in
     let was = c.in-Some.ensures in
-    let d = due_at g.M.Mail.given g.M.Mail.letters (pocket_of s.store) (g.A.Agenda.entries s.agenda) (g.A.Agenda.time s.agenda) s.slots.items e.owner e.source e.due c.self.invariant was.was in
+    let d = due_at g.M.Mail.seen (pocket_of s.store) (g.A.Agenda.entries s.agenda) (g.A.Agenda.time s.agenda) s.slots.items e.owner e.source e.due c.self.invariant was.was in
     let is : resident_at s.slots.items e.owner ≡ Some r = read_at s.slots.items e.owner c.index_mut.result.now r d.within c.index_mut.ensures.value (sym c.in-Some-index_mut.is) in
-    record { popped = popped g.M.Mail.given g.M.Mail.letters (pocket_of s.store) (g.A.Agenda.entries s.agenda) (g.A.Agenda.time s.agenda) s.slots.items e.owner r e.source e.due _ _ c.self.invariant is was.was was.taken was.time was.rises (subst (λ (x : Seating _). x.clock < 2 ^ 62) (sym c.self.view_is) c.requires.early) }
+    record { least = least g.M.Mail.seen (pocket_of s.store) (g.A.Agenda.entries s.agenda) (g.A.Agenda.time s.agenda) s.slots.items e.owner r e.source e.due _ _ c.self.invariant is was.was (was.entries e.owner) was.time was.rises (subst (λ (x : Seating _). x.clock < 2 ^ 62) (sym c.self.view_is) c.requires.early) }
 
 pub invariant_of-self-then-eq : goal.invariant_of-self-then-eq
 invariant_of-self-then-eq g c =
@@ -47,19 +46,19 @@ invariant_of-self-then-eq g c =
     let r = c.in-Some-index_mut.resident in
     let was = c.in-Some.ensures in
     let clock : ℕ = g.A.Agenda.time s.agenda in
-    let d = due_at g.M.Mail.given g.M.Mail.letters (pocket_of s.store) (g.A.Agenda.entries s.agenda) clock s.slots.items e.owner e.source e.due c.self.invariant was.was in
+    let d = due_at g.M.Mail.seen (pocket_of s.store) (g.A.Agenda.entries s.agenda) clock s.slots.items e.owner e.source e.due c.self.invariant was.was in
     let is : resident_at s.slots.items e.owner ≡ Some r = read_at s.slots.items e.owner c.index_mut.result.now r d.within c.index_mut.ensures.value (sym c.in-Some-index_mut.is) in
-    let pop = popped g.M.Mail.given g.M.Mail.letters (pocket_of s.store) (g.A.Agenda.entries s.agenda) clock s.slots.items e.owner r e.source e.due _ _ c.self.invariant is was.was was.taken was.time was.rises (subst (λ (x : Seating _). x.clock < 2 ^ 62) (sym c.self.view_is) c.requires.early) in
+    let pop = least g.M.Mail.seen (pocket_of s.store) (g.A.Agenda.entries s.agenda) clock s.slots.items e.owner r e.source e.due _ _ c.self.invariant is was.was (was.entries e.owner) was.time was.rises (subst (λ (x : Seating _). x.clock < 2 ^ 62) (sym c.self.view_is) c.requires.early) in
     let t = c.step-event.new.self in
     let after = pocket_of c.step-event.new.store in
-    let middle : ℕ = g.A.Agenda.time c.pop_least.new.self in
+    let middle : ℕ = g.A.Agenda.time c.move_to_least.new.self in
     let later = g.A.Agenda.entries c.step-event.new.agenda in
     let time : ℕ = g.A.Agenda.time c.step-event.new.agenda in
     let a : Called (pocket_of s.store) after (g.A.Agenda.entries s.agenda) later clock time s.slots.items e.owner r = record {
-      at = record { is = is; within = omega (arith, d.within, c.self.invariant.long); rows_stay = λ o n. c.step-event.ensures.rows o n ∙ was.others o n; pockets_stay = c.step-event.ensures.others };
+      at = record { is = is; within = omega (arith, d.within, c.self.invariant.long); rows_stay = λ o n. c.step-event.ensures.rows o n ∙ was.entries o; pockets_stay = c.step-event.ensures.others };
       on = record { on = omega (arith, was.rises, c.step-event.ensures.time); early = omega (arith, pop.early, c.step-event.ensures.time) };
     } in
-    let h = ran g.M.Mail.given g.M.Mail.letters (pocket_of s.store) after (g.A.Agenda.entries s.agenda) later clock middle time s.slots.items e.owner r t c.step-event.result c.self.invariant a c.step-event.ensures.time (sym c.eq.ensures ∙ c.if-eq.true) c.step-event.ensures.steps in
+    let h = ran g.M.Mail.seen (pocket_of s.store) after (g.A.Agenda.entries s.agenda) later clock middle time s.slots.items e.owner r t c.step-event.result c.self.invariant a c.step-event.ensures.time (sym c.eq.ensures ∙ c.if-eq.true) c.step-event.ensures.steps in
     h.0.shard
 
 pub returns-then-eq : goal.returns-then-eq
@@ -69,19 +68,19 @@ returns-then-eq g c =
     let r = c.in-Some-index_mut.resident in
     let was = c.in-Some.ensures in
     let clock : ℕ = g.A.Agenda.time s.agenda in
-    let d = due_at g.M.Mail.given g.M.Mail.letters (pocket_of s.store) (g.A.Agenda.entries s.agenda) clock s.slots.items e.owner e.source e.due c.self.invariant was.was in
+    let d = due_at g.M.Mail.seen (pocket_of s.store) (g.A.Agenda.entries s.agenda) clock s.slots.items e.owner e.source e.due c.self.invariant was.was in
     let is : resident_at s.slots.items e.owner ≡ Some r = read_at s.slots.items e.owner c.index_mut.result.now r d.within c.index_mut.ensures.value (sym c.in-Some-index_mut.is) in
-    let pop = popped g.M.Mail.given g.M.Mail.letters (pocket_of s.store) (g.A.Agenda.entries s.agenda) clock s.slots.items e.owner r e.source e.due _ _ c.self.invariant is was.was was.taken was.time was.rises (subst (λ (x : Seating _). x.clock < 2 ^ 62) (sym c.self.view_is) c.requires.early) in
+    let pop = least g.M.Mail.seen (pocket_of s.store) (g.A.Agenda.entries s.agenda) clock s.slots.items e.owner r e.source e.due _ _ c.self.invariant is was.was (was.entries e.owner) was.time was.rises (subst (λ (x : Seating _). x.clock < 2 ^ 62) (sym c.self.view_is) c.requires.early) in
     let t = c.step-event.new.self in
     let after = pocket_of c.step-event.new.store in
-    let middle : ℕ = g.A.Agenda.time c.pop_least.new.self in
+    let middle : ℕ = g.A.Agenda.time c.move_to_least.new.self in
     let later = g.A.Agenda.entries c.step-event.new.agenda in
     let time : ℕ = g.A.Agenda.time c.step-event.new.agenda in
     let a : Called (pocket_of s.store) after (g.A.Agenda.entries s.agenda) later clock time s.slots.items e.owner r = record {
-      at = record { is = is; within = omega (arith, d.within, c.self.invariant.long); rows_stay = λ o n. c.step-event.ensures.rows o n ∙ was.others o n; pockets_stay = c.step-event.ensures.others };
+      at = record { is = is; within = omega (arith, d.within, c.self.invariant.long); rows_stay = λ o n. c.step-event.ensures.rows o n ∙ was.entries o; pockets_stay = c.step-event.ensures.others };
       on = record { on = omega (arith, was.rises, c.step-event.ensures.time); early = omega (arith, pop.early, c.step-event.ensures.time) };
     } in
-    let h = ran g.M.Mail.given g.M.Mail.letters (pocket_of s.store) after (g.A.Agenda.entries s.agenda) later clock middle time s.slots.items e.owner r t c.step-event.result c.self.invariant a c.step-event.ensures.time (sym c.eq.ensures ∙ c.if-eq.true) c.step-event.ensures.steps in (
+    let h = ran g.M.Mail.seen (pocket_of s.store) after (g.A.Agenda.entries s.agenda) later clock middle time s.slots.items e.owner r t c.step-event.result c.self.invariant a c.step-event.ensures.time (sym c.eq.ensures ∙ c.if-eq.true) c.step-event.ensures.steps in (
       e.owner,
       seat (pocket_of s.store r.owner) r,
       seat (after t.owner) t,
@@ -98,7 +97,7 @@ pub index_mut-requires-2 : goal.index_mut-requires-2
 index_mut-requires-2 g c =
     let s = c.self.inside in
     let e = c.in-Some.entry in
-    let d = due_at g.M.Mail.given g.M.Mail.letters (pocket_of s.store) (g.A.Agenda.entries s.agenda) (g.A.Agenda.time s.agenda) s.slots.items e.owner e.source e.due c.self.invariant c.in-Some.ensures.was in
+    let d = due_at g.M.Mail.seen (pocket_of s.store) (g.A.Agenda.entries s.agenda) (g.A.Agenda.time s.agenda) s.slots.items e.owner e.source e.due c.self.invariant c.in-Some.ensures.was in
     omega (arith, d.within, s.slots.ok.0)
 
 pub unreachable-requires-in_default-replace : goal.unreachable-requires-in_default-replace
@@ -108,12 +107,12 @@ unreachable-requires-in_default-replace g c =
     let r = c.in-Some-index_mut.resident in
     let was = c.in-Some.ensures in
     let clock : ℕ = g.A.Agenda.time s.agenda in
-    let d = due_at g.M.Mail.given g.M.Mail.letters (pocket_of s.store) (g.A.Agenda.entries s.agenda) clock s.slots.items e.owner e.source e.due c.self.invariant was.was in
+    let d = due_at g.M.Mail.seen (pocket_of s.store) (g.A.Agenda.entries s.agenda) clock s.slots.items e.owner e.source e.due c.self.invariant was.was in
     let is : resident_at s.slots.items e.owner ≡ Some r = read_at s.slots.items e.owner c.index_mut.result.now r d.within c.index_mut.ensures.value (sym c.in-Some-index_mut.is) in
-    let pop = popped g.M.Mail.given g.M.Mail.letters (pocket_of s.store) (g.A.Agenda.entries s.agenda) clock s.slots.items e.owner r e.source e.due _ _ c.self.invariant is was.was was.taken was.time was.rises (subst (λ (x : Seating _). x.clock < 2 ^ 62) (sym c.self.view_is) c.requires.early) in
+    let pop = least g.M.Mail.seen (pocket_of s.store) (g.A.Agenda.entries s.agenda) clock s.slots.items e.owner r e.source e.due _ _ c.self.invariant is was.was (was.entries e.owner) was.time was.rises (subst (λ (x : Seating _). x.clock < 2 ^ 62) (sym c.self.view_is) c.requires.early) in
     let t = c.step-event.new.self in
     let after = pocket_of c.step-event.new.store in
-    let middle : ℕ = g.A.Agenda.time c.pop_least.new.self in
+    let middle : ℕ = g.A.Agenda.time c.move_to_least.new.self in
     let long : e.owner < length (set s.slots.items e.owner (Some t)) = omega (arith, d.within, length-set s.slots.items e.owner (Some t)) in
     let none : None ≡ get_or (set s.slots.items e.owner (Some t)) e.owner None = c.in_default-replace.ensures.value ∙ get_or_read (set s.slots.items e.owner (Some t)) e.owner c.index_mut-2.result.now long c.index_mut-2.ensures.value None in
     let some = none ∙ get_or-set_same s.slots.items e.owner (Some t) None d.within in
@@ -126,18 +125,18 @@ end-requires-clause-kept g c =
     let r = c.in-Some-index_mut.resident in
     let was = c.in-Some.ensures in
     let clock : ℕ = g.A.Agenda.time s.agenda in
-    let d = due_at g.M.Mail.given g.M.Mail.letters (pocket_of s.store) (g.A.Agenda.entries s.agenda) clock s.slots.items e.owner e.source e.due c.self.invariant was.was in
+    let d = due_at g.M.Mail.seen (pocket_of s.store) (g.A.Agenda.entries s.agenda) clock s.slots.items e.owner e.source e.due c.self.invariant was.was in
     let is : resident_at s.slots.items e.owner ≡ Some r = read_at s.slots.items e.owner c.index_mut.result.now r d.within c.index_mut.ensures.value (sym c.in-Some-index_mut.is) in
-    let pop = popped g.M.Mail.given g.M.Mail.letters (pocket_of s.store) (g.A.Agenda.entries s.agenda) clock s.slots.items e.owner r e.source e.due _ _ c.self.invariant is was.was was.taken was.time was.rises (subst (λ (x : Seating _). x.clock < 2 ^ 62) (sym c.self.view_is) c.requires.early) in
+    let pop = least g.M.Mail.seen (pocket_of s.store) (g.A.Agenda.entries s.agenda) clock s.slots.items e.owner r e.source e.due _ _ c.self.invariant is was.was (was.entries e.owner) was.time was.rises (subst (λ (x : Seating _). x.clock < 2 ^ 62) (sym c.self.view_is) c.requires.early) in
     let t = c.step-event.new.self in
     let after = pocket_of c.step-event.new.store in
-    let middle : ℕ = g.A.Agenda.time c.pop_least.new.self in
+    let middle : ℕ = g.A.Agenda.time c.move_to_least.new.self in
     let long : e.owner < length (set s.slots.items e.owner (Some t)) = omega (arith, d.within, length-set s.slots.items e.owner (Some t)) in
     let read = read_at (set s.slots.items e.owner (Some t)) e.owner c.index_mut-2.result.now c.in-Some-replace.gone long c.index_mut-2.ensures.value c.in-Some-replace.ensures.value in
     let same : c.in-Some-replace.gone ≡ t = ap (λ (o : Option (Resident _)). unwrap_or o t) (sym read ∙ get_or-set_same s.slots.items e.owner (Some t) None d.within) in
-    let left = over g.M.Mail.given g.M.Mail.letters c.step-event.result (pocket_of s.store r.owner) r (after r.owner) (g.A.Agenda.entries c.step-event.new.agenda e.owner) middle t (sym c.eq.ensures ∙ c.if-eq.false) c.step-event.ensures.steps in
-    subst (λ (x : Resident _). IsKept g.M.Mail.given g.M.Mail.letters (after x.owner) x.experiment x.published x.mail) (sym same)
-    (subst (λ o. IsKept g.M.Mail.given g.M.Mail.letters (after o) t.experiment t.published t.mail) (sym left.1.owner) left.1.kept)
+    let left = over g.M.Mail.seen c.step-event.result (pocket_of s.store r.owner) r (after r.owner) (g.A.Agenda.entries c.step-event.new.agenda e.owner) middle t (sym c.eq.ensures ∙ c.if-eq.false) c.step-event.ensures.steps in
+    subst (λ (x : Resident _). IsKept g.M.Mail.seen (after x.owner) x.experiment x.published x.mail) (sym same)
+    (subst (λ o. IsKept g.M.Mail.seen (after o) t.experiment t.published t.mail) (sym left.1.owner) left.1.kept)
 
 pub end-requires-clause-ended : goal.end-requires-clause-ended
 end-requires-clause-ended g c =
@@ -146,16 +145,16 @@ end-requires-clause-ended g c =
     let r = c.in-Some-index_mut.resident in
     let was = c.in-Some.ensures in
     let clock : ℕ = g.A.Agenda.time s.agenda in
-    let d = due_at g.M.Mail.given g.M.Mail.letters (pocket_of s.store) (g.A.Agenda.entries s.agenda) clock s.slots.items e.owner e.source e.due c.self.invariant was.was in
+    let d = due_at g.M.Mail.seen (pocket_of s.store) (g.A.Agenda.entries s.agenda) clock s.slots.items e.owner e.source e.due c.self.invariant was.was in
     let is : resident_at s.slots.items e.owner ≡ Some r = read_at s.slots.items e.owner c.index_mut.result.now r d.within c.index_mut.ensures.value (sym c.in-Some-index_mut.is) in
-    let pop = popped g.M.Mail.given g.M.Mail.letters (pocket_of s.store) (g.A.Agenda.entries s.agenda) clock s.slots.items e.owner r e.source e.due _ _ c.self.invariant is was.was was.taken was.time was.rises (subst (λ (x : Seating _). x.clock < 2 ^ 62) (sym c.self.view_is) c.requires.early) in
+    let pop = least g.M.Mail.seen (pocket_of s.store) (g.A.Agenda.entries s.agenda) clock s.slots.items e.owner r e.source e.due _ _ c.self.invariant is was.was (was.entries e.owner) was.time was.rises (subst (λ (x : Seating _). x.clock < 2 ^ 62) (sym c.self.view_is) c.requires.early) in
     let t = c.step-event.new.self in
     let after = pocket_of c.step-event.new.store in
-    let middle : ℕ = g.A.Agenda.time c.pop_least.new.self in
+    let middle : ℕ = g.A.Agenda.time c.move_to_least.new.self in
     let long : e.owner < length (set s.slots.items e.owner (Some t)) = omega (arith, d.within, length-set s.slots.items e.owner (Some t)) in
     let read = read_at (set s.slots.items e.owner (Some t)) e.owner c.index_mut-2.result.now c.in-Some-replace.gone long c.index_mut-2.ensures.value c.in-Some-replace.ensures.value in
     let same : c.in-Some-replace.gone ≡ t = ap (λ (o : Option (Resident _)). unwrap_or o t) (sym read ∙ get_or-set_same s.slots.items e.owner (Some t) None d.within) in
-    let left = over g.M.Mail.given g.M.Mail.letters c.step-event.result (pocket_of s.store r.owner) r (after r.owner) (g.A.Agenda.entries c.step-event.new.agenda e.owner) middle t (sym c.eq.ensures ∙ c.if-eq.false) c.step-event.ensures.steps in
+    let left = over g.M.Mail.seen c.step-event.result (pocket_of s.store r.owner) r (after r.owner) (g.A.Agenda.entries c.step-event.new.agenda e.owner) middle t (sym c.eq.ensures ∙ c.if-eq.false) c.step-event.ensures.steps in
     subst (λ (x : Resident _). IsSome x.experiment.ending) (sym same) (ap is_some left.1.ending_is)
 
 pub invariant_of-self-2 : goal.invariant_of-self-2
@@ -165,28 +164,28 @@ invariant_of-self-2 g c =
     let r = c.in-Some-index_mut.resident in
     let was = c.in-Some.ensures in
     let clock : ℕ = g.A.Agenda.time s.agenda in
-    let d = due_at g.M.Mail.given g.M.Mail.letters (pocket_of s.store) (g.A.Agenda.entries s.agenda) clock s.slots.items e.owner e.source e.due c.self.invariant was.was in
+    let d = due_at g.M.Mail.seen (pocket_of s.store) (g.A.Agenda.entries s.agenda) clock s.slots.items e.owner e.source e.due c.self.invariant was.was in
     let is : resident_at s.slots.items e.owner ≡ Some r = read_at s.slots.items e.owner c.index_mut.result.now r d.within c.index_mut.ensures.value (sym c.in-Some-index_mut.is) in
-    let pop = popped g.M.Mail.given g.M.Mail.letters (pocket_of s.store) (g.A.Agenda.entries s.agenda) clock s.slots.items e.owner r e.source e.due _ _ c.self.invariant is was.was was.taken was.time was.rises (subst (λ (x : Seating _). x.clock < 2 ^ 62) (sym c.self.view_is) c.requires.early) in
+    let pop = least g.M.Mail.seen (pocket_of s.store) (g.A.Agenda.entries s.agenda) clock s.slots.items e.owner r e.source e.due _ _ c.self.invariant is was.was (was.entries e.owner) was.time was.rises (subst (λ (x : Seating _). x.clock < 2 ^ 62) (sym c.self.view_is) c.requires.early) in
     let t = c.step-event.new.self in
     let after = pocket_of c.step-event.new.store in
-    let middle : ℕ = g.A.Agenda.time c.pop_least.new.self in
+    let middle : ℕ = g.A.Agenda.time c.move_to_least.new.self in
     let long : e.owner < length (set s.slots.items e.owner (Some t)) = omega (arith, d.within, length-set s.slots.items e.owner (Some t)) in
     let read = read_at (set s.slots.items e.owner (Some t)) e.owner c.index_mut-2.result.now c.in-Some-replace.gone long c.index_mut-2.ensures.value c.in-Some-replace.ensures.value in
     let same : c.in-Some-replace.gone ≡ t = ap (λ (o : Option (Resident _)). unwrap_or o t) (sym read ∙ get_or-set_same s.slots.items e.owner (Some t) None d.within) in
-    let left = over g.M.Mail.given g.M.Mail.letters c.step-event.result (pocket_of s.store r.owner) r (after r.owner) (g.A.Agenda.entries c.step-event.new.agenda e.owner) middle t (sym c.eq.ensures ∙ c.if-eq.false) c.step-event.ensures.steps in
+    let left = over g.M.Mail.seen c.step-event.result (pocket_of s.store r.owner) r (after r.owner) (g.A.Agenda.entries c.step-event.new.agenda e.owner) middle t (sym c.eq.ensures ∙ c.if-eq.false) c.step-event.ensures.steps in
     let later = g.A.Agenda.entries c.clear_owner.new.self in
     let time : ℕ = g.A.Agenda.time c.clear_owner.new.self in
     let timed : time ≡ middle = c.clear_owner.ensures.time ∙ c.step-event.ensures.time in
     let a : Called (pocket_of s.store) after (g.A.Agenda.entries s.agenda) later clock time s.slots.items e.owner r = record {
-      at = record { is = is; within = omega (arith, d.within, c.self.invariant.long); rows_stay = λ o n. c.clear_owner.ensures.others o n ∙ c.step-event.ensures.rows o n ∙ was.others o n; pockets_stay = c.step-event.ensures.others };
+      at = record { is = is; within = omega (arith, d.within, c.self.invariant.long); rows_stay = λ o n. c.clear_owner.ensures.others o n ∙ c.step-event.ensures.rows o n ∙ was.entries o; pockets_stay = c.step-event.ensures.others };
       on = record { on = omega (arith, was.rises, timed); early = omega (arith, pop.early, timed) };
     } in
     let owner : c.in-Some-replace.gone.owner ≡ r.owner = ap (λ (x : Resident _). x.owner) same ∙ left.1.owner in
-    let h = gone g.M.Mail.given g.M.Mail.letters (pocket_of s.store) after (pocket_of c.end.new.store) (g.A.Agenda.entries s.agenda) later clock time s.slots.items e.owner r c.self.invariant a c.clear_owner.ensures.cleared (λ o n. c.end.ensures.others o (λ x. n (x ∙ owner))) in
+    let h = gone g.M.Mail.seen (pocket_of s.store) after (pocket_of c.end.new.store) (g.A.Agenda.entries s.agenda) later clock time s.slots.items e.owner r c.self.invariant a c.clear_owner.ensures.cleared (λ o n. c.end.ensures.others o (λ x. n (x ∙ owner))) in
     let cleared : set (set s.slots.items e.owner (Some t)) e.owner c.replace.new.dest ≡ set s.slots.items e.owner None =
     ap (set (set s.slots.items e.owner (Some t)) e.owner) c.replace.ensures.after ∙ set-set s.slots.items e.owner (Some t) None in
-    subst (λ (l : List (Option (Resident _))). IsShard g.M.Mail.given g.M.Mail.letters (pocket_of c.end.new.store) later time l) (sym cleared) h.shard
+    subst (λ (l : List (Option (Resident _))). IsShard g.M.Mail.seen (pocket_of c.end.new.store) later time l) (sym cleared) h.shard
 
 pub returns : goal.returns
 returns g c =
@@ -195,25 +194,25 @@ returns g c =
     let r = c.in-Some-index_mut.resident in
     let was = c.in-Some.ensures in
     let clock : ℕ = g.A.Agenda.time s.agenda in
-    let d = due_at g.M.Mail.given g.M.Mail.letters (pocket_of s.store) (g.A.Agenda.entries s.agenda) clock s.slots.items e.owner e.source e.due c.self.invariant was.was in
+    let d = due_at g.M.Mail.seen (pocket_of s.store) (g.A.Agenda.entries s.agenda) clock s.slots.items e.owner e.source e.due c.self.invariant was.was in
     let is : resident_at s.slots.items e.owner ≡ Some r = read_at s.slots.items e.owner c.index_mut.result.now r d.within c.index_mut.ensures.value (sym c.in-Some-index_mut.is) in
-    let pop = popped g.M.Mail.given g.M.Mail.letters (pocket_of s.store) (g.A.Agenda.entries s.agenda) clock s.slots.items e.owner r e.source e.due _ _ c.self.invariant is was.was was.taken was.time was.rises (subst (λ (x : Seating _). x.clock < 2 ^ 62) (sym c.self.view_is) c.requires.early) in
+    let pop = least g.M.Mail.seen (pocket_of s.store) (g.A.Agenda.entries s.agenda) clock s.slots.items e.owner r e.source e.due _ _ c.self.invariant is was.was (was.entries e.owner) was.time was.rises (subst (λ (x : Seating _). x.clock < 2 ^ 62) (sym c.self.view_is) c.requires.early) in
     let t = c.step-event.new.self in
     let after = pocket_of c.step-event.new.store in
-    let middle : ℕ = g.A.Agenda.time c.pop_least.new.self in
+    let middle : ℕ = g.A.Agenda.time c.move_to_least.new.self in
     let long : e.owner < length (set s.slots.items e.owner (Some t)) = omega (arith, d.within, length-set s.slots.items e.owner (Some t)) in
     let read = read_at (set s.slots.items e.owner (Some t)) e.owner c.index_mut-2.result.now c.in-Some-replace.gone long c.index_mut-2.ensures.value c.in-Some-replace.ensures.value in
     let same : c.in-Some-replace.gone ≡ t = ap (λ (o : Option (Resident _)). unwrap_or o t) (sym read ∙ get_or-set_same s.slots.items e.owner (Some t) None d.within) in
-    let left = over g.M.Mail.given g.M.Mail.letters c.step-event.result (pocket_of s.store r.owner) r (after r.owner) (g.A.Agenda.entries c.step-event.new.agenda e.owner) middle t (sym c.eq.ensures ∙ c.if-eq.false) c.step-event.ensures.steps in
+    let left = over g.M.Mail.seen c.step-event.result (pocket_of s.store r.owner) r (after r.owner) (g.A.Agenda.entries c.step-event.new.agenda e.owner) middle t (sym c.eq.ensures ∙ c.if-eq.false) c.step-event.ensures.steps in
     let later = g.A.Agenda.entries c.clear_owner.new.self in
     let time : ℕ = g.A.Agenda.time c.clear_owner.new.self in
     let timed : time ≡ middle = c.clear_owner.ensures.time ∙ c.step-event.ensures.time in
     let a : Called (pocket_of s.store) after (g.A.Agenda.entries s.agenda) later clock time s.slots.items e.owner r = record {
-      at = record { is = is; within = omega (arith, d.within, c.self.invariant.long); rows_stay = λ o n. c.clear_owner.ensures.others o n ∙ c.step-event.ensures.rows o n ∙ was.others o n; pockets_stay = c.step-event.ensures.others };
+      at = record { is = is; within = omega (arith, d.within, c.self.invariant.long); rows_stay = λ o n. c.clear_owner.ensures.others o n ∙ c.step-event.ensures.rows o n ∙ was.entries o; pockets_stay = c.step-event.ensures.others };
       on = record { on = omega (arith, was.rises, timed); early = omega (arith, pop.early, timed) };
     } in
     let owner : c.in-Some-replace.gone.owner ≡ r.owner = ap (λ (x : Resident _). x.owner) same ∙ left.1.owner in
-    let h = gone g.M.Mail.given g.M.Mail.letters (pocket_of s.store) after (pocket_of c.end.new.store) (g.A.Agenda.entries s.agenda) later clock time s.slots.items e.owner r c.self.invariant a c.clear_owner.ensures.cleared (λ o n. c.end.ensures.others o (λ x. n (x ∙ owner))) in
+    let h = gone g.M.Mail.seen (pocket_of s.store) after (pocket_of c.end.new.store) (g.A.Agenda.entries s.agenda) later clock time s.slots.items e.owner r c.self.invariant a c.clear_owner.ensures.cleared (λ o n. c.end.ensures.others o (λ x. n (x ∙ owner))) in
     let cleared : set (set s.slots.items e.owner (Some t)) e.owner c.replace.new.dest ≡ set s.slots.items e.owner None =
     ap (set (set s.slots.items e.owner (Some t)) e.owner) c.replace.ensures.after ∙ set-set s.slots.items e.owner (Some t) None in
     let ends = subst (λ (x : Resident _). x.experiment.ending ≡ Some c.end.result.ending) same c.end.ensures.ending in
@@ -242,7 +241,7 @@ returns g c =
       record {
         was = seat_is (pocket_of s.store) s.slots.items c.args.self.now.seats e.owner r (ap (λ (x : Seating _). x.seats) c.self.view_is) is;
         ready = pop.ready;
-        end = ended g.M.Mail.given g.M.Mail.letters (pocket_of s.store r.owner) (after r.owner) left.0 r t c.end.result left.1 ends rest';
+        end = ended g.M.Mail.seen (pocket_of s.store r.owner) (after r.owner) left.0 r t c.end.result left.1 ends rest';
         others = ap (seats_of (pocket_of c.end.new.store)) cleared ∙ h.seats ∙ ap (λ (x : Seating _). set x.seats e.owner None) c.self.view_is;
       },
     )

@@ -1,4 +1,4 @@
-use Rattle.std.proofs.Common.{◌≡◌, ℕ, ◌+◌, ◌≤◌, ◌<◌, refl, sym, ap, ◌∙◌, arith, subst, None, [], ◌∷◌, length, get_or}
+use Rattle.std.proofs.Common.{◌+◌, ap, ◌∙◌, arith, None, [], ◌∷◌, length, get_or}
 use Rattle.std.proofs.lemmas.List.{length-append}
 use Rattle.packet_store.specs.Books.{pocket_of}
 use Rattle.shard.proofs.SeatFacts.{vacant_more, IsShard-new, no_seats}
@@ -26,7 +26,7 @@ pub invariant_of-result : goal.invariant_of-result
 invariant_of-result g c =
     let a = c.in_ok-new.field-0 in
     let i = c.loop.invariant in
-    IsShard-new g.M.Mail.given g.M.Mail.letters (pocket_of c.new.result) (g.A.Agenda.entries a) (g.A.Agenda.time a) c.loop.slots.items i.1 c.in_ok-new.ensures.empty (omega (arith, i.0, c.loop-test.false, c.loop.auto.counter-end)) (omega (arith, c.in_ok-new.ensures.time, c.requires))
+    IsShard-new g.M.Mail.seen (pocket_of c.new.result) (g.A.Agenda.entries a) (g.A.Agenda.time a) c.loop.slots.items i.1 c.in_ok-new.ensures.empty (omega (arith, i.0, c.loop-test.false, c.loop.auto.counter-end)) (omega (arith, c.in_ok-new.ensures.time, c.requires))
 
 pub returns-clause-vacant : goal.returns-clause-vacant
 returns-clause-vacant g c = no_seats (pocket_of c.new.result) c.loop.slots.items c.loop.invariant.1

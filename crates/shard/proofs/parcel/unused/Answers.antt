@@ -1,16 +1,14 @@
-use Rattle.std.proofs.Common.{refl, sym, subst}
-use Rattle.shard.specs.Kept.{IsNew}
-use Rattle.shard.proofs.parcel.watched.Goals as goal
+use Rattle.shard.proofs.parcel.unused.Goals as goal
 
 pub returns : goal.returns
 returns c =
     let was = c.in_ok-experiment.ensures in
-    subst (IsNew c.args.spec) (sym c.watch.ensures) (record {
+    record {
       shown = was.opening;
       alone = was.alone;
       housed = λ budget room. let h = was.housed budget room in record { housed = h.housed; room = h.room };
       spec_is = was.given.0;
       consumed = was.given.2;
       going = was.given.4;
-      watched = refl;
-    })
+      steps = was.given.3;
+    }
