@@ -1,0 +1,13 @@
+mod Lists
+mod Sitting
+mod Heard
+mod KeptFacts
+mod WorldFacts
+mod StepFacts
+mod TurnFacts
+mod PlaceFacts
+mod LawFacts
+mod MailFacts
+mod MoveFacts
+mod ReadFacts
+mod NewFacts

@@ -1,0 +1,74 @@
+//! Where an experiment is, and what is kept of its posts.
+
+use emu_model::Timed;
+use shard::{Dossier, ListMail, Parcel};
+
+/// Where an experiment is: in the caller's hands, in a slot of a shard, in the deque of a shard, or ended.
+#[derive(Clone, Copy, Debug, PartialEq, Eq)]
+pub enum Place {
+    HandedOut,
+    Resident { shard: usize, slot: usize },
+    InDeque { shard: usize },
+    Ended,
+}
+
+/// An experiment at its place, or the slot where it sits.
+#[derive(Drop)]
+pub(crate) enum Home {
+    Handed(Parcel<ListMail>),
+    Seated {
+        shard: usize,
+        slot: usize,
+    },
+    Queued {
+        shard: usize,
+        parcel: Parcel<ListMail>,
+    },
+    Left(Dossier<ListMail>),
+}
+
+/// What the world keeps of a name: its home, whether an `end` was posted, and the moment of the last post (ns), 0
+/// before the first.
+#[derive(Drop)]
+pub(crate) struct Desk {
+    pub(crate) home: Home,
+    pub(crate) closed: bool,
+    pub(crate) last: u64,
+}
+
+/// No command's moment is later (ns).
+const LATEST: u64 = 1_000_000_000_000_000;
+
+impl Home {
+    ghost use Rattle.std.specs.Prelude.{◌≡◌};
+    ghost use Rattle.world.specs.Tenants.{place_of};
+
+    /// Where it is.
+    pub(crate) fn place(&self) -> Place
+        ensures { result ≡ place_of self.now }
+    {
+        match self {
+            Home::Handed(_) => Place::HandedOut,
+            Home::Seated { shard, slot } => Place::Resident {
+                shard: *shard,
+                slot: *slot,
+            },
+            Home::Queued { shard, parcel: _ } => Place::InDeque { shard: *shard },
+            Home::Left(_) => Place::Ended,
+        }
+    }
+}
+
+impl Desk {
+    ghost use Rattle.std.specs.Prelude.{IsTrue, IsFalse};
+    ghost use Rattle.world.specs.Tenants.{IsPostable, IsRefused};
+
+    /// Whether a command may be posted: no `end` was, and its moment is neither too late nor below the last.
+    pub(crate) fn allows(&self, timed: &Timed) -> bool
+        ensures yes { IsTrue result → IsPostable self.now.closed self.now.last timed.now }
+        ensures no { IsFalse result → IsRefused self.now.closed self.now.last timed.now }
+    {
+        let _last = self.last;
+        !self.closed && timed.moment <= LATEST && self.last <= timed.moment
+    }
+}

@@ -1,0 +1,146 @@
+//! Moves between places.
+
+ghost use Rattle.world.specs.Steps.{Houses};
+
+use crate::home::{Desk, Home};
+use crate::steps::Did;
+use crate::world::World;
+use shard::{ListMail, PackError, Parcel, Shard, TakeInError};
+use std::mem;
+use timer_wheel::Agenda;
+
+// Where a parcel is that was to be taken in, and whether it was.
+#[derive(Drop)]
+struct Housed {
+    home: Home,
+    did: Did,
+}
+
+// Takes a parcel in at a shard; `Still` where that is crowded.
+fn house<A: Agenda>(shard: &mut Shard<A, ListMail>, i: usize, parcel: Parcel<ListMail>) -> Housed
+    ensures { Houses parcel i result.did result.home shard.old shard.new }
+{
+    match shard.take_in(parcel) {
+        Ok(slot) => {
+            return Housed {
+                home: Home::Seated { shard: i, slot },
+                did: Did::Done,
+            };
+        }
+        Err(TakeInError::Crowded(parcel)) => {
+            return Housed {
+                home: Home::Handed(parcel),
+                did: Did::Still,
+            };
+        }
+        Err(TakeInError::NoMemory(parcel)) => {
+            return Housed {
+                home: Home::Handed(parcel),
+                did: Did::NoMemory,
+            };
+        }
+    }
+}
+
+impl Desk {
+    ghost use Rattle.std.specs.Prelude.{◌≡◌, ◌≢◌, ℕ, IfSome, IfNone};
+    ghost use Rattle.shard.specs.Mails.{MailBook};
+    ghost use Rattle.shard.specs.Stand.{Stand};
+    ghost use Rattle.world.specs.declared.home.Home.TheVariants.{Handed, Queued};
+
+    // The parcel of one that is handed out, whose home is another then.
+    fn hand_over(&mut self, home: Home) -> Option<Parcel<ListMail>>
+        ensures some { IfSome result (λ p. (self.old.home ≡ Handed p) × (self.new ≡ record self.old { home = home })) }
+        ensures none { IfNone result ((self.new ≡ self.old) × ((p : Stand MailBook) → self.old.home ≢ Handed p)) }
+    {
+        match mem::replace(&mut self.home, home) {
+            Home::Handed(parcel) => return Some(parcel),
+            other => {
+                self.home = other;
+                return None;
+            }
+        }
+    }
+
+    // The parcel of one that waits in a deque, whose home is another then.
+    fn leave_queue(&mut self, home: Home) -> Option<Parcel<ListMail>>
+        ensures some { IfSome result (λ p. (i : ℕ) × (self.old.home ≡ Queued i p) × (self.new ≡ record self.old { home = home })) }
+        ensures none { IfNone result ((self.new ≡ self.old) × ((i : ℕ) (p : Stand MailBook) → self.old.home ≢ Queued i p)) }
+    {
+        match mem::replace(&mut self.home, home) {
+            Home::Queued { shard: _, parcel } => return Some(parcel),
+            other => {
+                self.home = other;
+                return None;
+            }
+        }
+    }
+}
+
+impl<A: Agenda> World<A> {
+    ghost use Rattle.world.specs.Steps.{IsAdmission, IsBringing, IsOffer};
+
+    // One that is handed out comes to a shard.
+    pub(crate) fn admit(&mut self, name: u32, i: usize) -> Did
+        ensures { IsAdmission name i result self.old self.new }
+    {
+        let at = name as usize;
+        if i >= self.shards.len() {
+            return Did::Still;
+        }
+        if at >= self.desks.len() {
+            return Did::Still;
+        }
+        let desk = &mut self.desks[at];
+        let Some(parcel) = desk.hand_over(Home::Seated { shard: i, slot: 0 }) else {
+            return Did::Still;
+        };
+        let housed = house(&mut self.shards[i], i, parcel);
+        desk.home = housed.home;
+        housed.did
+    }
+
+    // The front of a deque comes to a shard, or into the caller's hands where it is refused there.
+    pub(crate) fn bring(&mut self, i: usize, from: usize) -> Did
+        ensures { IsBringing i from result self.old self.new }
+    {
+        if i >= self.shards.len() {
+            return Did::Still;
+        }
+        if from >= self.deques.len() {
+            return Did::Still;
+        }
+        let Some(name) = self.deques[from].pop() else {
+            return Did::Still;
+        };
+        let desk = &mut self.desks[name as usize];
+        let Some(parcel) = desk.leave_queue(Home::Seated { shard: i, slot: 0 }) else {
+            unreachable!();
+        };
+        let housed = house(&mut self.shards[i], i, parcel);
+        desk.home = housed.home;
+        housed.did.brought()
+    }
+
+    // A resident goes to the back of its shard's deque, or into the caller's hands where memory is refused there.
+    pub(crate) fn offer(&mut self, i: usize, slot: usize) -> Did
+        ensures { IsOffer i slot result self.old self.new }
+    {
+        if i >= self.shards.len() {
+            return Did::Still;
+        }
+        let parcel = match self.shards[i].pack(slot) {
+            Ok(parcel) => parcel,
+            Err(PackError::Vacant) => return Did::Still,
+            Err(PackError::NoMemory) => return Did::NoMemory,
+        };
+        let name = parcel.name();
+        let desk = &mut self.desks[name as usize];
+        let Ok(()) = self.deques[i].push(name) else {
+            desk.home = Home::Handed(parcel);
+            return Did::NoMemory;
+        };
+        desk.home = Home::Queued { shard: i, parcel };
+        Did::Done
+    }
+}

@@ -1,0 +1,206 @@
+//! One step of the workers.
+
+ghost use Rattle.std.specs.Prelude.{◌≡◌, ℕ, ◌≤◌};
+ghost use Rattle.world.specs.Runs.{refusals_of};
+ghost use Rattle.world.specs.Steps.{did_bring, did_end, did_poll};
+
+use crate::home::{Desk, Home};
+use crate::world::World;
+use emu_model::{Ending, Spec, Timed};
+use shard::{ListMail, Parcel, Polled, Turned};
+use timer_wheel::Agenda;
+
+/// How many names may be made.
+const MOST_NAMES: usize = 1_000_000;
+
+/// A step of the workers: the next name is registered; a command is posted to a name; a name that is handed out is
+/// admitted to a shard; a shard makes a turn; a slot's resident is polled, or offered to its shard's deque; the front
+/// of a shard's own deque is taken in again, or that of another one is adopted; the time of a shard's agenda begins
+/// anew; a letter of a name is read.
+#[derive(Clone, Copy)]
+pub enum Step {
+    Registered(Spec),
+    Post { name: u32, timed: Timed },
+    Admit { name: u32, shard: usize },
+    Turn { shard: usize },
+    Poll { shard: usize, slot: usize },
+    Offer { shard: usize, slot: usize },
+    Retake { shard: usize },
+    Adopt { shard: usize, from: usize },
+    Rebase { shard: usize },
+    ReadLetter { name: u32 },
+}
+
+/// What became of a step: it was done; it can't be done, and nothing changed but that a shard's time may have begun
+/// anew; or memory was refused.
+#[derive(Clone, Copy, Debug, PartialEq, Eq)]
+pub enum Did {
+    Done,
+    Still,
+    NoMemory,
+}
+
+impl Did {
+    // 1 for want of memory.
+    pub(crate) fn refusals(self) -> u64
+        ensures value { result ≡ refusals_of self }
+        ensures few { result ≤ 1 }
+    {
+        match self {
+            Did::NoMemory => 1,
+            Did::Done => 0,
+            Did::Still => 0,
+        }
+    }
+
+    // What it is that somebody came out of a deque, who was taken in so. One who is refused is handed out.
+    pub(crate) fn brought(self) -> Did
+        ensures { result ≡ did_bring self }
+    {
+        match self {
+            Did::NoMemory => Did::NoMemory,
+            Did::Done => Did::Done,
+            Did::Still => Did::Done,
+        }
+    }
+}
+
+// What a turn is that ended a resident so.
+fn ended(ending: Ending) -> Did
+    ensures { result ≡ did_end ending }
+{
+    match ending {
+        Ending::Halted => Did::NoMemory,
+        Ending::Ended => Did::Done,
+        Ending::Spent => Did::Done,
+    }
+}
+
+// What a poll is with that answer.
+fn polled(answer: Polled) -> Did
+    ensures { result ≡ did_poll answer }
+{
+    match answer {
+        Polled::Vacant => Did::Still,
+        Polled::NoMemory(_) => Did::NoMemory,
+        Polled::Took(_) => Did::Done,
+        Polled::Resumed(_) => Did::Done,
+        Polled::Held(_) => Did::Done,
+        Polled::Empty(_) => Did::Done,
+    }
+}
+
+impl<A: Agenda> World<A> {
+    ghost use Rattle.std.specs.Prelude.{◌≡◌, ℕ, Some};
+    ghost use Rattle.world.specs.Steps.{IsRegistered, IsWorldTurn, IsWorldPoll, IsWorldRebase};
+    ghost use Rattle.world.specs.Runs.{Does};
+    ghost use Rattle.world.specs.Tenants.{Tenant, shown};
+    ghost use Rattle.world.specs.Places.{tenant_at, AreAtOnePlace};
+    ghost use Rattle.world.specs.Kept.{IsAlone, IsAloneState, IsPosted, AreLetters};
+
+    // The next name.
+    fn register(&mut self, spec: Spec) -> Did
+        ensures { IsRegistered spec result self.old self.new }
+    {
+        let name = self.desks.len();
+        if name >= MOST_NAMES {
+            return Did::Still;
+        }
+        let Ok(()) = self.desks.reserve(1) else {
+            return Did::NoMemory;
+        };
+        let Ok(mail) = ListMail::new(self.alloc) else {
+            return Did::NoMemory;
+        };
+        let Ok(parcel) = Parcel::open(self.alloc, name as u32, spec, mail) else {
+            return Did::NoMemory;
+        };
+        parcel.known();
+        self.desks.push_reserved(Desk {
+            home: Home::Handed(parcel),
+            closed: false,
+            last: 0,
+        });
+        Did::Done
+    }
+
+    // One event of a shard.
+    fn turn(&mut self, i: usize) -> Did
+        ensures { IsWorldTurn i result self.old self.new }
+    {
+        if i >= self.shards.len() {
+            return Did::Still;
+        }
+        let shard = &mut self.shards[i];
+        let turned = shard.turn();
+        shard.known();
+        match turned {
+            Turned::Ran(_) => return Did::Done,
+            Turned::Ended(dossier) => {
+                dossier.known();
+                let ending = dossier.ending();
+                let desk = &mut self.desks[dossier.name() as usize];
+                desk.home = Home::Left(dossier);
+                return ended(ending);
+            }
+            Turned::Idle => return Did::Still,
+        }
+    }
+
+    // A poll of a slot.
+    fn poll(&mut self, i: usize, slot: usize) -> Did
+        ensures { IsWorldPoll i slot result self.old self.new }
+    {
+        if i >= self.shards.len() {
+            return Did::Still;
+        }
+        let shard = &mut self.shards[i];
+        let answer = shard.poll(slot);
+        shard.known();
+        polled(answer)
+    }
+
+    // The time of a shard begins anew.
+    fn rebase(&mut self, i: usize) -> Did
+        ensures { IsWorldRebase i result self.old self.new }
+    {
+        if i >= self.shards.len() {
+            return Did::Still;
+        }
+        let shard = &mut self.shards[i];
+        shard.rebase();
+        Did::Done
+    }
+
+    /// One step of the workers. Afterwards, as ever, each name is as if it were alone.
+    pub fn step(&mut self, step: Step) -> Did
+        ensures case { Does step result self.old self.new }
+        ensures headline { (n : ℕ) (t : Tenant) → tenant_at self.new n ≡ Some t → IsAlone (shown t.life) }
+        ensures whole { (n : ℕ) (t : Tenant) → tenant_at self.new n ≡ Some t → IsAloneState t.life }
+        ensures posted { (n : ℕ) (t : Tenant) → tenant_at self.new n ≡ Some t → IsPosted (shown t.life) }
+        ensures letters { (n : ℕ) (t : Tenant) → tenant_at self.new n ≡ Some t → AreLetters (shown t.life) }
+        ensures one_place { AreAtOnePlace self.new }
+    {
+        let did = self.do_step(step);
+        self.known();
+        did
+    }
+
+    // The step itself.
+    fn do_step(&mut self, step: Step) -> Did
+        ensures { Does step result self.old self.new }
+    {
+        match step {
+            Step::Registered(spec) => return self.register(spec),
+            Step::Post { name, timed } => return self.post(name, timed),
+            Step::Admit { name, shard } => return self.admit(name, shard),
+            Step::Turn { shard } => return self.turn(shard),
+            Step::Poll { shard, slot } => return self.poll(shard, slot),
+            Step::Offer { shard, slot } => return self.offer(shard, slot),
+            Step::Retake { shard } => return self.bring(shard, shard),
+            Step::Adopt { shard, from } => return self.bring(shard, from),
+            Step::Rebase { shard } => return self.rebase(shard),
+            Step::ReadLetter { name } => return self.read_letter(name),
+        }
+    }
+}

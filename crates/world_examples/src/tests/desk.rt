@@ -1,0 +1,193 @@
+//! What the examples share: guests of a world, whose commands are posted in their order.
+
+use super::calls::{ended, place, step};
+use control::{Experiment as Plan, ParseError, parse_scenario};
+use emu_model::{Ending, Spec};
+use report::report_text;
+use shard::{Dossier, ListMail};
+use std::alloc::{AllocError, Global};
+use std::process::Abort;
+use timer_wheel::Agenda;
+use world::{Place, Step, World};
+
+/// More rounds than any of the examples takes.
+pub const MOST_ROUNDS: u32 = 1_000_000;
+
+/// An experiment of a text, how many of its commands were posted, and its report.
+#[derive(Drop)]
+pub struct Guest {
+    plan: Plan,
+    posted: usize,
+    report: &'static str,
+}
+
+impl Guest {
+    pub fn spec(&self) -> Spec {
+        self.plan.spec
+    }
+
+    /// Nothing was posted yet.
+    pub fn again(&mut self) {
+        self.posted = 0;
+    }
+}
+
+// The only experiment of a text.
+fn plan(rt: &(impl Abort + AllocGlobal), text: &str) -> Result<Plan, AllocError> {
+    let mut plans = match parse_scenario(rt.alloc(), text.as_bytes()) {
+        Ok(scenario) => scenario.into_vec(),
+        Err(error) => {
+            assert!(rt; matches!(error, ParseError::NoMemory), "{text}");
+            return Err(AllocError);
+        }
+    };
+    assert_eq!(rt; plans.len(), 1, "{text}");
+    Ok(plans.remove(0))
+}
+
+/// The guest of a text with just one experiment.
+pub fn invite(
+    rt: &(impl Abort + AllocGlobal),
+    text: &str,
+    report: &'static str,
+) -> Result<Guest, AllocError> {
+    Ok(Guest {
+        plan: plan(rt, text)?,
+        posted: 0,
+        report,
+    })
+}
+
+/// Guests have the names from 0 on.
+pub fn name_of(index: usize) -> u32 {
+    u32::try_from(index).unwrap_or(u32::MAX)
+}
+
+/// The post of a name's next command; None where all were posted.
+pub fn next_post(guests: &mut [Guest], name: u32) -> Option<Step> {
+    let guest = guests.get_mut(name as usize)?;
+    let timed = *guest.plan.commands.as_slice().get(guest.posted)?;
+    guest.posted = guest.posted.saturating_add(1);
+    Some(Step::Post { name, timed })
+}
+
+/// Registers all guests, in their order.
+pub fn register<A: Agenda>(world: &mut World<A>, guests: &[Guest]) -> Result<(), AllocError> {
+    for guest in guests {
+        step(world, Step::Registered(guest.spec()))?;
+    }
+    Ok(())
+}
+
+/// Posts all commands of a name that are left.
+pub fn post_all<A: Agenda>(
+    world: &mut World<A>,
+    guests: &mut [Guest],
+    name: u32,
+) -> Result<(), AllocError> {
+    for _ in 0..64 {
+        let Some(post) = next_post(guests, name) else {
+            return Ok(());
+        };
+        step(world, post)?;
+    }
+    Ok(())
+}
+
+// One thing that helps a name to its end; false where it has ended.
+fn help<A: Agenda>(
+    world: &mut World<A>,
+    guests: &mut [Guest],
+    name: u32,
+) -> Result<bool, AllocError> {
+    match place(world, name) {
+        Some(Place::HandedOut) => step(world, Step::Admit { name, shard: 0 })?,
+        Some(Place::InDeque { shard }) => step(world, Step::Retake { shard })?,
+        Some(Place::Resident { shard, slot }) => {
+            post_all(world, guests, name)?;
+            step(world, Step::Poll { shard, slot })?;
+            step(world, Step::Turn { shard })?
+        }
+        Some(Place::Ended) => return Ok(false),
+        None => return Ok(false),
+    };
+    Ok(true)
+}
+
+/// Helps all names to their ends.
+pub fn finish<A: Agenda>(
+    rt: &(impl Abort + AllocGlobal),
+    world: &mut World<A>,
+    guests: &mut [Guest],
+) -> Result<(), AllocError> {
+    for _ in 0..MOST_ROUNDS {
+        let mut left = false;
+        for index in 0..guests.len() {
+            if help(world, guests, name_of(index))? {
+                left = true;
+            }
+        }
+        if !left {
+            return Ok(());
+        }
+    }
+    assert!(rt; false, "not ended");
+    Ok(())
+}
+
+// Wants the guest's report of what it left, or of one that was halted, which answers false, that its lines but for the
+// last begin so.
+fn has_report(
+    rt: &(impl Abort + AllocGlobal),
+    guest: &Guest,
+    left: &Dossier<ListMail>,
+) -> Result<bool, AllocError> {
+    let name = guest.plan.name.as_bytes();
+    let text = report_text(rt.alloc(), name, left.records(), &left.counters())?;
+    if matches!(left.ending(), Ending::Halted) {
+        assert!(rt; begins_like(text.as_slice(), guest.report.as_bytes()));
+        return Ok(false);
+    }
+    assert!(rt; text.as_slice() == guest.report.as_bytes());
+    Ok(true)
+}
+
+// Whether all lines of a text but the last are the first of another one.
+fn begins_like(text: &[u8], whole: &[u8]) -> bool {
+    let mut end = 0;
+    for (at, byte) in text.iter().enumerate() {
+        if *byte == b'\n' && at.saturating_add(1) < text.len() {
+            end = at;
+        }
+    }
+    if end > text.len() || end > whole.len() {
+        return false;
+    }
+    text[..end] == whole[..end]
+}
+
+/// How many names have ended with their reports, and how many were halted, with the first lines of theirs.
+#[derive(Clone, Copy)]
+pub struct Reports {
+    pub whole: usize,
+    pub cut: usize,
+}
+
+/// Wants the reports of all names that have ended.
+pub fn reported<A: Agenda>(
+    rt: &(impl Abort + AllocGlobal),
+    world: &World<A>,
+    guests: &[Guest],
+) -> Result<Reports, AllocError> {
+    let mut reports = Reports { whole: 0, cut: 0 };
+    for (index, guest) in guests.iter().enumerate() {
+        if let Some(left) = ended(world, name_of(index)) {
+            if has_report(rt, guest, left)? {
+                reports.whole = reports.whole.saturating_add(1);
+            } else {
+                reports.cut = reports.cut.saturating_add(1);
+            }
+        }
+    }
+    Ok(reports)
+}
