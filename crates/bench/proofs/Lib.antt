@@ -1,0 +1,6 @@
+pub mod Custodies
+pub mod Accounts
+pub mod Equalities
+pub mod Postings
+pub mod Seatings
+pub mod Moves

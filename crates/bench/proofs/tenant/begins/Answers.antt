@@ -1,0 +1,6 @@
+use Rattle.std.proofs.lemmas.Slice.Eq.{slice_eq-Decides}
+use Rattle.bench.proofs.Equalities.{news_decides}
+use Rattle.bench.proofs.tenant.begins.Goals as goal
+
+pub returns-then-first-all : goal.returns-then-first-all
+returns-then-first-all c = slice_eq-Decides news_decides _ _ _ c.eq.ensures

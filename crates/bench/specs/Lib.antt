@@ -1,0 +1,9 @@
+pub mod Rings
+pub mod Registries
+pub mod Commands
+pub mod Outcomes
+pub mod Tenants
+pub mod Custody
+pub mod Ends
+pub mod Benches
+pub mod Audits

@@ -1,0 +1,9 @@
+-- Why no tenant was opened.
+use Rattle.std.specs.Prelude.{ℕ, ◌≤◌, ◌<◌, ◌^◌}
+use Rattle.bench.specs.declared.registry.OpenError.{OpenError}
+use Rattle.bench.specs.declared.registry.OpenError.TheVariants.{NamesOut, NoMemory}
+
+-- the cause, where this name is next
+abbrev pub OpenFails : OpenError → ℕ → Type 0
+OpenFails NamesOut next = 10 ^ 6 ≤ next
+OpenFails NoMemory next = next < 10 ^ 6

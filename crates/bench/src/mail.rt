@@ -1,0 +1,65 @@
+//! A mail over two rings, whose other ends a tenant has.
+
+use emu_model::{Record, Timed};
+use rtrb::{Consumer, Producer, Protocol, PushError};
+use shard::Mail;
+use std::alloc::Global;
+
+/// A command on its way.
+#[derive(Clone, Copy)]
+pub struct Posted {
+    pub timed: Timed,
+}
+
+/// A record on its way.
+#[derive(Clone, Copy)]
+pub struct News {
+    pub letter: Record,
+}
+
+/// What a ring of commands lets in: moments of at most 10^15 ns.
+#[derive(Clone, Copy)]
+pub struct Moments;
+
+impl Protocol<Posted> for Moments {
+    ghost use Rattle.std.specs.Prelude.{◌≤◌, ◌^◌};
+
+    ghost allows = { λ before p. p.timed.moment ≤ 10 ^ 15 };
+}
+
+/// The experiment's ends of two rings: commands come from the one, and letters go to the other.
+#[derive(Drop)]
+pub struct RingMail {
+    pub(crate) from: Consumer<Posted, Global, Moments>,
+    pub(crate) to: Producer<News>,
+}
+
+impl RingMail {
+    ghost use Rattle.std.specs.Prelude.{◌≡◌};
+
+    pub(crate) fn new(from: Consumer<Posted, Global, Moments>, to: Producer<News>) -> Self
+        ensures { (result.from ≡ from) × (result.to ≡ to) }
+    {
+        RingMail { from, to }
+    }
+}
+
+impl Mail for RingMail {
+    ghost use Rattle.bench.specs.Rings.{ring_seen};
+
+    ghost seen = { ring_seen };
+
+    fn take_command(&mut self) -> Option<Timed> {
+        match self.from.pop() {
+            Ok(posted) => Some(posted.timed),
+            Err(_) => None,
+        }
+    }
+
+    fn letter(&mut self, news: Record) -> Result<(), Record> {
+        match self.to.push(News { letter: news }) {
+            Ok(()) => Ok(()),
+            Err(PushError::Full(back)) => Err(back.letter),
+        }
+    }
+}

@@ -1,0 +1,103 @@
+//! What a tenant gets in the end.
+
+ghost use Rattle.std.specs.Prelude.{◌≡◌, ◌≤◌, Some};
+ghost use Rattle.emu_model.specs.Net.{counters_of};
+ghost use Rattle.emu_model.specs.Alone.{alone};
+ghost use Rattle.experiment.specs.Kept.{shown_ending};
+ghost use Rattle.bench.specs.Outcomes.{settled};
+
+use crate::mail::RingMail;
+use emu_model::{Counters, Ending, Record, Spec, Timed};
+use shard::Dossier;
+use std::marker::Model;
+
+/// What a tenant gets in the end: the dossier that it took for its own.
+#[derive(Drop)]
+pub struct Outcome {
+    dossier: Dossier<RingMail>,
+}
+
+impl Model for Outcome {
+    ghost use Rattle.bench.specs.Outcomes.{Settled, settled};
+
+    ghost Value = { Settled };
+
+    ghost view = { λ o. settled o.dossier };
+}
+
+impl Outcome {
+    pub(crate) fn new(dossier: Dossier<RingMail>) -> Self
+        ensures { result ≡ settled dossier }
+    {
+        Outcome { dossier }
+    }
+
+    /// Its name.
+    pub fn name(&self) -> u32
+        ensures { result ≡ self.now.name }
+    {
+        self.dossier.name()
+    }
+
+    /// What it was given.
+    pub fn spec(&self) -> Spec
+        ensures { result ≡ self.now.spec }
+    {
+        self.dossier.spec()
+    }
+
+    /// The commands that came.
+    pub fn commands(&self) -> &[Timed]
+        ensures { result.now ≡ self.now.commands }
+    {
+        self.dossier.commands()
+    }
+
+    /// What was recorded.
+    pub fn records(&self) -> &[Record]
+        ensures { result.now ≡ self.now.records }
+    {
+        self.dossier.records()
+    }
+
+    /// The packets that were made, delivered, are held, and were dropped by cause.
+    pub fn counters(&self) -> Counters
+        ensures { result ≡ self.now.counters }
+    {
+        self.dossier.counters()
+    }
+
+    /// How it ended.
+    pub fn ending(&self) -> Ending
+        ensures { result ≡ self.now.ending }
+    {
+        self.dossier.ending()
+    }
+
+    /// How many steps were made.
+    pub fn events(&self) -> u64
+        ensures { result ≡ self.now.events }
+    {
+        self.dossier.events()
+    }
+
+    /// What was recorded.
+    pub fn into_records(self) -> Vec<Record>
+        ensures { result.items ≡ self.records }
+    {
+        let Outcome { dossier } = self;
+        let (_, records) = dossier.into_lists();
+        records
+    }
+
+    /// What every outcome keeps: its records and counters, and how it ended, are those of running it alone.
+    pub fn known(&self)
+        ensures records { self.now.records ≡ (alone self.now.spec self.now.commands self.now.events).net.records }
+        ensures counters { self.now.counters ≡ counters_of (alone self.now.spec self.now.commands self.now.events).net }
+        ensures ending { shown_ending (Some self.now.ending) ≡ (alone self.now.spec self.now.commands self.now.events).ending }
+        ensures few { self.now.events ≤ self.now.spec.budget.steps }
+        ensures made { (alone self.now.spec self.now.commands self.now.events).steps ≡ self.now.events }
+    {
+        self.dossier.known();
+    }
+}

@@ -1,0 +1,236 @@
+//! The side of a tenant: it posts the commands of its experiment, reads its letters, and keeps both.
+
+ghost use Rattle.std.specs.Prelude.{◌≡◌};
+ghost use Rattle.std.specs.Bool.{Decides};
+ghost use Rattle.experiment.specs.Kept.{last_moment};
+ghost use Rattle.emu_model.specs.Commands.{is_end};
+ghost use Rattle.rtrb.specs.Ring.{sent, received, producer_capacity};
+ghost use Rattle.bench.specs.Rings.{commands_of, letters_of};
+ghost use Rattle.bench.specs.Commands.{has_end, BeginsWith, Took};
+
+use crate::mail::{Moments, News, Posted, RingMail};
+use crate::outcome::Outcome;
+use emu_model::{Command, Ending, Record, Spec, Timed};
+use rtrb::{Consumer, Producer, PushError};
+use shard::Dossier;
+use std::alloc::{AllocError, Global};
+
+/// The latest moment (ns) of a command.
+const LATEST: u64 = 1_000_000_000_000_000;
+
+/// Posts an experiment's commands and reads its letters, and keeps both.
+#[derive(Drop)]
+pub struct Tenant {
+    name: u32,
+    spec: Spec,
+    to: Producer<Posted, Global, Moments>,
+    from: Consumer<News>,
+    posted: Vec<Timed>,
+    read: Vec<Record>,
+    last: u64,
+    closed: bool,
+    pub ghost sends: { commands_of (sent to) ≡ posted.items },
+    pub ghost gets: { letters_of (received from) ≡ read.items },
+    pub ghost latest: { last ≡ last_moment 0 posted.items },
+    pub ghost closes: { closed ≡ has_end posted.items },
+    pub ghost slots: { producer_capacity to ≡ 64 },
+}
+
+/// Why a command was not posted, in this order: an `end` was posted (45), its moment is above 10^15 ns (42), or
+/// below that of the last posted (40), want of memory, or 64 posted commands aren't known to be taken (41).
+#[derive(Clone, Copy, Debug, PartialEq, Eq)]
+pub enum PostError {
+    Closed = 45,
+    TooLate = 42,
+    Early = 40,
+    NoMemory = 99,
+    MailFull = 41,
+}
+
+/// A command that was not posted, and why.
+#[derive(Clone, Copy)]
+pub struct Refusal {
+    pub cause: PostError,
+    pub command: Timed,
+}
+
+/// A dossier that is not the tenant's (43).
+#[derive(Drop)]
+pub struct Strange {
+    pub tenant: Tenant,
+    pub dossier: Dossier<RingMail>,
+}
+
+impl Tenant {
+    ghost use Rattle.std.specs.Prelude.{◌≡◌, [], ◌∷◌, ◌++◌, OnOk, IfOk, IfErr, OnErr, MatchOption, length};
+    ghost use Rattle.std.specs.Bool.{Decides};
+    ghost use Rattle.rtrb.specs.Ring.{sent, received, producer_capacity};
+    ghost use Rattle.bench.specs.Tenants.{posted, letters_read, SameTenant, MayPost, PostFails, NoneWaits, Fits};
+    ghost use Rattle.bench.specs.Outcomes.{settled};
+
+    pub(crate) fn new(
+        alloc: Global,
+        name: u32,
+        spec: Spec,
+        to: Producer<Posted, Global, Moments>,
+        from: Consumer<News>,
+    ) -> Tenant
+        requires sends { sent to ≡ [] }
+        requires gets { received from ≡ [] }
+        requires slots { producer_capacity to ≡ 64 }
+        ensures { (result.name ≡ name) × (result.spec ≡ spec) × (posted result ≡ []) × (letters_read result ≡ []) }
+    {
+        Tenant {
+            name,
+            spec,
+            to,
+            from,
+            posted: Vec::new(alloc),
+            read: Vec::new(alloc),
+            last: 0,
+            closed: false,
+        }
+    }
+
+    /// Its name.
+    pub fn name(&self) -> u32
+        ensures { result ≡ self.now.name }
+    {
+        self.name
+    }
+
+    /// What it was opened with.
+    pub fn spec(&self) -> Spec
+        ensures { result ≡ self.now.spec }
+    {
+        self.spec
+    }
+
+    /// How many commands were posted.
+    pub fn posted_len(&self) -> usize
+        ensures { result ≡ length (posted self.now) }
+    {
+        self.posted.len()
+    }
+
+    /// The letters that were read.
+    pub fn letters(&self) -> &[Record]
+        ensures { result.now ≡ letters_read self.now }
+    {
+        &self.read
+    }
+
+    /// Posts a command, at a moment (ns), behind those that were posted; or hands it back with the first cause that
+    /// holds.
+    pub fn post(&mut self, command: Timed) -> Result<(), Refusal>
+        ensures same { SameTenant self.old self.new × (letters_read self.new ≡ letters_read self.old) }
+        ensures ok { OnOk result ((posted self.new ≡ posted self.old ++ command ∷ []) × MayPost (posted self.old) command) }
+        ensures back { IfErr result (λ e. (e.command ≡ command) × (posted self.new ≡ posted self.old)) }
+        ensures cause { IfErr result (λ e. PostFails e.cause self.old self.new command) }
+    {
+        if self.closed {
+            return Err(hand_back(PostError::Closed, command));
+        }
+        if command.moment > LATEST {
+            return Err(hand_back(PostError::TooLate, command));
+        }
+        if command.moment < self.last {
+            return Err(hand_back(PostError::Early, command));
+        }
+        if self.posted.reserve(1).is_err() {
+            return Err(hand_back(PostError::NoMemory, command));
+        }
+        match self.to.push(Posted { timed: command }) {
+            Ok(()) => {
+                self.posted.push_reserved(command);
+                self.last = command.moment;
+                self.closed = is_end_command(&command.command);
+                return Ok(());
+            }
+            Err(PushError::Full(_)) => return Err(hand_back(PostError::MailFull, command)),
+        }
+    }
+
+    /// Takes the next letter, if one is there; None only where none is known to wait. Where memory is refused none
+    /// is taken.
+    pub fn read(&mut self) -> Result<Option<Record>, AllocError>
+        ensures same { SameTenant self.old self.new × (posted self.new ≡ posted self.old) }
+        ensures ok { IfOk result (λ o. MatchOption o (letters_read self.new ≡ letters_read self.old) (λ x. letters_read self.new ≡ letters_read self.old ++ x ∷ [])) }
+        ensures none { IfOk result (λ o. MatchOption o (NoneWaits self.new) (λ _. Unit {0})) }
+        ensures err { OnErr result (letters_read self.new ≡ letters_read self.old) }
+    {
+        self.read.reserve(1)?;
+        match self.from.pop() {
+            Ok(news) => {
+                self.read.push_reserved(news.letter);
+                return Ok(Some(news.letter));
+            }
+            Err(_) => return Ok(None),
+        }
+    }
+
+    // Whether the dossier is this tenant's.
+    fn fits(&self, dossier: &Dossier<RingMail>) -> bool
+        ensures { Decides result (Fits self.now dossier.now) }
+    {
+        dossier.name() == self.name
+            && dossier.spec() == self.spec
+            && took(dossier.ending(), self.posted.as_slice(), dossier.commands())
+            && begins(dossier.records(), self.read.as_slice())
+    }
+
+    /// Takes a dossier for its own: just where name and specification are its own, the dossier's commands are a
+    /// beginning of the posted ones (all of them, where it ended by its command), and the letters read are a
+    /// beginning of its records. Otherwise both come back. Takes no memory.
+    pub fn settle(self, dossier: Dossier<RingMail>) -> Result<Outcome, Strange>
+        ensures fits { IfOk result (λ _. Fits self dossier) }
+        ensures outcome { IfOk result (λ o. o ≡ settled dossier) }
+        ensures strange { IfErr result (λ s. (s.tenant ≡ self) × (s.dossier ≡ dossier)) }
+        ensures differs { OnErr result (¬ Fits self dossier) }
+    {
+        if !self.fits(&dossier) {
+            return Err(Strange {
+                tenant: self,
+                dossier,
+            });
+        }
+        Ok(Outcome::new(dossier))
+    }
+}
+
+fn hand_back(cause: PostError, command: Timed) -> Refusal
+    ensures { (result.cause ≡ cause) × (result.command ≡ command) }
+{
+    Refusal { cause, command }
+}
+
+fn is_end_command(command: &Command) -> bool
+    ensures { result ≡ is_end command.now }
+{
+    matches!(command, Command::End)
+}
+
+// Whether the first list begins with the second.
+fn starts(all: &[Timed], first: &[Timed]) -> bool
+    ensures { Decides result (BeginsWith all.now first.now) }
+{
+    first.len() <= all.len() && &all[..first.len()] == first
+}
+
+// Whether the first list begins with the second.
+fn begins(all: &[Record], first: &[Record]) -> bool
+    ensures { Decides result (BeginsWith all.now first.now) }
+{
+    first.len() <= all.len() && &all[..first.len()] == first
+}
+
+// Whether these commands were taken of the posted ones, as the ending says.
+fn took(ending: Ending, posted: &[Timed], commands: &[Timed]) -> bool
+    ensures { Decides result (Took ending posted.now commands.now) }
+{
+    match ending {
+        Ending::Ended => return commands == posted,
+        Ending::Spent => return starts(posted, commands),
+        Ending::Halted => return starts(posted, commands),
+    }
+}
