@@ -2,6 +2,7 @@
 //! and what it prints on standard error; all else is in `lab`.
 #![tactic(auto)]
 
+mod meter;
 #[cfg(test)]
 mod tests;
 mod words;
@@ -11,7 +12,8 @@ ghost use Rattle.dnlab.specs.Status.{status_after};
 
 use clap::Error;
 use clap::error::ErrorKind;
-use lab::{Device, RunFault, check, run_alone};
+use lab::{Device, OpenGate, Plan, RunFault, check, run_alone_told, run_told};
+use meter::Meter;
 use std::process::ExitCode;
 use std::{env, io};
 use words::{Task, task_of};
@@ -24,6 +26,7 @@ fn status_of(outcome: &Result<(), RunFault>) -> u8
         Ok(()) => 0,
         Err(RunFault::Scenario(_)) => 1,
         Err(RunFault::Read | RunFault::Write | RunFault::Memory) => 3,
+        Err(RunFault::Strange | RunFault::Gate) => 4,
     }
 }
 
@@ -70,7 +73,30 @@ fn main(rt: HostRuntime) -> ExitCode {
     let mut reader = Device::new(rt.reader());
     let mut writer = Device::new(io::writer(&rt));
     let outcome = match task {
-        Task::Alone => run_alone(alloc, &mut reader, &mut writer),
+        Task::Run {
+            workers,
+            moves,
+            progress,
+        } => {
+            // The words' ranges are those of a plan.
+            let Some(plan) = Plan::new(workers, moves) else {
+                return ExitCode::from(2);
+            };
+            let meter = Meter::new(&rt, progress);
+            run_told(
+                &rt,
+                alloc,
+                &mut reader,
+                &mut writer,
+                plan,
+                &OpenGate,
+                &meter,
+            )
+        }
+        Task::Alone { progress } => {
+            let meter = Meter::new(&rt, progress);
+            run_alone_told(alloc, &mut reader, &mut writer, &meter)
+        }
         Task::Check => check(alloc, &mut reader, &mut writer),
     };
     end(&rt, outcome)

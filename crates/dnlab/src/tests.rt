@@ -26,7 +26,6 @@ fn says(
 ) -> Result<(), Fail> {
     match wanted(rt, words)? {
         Ok(_) => assert!(rt; false),
-        Err(error) if error.kind() == ErrorKind::OutOfMemory => {}
         Err(error) => {
             assert!(rt; error.kind() == kind);
             assert_eq!(rt; error.exit_code(), status);
@@ -39,18 +38,55 @@ fn says(
 fn asks(rt: &(impl Abort + AllocGlobal), words: &[&str], task: Task) -> Result<(), Fail> {
     match wanted(rt, words)? {
         Ok(found) => assert!(rt; found == task),
-        Err(error) => assert!(rt; error.kind() == ErrorKind::OutOfMemory),
+        Err(_) => assert!(rt; false),
     }
     Ok(())
 }
 
+/// Wants a run by so many workers and moves.
+fn runs(
+    rt: &(impl Abort + AllocGlobal),
+    words: &[&str],
+    workers: usize,
+    moves: u32,
+) -> Result<(), Fail> {
+    let progress = false;
+    asks(
+        rt,
+        words,
+        Task::Run {
+            workers,
+            moves,
+            progress,
+        },
+    )
+}
+
 #[test]
 fn words(rt: HostRuntime) -> Result<(), Fail> {
-    asks(&rt, &["alone"], Task::Alone)?;
+    asks(&rt, &["alone"], Task::Alone { progress: false })?;
+    asks(
+        &rt,
+        &["alone", "--progress"],
+        Task::Alone { progress: true },
+    )?;
     asks(&rt, &["check"], Task::Check)?;
     says(&rt, &["--help"], ErrorKind::DisplayHelp, 0)?;
     says(&rt, &["--version"], ErrorKind::DisplayVersion, 0)?;
-    says(&rt, &["run"], ErrorKind::InvalidSubcommand, 2)?;
+    says(&rt, &["runs"], ErrorKind::InvalidSubcommand, 2)?;
+    runs(&rt, &["run"], 2, 64)?;
+    runs(&rt, &["run", "--workers", "1"], 1, 64)?;
+    runs(&rt, &["run", "--moves", "0", "--workers", "16"], 16, 0)?;
+    runs(&rt, &["run", "--moves=1000000"], 2, 1_000_000)?;
+    for word in [
+        "--workers=0",
+        "--workers=17",
+        "--workers=x",
+        "--moves=1000001",
+        "--moves=-1",
+    ] {
+        says(&rt, &["run", word], ErrorKind::ValueValidation, 2)?;
+    }
     says(&rt, &["alone", "more"], ErrorKind::UnknownArgument, 2)?;
     says(
         &rt,

@@ -1,13 +1,22 @@
 //! The words of the command line.
 
-use clap::{Command, Error};
+use clap::{Arg, ArgAction, Command, Error};
 use std::alloc::Global;
 
 /// What the program is asked to do.
 #[derive(Clone, Copy, Debug, PartialEq)]
 pub enum Task {
-    /// To run each experiment by itself.
-    Alone,
+    /// To run the experiments by so many workers, each of which offers one to the others after so many turns, and to
+    /// say how far it is.
+    Run {
+        workers: usize,
+        moves: u32,
+        progress: bool,
+    },
+    /// To run each experiment by itself, and to say how far it is.
+    Alone {
+        progress: bool,
+    },
     /// To say whether a text is a scenario.
     Check,
 }
@@ -27,12 +36,50 @@ const EXAMPLE: &str = "Example:
     @20000000 end
     END
 
-Exit status: 0 done, 1 a fault in the scenario (standard error says `line L: CAUSE`), 2 words that are no command, 3 memory was refused or a read or write failed.";
+  The same by four workers, to the same bytes: dnlab run --workers 4 < scenario
+
+Exit status: 0 done, 1 a fault in the scenario (standard error says `line L: CAUSE`), 2 words that are no command, 3 memory was refused or a read or write failed, 4 the workers lost an experiment (never, unless the program is wrong).";
+
+// How many workers there are where nothing is said.
+const WORKERS: usize = 2;
+
+// After how many turns one is offered where nothing is said.
+const MOVES: u32 = 64;
+
+fn progress_word<'a>(alloc: Global) -> Arg<'a> {
+    Arg::new(alloc, "progress")
+        .long("progress")
+        .action(ArgAction::SetTrue)
+        .help("Says on standard error how far it is, at most five times a second")
+}
+
+fn run_command<'a>(alloc: Global) -> Result<Command<'a>, Error> {
+    let workers = Arg::new(alloc, "workers")
+        .long("workers")
+        .value_name("N")
+        .help("How many threads run the experiments, 1 to 16 [default: 2]")
+        .value_parser(clap::value_parser!(u64).range(1..=16));
+    let moves = Arg::new(alloc, "moves")
+        .long("moves")
+        .value_name("M")
+        .help(
+            "After how many turns a thread offers an experiment to the others, 0 (never) to 1000000 [default: 64]",
+        )
+        .value_parser(clap::value_parser!(u32).range(..=1_000_000));
+    let run = Command::new(alloc, "run")
+        .about(
+            "Reads a scenario on standard input, runs its experiments by many threads and prints their reports: the same bytes as `alone`",
+        )
+        .arg(workers)?
+        .arg(moves)?
+        .arg(progress_word(alloc))?;
+    Ok(run)
+}
 
 fn command<'a>(alloc: Global) -> Result<Command<'a>, Error> {
-    let alone = Command::new(alloc, "alone").about(
-        "Reads a scenario on standard input, runs each experiment and prints its report",
-    );
+    let alone = Command::new(alloc, "alone")
+        .about("Reads a scenario on standard input, runs each experiment and prints its report")
+        .arg(progress_word(alloc))?;
     let check = Command::new(alloc, "check").about(
         "Reads a scenario on standard input and prints `ok`, its experiments and its commands",
     );
@@ -42,6 +89,7 @@ fn command<'a>(alloc: Global) -> Result<Command<'a>, Error> {
         .after_help(EXAMPLE)
         .subcommand_required(true)
         .arg_required_else_help(true)
+        .subcommand(run_command(alloc)?)?
         .subcommand(alone)?
         .subcommand(check)?;
     Ok(program)
@@ -51,8 +99,15 @@ fn command<'a>(alloc: Global) -> Result<Command<'a>, Error> {
 /// version or want of memory.
 pub fn task_of(alloc: Global, words: &[String]) -> Result<Task, Error> {
     let matches = command(alloc)?.try_get_matches_from(words)?;
-    match matches.subcommand_name() {
-        Some("check") => Ok(Task::Check),
-        _ => Ok(Task::Alone),
+    match matches.subcommand() {
+        Some(("run", given)) => Ok(Task::Run {
+            workers: given.get_one::<usize>("workers").unwrap_or(WORKERS),
+            moves: given.get_one::<u32>("moves").unwrap_or(MOVES),
+            progress: given.get_flag("progress"),
+        }),
+        Some(("alone", given)) => Ok(Task::Alone {
+            progress: given.get_flag("progress"),
+        }),
+        _ => Ok(Task::Check),
     }
 }

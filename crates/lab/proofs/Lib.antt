@@ -1,7 +1,9 @@
 pub mod Answering
 pub mod Endings
+pub mod Ownings
 pub mod ReadFacts
 pub mod Reporting
+pub mod Servings
 pub mod Settled
 pub mod Turns
 pub mod Writing

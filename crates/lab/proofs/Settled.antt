@@ -1,7 +1,8 @@
 -- A run that has ended, or has no more commands, stands as it will after all its steps.
-use Rattle.std.proofs.Common.{◌≡◌, ℕ, zero, suc, ◌≤◌, inl, inr, Bool, true, false, ltb, refl, sym, ap, ◌∙◌, List, [], ◌++◌, Option, Some, None, IsSome, arith}
+use Rattle.std.proofs.Common.{◌≡◌, ℕ, zero, suc, ◌≤◌, inl, inr, Bool, true, false, ltb, refl, sym, ap, ◌∙◌, List, [], ◌++◌, length, take, drop, Option, Some, None, IsSome, arith}
 use Rattle.std.specs.Prelude.{if◌then◌else◌, is_some, option_to_list}
 use Rattle.std.proofs.lemmas.Bool.{ltb-true, ltb-false}
+use Rattle.std.proofs.lemmas.List.{take-append-drop}
 use Rattle.emu_model.specs.declared.commands.Spec.{Spec}
 use Rattle.emu_model.specs.declared.commands.Timed.{Timed}
 use Rattle.emu_model.specs.declared.records.Ending.{Ending}
@@ -62,3 +63,15 @@ left_alone wait spec commands p q old new same start played =
     sym (settled wait q new played.rest (played.alone start) played.few played.over)
     ∙ ap (λ (cs : List Timed). trace_of (alone new.spec cs new.spec.budget.steps)) (sym played.all)
     ∙ ap (λ (s : Spec). trace_of (alone s commands s.budget.steps)) (played.spec ∙ same)
+
+-- one that has ended leaves what running it alone on these commands, and any after them, leaves
+pub ended_alone : LaterCommandsWait → (spec : Spec) (all commands : List Timed) (n : ℕ) → take (length commands) all ≡ commands → TakesSteps spec commands n →
+    n ≤ spec.budget.steps → IsSome (alone spec commands n).ending → trace_of (alone spec all spec.budget.steps) ≡ trace_of (alone spec commands n)
+ended_alone wait spec all commands n begins takes few ended =
+    let rest : List Timed = drop (length commands) all in
+    let whole : all ≡ commands ++ rest = sym (take-append-drop (length commands) all) ∙ ap (λ (l : List Timed). l ++ rest) begins in
+    let now : alone spec (commands ++ rest) n ≡ with_more rest (alone spec commands n) = wait spec commands rest n takes in
+    let stands : step (alone spec (commands ++ rest) n) ≡ alone spec (commands ++ rest) n
+    = ap step now ∙ ended-still (with_more rest (alone spec commands n)) ended ∙ sym now in
+    ap (λ (l : List Timed). trace_of (alone spec l spec.budget.steps)) whole
+    ∙ ap trace_of (still spec.budget.steps n (opening spec (commands ++ rest)) stands few ∙ now)

@@ -1,5 +1,5 @@
 -- What was written of a text, where the bytes that a writer holds are known.
-use Rattle.std.specs.Prelude.{◌≡◌, ℕ, ◌≤◌, List, ◌++◌, length, Option}
+use Rattle.std.specs.Prelude.{◌≡◌, ℕ, ◌+◌, ◌≤◌, List, ◌++◌, length, Option}
 use Rattle.std.specs.Io.KnownBytes.{Appends, Consumes, IsAtEnd}
 
 -- some first bytes of the text were written
@@ -22,7 +22,8 @@ Stops old kept new bytes = (first : Option (List ℕ)) (text : List ℕ) → IsW
 abbrev pub limit : ℕ
 limit = 16777216
 
--- the text is what was left to read; of one past the limit it is the beginning
+-- the text is what was left to read; of one past the limit it is the beginning, a byte past the limit at most
 pub record IsRead (old new : Option (List ℕ)) (text : List ℕ) : Type 0 where
   pub first : Consumes old new text
+  pub few : length text ≤ limit + 1
   pub all : length text ≤ limit → IsAtEnd new

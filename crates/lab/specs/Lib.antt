@@ -1,3 +1,5 @@
 pub mod Bytes
 pub mod Runs
 pub mod Reports
+pub mod Plans
+pub mod Serving

@@ -49,6 +49,8 @@ Calls says read old new (Err (faults.Scenario f)) = IfSome read (λ text. HasFau
 Calls says read old new (Err faults.Read) = Keeps old new
 Calls says read old new (Err faults.Write) = WritesCut says read old new
 Calls says read old new (Err faults.Memory) = Keeps old new
+Calls says read old new (Err faults.Strange) = Keeps old new
+Calls says read old new (Err faults.Gate) = Keeps old new
 
 -- a device is blamed only where it has noted a failure
 abbrev pub Blames : Bool → Bool → Result (Unit {0}) RunFault → Type 0
@@ -71,3 +73,5 @@ ReadsFault read failed (faults.Scenario f) = IfSome read (λ text. HasFault text
 ReadsFault read failed faults.Read = failed ≡ true
 ReadsFault read failed faults.Write = ⊥
 ReadsFault read failed faults.Memory = Unit {0}
+ReadsFault read failed faults.Strange = ⊥
+ReadsFault read failed faults.Gate = ⊥

@@ -10,13 +10,17 @@ ghost use Rattle.control.specs.Order.{AreInOrder};
 ghost use Rattle.lab.specs.Runs.{Advances, IsNew, Plays};
 ghost use Rattle.lab.specs.Reports.{trace_alone};
 
-use control::Experiment as Plan;
+use crate::progress::Progress;
+use control::Experiment as Script;
 use emu_model::{Counters, Record, Spec, Timed, later_commands_wait};
 use experiment::{ApplyError, Event, Experiment};
 use packet_store::OwnShelf;
 use queue_disc::NoMemory;
 use std::alloc::Global;
 use std::marker::Model;
+
+/// After how many steps it is told again how many were made.
+const TOLD: u64 = 65_536;
 
 /// What a run leaves: its records in their order, and its counters.
 #[derive(Drop)]
@@ -34,6 +38,13 @@ impl Model for Outcome {
 }
 
 impl Outcome {
+    /// These records and counters.
+    pub(crate) fn new(records: Vec<Record>, counters: Counters) -> Self
+        ensures { result ≡ record { records = records.items; counters = counters } }
+    {
+        Outcome { records, counters }
+    }
+
     /// The records in their order.
     pub fn records(&self) -> &[Record]
         ensures { result.now ≡ self.now.records }
@@ -49,14 +60,26 @@ impl Outcome {
     }
 }
 
+// Tells now and then how many steps were made.
+fn tell<P: Progress>(experiment: &Experiment, progress: &P) {
+    let steps = experiment.events();
+    if steps % TOLD == 0 {
+        progress.stepped(steps, u64::from(experiment.spec().budget.steps.get()));
+    }
+}
+
 // Makes events until there is nothing more to do.
-fn advance(experiment: &mut Experiment, shelf: &mut OwnShelf) -> Result<(), NoMemory>
+fn advance<P: Progress>(
+    experiment: &mut Experiment,
+    shelf: &mut OwnShelf,
+    progress: &P,
+) -> Result<(), NoMemory>
     requires { IsHousedIn (own_pocket shelf.old) experiment.old }
     ensures { OnOk result (Advances (own_pocket shelf.old) experiment.old (own_pocket shelf.new) experiment.new) }
 {
     loop {
         match experiment.event(shelf, 0) {
-            Event::Ran => {}
+            Event::Ran => tell(experiment, progress),
             Event::Halted => return Err(NoMemory),
             Event::Ended | Event::Still => return Ok(()),
         }
@@ -64,10 +87,11 @@ fn advance(experiment: &mut Experiment, shelf: &mut OwnShelf) -> Result<(), NoMe
 }
 
 // Applies each command in its turn, until the experiment has ended.
-fn play(
+fn play<P: Progress>(
     experiment: &mut Experiment,
     shelf: &mut OwnShelf,
     commands: &[Timed],
+    progress: &P,
 ) -> Result<(), NoMemory>
     requires housed { IsHousedIn (own_pocket shelf.old) experiment.old }
     requires new { IsNew experiment.old }
@@ -82,7 +106,7 @@ fn play(
             Err(ApplyError::Busy) => unreachable!(),
             Err(ApplyError::Backward) => unreachable!(),
         }
-        advance(experiment, shelf)?;
+        advance(experiment, shelf, progress)?;
         if experiment.ending().is_some() {
             break;
         }
@@ -101,19 +125,28 @@ fn outcome_of(experiment: Experiment) -> Outcome
 
 /// Runs an experiment by itself on these commands, whose moments (ns) don't fall. `NoMemory` where
 /// memory was refused.
-pub fn run(alloc: Global, spec: &Spec, commands: &[Timed]) -> Result<Outcome, NoMemory>
+pub fn run<P: Progress>(
+    alloc: Global,
+    spec: &Spec,
+    commands: &[Timed],
+    progress: &P,
+) -> Result<Outcome, NoMemory>
     requires { AreInOrder 0 commands.now }
     ensures { IfOk result (λ o. o ≡ trace_of (alone spec.now commands.now spec.now.budget.steps)) }
 {
     later_commands_wait();
     let mut shelf = OwnShelf::new(alloc, spec.budget.packets);
     let mut experiment = Experiment::new(alloc, *spec)?;
-    play(&mut experiment, &mut shelf, commands)?;
+    play(&mut experiment, &mut shelf, commands, progress)?;
     Ok(outcome_of(experiment))
 }
 
 /// Runs each experiment by itself, one after the other. `NoMemory` where memory was refused.
-pub fn run_all(alloc: Global, plans: &[Plan]) -> Result<Vec<Outcome>, NoMemory>
+pub fn run_all<P: Progress>(
+    alloc: Global,
+    plans: &[Script],
+    progress: &P,
+) -> Result<Vec<Outcome>, NoMemory>
     requires { All (λ e. AreInOrder 0 e.commands) plans.now }
     ensures { IfOk result (λ os. os.items ≡ map trace_alone plans.now) }
 {
@@ -121,10 +154,11 @@ pub fn run_all(alloc: Global, plans: &[Plan]) -> Result<Vec<Outcome>, NoMemory>
         return Err(NoMemory);
     };
     for plan in plans {
-        let outcome = run(alloc, &plan.spec, plan.commands.as_slice())?;
+        let outcome = run(alloc, &plan.spec, plan.commands.as_slice(), progress)?;
         let Ok(()) = outcomes.push(outcome) else {
             return Err(NoMemory);
         };
+        progress.ended(outcomes.len() as u64, plans.len() as u64);
     }
     Ok(outcomes)
 }

@@ -1,7 +1,8 @@
-//! `run_alone` and `check`: all is read before any step, and all steps are made before anything is written.
+//! `run_alone`, `run` and `check`: all is read before any step, and all steps are made before anything is written.
 
-ghost use Rattle.std.specs.Prelude.{◌≡◌, ◌≤◌, length, sum, map, IfOk, IfErr, All};
+ghost use Rattle.std.specs.Prelude.{◌≡◌, ◌≤◌, ◌⊎◌, length, sum, map, IfOk, IfErr, Err, All, true};
 ghost use Rattle.control.specs.Order.{AreInOrder};
+ghost use Rattle.lab.specs.Plans.{IsOwnFault};
 ghost use Rattle.lab.specs.Reports.{reports, tally, Calls, Blames, Reads, ReadsFault};
 
 use crate::alone::run_all;
@@ -9,10 +10,15 @@ use crate::device::Device;
 use crate::fault::RunFault;
 use crate::input::read_text;
 use crate::output::Buffer;
-use control::{Experiment as Plan, ParseError, Scenario, parse_scenario};
+use crate::plan::{Gate, Plan};
+use crate::progress::{Progress, Silent};
+use crate::together::run_together;
+use control::{Experiment, ParseError, Scenario, parse_scenario};
 use itoa::Buffer as Digits;
 use std::alloc::{AllocError, Global};
 use std::io::{Read, Write};
+use std::sync::Wait;
+use std::thread::Threads;
 
 // Reads a scenario.
 #[tactic(auto, using(crate::proofs::ReadFacts::read_spells, crate::proofs::ReadFacts::read_faults))]
@@ -24,6 +30,7 @@ fn read_scenario<R: Read + Drop>(
     ensures in_order { IfOk result (λ es. All (λ e. AreInOrder 0 e.commands) es) }
     ensures few { IfOk result (λ es. sum (map (λ e. length e.commands) es) ≤ 16777216) }
     ensures fault { IfErr result (λ e. ReadsFault (R.remaining reader.old.inner) reader.new.failed e) }
+    ensures noted { (result ≡ Err RunFault.Read) ⊎ (reader.new.failed ≡ reader.old.failed) }
 {
     let text = read_text(alloc, reader)?;
     match parse_scenario(alloc, text.as_slice()) {
@@ -36,7 +43,6 @@ fn read_scenario<R: Read + Drop>(
 /// Reads a scenario and runs each of its experiments by itself; then writes their reports in its order.
 /// A `Scenario` fault is that of the text. After `Write` some first bytes of the reports were written,
 /// after any other fault none.
-#[tactic(auto, using(crate::proofs::Endings::reports_written, crate::proofs::Endings::reports_cut, crate::proofs::Endings::reports_cut_after))]
 pub fn run_alone<R: Read + Drop, W: Write + Drop>(
     alloc: Global,
     reader: &mut Device<R>,
@@ -44,10 +50,30 @@ pub fn run_alone<R: Read + Drop, W: Write + Drop>(
 ) -> Result<(), RunFault>
     ensures calls { Calls reports (R.remaining reader.old.inner) (W.contents writer.old.inner) (W.contents writer.new.inner) result }
     ensures blames { Blames reader.new.failed writer.new.failed result }
+    ensures noted_read { (result ≡ Err RunFault.Read) ⊎ (reader.new.failed ≡ reader.old.failed) }
+    ensures noted_write { (result ≡ Err RunFault.Write) ⊎ (writer.new.failed ≡ writer.old.failed) }
+    ensures own { IfErr result IsOwnFault }
+{
+    run_alone_told(alloc, reader, writer, &Silent)
+}
+
+/// `run_alone`, with somebody who is told how far it is.
+#[tactic(auto, using(crate::proofs::Endings::reports_written, crate::proofs::Endings::reports_cut, crate::proofs::Endings::reports_cut_after))]
+pub fn run_alone_told<R: Read + Drop, W: Write + Drop, P: Progress>(
+    alloc: Global,
+    reader: &mut Device<R>,
+    writer: &mut Device<W>,
+    progress: &P,
+) -> Result<(), RunFault>
+    ensures calls { Calls reports (R.remaining reader.old.inner) (W.contents writer.old.inner) (W.contents writer.new.inner) result }
+    ensures blames { Blames reader.new.failed writer.new.failed result }
+    ensures noted_read { (result ≡ Err RunFault.Read) ⊎ (reader.new.failed ≡ reader.old.failed) }
+    ensures noted_write { (result ≡ Err RunFault.Write) ⊎ (writer.new.failed ≡ writer.old.failed) }
+    ensures own { IfErr result IsOwnFault }
 {
     let scenario = read_scenario(alloc, reader)?;
     let plans = scenario.experiments();
-    let Ok(outcomes) = run_all(alloc, plans) else {
+    let Ok(outcomes) = run_all(alloc, plans, progress) else {
         return Err(RunFault::Memory);
     };
     let Ok(mut buffer) = Buffer::new(alloc) else {
@@ -62,9 +88,68 @@ pub fn run_alone<R: Read + Drop, W: Write + Drop>(
     Ok(())
 }
 
+/// Reads a scenario and runs its experiments by the workers of a plan, each of which has a thread; then writes their
+/// reports in its order: just what `run_alone` writes, whatever the plan and the gate. Its faults are those of
+/// `run_alone`; `Memory` also where a thread can't be started, `Gate` only where the gate said so, `Strange` where a
+/// dossier is nobody's, there is none or there are two, or an experiment was lost.
+pub fn run<H: Threads + Wait + Sync, R: Read + Drop, W: Write + Drop, G: Gate>(
+    rt: &H,
+    alloc: Global,
+    reader: &mut Device<R>,
+    writer: &mut Device<W>,
+    plan: Plan,
+    gate: &G,
+) -> Result<(), RunFault>
+    ensures calls { Calls reports (R.remaining reader.old.inner) (W.contents writer.old.inner) (W.contents writer.new.inner) result }
+    ensures blames { Blames reader.new.failed writer.new.failed result }
+    ensures noted_read { (result ≡ Err RunFault.Read) ⊎ (reader.new.failed ≡ reader.old.failed) }
+    ensures noted_write { (result ≡ Err RunFault.Write) ⊎ (writer.new.failed ≡ writer.old.failed) }
+    ensures gate { result ≡ Err RunFault.Gate → G.may_refuse ≡ true }
+{
+    run_told(rt, alloc, reader, writer, plan, gate, &Silent)
+}
+
+/// `run`, with somebody who is told how many experiments have ended.
+#[tactic(auto, using(crate::proofs::Endings::reports_written, crate::proofs::Endings::reports_cut, crate::proofs::Endings::reports_cut_after))]
+pub fn run_told<
+    H: Threads + Wait + Sync,
+    R: Read + Drop,
+    W: Write + Drop,
+    G: Gate,
+    P: Progress + Sync,
+>(
+    rt: &H,
+    alloc: Global,
+    reader: &mut Device<R>,
+    writer: &mut Device<W>,
+    plan: Plan,
+    gate: &G,
+    progress: &P,
+) -> Result<(), RunFault>
+    ensures calls { Calls reports (R.remaining reader.old.inner) (W.contents writer.old.inner) (W.contents writer.new.inner) result }
+    ensures blames { Blames reader.new.failed writer.new.failed result }
+    ensures noted_read { (result ≡ Err RunFault.Read) ⊎ (reader.new.failed ≡ reader.old.failed) }
+    ensures noted_write { (result ≡ Err RunFault.Write) ⊎ (writer.new.failed ≡ writer.old.failed) }
+    ensures gate { result ≡ Err RunFault.Gate → G.may_refuse ≡ true }
+{
+    let scenario = read_scenario(alloc, reader)?;
+    let plans = scenario.experiments();
+    let left = run_together(rt, alloc, plans, plan, gate, progress)?;
+    let Ok(mut buffer) = Buffer::new(alloc) else {
+        return Err(RunFault::Memory);
+    };
+    let Ok(()) = buffer.put_reports(writer, plans, left.as_slice()) else {
+        return Err(RunFault::Write);
+    };
+    let Ok(()) = buffer.finish(writer) else {
+        return Err(RunFault::Write);
+    };
+    Ok(())
+}
+
 // How many commands the experiments have.
 #[tactic(auto, using(crate::proofs::ReadFacts::count_more, crate::proofs::ReadFacts::count_few))]
-fn count_commands(plans: &[Plan]) -> u64
+fn count_commands(plans: &[Experiment]) -> u64
     requires { sum (map (λ e. length e.commands) plans.now) ≤ 16777216 }
     ensures { result ≡ sum (map (λ e. length e.commands) plans.now) }
 {
@@ -76,7 +161,7 @@ fn count_commands(plans: &[Plan]) -> u64
 }
 
 // The line of `check`.
-fn tally_line(alloc: Global, plans: &[Plan]) -> Result<Vec<u8>, AllocError>
+fn tally_line(alloc: Global, plans: &[Experiment]) -> Result<Vec<u8>, AllocError>
     requires { sum (map (λ e. length e.commands) plans.now) ≤ 16777216 }
     ensures { IfOk result (λ text. text.items ≡ tally plans.now) }
 {
@@ -100,6 +185,9 @@ pub fn check<R: Read + Drop, W: Write + Drop>(
 ) -> Result<(), RunFault>
     ensures calls { Calls tally (R.remaining reader.old.inner) (W.contents writer.old.inner) (W.contents writer.new.inner) result }
     ensures blames { Blames reader.new.failed writer.new.failed result }
+    ensures noted_read { (result ≡ Err RunFault.Read) ⊎ (reader.new.failed ≡ reader.old.failed) }
+    ensures noted_write { (result ≡ Err RunFault.Write) ⊎ (writer.new.failed ≡ writer.old.failed) }
+    ensures own { IfErr result IsOwnFault }
 {
     let scenario = read_scenario(alloc, reader)?;
     let Ok(line) = tally_line(alloc, scenario.experiments()) else {

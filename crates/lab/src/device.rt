@@ -120,10 +120,14 @@ impl<W: Write + Drop> Device<W> {
         ensures fine { OnOk result (self.new.failed ≡ self.old.failed) }
         ensures failed { OnErr result (self.new.failed ≡ true) }
     {
-        if self.inner.flush().is_err() {
-            self.failed = true;
-            return Err(Failed);
+        for _ in 0..TURNS {
+            match self.inner.flush() {
+                Ok(()) => return Ok(()),
+                Err(error) if error.kind() == ErrorKind::Interrupted => {}
+                Err(_) => break,
+            }
         }
-        Ok(())
+        self.failed = true;
+        Err(Failed)
     }
 }

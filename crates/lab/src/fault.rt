@@ -15,7 +15,13 @@ pub enum RunFault {
     /// The writer answered an error, or took nothing.
     #[error("write")]
     Write,
-    /// Memory was refused.
+    /// Memory was refused, or a thread can't be started.
     #[error("memory")]
     Memory,
+    /// A dossier is nobody's, there is none or there are two, or an experiment was lost.
+    #[error("strange")]
+    Strange,
+    /// The gate said no.
+    #[error("gate")]
+    Gate,
 }

@@ -1,6 +1,6 @@
 //! Reading all of a scenario's text.
 
-ghost use Rattle.std.specs.Prelude.{IfOk, IfErr};
+ghost use Rattle.std.specs.Prelude.{◌≡◌, ◌⊎◌, IfOk, IfErr, Err};
 ghost use Rattle.lab.specs.Bytes.{IsRead};
 ghost use Rattle.lab.specs.Reports.{IsInputFault};
 
@@ -18,6 +18,7 @@ const CHUNK: usize = 65_536;
 pub fn read_text<R: Read + Drop>(alloc: Global, reader: &mut Device<R>) -> Result<Vec<u8>, RunFault>
     ensures text { IfOk result (λ text. IsRead (R.remaining reader.old.inner) (R.remaining reader.new.inner) text.items) }
     ensures fault { IfErr result (λ e. IsInputFault reader.new.failed e) }
+    ensures noted { (result ≡ Err RunFault.Read) ⊎ (reader.new.failed ≡ reader.old.failed) }
 {
     let mut text = Vec::new(alloc);
     let mut chunk = [0u8; CHUNK];

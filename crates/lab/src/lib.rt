@@ -7,10 +7,17 @@ mod device;
 mod fault;
 mod input;
 mod output;
+mod plan;
+mod progress;
+mod tenants;
 #[cfg(test)]
 mod tests;
+mod together;
+mod worker;
 
 pub use alone::Outcome;
-pub use calls::{check, run_alone};
+pub use calls::{check, run, run_alone, run_alone_told, run_told};
 pub use device::Device;
 pub use fault::RunFault;
+pub use plan::{Gate, OpenGate, Plan};
+pub use progress::{Progress, Silent};

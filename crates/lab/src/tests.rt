@@ -1,65 +1,61 @@
-//! Worked examples over memory, with every read, write and allocation refused in its turn.
+//! Worked examples over memory: what is written, and the fault of each text that is none.
 
 use super::*;
 use control::{Cause, Fault};
-use std::io::{self, ErrorKind, Read, Write};
+use std::alloc::Global;
+use std::io::{self, Read, Write};
 use std::process::Abort;
+use std::sync::Wait;
 use std::test::Fail;
+use std::thread::Threads;
 
+mod devices;
 mod texts;
+mod workers;
 
-/// A reader that gives a few bytes at each read, and fails at the read after so many.
-#[derive(Drop)]
-struct Reader<'a> {
-    left: &'a [u8],
-    reads: usize,
+/// How a scenario is run: by itself or by two workers.
+#[derive(Clone, Copy, PartialEq)]
+enum Way {
+    Alone,
+    Together,
 }
 
-impl Read for Reader<'_> {
-    fn read(&mut self, buf: &mut [u8]) -> io::Result<usize> {
-        if self.reads == 0 {
-            return Err(io::Error::from(ErrorKind::Other));
-        }
-        self.reads -= 1;
-        let room = buf.len().min(40);
-        self.left.read(&mut buf[..room])
+/// What a call answers from a reader to a writer.
+fn call<H: Threads + Wait + Sync, R: Read + Drop, W: Write + Drop>(
+    rt: &H,
+    alloc: Global,
+    way: Way,
+    reader: &mut Device<R>,
+    writer: &mut Device<W>,
+) -> Result<(), RunFault> {
+    if way == Way::Alone {
+        return run_alone(alloc, reader, writer);
     }
+    let Some(plan) = Plan::new(2, 1) else {
+        return Err(RunFault::Strange);
+    };
+    run(rt, alloc, reader, writer, plan, &OpenGate)
 }
 
-/// A writer that takes so many bytes, a few at each write, and then fails, or takes none.
-#[derive(Drop)]
-struct Writer {
-    taken: Vec<u8>,
-    room: usize,
-    fails: bool,
-}
-
-impl Write for Writer {
-    fn write(&mut self, buf: &[u8]) -> io::Result<usize> {
-        if self.room == 0 && self.fails {
-            return Err(io::Error::from(ErrorKind::Other));
-        }
-        let count = buf.len().min(self.room).min(50);
-        self.taken.extend_from_slice(&buf[..count])?;
-        self.room -= count;
-        Ok(count)
-    }
-
-    fn flush(&mut self) -> io::Result<()> {
-        Ok(())
-    }
-}
-
-/// Wants this report of this scenario, or `memory` and nothing.
-fn writes(rt: &(impl Abort + AllocGlobal), scenario: &str, report: &str) {
+/// What `run_alone` answers, and what it wrote.
+fn run_text(alloc: Global, scenario: &str) -> (Result<(), RunFault>, Vec<u8>) {
     let mut reader = Device::new(scenario.as_bytes());
-    let mut writer = Device::new(Vec::new(rt.alloc()));
-    let outcome = run_alone(rt.alloc(), &mut reader, &mut writer);
-    let written = writer.into_inner();
-    if outcome == Err(RunFault::Memory) {
-        assert!(rt; written.is_empty());
-        return;
-    }
+    let mut writer = Device::new(Vec::new(alloc));
+    let outcome = run_alone(alloc, &mut reader, &mut writer);
+    (outcome, writer.into_inner())
+}
+
+/// What `check` answers, and what it wrote.
+fn check_text(alloc: Global, scenario: &str) -> (Result<(), RunFault>, Vec<u8>) {
+    let mut reader = Device::new(scenario.as_bytes());
+    let mut writer = Device::new(Vec::new(alloc));
+    let outcome = check(alloc, &mut reader, &mut writer);
+    (outcome, writer.into_inner())
+}
+
+/// Wants this report of this scenario.
+fn writes(rt: &(impl Abort + AllocGlobal), scenario: &str, report: &str) {
+    let (outcome, written) = run_text(rt.alloc(), scenario);
     assert!(rt; outcome == Ok(()));
     assert!(rt; written.as_slice() == report.as_bytes());
 }
@@ -90,14 +86,7 @@ fn no_experiment(rt: HostRuntime) {
 
 /// Wants `check` to write this.
 fn checks(rt: &(impl Abort + AllocGlobal), scenario: &str, line: &str) {
-    let mut reader = Device::new(scenario.as_bytes());
-    let mut writer = Device::new(Vec::new(rt.alloc()));
-    let outcome = check(rt.alloc(), &mut reader, &mut writer);
-    let written = writer.into_inner();
-    if outcome == Err(RunFault::Memory) {
-        assert!(rt; written.is_empty());
-        return;
-    }
+    let (outcome, written) = check_text(rt.alloc(), scenario);
     assert!(rt; outcome == Ok(()));
     assert!(rt; written.as_slice() == line.as_bytes());
 }
@@ -108,14 +97,15 @@ fn counts(rt: HostRuntime) {
     checks(&rt, "", "ok 0 0\n");
 }
 
-/// Wants this fault, and nothing written.
+/// Wants this fault of both calls, and nothing written.
 fn is_faulty(rt: &(impl Abort + AllocGlobal), scenario: &str, line: u64, cause: Cause) {
-    let mut reader = Device::new(scenario.as_bytes());
-    let mut writer = Device::new(Vec::new(rt.alloc()));
-    let outcome = run_alone(rt.alloc(), &mut reader, &mut writer);
-    assert!(rt; writer.into_inner().is_empty());
     let fault = RunFault::Scenario(Fault { line, cause });
-    assert!(rt; outcome == Err(fault) || outcome == Err(RunFault::Memory));
+    let (outcome, written) = run_text(rt.alloc(), scenario);
+    assert!(rt; written.is_empty());
+    assert!(rt; outcome == Err(fault));
+    let (outcome, written) = check_text(rt.alloc(), scenario);
+    assert!(rt; written.is_empty());
+    assert!(rt; outcome == Err(fault));
 }
 
 #[test]
@@ -134,6 +124,13 @@ fn faults(rt: HostRuntime) -> Result<(), Fail> {
     });
     let text = format!(in rt.alloc(); "{fault} {} {}", RunFault::Read, RunFault::Memory)?;
     assert_eq!(rt; text.as_str(), "line 2: cut read memory");
+    let text = format!(in rt.alloc();
+        "{} {} {}",
+        RunFault::Write,
+        RunFault::Strange,
+        RunFault::Gate
+    )?;
+    assert_eq!(rt; text.as_str(), "write strange gate");
     Ok(())
 }
 
@@ -148,65 +145,17 @@ fn endless(rt: HostRuntime) {
         cause: Cause::TooBig,
     });
     assert!(rt; writer.into_inner().is_empty());
-    assert!(rt; outcome == Err(fault) || outcome == Err(RunFault::Memory));
+    assert!(rt; outcome == Err(fault));
 }
 
-// Reads fail in their turn: nothing is written.
-fn reads_fail(rt: &(impl Abort + AllocGlobal), scenario: &str, reads: usize) {
-    for reads in 0..reads {
-        let mut reader = Device::new(Reader {
-            left: scenario.as_bytes(),
-            reads,
-        });
-        let mut writer = Device::new(Vec::new(rt.alloc()));
-        let outcome = run_alone(rt.alloc(), &mut reader, &mut writer);
-        assert!(rt; writer.into_inner().is_empty());
-        assert!(rt; outcome == Err(RunFault::Read) || outcome == Err(RunFault::Memory));
-        assert!(rt; reader.has_failed() || outcome == Err(RunFault::Memory));
+/// All of it is written, or `Memory` is answered and nothing is.
+#[test]
+fn refused(rt: HostRuntime) {
+    let (outcome, written) = run_text(rt.alloc(), texts::FOUR);
+    if outcome == Err(RunFault::Memory) {
+        assert!(rt; written.is_empty());
+        return;
     }
-}
-
-#[test]
-fn each_read_fails(rt: HostRuntime) {
-    reads_fail(&rt, texts::ONE_PACKET, 3);
-    reads_fail(&rt, texts::CODEL_TWO_DROPS, 3);
-}
-
-// Writes fail after each number of bytes: just these were written.
-fn writes_fail(rt: &(impl Abort + AllocGlobal), scenario: &str, report: &str, fails: bool) {
-    for room in 0..report.len() {
-        let mut reader = Device::new(scenario.as_bytes());
-        let mut writer = Device::new(Writer {
-            taken: Vec::new(rt.alloc()),
-            room,
-            fails,
-        });
-        let outcome = run_alone(rt.alloc(), &mut reader, &mut writer);
-        let failed = writer.has_failed();
-        let Writer { taken, .. } = writer.into_inner();
-        assert!(rt; report.as_bytes().starts_with(taken.as_slice()));
-        if outcome == Err(RunFault::Memory) {
-            assert!(rt; taken.is_empty());
-        } else {
-            assert!(rt; outcome == Err(RunFault::Write));
-            assert!(rt; failed);
-            assert_eq!(rt; taken.len(), room);
-        }
-    }
-}
-
-#[test]
-fn each_write_fails(rt: HostRuntime) {
-    writes_fail(&rt, texts::ONE_PACKET, texts::ONE_PACKET_REPORT, true);
-    writes_fail(&rt, texts::ONE_PACKET, texts::ONE_PACKET_REPORT, false);
-}
-
-#[test]
-fn each_write_of_many_fails(rt: HostRuntime) {
-    writes_fail(
-        &rt,
-        texts::CODEL_TWO_DROPS,
-        texts::CODEL_TWO_DROPS_REPORT,
-        true,
-    );
+    assert!(rt; outcome == Ok(()));
+    assert!(rt; written.as_slice() == texts::FOUR_REPORTS.as_bytes());
 }

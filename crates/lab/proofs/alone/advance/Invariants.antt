@@ -3,8 +3,8 @@ use Rattle.packet_store.specs.Own.{own_pocket}
 use Rattle.experiment.specs.Kept.{IsHousedIn, IsAlone}
 use Rattle.lab.proofs.alone.advance.Given as goal
 
-abbrev pub invariant-loop : goal.invariant-loop
-invariant-loop l = record {
+abbrev pub invariant-loop-experiment : goal.invariant-loop-experiment
+invariant-loop-experiment g l = record {
   housed : IsHousedIn (own_pocket l.shelf) l.experiment;
   alone : IsAlone (own_pocket l.initial.shelf) l.initial.experiment → IsAlone (own_pocket l.shelf) l.experiment;
   spec : l.experiment.spec ≡ l.initial.experiment.spec;
@@ -12,5 +12,5 @@ invariant-loop l = record {
   going : l.initial.experiment.ending ≡ None → l.experiment.ending ≡ None;
 }
 
-abbrev pub decreases-loop : goal.decreases-loop
-decreases-loop l = l.experiment.spec.budget.steps - l.experiment.steps
+abbrev pub decreases-loop-experiment : goal.decreases-loop-experiment
+decreases-loop-experiment g l = l.experiment.spec.budget.steps - l.experiment.steps

@@ -5,7 +5,7 @@ use Rattle.lab.proofs.Turns.{early, not-before, one-more, goes-on, has-ended, pl
 use Rattle.lab.proofs.alone.play.Goals as goal
 
 pub loop-command-init : goal.loop-command-init
-loop-command-init c = record {
+loop-command-init g c = record {
   housed = c.requires.housed;
   alone = λ a. a;
   spec = refl;
@@ -16,13 +16,13 @@ loop-command-init c = record {
 }
 
 pub apply-requires : goal.apply-requires
-apply-requires c = early c.args.commands.now c.loop-command.command-index c.command-item.result c.requires.in_order c.loop-command-test.true c.command-item.is
+apply-requires g c = early c.args.commands.now c.loop-command.command-index c.command-item.result c.requires.in_order c.loop-command-test.true c.command-item.is
 
 pub advance-requires : goal.advance-requires
-advance-requires c = c.apply.ensures.housed _ c.loop-command.invariant.housed
+advance-requires g c = c.apply.ensures.housed _ c.loop-command.invariant.housed
 
 pub loop-command-preserved : goal.loop-command-preserved
-loop-command-preserved c =
+loop-command-preserved g c =
     let inv = c.loop-command.invariant in
     let put = c.in-Ok.ensures.ok in
     let moved = c.in_ok-advance.ensures in
@@ -38,7 +38,7 @@ loop-command-preserved c =
     }
 
 pub returns-after-loop-command : goal.returns-after-loop-command
-returns-after-loop-command c =
+returns-after-loop-command g c =
     let inv = c.loop-command.invariant in
     record {
       housed = inv.housed;
@@ -51,7 +51,7 @@ returns-after-loop-command c =
     }
 
 pub returns-then-is_some : goal.returns-then-is_some
-returns-then-is_some c =
+returns-then-is_some g c =
     let inv = c.loop-command.invariant in
     let put = c.in-Ok.ensures.ok in
     let moved = c.in_ok-advance.ensures in
@@ -69,6 +69,6 @@ returns-then-is_some c =
     }
 
 pub unreachable-requires-in-Err-Backward : goal.unreachable-requires-in-Err-Backward
-unreachable-requires-in-Err-Backward c =
+unreachable-requires-in-Err-Backward g c =
     let late = c.apply.ensures.backward (c.in-Err-Backward.is ∙ ap Err c.in-Err-Backward.field-0-is) in
     not-before c.args.commands.now c.loop-command.experiment.consumed c.loop-command.command-index c.command-item.result c.requires.in_order c.loop-command-test.true c.command-item.is c.loop-command.invariant.consumed late.2

@@ -4,7 +4,7 @@ use Rattle.experiment.specs.Kept.{IsHousedIn, IsAlone}
 use Rattle.lab.proofs.alone.play.Given as goal
 
 abbrev pub invariant-loop-command : goal.invariant-loop-command
-invariant-loop-command l = record {
+invariant-loop-command g l = record {
   housed : IsHousedIn (own_pocket l.shelf) l.experiment;
   alone : IsAlone (own_pocket l.initial.shelf) l.initial.experiment → IsAlone (own_pocket l.shelf) l.experiment;
   spec : l.experiment.spec ≡ l.initial.experiment.spec;

@@ -5,7 +5,7 @@ use Rattle.lab.specs.Reports.{trace_alone}
 use Rattle.lab.proofs.alone.run_all.Goals as goal
 
 pub loop-plan-preserved : goal.loop-plan-preserved
-loop-plan-preserved c = record {
+loop-plan-preserved g c = record {
   done = c.in-Ok-push.ensures.items
       ∙ ap (λ l. l ++ c.in_ok-outcome.outcome ∷ []) c.loop-plan.invariant.done
       ∙ ap (λ t. map trace_alone (take c.loop-plan.plan-index c.args.plans.now) ++ t ∷ []) (

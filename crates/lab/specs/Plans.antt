@@ -1,0 +1,49 @@
+-- How many workers run a scenario, and what may go wrong while they do.
+use Rattle.std.specs.Prelude.{◌≡◌, ℕ, ◌≤◌, ◌^◌, Bool, true, false, Option, Some, None}
+use Rattle.lab.specs.declared.fault.RunFault.{RunFault}
+use Rattle.lab.specs.declared.fault.RunFault.TheVariants.{Memory, Gate, Strange}
+
+-- 1 to 16 workers, and at most 10^6 turns between two moves
+abbrev pub IsPlan : ℕ → ℕ → Type 0
+IsPlan workers moves = (1 ≤ workers) × (workers ≤ 16) × (moves ≤ 10 ^ 6)
+
+abbrev pub IsMemory : RunFault → Type 0
+IsMemory e = e ≡ Memory
+
+-- what a worker may fail of: want of memory, or a gate that may say no
+abbrev pub is_work_fault : Bool → RunFault → Bool
+is_work_fault may_refuse Memory = true
+is_work_fault may_refuse Gate = may_refuse
+is_work_fault may_refuse _ = false
+
+abbrev pub IsWorkFault : Bool → RunFault → Type 0
+IsWorkFault may_refuse e = is_work_fault may_refuse e ≡ true
+
+-- a worker has no fault, or such a one
+abbrev pub is_honest : Bool → Option RunFault → Bool
+is_honest may_refuse None = true
+is_honest may_refuse (Some e) = is_work_fault may_refuse e
+
+-- what a run by workers may fail of: these, or a dossier that is nobody's
+abbrev pub IsTogetherFault : Bool → RunFault → Type 0
+IsTogetherFault may_refuse Strange = Unit {0}
+IsTogetherFault may_refuse e = IsWorkFault may_refuse e
+
+-- what settling may fail of
+abbrev pub IsSettleFault : RunFault → Type 0
+IsSettleFault Memory = Unit {0}
+IsSettleFault Strange = Unit {0}
+IsSettleFault _ = ⊥
+
+-- a fault that has nothing to do with workers
+abbrev pub IsOwnFault : RunFault → Type 0
+IsOwnFault Strange = ⊥
+IsOwnFault Gate = ⊥
+IsOwnFault _ = Unit {0}
+
+-- memory comes before the gate, and both before what is strange
+abbrev pub gravity : RunFault → ℕ
+gravity Memory = 3
+gravity Gate = 2
+gravity Strange = 1
+gravity _ = 0

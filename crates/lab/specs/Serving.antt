@@ -1,0 +1,25 @@
+-- A tenant posts the commands of its experiment.
+use Rattle.std.specs.Prelude.{◌≡◌, ◌<◌, ◌+◌, ℕ, List, length, slice_index_or, Vec}
+use Rattle.std.specs.Global.{Global}
+use Rattle.control.specs.declared.scenario.Experiment.{Experiment}
+use Rattle.bench.specs.declared.tenant.Tenant.{Tenant}
+use Rattle.bench.specs.Commands.{BeginsWith}
+use Rattle.bench.specs.Tenants.{posted}
+
+-- its specification is the experiment's, and what was posted are its first commands
+abbrev pub Serves : Tenant → Experiment → Type 0
+Serves t e = (t.spec ≡ e.spec) × BeginsWith e.commands (posted t)
+
+-- the first tenants serve the first experiments
+abbrev pub ServesAll : List Tenant → List Experiment → Type 0
+ServesAll ts es =
+    (k : ℕ) (t : Tenant) (e : Experiment) → k < length ts → Serves (slice_index_or ts k t) (slice_index_or es k e)
+
+-- the tenants that are left serve the experiments from n on
+abbrev pub ServesFrom : ℕ → List Tenant → List Experiment → Type 0
+ServesFrom n ts es =
+    (k : ℕ) (t : Tenant) (e : Experiment) → k < length ts → Serves (slice_index_or ts k t) (slice_index_or es (n + k) e)
+
+-- each experiment has its tenant
+abbrev pub IsServed : Vec Tenant Global → List Experiment → Type 0
+IsServed ts es = (length ts.items ≡ length es) × ServesAll ts.items es

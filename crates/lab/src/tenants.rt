@@ -1,0 +1,219 @@
+//! The side of the tenants, in the calling thread: each posts the commands of its experiment, and settles in the end.
+
+ghost use Rattle.std.specs.Prelude.{◌≡◌, ◌<◌, length, map, Some, IsSome, IsTrue, IfOk, IfErr};
+ghost use Rattle.experiment.specs.Kept.{shown_ending};
+ghost use Rattle.bench.specs.Commands.{BeginsWith};
+ghost use Rattle.bench.specs.Tenants.{posted, SameTenant};
+ghost use Rattle.lab.specs.Plans.{IsMemory, IsSettleFault};
+ghost use Rattle.lab.specs.Reports.{trace_alone};
+ghost use Rattle.lab.specs.Serving.{Serves, ServesAll, IsServed};
+
+use crate::alone::Outcome;
+use crate::fault::RunFault;
+use crate::worker::Board;
+use bench::{Bench, PostError, Registry, RingMail, Tenant};
+use control::Experiment;
+use emu_model::{Ending, Timed, later_commands_wait};
+use shard::Dossier;
+use std::alloc::Global;
+use std::sync::Wait;
+use std::thread;
+
+/// How many letters a tenant reads at a time.
+const LETTERS: usize = 64;
+
+// Reads letters, a few at most.
+fn read_some(tenant: &mut Tenant) -> Result<(), RunFault>
+    ensures same { SameTenant tenant.old tenant.new × (posted tenant.new ≡ posted tenant.old) }
+    ensures err { IfErr result IsMemory }
+{
+    for _ in 0..LETTERS {
+        match tenant.read() {
+            Ok(Some(_)) => {}
+            Ok(None) => return Ok(()),
+            Err(_) => return Err(RunFault::Memory),
+        }
+    }
+    Ok(())
+}
+
+// Posts the commands that come next. Whether all are posted.
+fn post_some(tenant: &mut Tenant, commands: &[Timed]) -> Result<bool, RunFault>
+    requires { BeginsWith commands.now (posted tenant.old) }
+    ensures same { SameTenant tenant.old tenant.new }
+    ensures posted { BeginsWith commands.now (posted tenant.new) }
+    ensures err { IfErr result IsMemory }
+{
+    for k in tenant.posted_len()..commands.len() {
+        match tenant.post(commands[k]) {
+            Ok(()) => {}
+            Err(refused) => {
+                if refused.cause == PostError::NoMemory {
+                    return Err(RunFault::Memory);
+                }
+                return Ok(false);
+            }
+        }
+    }
+    Ok(true)
+}
+
+// Posts for one tenant, and reads some of its letters if it is not done. Whether all its commands are posted.
+fn serve_one(tenant: &mut Tenant, experiment: &Experiment) -> Result<bool, RunFault>
+    requires { BeginsWith experiment.now.commands (posted tenant.old) }
+    ensures same { SameTenant tenant.old tenant.new }
+    ensures posted { BeginsWith experiment.now.commands (posted tenant.new) }
+    ensures err { IfErr result IsMemory }
+{
+    if post_some(tenant, experiment.commands.as_slice())? {
+        return Ok(true);
+    }
+    read_some(tenant)?;
+    Ok(false)
+}
+
+// Serves each tenant once. Whether all commands are posted.
+fn serve_all(tenants: &mut [Tenant], scenario: &[Experiment]) -> Result<bool, RunFault>
+    requires len { length tenants.old ≡ length scenario.now }
+    requires serves { ServesAll tenants.old scenario.now }
+    ensures serves { ServesAll tenants.new scenario.now }
+    ensures err { IfErr result IsMemory }
+{
+    let mut all = true;
+    for k in 0..tenants.len() {
+        if !serve_one(&mut tenants[k], &scenario[k])? {
+            all = false;
+        }
+    }
+    Ok(all)
+}
+
+// Posts and reads until all is posted, or the run is over.
+fn serve_on<R: Wait>(
+    rt: &R,
+    tenants: &mut [Tenant],
+    scenario: &[Experiment],
+    board: &Board,
+) -> Result<(), RunFault>
+    requires len { length tenants.old ≡ length scenario.now }
+    requires serves { ServesAll tenants.old scenario.now }
+    ensures serves { ServesAll tenants.new scenario.now }
+    ensures err { IfErr result IsMemory }
+{
+    for _ in rt.forever() {
+        if board.is_over() {
+            return Ok(());
+        }
+        if serve_all(tenants, scenario)? {
+            return Ok(());
+        }
+        thread::yield_now();
+    }
+    unreachable!()
+}
+
+/// Posts and reads until all is posted, or the run is over. Gives the tenants back.
+pub(crate) fn serve<R: Wait>(
+    rt: &R,
+    mut tenants: Vec<Tenant>,
+    scenario: &[Experiment],
+    board: &Board,
+) -> Result<Vec<Tenant>, RunFault>
+    requires { IsServed tenants scenario.now }
+    ensures ok { IfOk result (λ ts. IsServed ts scenario.now) }
+    ensures err { IfErr result IsMemory }
+{
+    serve_on(rt, tenants.as_mut_slice(), scenario, board)?;
+    Ok(tenants)
+}
+
+/// Opens a tenant for each experiment, and admits its parcel on a bench, each bench in its turn.
+pub(crate) fn open_all(
+    alloc: Global,
+    scenario: &[Experiment],
+    benches: &mut [Bench],
+) -> Result<Vec<Tenant>, RunFault>
+    requires { 0 < length benches.old }
+    ensures ok { IfOk result (λ ts. IsServed ts scenario.now) }
+    ensures err { IfErr result IsMemory }
+{
+    let mut registry = Registry::new();
+    let mut tenants = Vec::new(alloc);
+    for k in 0..scenario.len() {
+        if tenants.reserve(1).is_err() {
+            return Err(RunFault::Memory);
+        }
+        let Ok((tenant, parcel)) = registry.open(alloc, scenario[k].spec) else {
+            return Err(RunFault::Memory);
+        };
+        let place = k % benches.len();
+        if benches[place].admit(parcel).is_err() {
+            return Err(RunFault::Memory);
+        }
+        tenants.push_reserved(tenant);
+    }
+    Ok(tenants)
+}
+
+// Whether an experiment ended by itself, and wasn't halted.
+fn has_ended(ending: Ending) -> bool
+    ensures { IsTrue result → IsSome (shown_ending (Some ending)) }
+{
+    match ending {
+        Ending::Halted => return false,
+        Ending::Ended => return true,
+        Ending::Spent => return true,
+    }
+}
+
+// Settles one tenant. A halted experiment is want of memory.
+fn settle_one(
+    tenant: Tenant,
+    dossier: Option<Dossier<RingMail>>,
+    experiment: &Experiment,
+) -> Result<Outcome, RunFault>
+    requires { Serves tenant experiment.now }
+    ensures ok { IfOk result (λ o. o ≡ trace_alone experiment.now) }
+    ensures err { IfErr result IsSettleFault }
+{
+    let Some(dossier) = dossier else {
+        return Err(RunFault::Strange);
+    };
+    let Ok(outcome) = tenant.settle(dossier) else {
+        return Err(RunFault::Strange);
+    };
+    if !has_ended(outcome.ending()) {
+        return Err(RunFault::Memory);
+    }
+    outcome.known();
+    later_commands_wait();
+    let counters = outcome.counters();
+    Ok(Outcome::new(outcome.into_records(), counters))
+}
+
+/// Settles each tenant with its dossier.
+pub(crate) fn settle_all(
+    alloc: Global,
+    mut tenants: Vec<Tenant>,
+    mut dossiers: Vec<Option<Dossier<RingMail>>>,
+    scenario: &[Experiment],
+) -> Result<Vec<Outcome>, RunFault>
+    requires { IsServed tenants scenario.now }
+    ensures ok { IfOk result (λ os. os.items ≡ map trace_alone scenario.now) }
+    ensures err { IfErr result IsSettleFault }
+{
+    let mut all = Vec::new(alloc);
+    for experiment in scenario {
+        let tenant = tenants.remove(0);
+        let dossier = if dossiers.is_empty() {
+            None
+        } else {
+            dossiers.remove(0)
+        };
+        if all.reserve(1).is_err() {
+            return Err(RunFault::Memory);
+        }
+        all.push_reserved(settle_one(tenant, dossier, experiment)?);
+    }
+    Ok(all)
+}

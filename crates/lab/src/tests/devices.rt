@@ -1,0 +1,209 @@
+//! Readers and writers that fail, are interrupted, give or take little, or keep bytes back.
+
+use super::*;
+use std::io::ErrorKind;
+
+/// A reader that gives a few bytes at each read, and fails at the read after so many.
+#[derive(Drop)]
+struct Reader<'a> {
+    left: &'a [u8],
+    reads: usize,
+}
+
+impl Read for Reader<'_> {
+    fn read(&mut self, buf: &mut [u8]) -> io::Result<usize> {
+        if self.reads == 0 {
+            return Err(io::Error::from(ErrorKind::Other));
+        }
+        self.reads -= 1;
+        let room = buf.len().min(40);
+        self.left.read(&mut buf[..room])
+    }
+}
+
+/// A reader that is interrupted twice before each read, which gives a byte.
+#[derive(Drop)]
+struct Shaky<'a> {
+    left: &'a [u8],
+    turn: u32,
+}
+
+impl Read for Shaky<'_> {
+    fn read(&mut self, buf: &mut [u8]) -> io::Result<usize> {
+        self.turn = self.turn.wrapping_add(1);
+        if self.turn % 3 != 0 {
+            return Err(io::Error::from(ErrorKind::Interrupted));
+        }
+        let room = buf.len().min(1);
+        self.left.read(&mut buf[..room])
+    }
+}
+
+/// A writer that takes so many bytes, a few at each write, and then fails, or takes none.
+#[derive(Drop)]
+struct Writer {
+    taken: Vec<u8>,
+    room: usize,
+    fails: bool,
+}
+
+impl Write for Writer {
+    fn write(&mut self, buf: &[u8]) -> io::Result<usize> {
+        if self.room == 0 && self.fails {
+            return Err(io::Error::from(ErrorKind::Other));
+        }
+        let count = buf.len().min(self.room).min(50);
+        self.taken.extend_from_slice(&buf[..count])?;
+        self.room -= count;
+        Ok(count)
+    }
+
+    fn flush(&mut self) -> io::Result<()> {
+        Ok(())
+    }
+}
+
+/// A writer that keeps bytes back until it is flushed. It is interrupted at its first flushes, and may fail at the
+/// one after them.
+#[derive(Drop)]
+struct Late {
+    kept: Vec<u8>,
+    out: Vec<u8>,
+    interrupts: u32,
+    fails: bool,
+}
+
+impl Write for Late {
+    fn write(&mut self, buf: &[u8]) -> io::Result<usize> {
+        self.kept.extend_from_slice(buf)?;
+        Ok(buf.len())
+    }
+
+    fn flush(&mut self) -> io::Result<()> {
+        if self.interrupts > 0 {
+            self.interrupts -= 1;
+            return Err(io::Error::from(ErrorKind::Interrupted));
+        }
+        if self.fails {
+            return Err(io::Error::from(ErrorKind::Other));
+        }
+        self.out.extend_from_slice(self.kept.as_slice())?;
+        self.kept.clear();
+        Ok(())
+    }
+}
+
+// Reads fail in their turn: nothing is written.
+fn reads_fail<H: Threads + Wait + Sync + Abort + AllocGlobal>(rt: &H, way: Way, scenario: &str) {
+    for reads in 0..3 {
+        let mut reader = Device::new(Reader {
+            left: scenario.as_bytes(),
+            reads,
+        });
+        let mut writer = Device::new(Vec::new(rt.alloc()));
+        let outcome = call(rt, rt.alloc(), way, &mut reader, &mut writer);
+        assert!(rt; writer.into_inner().is_empty());
+        assert!(rt; outcome == Err(RunFault::Read));
+        assert!(rt; reader.has_failed());
+    }
+}
+
+#[test]
+fn each_read_fails(rt: HostRuntime) {
+    for way in [Way::Alone, Way::Together] {
+        reads_fail(&rt, way, texts::ONE_PACKET);
+        reads_fail(&rt, way, texts::CODEL_TWO_DROPS);
+    }
+}
+
+// Writes fail after each number of bytes: just these were written.
+fn writes_fail<H: Threads + Wait + Sync + Abort + AllocGlobal>(
+    rt: &H,
+    way: Way,
+    scenario: &str,
+    report: &str,
+    fails: bool,
+) {
+    for room in 0..report.len() {
+        let mut reader = Device::new(scenario.as_bytes());
+        let mut writer = Device::new(Writer {
+            taken: Vec::new(rt.alloc()),
+            room,
+            fails,
+        });
+        let outcome = call(rt, rt.alloc(), way, &mut reader, &mut writer);
+        assert!(rt; outcome == Err(RunFault::Write));
+        assert!(rt; writer.has_failed());
+        let Writer { taken, .. } = writer.into_inner();
+        assert!(rt; report.as_bytes().starts_with(taken.as_slice()));
+        assert_eq!(rt; taken.len(), room);
+    }
+}
+
+#[test]
+fn each_write_fails(rt: HostRuntime) {
+    for way in [Way::Alone, Way::Together] {
+        writes_fail(&rt, way, texts::ONE_PACKET, texts::ONE_PACKET_REPORT, true);
+        writes_fail(&rt, way, texts::ONE_PACKET, texts::ONE_PACKET_REPORT, false);
+    }
+}
+
+#[test]
+fn each_write_of_many_fails(rt: HostRuntime) {
+    writes_fail(
+        &rt,
+        Way::Alone,
+        texts::CODEL_TWO_DROPS,
+        texts::CODEL_TWO_DROPS_REPORT,
+        true,
+    );
+}
+
+#[test]
+fn interrupted_reads(rt: HostRuntime) {
+    for way in [Way::Alone, Way::Together] {
+        let mut reader = Device::new(Shaky {
+            left: texts::ONE_PACKET.as_bytes(),
+            turn: 0,
+        });
+        let mut writer = Device::new(Vec::new(rt.alloc()));
+        let outcome = call(&rt, rt.alloc(), way, &mut reader, &mut writer);
+        assert!(rt; outcome == Ok(()));
+        assert!(rt; !reader.has_failed());
+        assert!(rt; writer.into_inner().as_slice() == texts::ONE_PACKET_REPORT.as_bytes());
+    }
+}
+
+// What a call answers to a writer that keeps bytes back, and what that handed on.
+fn flushes<H: Threads + Wait + Sync>(
+    rt: &H,
+    alloc: Global,
+    way: Way,
+    interrupts: u32,
+    fails: bool,
+) -> (Result<(), RunFault>, Vec<u8>) {
+    let mut reader = Device::new(texts::ONE_PACKET.as_bytes());
+    let mut writer = Device::new(Late {
+        kept: Vec::new(alloc),
+        out: Vec::new(alloc),
+        interrupts,
+        fails,
+    });
+    let outcome = call(rt, alloc, way, &mut reader, &mut writer);
+    let Late { out, .. } = writer.into_inner();
+    (outcome, out)
+}
+
+#[test]
+fn flushed(rt: HostRuntime) {
+    for way in [Way::Alone, Way::Together] {
+        for interrupts in [0, 1, 1000] {
+            let (outcome, out) = flushes(&rt, rt.alloc(), way, interrupts, false);
+            assert!(rt; outcome == Ok(()));
+            assert!(rt; out.as_slice() == texts::ONE_PACKET_REPORT.as_bytes());
+        }
+        let (outcome, out) = flushes(&rt, rt.alloc(), way, 2, true);
+        assert!(rt; outcome == Err(RunFault::Write));
+        assert!(rt; out.is_empty());
+    }
+}

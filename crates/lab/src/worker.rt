@@ -1,0 +1,304 @@
+//! What one worker does: it turns the residents of its bench, offers one of them now and then, and fetches others
+//! where it has nothing to do.
+
+ghost use Rattle.std.specs.Prelude.{◌≡◌, true, IfErr};
+ghost use Rattle.lab.specs.Plans.{IsWorkFault, IsMemory, is_honest};
+
+use crate::fault::RunFault;
+use crate::plan::{Gate, Plan};
+use crate::progress::Progress;
+use bench::{AdoptError, Bench, Closing, OfferError, Peer, RetakeError, RingMail};
+use shard::{Dossier, Parcel, Polled, TakeInError, Turned};
+use std::alloc::Global;
+use std::marker::PhantomData;
+use std::sync::Wait;
+use std::sync::atomic::{AtomicBool, AtomicU64, Ordering};
+use std::thread;
+
+/// How many slots a bench has.
+const SLOTS: usize = 256;
+
+/// What the workers share: how many experiments have ended, and whether there is a fault. Nothing is claimed of
+/// either.
+#[derive(Drop)]
+pub(crate) struct Board {
+    ended: AtomicU64,
+    fault: AtomicBool,
+    total: u64,
+}
+
+impl Board {
+    pub(crate) fn new(total: u64) -> Board {
+        Board {
+            ended: AtomicU64::new(0),
+            fault: AtomicBool::new(false),
+            total,
+        }
+    }
+
+    /// Whether there is nothing left to do.
+    pub(crate) fn is_over(&self) -> bool {
+        self.fault.load(Ordering::SeqCst) || self.ended.load(Ordering::SeqCst) >= self.total
+    }
+
+    /// Has all workers leave off.
+    pub(crate) fn stop(&self) {
+        self.fault.store(true, Ordering::SeqCst);
+    }
+
+    // One more has ended.
+    fn count<P: Progress>(&self, progress: &P) {
+        let before = self.ended.fetch_add(1, Ordering::SeqCst);
+        progress.ended(before.wrapping_add(1), self.total);
+    }
+}
+
+/// The work of one worker: its bench with its number, and where it may adopt from.
+#[derive(Drop)]
+pub(crate) struct Job {
+    pub number: u32,
+    pub bench: Bench,
+    pub peer: Option<Peer>,
+}
+
+/// What a worker gives at its join. By its type a gate that always says yes was never the cause of a fault.
+#[derive(Drop)]
+pub(crate) struct Report<G: Gate> {
+    pub of: PhantomData<G>,
+    pub closing: Closing,
+    pub dossiers: Vec<Dossier<RingMail>>,
+    pub fault: Option<RunFault>,
+    pub ghost honest: { is_honest G.may_refuse fault ≡ true },
+}
+
+// What a worker has at hand.
+#[derive(Drop)]
+struct Desk {
+    number: u32,
+    bench: Bench,
+    peer: Option<Peer>,
+    dossiers: Vec<Dossier<RingMail>>,
+    turns: u32,
+}
+
+impl Desk {
+    // Admits a parcel that was handed back.
+    fn admit_again(&mut self, parcel: Parcel<RingMail>) -> Result<(), RunFault>
+        ensures { IfErr result IsMemory }
+    {
+        match self.bench.admit(parcel) {
+            Ok(()) => return Ok(()),
+            Err(_) => return Err(RunFault::Memory),
+        }
+    }
+
+    // Admits what could not be taken in.
+    fn admit_refused(&mut self, refused: TakeInError<RingMail>) -> Result<(), RunFault>
+        ensures { IfErr result IsMemory }
+    {
+        match refused {
+            TakeInError::Crowded(parcel) => return self.admit_again(parcel),
+            TakeInError::NoMemory(parcel) => return self.admit_again(parcel),
+        }
+    }
+
+    // Pushes the resident of a slot onto the deque.
+    fn offer(&mut self, slot: usize) -> Result<(), RunFault>
+        ensures { IfErr result IsMemory }
+    {
+        match self.bench.offer(slot) {
+            Ok(()) => return Ok(()),
+            Err(OfferError::Vacant) => return Ok(()),
+            Err(OfferError::NoMemory) => return Err(RunFault::Memory),
+            Err(OfferError::DequeFull(parcel)) => return self.admit_again(parcel),
+        }
+    }
+
+    // Takes what another bench pushed first. Whether something came.
+    fn adopt(&mut self) -> Result<bool, RunFault>
+        ensures { IfErr result IsMemory }
+    {
+        let Some(peer) = &mut self.peer else {
+            return Ok(false);
+        };
+        match self.bench.adopt(peer) {
+            Ok(()) => return Ok(true),
+            Err(AdoptError::Empty) => return Ok(false),
+            Err(AdoptError::Retry) => return Ok(false),
+            Err(AdoptError::NoMemory) => return Err(RunFault::Memory),
+            Err(AdoptError::Refused(refused)) => {
+                self.admit_refused(refused)?;
+                return Ok(true);
+            }
+        }
+    }
+
+    // Takes what it pushed first itself, or else what another bench did. Whether something came.
+    fn fetch(&mut self) -> Result<bool, RunFault>
+        ensures { IfErr result IsMemory }
+    {
+        match self.bench.retake() {
+            Ok(()) => return Ok(true),
+            Err(RetakeError::Empty) => return self.adopt(),
+            Err(RetakeError::NoMemory) => return Err(RunFault::Memory),
+            Err(RetakeError::Refused(refused)) => {
+                self.admit_refused(refused)?;
+                return Ok(true);
+            }
+        }
+    }
+
+    // Polls a slot. Whether its resident can make a turn now and could not before.
+    fn poll(&mut self, slot: usize) -> Result<bool, RunFault>
+        ensures { IfErr result IsMemory }
+    {
+        match self.bench.poll(slot) {
+            Polled::Took(_) => return Ok(true),
+            Polled::Resumed(_) => return Ok(true),
+            Polled::NoMemory(_) => return Err(RunFault::Memory),
+            _ => return Ok(false),
+        }
+    }
+
+    // Polls each slot. Whether any resident can make a turn now.
+    fn poll_all(&mut self) -> Result<bool, RunFault>
+        ensures { IfErr result IsMemory }
+    {
+        let mut any = false;
+        for slot in 0..SLOTS {
+            if self.poll(slot)? {
+                any = true;
+            }
+        }
+        Ok(any)
+    }
+
+    // After a turn of a resident: it is offered where its time has come, and else polled, so that its next command
+    // comes and its records are published.
+    fn after<G: Gate>(&mut self, name: u32, moves: u32, gate: &G) -> Result<(), RunFault>
+        ensures { IfErr result (IsWorkFault G.may_refuse) }
+    {
+        if !gate.ran(self.number, name) {
+            return Err(RunFault::Gate);
+        }
+        let Some(slot) = self.bench.slot_of(name) else {
+            return Ok(());
+        };
+        self.poll(slot)?;
+        self.turns = self.turns.wrapping_add(1);
+        if moves > 0 && self.turns % moves == 0 {
+            self.offer(slot)?;
+        }
+        Ok(())
+    }
+
+    // One turn. Whether something ran.
+    fn turn<G: Gate, P: Progress>(
+        &mut self,
+        moves: u32,
+        board: &Board,
+        gate: &G,
+        progress: &P,
+    ) -> Result<bool, RunFault>
+        ensures { IfErr result (IsWorkFault G.may_refuse) }
+    {
+        if self.dossiers.reserve(1).is_err() {
+            return Err(RunFault::Memory);
+        }
+        match self.bench.turn() {
+            Turned::Ran(name) => {
+                self.after(name, moves, gate)?;
+                return Ok(true);
+            }
+            Turned::Ended(dossier) => {
+                self.dossiers.push_reserved(dossier);
+                board.count(progress);
+                return Ok(true);
+            }
+            Turned::Idle => return Ok(false),
+        }
+    }
+
+    // Makes a turn, or else finds something to be turned. Whether there was anything to do.
+    fn work_on<G: Gate, P: Progress>(
+        &mut self,
+        moves: u32,
+        board: &Board,
+        gate: &G,
+        progress: &P,
+    ) -> Result<bool, RunFault>
+        ensures { IfErr result (IsWorkFault G.may_refuse) }
+    {
+        if self.turn(moves, board, gate, progress)? {
+            return Ok(true);
+        }
+        if self.poll_all()? {
+            return Ok(true);
+        }
+        let found = self.fetch()?;
+        Ok(found)
+    }
+
+    // Works until there is nothing left to do.
+    fn work_all<G: Gate, R: Wait, P: Progress>(
+        &mut self,
+        rt: &R,
+        moves: u32,
+        board: &Board,
+        gate: &G,
+        progress: &P,
+    ) -> Result<(), RunFault>
+        ensures { IfErr result (IsWorkFault G.may_refuse) }
+    {
+        for _ in rt.forever() {
+            if board.is_over() {
+                return Ok(());
+            }
+            if !self.work_on(moves, board, gate, progress)? {
+                thread::yield_now();
+            }
+        }
+        unreachable!()
+    }
+}
+
+/// Runs a bench until all experiments have ended, or there is a fault anywhere.
+pub(crate) fn work<G: Gate, R: Wait, P: Progress>(
+    rt: &R,
+    alloc: Global,
+    job: Job,
+    plan: Plan,
+    board: &Board,
+    gate: &G,
+    progress: &P,
+) -> Report<G> {
+    let Job {
+        number,
+        bench,
+        peer,
+    } = job;
+    let mut desk = Desk {
+        number,
+        bench,
+        peer,
+        dossiers: Vec::new(alloc),
+        turns: 0,
+    };
+    let done = desk.work_all(rt, plan.moves, board, gate, progress);
+    if done.is_err() {
+        board.stop();
+    }
+    let Desk {
+        number: _,
+        bench,
+        peer: _,
+        dossiers,
+        turns: _,
+    } = desk;
+    Report {
+        of: PhantomData,
+        closing: bench.close(),
+        dossiers,
+        fault: done.err(),
+    }
+}
