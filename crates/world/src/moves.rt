@@ -46,34 +46,42 @@ impl Desk {
     ghost use Rattle.std.specs.Prelude.{◌≡◌, ◌≢◌, ℕ, IfSome, IfNone};
     ghost use Rattle.shard.specs.Mails.{MailBook};
     ghost use Rattle.shard.specs.Stand.{Stand};
-    ghost use Rattle.world.specs.declared.home.Home.TheVariants.{Handed, Queued};
+    ghost use Rattle.world.specs.declared.home.Home.TheVariants.{Handed, Queued, Seated};
 
-    // The parcel of one that is handed out, whose home is another then.
-    fn hand_over(&mut self, home: Home) -> Option<Parcel<ListMail>>
-        ensures some { IfSome result (λ p. (self.old.home ≡ Handed p) × (self.new ≡ record self.old { home = home })) }
+    // The parcel of one that is handed out, whose home is the first slot of a shard then.
+    fn hand_over(&mut self, shard: usize) -> Option<Parcel<ListMail>>
+        ensures some { IfSome result (λ p. (self.old.home ≡ Handed p) × (self.new ≡ record self.old { home = Seated shard 0 })) }
         ensures none { IfNone result ((self.new ≡ self.old) × ((p : Stand MailBook) → self.old.home ≢ Handed p)) }
     {
-        match mem::replace(&mut self.home, home) {
-            Home::Handed(parcel) => return Some(parcel),
-            other => {
-                self.home = other;
-                return None;
-            }
+        let Home::Handed(_) = &self.home else {
+            return None;
+        };
+        match mem::replace(&mut self.home, Home::Seated { shard, slot: 0 }) {
+            Home::Handed(parcel) => Some(parcel),
+            _ => unreachable!(),
         }
     }
 
-    // The parcel of one that waits in a deque, whose home is another then.
-    fn leave_queue(&mut self, home: Home) -> Option<Parcel<ListMail>>
-        ensures some { IfSome result (λ p. (i : ℕ) × (self.old.home ≡ Queued i p) × (self.new ≡ record self.old { home = home })) }
+    // The parcel of one that waits in a deque, whose home is the first slot of a shard then.
+    fn leave_queue(&mut self, shard: usize) -> Option<Parcel<ListMail>>
+        ensures some { IfSome result (λ p. (i : ℕ) × (self.old.home ≡ Queued i p) × (self.new ≡ record self.old { home = Seated shard 0 })) }
         ensures none { IfNone result ((self.new ≡ self.old) × ((i : ℕ) (p : Stand MailBook) → self.old.home ≢ Queued i p)) }
     {
-        match mem::replace(&mut self.home, home) {
-            Home::Queued { shard: _, parcel } => return Some(parcel),
-            other => {
-                self.home = other;
-                return None;
-            }
+        let Home::Queued { .. } = &self.home else {
+            return None;
+        };
+        match mem::replace(&mut self.home, Home::Seated { shard, slot: 0 }) {
+            Home::Queued { shard: _, parcel } => Some(parcel),
+            _ => unreachable!(),
         }
+    }
+
+    // Its home is this from now on.
+    pub(crate) fn go(&mut self, home: Home)
+        ensures { self.new ≡ record self.old { home = home } }
+    {
+        // (by a call, since what was there is dropped at each place that assigns it, and a parcel has many parts)
+        drop(mem::replace(&mut self.home, home));
     }
 }
 
@@ -92,11 +100,11 @@ impl<A: Agenda> World<A> {
             return Did::Still;
         }
         let desk = &mut self.desks[at];
-        let Some(parcel) = desk.hand_over(Home::Seated { shard: i, slot: 0 }) else {
+        let Some(parcel) = desk.hand_over(i) else {
             return Did::Still;
         };
         let housed = house(&mut self.shards[i], i, parcel);
-        desk.home = housed.home;
+        desk.go(housed.home);
         housed.did
     }
 
@@ -114,11 +122,11 @@ impl<A: Agenda> World<A> {
             return Did::Still;
         };
         let desk = &mut self.desks[name as usize];
-        let Some(parcel) = desk.leave_queue(Home::Seated { shard: i, slot: 0 }) else {
+        let Some(parcel) = desk.leave_queue(i) else {
             unreachable!();
         };
         let housed = house(&mut self.shards[i], i, parcel);
-        desk.home = housed.home;
+        desk.go(housed.home);
         housed.did.brought()
     }
 
@@ -137,10 +145,10 @@ impl<A: Agenda> World<A> {
         let name = parcel.name();
         let desk = &mut self.desks[name as usize];
         let Ok(()) = self.deques[i].push(name) else {
-            desk.home = Home::Handed(parcel);
+            desk.go(Home::Handed(parcel));
             return Did::NoMemory;
         };
-        desk.home = Home::Queued { shard: i, parcel };
+        desk.go(Home::Queued { shard: i, parcel });
         Did::Done
     }
 }

@@ -140,7 +140,7 @@ impl<A: Agenda> World<A> {
                 dossier.known();
                 let ending = dossier.ending();
                 let desk = &mut self.desks[dossier.name() as usize];
-                desk.home = Home::Left(dossier);
+                desk.go(Home::Left(dossier));
                 return ended(ending);
             }
             Turned::Idle => return Did::Still,

@@ -50,7 +50,7 @@ invariant_of-self-2 g c =
     let read : c.index_mut.result.now ≡ shard_at s.shards.items c.args.i = get_or_read s.shards.items c.args.i c.index_mut.result.now within c.index_mut.ensures.value (record { seats = []; clock = 0 }) in
     let housed : Houses p c.args.i did home (shard_at s.shards.items c.args.i) sh = subst (λ x. Houses p c.args.i did home x sh) read c.house-housed.ensures in
     let f = admit_in w c.args.name c.args.i d p did home sh c.self.invariant within found h.0 housed in
-    subst (λ (e : Desk). IsWorld (moved_world w c.args.name (at_home e home) c.args.i sh w.deques)) (sym h.1) f.world
+    subst (λ (e : Desk). IsWorld (moved_world w c.args.name e c.args.i sh w.deques)) (sym c.go.ensures) (subst (λ (e : Desk). IsWorld (moved_world w c.args.name (at_home e home) c.args.i sh w.deques)) (sym h.1) f.world)
 
 pub returns : goal.returns
 returns g c =
@@ -68,4 +68,4 @@ returns g c =
     let read : c.index_mut.result.now ≡ shard_at s.shards.items c.args.i = get_or_read s.shards.items c.args.i c.index_mut.result.now within c.index_mut.ensures.value (record { seats = []; clock = 0 }) in
     let housed : Houses p c.args.i did home (shard_at s.shards.items c.args.i) sh = subst (λ x. Houses p c.args.i did home x sh) read c.house-housed.ensures in
     let f = admit_in w c.args.name c.args.i d p did home sh c.self.invariant within found h.0 housed in
-    rw (← c.self.view_is) (subst (λ (e : Desk). IsAdmission c.args.name c.args.i did w (moved_world w c.args.name (at_home e home) c.args.i sh w.deques)) (sym h.1) f.admission)
+    rw (← c.self.view_is) (subst (λ (e : Desk). IsAdmission c.args.name c.args.i did w (moved_world w c.args.name e c.args.i sh w.deques)) (sym c.go.ensures) (subst (λ (e : Desk). IsAdmission c.args.name c.args.i did w (moved_world w c.args.name (at_home e home) c.args.i sh w.deques)) (sym h.1) f.admission))

@@ -1,4 +1,4 @@
-use Rattle.std.proofs.Common.{◌≡◌, ℕ, ◌<◌, List, [], length, Some, refl, arith}
+use Rattle.std.proofs.Common.{◌≡◌, ℕ, ◌<◌, List, [], length, set, Some, refl, sym, subst, arith}
 use Rattle.std.specs.Prelude.{slice_get}
 use Rattle.std.proofs.lemmas.List.{get_or_read}
 use Rattle.std.proofs.lemmas.Option.{slice_get_read}
@@ -8,8 +8,9 @@ use Rattle.world.specs.declared.home.Desk.{Desk}
 use Rattle.world.specs.declared.home.Home.{Home}
 use Rattle.world.specs.declared.home.Home.TheVariants.{Seated}
 use Rattle.world.specs.Places.{Places, shard_at, deque_at}
-use Rattle.world.specs.Steps.{did_bring}
-use Rattle.world.proofs.MoveFacts.{Fronting, fronting, waits_there, brought_in}
+use Rattle.world.specs.Kept.{IsWorld}
+use Rattle.world.specs.Steps.{did_bring, IsBringing}
+use Rattle.world.proofs.MoveFacts.{Fronting, fronting, waits_there, brought_in, moved_world}
 use Rattle.world.proofs.world.World.bring.Goals as goal
 
 pub index_mut-desk-requires : goal.index_mut-desk-requires
@@ -49,7 +50,7 @@ invariant_of-self-2 g c =
     let did = c.house-housed.result.did in
     let read : c.index_mut-2.result.now ≡ shard_at s.shards.items c.args.i = get_or_read s.shards.items c.args.i c.index_mut-2.result.now within c.index_mut-2.ensures.value (record { seats = []; clock = 0 }) in
     let f = brought_in w c.args.i c.args.from n c.pop.new.self d c.leave_queue.new.self (Seated c.args.i 0) c.house-housed.result.home h.0 c.in-Some-leave_queue.parcel did (did_bring did) c.index_mut-2.result.now c.house-housed.new.shard c.self.invariant within deep k found h.1 h.2 read c.house-housed.ensures refl in
-    f.world
+    subst (λ (e : Desk). IsWorld (moved_world w n e c.args.i c.house-housed.new.shard (set w.deques c.args.from c.pop.new.self))) (sym c.go.ensures) f.world
 
 pub returns : goal.returns
 returns g c =
@@ -66,4 +67,4 @@ returns g c =
     let did = c.house-housed.result.did in
     let read : c.index_mut-2.result.now ≡ shard_at s.shards.items c.args.i = get_or_read s.shards.items c.args.i c.index_mut-2.result.now within c.index_mut-2.ensures.value (record { seats = []; clock = 0 }) in
     let f = brought_in w c.args.i c.args.from n c.pop.new.self d c.leave_queue.new.self (Seated c.args.i 0) c.house-housed.result.home h.0 c.in-Some-leave_queue.parcel did c.brought.result c.index_mut-2.result.now c.house-housed.new.shard c.self.invariant within deep k found h.1 h.2 read c.house-housed.ensures c.brought.ensures in
-    rw (← c.self.view_is) f.bringing
+    rw (← c.self.view_is) (subst (λ (e : Desk). IsBringing c.args.i c.args.from c.brought.result w (moved_world w n e c.args.i c.house-housed.new.shard (set w.deques c.args.from c.pop.new.self))) (sym c.go.ensures) f.bringing)

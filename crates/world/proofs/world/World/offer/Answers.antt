@@ -1,4 +1,4 @@
-use Rattle.std.proofs.Common.{◌≡◌, ℕ, ◌<◌, [], length, Some, arith}
+use Rattle.std.proofs.Common.{◌≡◌, ℕ, ◌<◌, [], length, set, Some, sym, subst, arith}
 use Rattle.std.specs.Prelude.{slice_get}
 use Rattle.std.proofs.lemmas.List.{get_or_read}
 use Rattle.std.proofs.lemmas.Option.{slice_get_read}
@@ -6,7 +6,10 @@ use Rattle.shard.specs.Mails.{MailBook}
 use Rattle.shard.specs.Stand.{Stand, Seating}
 use Rattle.world.specs.declared.home.Desk.{Desk}
 use Rattle.world.specs.Places.{Places, shard_at, deque_at}
-use Rattle.world.proofs.MoveFacts.{Packing, packing, queued_in, handed_in}
+use Rattle.world.specs.declared.steps.Did.TheVariants.{Done, NoMemory}
+use Rattle.world.specs.Kept.{IsWorld}
+use Rattle.world.specs.Steps.{IsOffer}
+use Rattle.world.proofs.MoveFacts.{Packing, packing, queued_in, handed_in, moved_world}
 use Rattle.world.proofs.world.World.offer.Goals as goal
 
 pub index_mut-desk-requires : goal.index_mut-desk-requires
@@ -36,7 +39,7 @@ invariant_of-self-in_default g c =
     let deep : c.args.i < length s.deques.items = omega (arith, within, c.self.invariant.as_many) in
     let waits : c.index_mut-2.result.now ≡ deque_at s.deques.items c.args.i = get_or_read s.deques.items c.args.i c.index_mut-2.result.now deep c.index_mut-2.ensures.value [] in
     let f = handed_in w c.args.i c.args.slot n p sh d c.index_mut-2.result.now c.push.new.self c.self.invariant within k found waits c.in_default.ensures.err in
-    f.world
+    subst (λ (e : Desk). IsWorld (moved_world w n e c.args.i sh (set w.deques c.args.i c.push.new.self))) (sym c.go.ensures) f.world
 
 pub returns-in_default : goal.returns-in_default
 returns-in_default g c =
@@ -53,7 +56,7 @@ returns-in_default g c =
     let deep : c.args.i < length s.deques.items = omega (arith, within, c.self.invariant.as_many) in
     let waits : c.index_mut-2.result.now ≡ deque_at s.deques.items c.args.i = get_or_read s.deques.items c.args.i c.index_mut-2.result.now deep c.index_mut-2.ensures.value [] in
     let f = handed_in w c.args.i c.args.slot n p sh d c.index_mut-2.result.now c.push.new.self c.self.invariant within k found waits c.in_default.ensures.err in
-    rw (← c.self.view_is) f.offer
+    rw (← c.self.view_is) (subst (λ (e : Desk). IsOffer c.args.i c.args.slot NoMemory w (moved_world w n e c.args.i sh (set w.deques c.args.i c.push.new.self))) (sym c.go.ensures) f.offer)
 
 pub invariant_of-self-2 : goal.invariant_of-self-2
 invariant_of-self-2 g c =
@@ -70,7 +73,7 @@ invariant_of-self-2 g c =
     let deep : c.args.i < length s.deques.items = omega (arith, within, c.self.invariant.as_many) in
     let waits : c.index_mut-2.result.now ≡ deque_at s.deques.items c.args.i = get_or_read s.deques.items c.args.i c.index_mut-2.result.now deep c.index_mut-2.ensures.value [] in
     let f = queued_in w c.args.i c.args.slot n p sh d c.index_mut-2.result.now c.push.new.self c.self.invariant within k found waits c.in-Ok-push.ensures.ok in
-    f.world
+    subst (λ (e : Desk). IsWorld (moved_world w n e c.args.i sh (set w.deques c.args.i c.push.new.self))) (sym c.go-2.ensures) f.world
 
 pub returns : goal.returns
 returns g c =
@@ -87,4 +90,4 @@ returns g c =
     let deep : c.args.i < length s.deques.items = omega (arith, within, c.self.invariant.as_many) in
     let waits : c.index_mut-2.result.now ≡ deque_at s.deques.items c.args.i = get_or_read s.deques.items c.args.i c.index_mut-2.result.now deep c.index_mut-2.ensures.value [] in
     let f = queued_in w c.args.i c.args.slot n p sh d c.index_mut-2.result.now c.push.new.self c.self.invariant within k found waits c.in-Ok-push.ensures.ok in
-    rw (← c.self.view_is) f.offer
+    rw (← c.self.view_is) (subst (λ (e : Desk). IsOffer c.args.i c.args.slot Done w (moved_world w n e c.args.i sh (set w.deques c.args.i c.push.new.self))) (sym c.go-2.ensures) f.offer)

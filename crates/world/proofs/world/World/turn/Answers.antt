@@ -1,4 +1,4 @@
-use Rattle.std.proofs.Common.{◌≡◌, ℕ, ◌<◌, [], length, Some, refl, sym, ap, ◌∙◌, arith}
+use Rattle.std.proofs.Common.{◌≡◌, ℕ, ◌<◌, [], length, Some, refl, sym, ap, subst, ◌∙◌, arith}
 use Rattle.std.specs.Prelude.{slice_get}
 use Rattle.std.proofs.lemmas.List.{get_or_read}
 use Rattle.std.proofs.lemmas.Option.{slice_get_read}
@@ -6,9 +6,10 @@ use Rattle.shard.specs.Mails.{MailBook}
 use Rattle.shard.specs.Stand.{Final, Seating}
 use Rattle.world.specs.declared.home.Desk.{Desk}
 use Rattle.world.specs.Places.{Places, shard_at}
-use Rattle.world.specs.Steps.{did_end}
+use Rattle.world.specs.Kept.{IsWorld}
+use Rattle.world.specs.Steps.{did_end, IsWorldTurn}
 use Rattle.world.proofs.KeptFacts.{IsOver}
-use Rattle.world.proofs.TurnFacts.{ran_in, near_end, over_in, idle_in}
+use Rattle.world.proofs.TurnFacts.{ran_in, near_end, over_in, idle_in, with_left}
 use Rattle.world.proofs.world.World.turn.Goals as goal
 
 pub invariant_of-self : goal.invariant_of-self
@@ -57,7 +58,7 @@ invariant_of-self-in-Ended g c =
     let over : IsOver x = record { records = k.records; counters = k.counters; made = k.made; heard = k.heard; told = k.told } in
     let found : slice_get s.desks.items n ≡ Some d = slice_get_read s.desks.items s.desks.len n d s.desks.ok.0 (omega (arith, near, c.name.ensures, s.desks.ok.0)) c.index_mut-desk.ensures.value in
     let f = over_in w c.args.i n x c.index_mut-shard.result.now sh d (did_end x.ending) c.self.invariant within read c.in-Ended.ensures over (sym c.name.ensures) found refl in
-    f.world
+    subst (λ (e : Desk). IsWorld (with_left w c.args.i sh n e)) (sym c.go.ensures) f.world
 
 pub returns-in-Ended : goal.returns-in-Ended
 returns-in-Ended g c =
@@ -74,7 +75,7 @@ returns-in-Ended g c =
     let over : IsOver x = record { records = k.records; counters = k.counters; made = k.made; heard = k.heard; told = k.told } in
     let found : slice_get s.desks.items n ≡ Some d = slice_get_read s.desks.items s.desks.len n d s.desks.ok.0 (omega (arith, near, c.name.ensures, s.desks.ok.0)) c.index_mut-desk.ensures.value in
     let f = over_in w c.args.i n x c.index_mut-shard.result.now sh d c.ended.result c.self.invariant within read c.in-Ended.ensures over (sym c.name.ensures) found (c.ended.ensures ∙ ap did_end c.ending-ending.ensures) in
-    rw (← c.self.view_is) f.turn
+    rw (← c.self.view_is) (subst (λ (e : Desk). IsWorldTurn c.args.i c.ended.result w (with_left w c.args.i sh n e)) (sym c.go.ensures) f.turn)
 
 pub invariant_of-self-in-Idle : goal.invariant_of-self-in-Idle
 invariant_of-self-in-Idle g c =
