@@ -147,7 +147,9 @@ pub(crate) fn open_all(
             return Err(RunFault::Memory);
         };
         let place = k % benches.len();
-        if benches[place].admit(parcel).is_err() {
+        let admitted = benches[place].admit(parcel).ok();
+        if admitted.is_none() {
+            drop(tenant);
             return Err(RunFault::Memory);
         }
         tenants.push_reserved(tenant);

@@ -27,18 +27,19 @@ fn benches_and_peers(alloc: Global, count: usize) -> Result<(Vec<Bench>, Vec<Pee
     let mut benches = Vec::new(alloc);
     let mut peers = Vec::new(alloc);
     for _ in 0..count {
-        let Ok(mut bench) = Bench::new(alloc) else {
-            return Err(RunFault::Memory);
-        };
-        let Ok(peer) = bench.peer() else {
-            return Err(RunFault::Memory);
-        };
         if peers.reserve(1).is_err() {
             return Err(RunFault::Memory);
         }
         if benches.reserve(1).is_err() {
             return Err(RunFault::Memory);
         }
+        let Ok(mut bench) = Bench::new(alloc) else {
+            return Err(RunFault::Memory);
+        };
+        let Ok(peer) = bench.peer() else {
+            drop(bench);
+            return Err(RunFault::Memory);
+        };
         peers.push_reserved(peer);
         benches.push_reserved(bench);
     }
@@ -65,14 +66,12 @@ fn jobs_of(
     while let Some(bench) = benches.pop() {
         let peer = peers.pop();
         let number = benches.len() as u32;
-        if jobs
-            .push(Job {
-                number,
-                bench,
-                peer,
-            })
-            .is_err()
-        {
+        let job = Job {
+            number,
+            bench,
+            peer,
+        };
+        if jobs.push(job).ok().is_none() {
             return Err(RunFault::Memory);
         }
     }
@@ -213,6 +212,7 @@ pub(crate) fn run_together<G: Gate, R: Threads + Wait + Sync, P: Progress + Sync
             let mut started = true;
             for job in jobs {
                 if threads.reserve(1).is_err() {
+                    drop(job);
                     started = false;
                     continue;
                 }

@@ -86,10 +86,8 @@ impl Desk {
     fn admit_again(&mut self, parcel: Parcel<RingMail>) -> Result<(), RunFault>
         ensures { IfErr result IsMemory }
     {
-        match self.bench.admit(parcel) {
-            Ok(()) => return Ok(()),
-            Err(_) => return Err(RunFault::Memory),
-        }
+        let admitted = self.bench.admit(parcel).ok();
+        admitted.ok_or(RunFault::Memory)
     }
 
     // Admits what could not be taken in.

@@ -43,11 +43,16 @@ fn run(alloc: Global, plan: &Plan) -> Result<u64, Fault> {
     let Ok(mut experiment) = Experiment::new(alloc, plan.spec) else {
         return Err(Fault::Memory);
     };
-    play(&mut experiment, &mut shelf, plan)?;
-    if experiment.ending().is_none() {
+    let played = play(&mut experiment, &mut shelf, plan);
+    let has_ended = experiment.ending().is_some();
+    let events = experiment.events();
+    drop(shelf);
+    drop(experiment);
+    played?;
+    if !has_ended {
         return Err(Fault::Unfinished);
     }
-    Ok(experiment.events())
+    Ok(events)
 }
 
 /// Runs so many flows one after the other, and answers how many steps they made.

@@ -41,14 +41,12 @@ fn parcel(alloc: Global, name: u32, plan: &Plan) -> Result<Parcel<ListMail>, Fau
     }
 }
 
-// A shard with so many residents, from slot 0 on, whose commands wait in their mails.
-fn filled(alloc: Global, residents: usize, plan: &Plan) -> Result<Wheels, Fault> {
-    let Ok(mut shard) = Wheels::new(alloc) else {
-        return Err(Fault::Memory);
-    };
+// Takes so many residents in, whose commands wait in their mails.
+fn fill(alloc: Global, shard: &mut Wheels, residents: usize, plan: &Plan) -> Result<(), Fault> {
     let mut name = 0u32;
     for _ in 0..residents {
-        let Ok(slot) = shard.take_in(parcel(alloc, name, plan)?) else {
+        let parcel = parcel(alloc, name, plan)?;
+        let Some(slot) = shard.take_in(parcel).ok() else {
             return Err(Fault::Range);
         };
         name = name.wrapping_add(1);
@@ -58,7 +56,7 @@ fn filled(alloc: Global, residents: usize, plan: &Plan) -> Result<Wheels, Fault>
             }
         }
     }
-    Ok(shard)
+    Ok(())
 }
 
 // Has each resident take its next command.
@@ -71,15 +69,26 @@ fn poll_all(shard: &mut Wheels, residents: usize) -> Result<(), Fault> {
     Ok(())
 }
 
+// Notes a turn, and answers whether there was one.
+fn is_turn(turned: &Turned<ListMail>, tally: &mut Tally) -> Result<bool, Fault> {
+    match turned {
+        Turned::Ran(_) => {}
+        Turned::Ended(dossier) => tally.note(dossier)?,
+        Turned::Idle => return Ok(false),
+    }
+    tally.turns = tally.turns.saturating_add(1);
+    Ok(true)
+}
+
 // Turns until nobody has a next command.
 fn turn_all(shard: &mut Wheels, tally: &mut Tally) -> Result<(), Fault> {
     for _ in 0..u64::MAX {
-        match shard.turn() {
-            Turned::Ran(_) => {}
-            Turned::Ended(dossier) => tally.note(&dossier)?,
-            Turned::Idle => return Ok(()),
+        let turned = shard.turn();
+        let noted = is_turn(&turned, tally);
+        drop(turned);
+        if !noted? {
+            return Ok(());
         }
-        tally.turns = tally.turns.saturating_add(1);
     }
     Ok(())
 }
@@ -94,27 +103,54 @@ fn play(shard: &mut Wheels, residents: usize, plan: &Plan, tally: &mut Tally) ->
     Ok(())
 }
 
+// Turns so many flows in a shard to their ends.
+fn turn_flows(
+    alloc: Global,
+    shard: &mut Wheels,
+    residents: usize,
+    plan: &Plan,
+) -> Result<u64, Fault> {
+    fill(alloc, shard, residents, plan)?;
+    let mut tally = Tally { turns: 0, held: 0 };
+    play(shard, residents, plan, &mut tally)?;
+    turn_all(shard, &mut tally)?;
+    Ok(tally.turns)
+}
+
 /// Turns so many flows to their ends, and answers how many turns ran.
 pub fn turns(alloc: Global, residents: usize) -> Result<u64, Fault> {
     let Some(plan) = flow_plan() else {
         return Err(Fault::Range);
     };
-    let mut shard = filled(alloc, residents, &plan)?;
-    let mut tally = Tally { turns: 0, held: 0 };
-    play(&mut shard, residents, &plan, &mut tally)?;
-    turn_all(&mut shard, &mut tally)?;
-    Ok(tally.turns)
+    let Ok(mut shard) = Wheels::new(alloc) else {
+        return Err(Fault::Memory);
+    };
+    let turns = turn_flows(alloc, &mut shard, residents, &plan);
+    drop(shard);
+    turns
 }
 
 // Packs the resident of slot 0, and takes it in again.
 fn move_once(shard: &mut Wheels) -> Result<(), Fault> {
-    let Ok(parcel) = shard.pack(0) else {
+    let Some(parcel) = shard.pack(0).ok() else {
         return Err(Fault::Memory);
     };
-    match shard.take_in(parcel) {
-        Ok(_) => Ok(()),
-        Err(_) => Err(Fault::Memory),
+    let Some(_) = shard.take_in(parcel).ok() else {
+        return Err(Fault::Memory);
+    };
+    Ok(())
+}
+
+// Moves a train that is held so many times, and answers how many packets were moved.
+fn move_train(alloc: Global, shard: &mut Wheels, plan: &Plan, times: u32) -> Result<u64, Fault> {
+    fill(alloc, shard, 1, plan)?;
+    let mut tally = Tally { turns: 0, held: 0 };
+    play(shard, 1, plan, &mut tally)?;
+    for _ in 0..times {
+        move_once(shard)?;
     }
+    turn_all(shard, &mut tally)?;
+    Ok(tally.held.saturating_mul(u64::from(times)))
 }
 
 /// Moves a resident that holds so many packets out and in again, so many times, and answers how many packets
@@ -123,12 +159,10 @@ pub fn moves(alloc: Global, packets: u16, times: u32) -> Result<u64, Fault> {
     let Some(plan) = train_plan(packets) else {
         return Err(Fault::Range);
     };
-    let mut shard = filled(alloc, 1, &plan)?;
-    let mut tally = Tally { turns: 0, held: 0 };
-    play(&mut shard, 1, &plan, &mut tally)?;
-    for _ in 0..times {
-        move_once(&mut shard)?;
-    }
-    turn_all(&mut shard, &mut tally)?;
-    Ok(tally.held.saturating_mul(u64::from(times)))
+    let Ok(mut shard) = Wheels::new(alloc) else {
+        return Err(Fault::Memory);
+    };
+    let moved = move_train(alloc, &mut shard, &plan, times);
+    drop(shard);
+    moved
 }
