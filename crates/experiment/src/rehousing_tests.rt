@@ -64,27 +64,49 @@ fn goes_on(
     None
 }
 
-/// What an experiment of seed 1 records that moves between its events, beside another owner.
+/// Applies each command in its turn, and makes its events. False where memory was refused.
+fn plays(
+    experiment: &mut Experiment,
+    own: &mut OwnShelf,
+    store: &mut Store,
+    owner: Owner,
+    commands: &[Timed],
+) -> bool
+    requires housed { IsHousedIn (own_pocket own.old) experiment.old }
+    requires empty { pocket_of store.old owner ≡ empty_pocket (own_pocket own.old).budget }
+{
+    for command in commands {
+        if command.moment > 1_000_000_000 || experiment.apply(command).is_err() {
+            return false;
+        }
+        let Some(_) = goes_on(experiment, own, store, owner) else {
+            return false;
+        };
+    }
+    true
+}
+
+/// What an experiment of seed 1 records that moves between its events, beside another owner. (What is made here is
+/// dropped by calls: where it stands, each of its parts would be proved.)
 fn recorded(alloc: Global, commands: &[Timed]) -> Option<Vec<Record>> {
     let packets = PacketBudget::new(100)?;
     let steps = StepBudget::new(1000)?;
     let budget = Budget { packets, steps };
-    let mut own = OwnShelf::new(alloc, packets);
-    let mut store = Store::new(alloc);
-    let Ok(_beside) = store.admit(packets) else {
-        return None;
-    };
-    let Ok(owner) = store.admit(packets) else {
-        return None;
-    };
     let Ok(mut experiment) = Experiment::new(alloc, Spec { seed: 1, budget }) else {
         return None;
     };
-    for command in commands {
-        if command.moment > 1_000_000_000 || experiment.apply(command).is_err() {
-            return None;
-        }
-        goes_on(&mut experiment, &mut own, &mut store, owner)?;
+    let mut own = OwnShelf::new(alloc, packets);
+    let mut store = Store::new(alloc);
+    let beside = store.admit(packets);
+    let mut played = false;
+    if let Ok(owner) = store.admit(packets) {
+        played = beside.is_ok() && plays(&mut experiment, &mut own, &mut store, owner, commands);
+    }
+    drop(own);
+    drop(store);
+    if !played {
+        drop(experiment);
+        return None;
     }
     let (_, records) = experiment.into_lists();
     Some(records)

@@ -12,6 +12,7 @@ use emu_model::{
 };
 use packet_store::OwnShelf;
 use std::alloc::Global;
+use std::process::Abort;
 use std::test::Fail;
 
 /// An experiment beside its shelf.
@@ -167,10 +168,8 @@ fn done(moment: u64, command: u64) -> Record {
     Record::CommandDone { moment, command }
 }
 
-/// Busy while a command waits, backward below its moment, over after the end.
-#[test]
-fn commands_are_refused_in_order(rt: HostRuntime) -> Result<(), Fail> {
-    let mut bench = Bench::new(rt.alloc(), 10, 1000).ok_or("bench")?;
+/// Busy while a command waits, and backward below its moment.
+fn refuses_two_commands(rt: &impl Abort, bench: &mut Bench) {
     assert!(rt; bench.apply(5, Command::Show).is_ok());
     assert!(rt; bench.apply(5, Command::Show) == Err(ApplyError::Busy));
     assert!(rt; bench.apply(4, Command::Show) == Err(ApplyError::Busy));
@@ -179,6 +178,10 @@ fn commands_are_refused_in_order(rt: HostRuntime) -> Result<(), Fail> {
     assert!(rt; !bench.experiment.has_next());
     assert!(rt; bench.event() == Event::Still);
     assert!(rt; bench.apply(4, Command::End) == Err(ApplyError::Backward));
+}
+
+/// Over after the end.
+fn refuses_all_after_the_end(rt: &impl Abort, bench: &mut Bench) {
     assert!(rt; bench.apply(5, Command::End).is_ok());
     assert!(rt; bench.event() == Event::Ended);
     assert!(rt; bench.apply(4, Command::End) == Err(ApplyError::Over));
@@ -190,22 +193,41 @@ fn commands_are_refused_in_order(rt: HostRuntime) -> Result<(), Fail> {
     assert_eq!(rt; records.len(), 3);
     assert!(rt; records[2] == done(5, 1));
     assert!(rt; bench.seen() == (3, 2, 2, 0));
+}
+
+/// Busy, then backward, then over.
+#[test]
+fn a_command_is_busy_then_backward_then_over(rt: HostRuntime) -> Result<(), Fail> {
+    let mut bench = Bench::new(rt.alloc(), 10, 1000).ok_or("bench")?;
+    refuses_two_commands(&rt, &mut bench);
+    refuses_all_after_the_end(&rt, &mut bench);
+    drop(bench);
     Ok(())
+}
+
+/// Takes commands of the moment 0, each with its event. Whether all went on.
+fn takes_all(bench: &mut Bench, commands: &[Command]) -> bool {
+    for command in commands {
+        if !bench.takes(0, *command) {
+            return false;
+        }
+    }
+    true
 }
 
 /// The packet enters a pipe of 1 Mbit/s and 10 ms at 0.
 fn sent(alloc: Global) -> Option<Bench> {
+    let commands = [config()?, rule()?, inject()?];
     let mut bench = Bench::new(alloc, 10, 1000)?;
-    if bench.takes(0, config()?) && bench.takes(0, rule()?) && bench.takes(0, inject()?) {
+    if takes_all(&mut bench, &commands) {
         return Some(bench);
     }
+    drop(bench);
     None
 }
 
-/// A packet of 1000 bytes at 0: it finishes at 8000000, and is delivered at 18000000.
-#[test]
-fn one_packet(rt: HostRuntime) -> Result<(), Fail> {
-    let mut bench = sent(rt.alloc()).ok_or("bench")?;
+/// The packet finishes, is delivered, and the end comes.
+fn goes_through(rt: &impl Abort, bench: &mut Bench) {
     assert_eq!(rt; bench.experiment.counters().held, 1);
     assert_eq!(rt; bench.experiment.held(), 1);
     assert_eq!(rt; bench.experiment.clock(), 0);
@@ -216,6 +238,17 @@ fn one_packet(rt: HostRuntime) -> Result<(), Fail> {
     assert_eq!(rt; bench.experiment.held(), 0);
     assert!(rt; bench.event() == Event::Ended);
     assert_eq!(rt; bench.experiment.clock(), 20_000_000);
+    assert_eq!(rt; bench.experiment.spec().seed, 0);
+}
+
+/// The commands and the records.
+fn lists(bench: Bench) -> (Vec<Timed>, Vec<Record>) {
+    bench.experiment.into_lists()
+}
+
+/// A packet of 1000 bytes at 0: it finishes at 8000000, and is delivered at 18000000.
+#[test]
+fn one_packet(rt: HostRuntime) -> Result<(), Fail> {
     let pipe = PipeNumber::new(1).ok_or("1")?;
     let finished = Record::PacketFinished {
         moment: 8_000_000,
@@ -228,8 +261,9 @@ fn one_packet(rt: HostRuntime) -> Result<(), Fail> {
         packet: 0,
         load: Load::Plain,
     };
-    assert_eq!(rt; bench.experiment.spec().seed, 0);
-    let (commands, records) = bench.experiment.into_lists();
+    let mut bench = sent(rt.alloc()).ok_or("bench")?;
+    goes_through(&rt, &mut bench);
+    let (commands, records) = lists(bench);
     assert_eq!(rt; commands.len(), 4);
     assert_eq!(rt; records.len(), 6);
     assert!(rt; records[3] == finished);
@@ -247,45 +281,63 @@ fn names(sources: &[Source], due: Due) -> bool {
     sources.iter().any(|source| *source == due.source)
 }
 
+/// The packet is due at its finish; all that is due is touched. None where memory was refused.
+fn is_due_at_its_finish(rt: &impl Abort, alloc: Global, bench: &mut Bench) -> Option<()> {
+    let end = due(Class::NextCommand, 0, 20_000_000);
+    let finish = due(Class::Finish, 256, 8_000_000);
+    let dues = bench.dues_in_the_end(alloc)?;
+    assert_eq!(rt; dues.len(), 2);
+    assert!(rt; dues[0] == end);
+    assert!(rt; dues[1] == finish);
+    let touched = bench.touched_in_the_end(alloc)?;
+    assert!(rt; names(&touched, finish));
+    assert!(rt; names(&touched, end));
+    assert!(rt; bench.experiment.noted() == dues.as_slice());
+    Some(())
+}
+
+/// The packet is due at its exit; its pipe's two were touched. None where memory was refused.
+fn is_due_at_its_exit(rt: &impl Abort, alloc: Global, bench: &mut Bench) -> Option<()> {
+    let end = due(Class::NextCommand, 0, 20_000_000);
+    let finish = due(Class::Finish, 256, 8_000_000);
+    let exit = due(Class::Exit, 256, 18_000_000);
+    let dues = bench.dues_in_the_end(alloc)?;
+    assert_eq!(rt; dues.len(), 2);
+    assert!(rt; dues[0] == end);
+    assert!(rt; dues[1] == exit);
+    let touched = bench.touched_in_the_end(alloc)?;
+    assert!(rt; names(&touched, finish));
+    assert!(rt; names(&touched, exit));
+    assert!(rt; !names(&touched, end));
+    Some(())
+}
+
+/// The packet of a bench that was sent one, up to its end. None where memory was refused.
+fn dues_to_the_end(rt: &impl Abort, alloc: Global, bench: &mut Bench) -> Option<()> {
+    assert!(rt; bench.apply(20_000_000, Command::End).is_ok());
+    is_due_at_its_finish(rt, alloc, bench)?;
+    assert!(rt; bench.event() == Event::Ran);
+    is_due_at_its_exit(rt, alloc, bench)?;
+    assert!(rt; bench.event() == Event::Ran);
+    assert!(rt; bench.event() == Event::Ended);
+    let dues = bench.dues_in_the_end(alloc)?;
+    assert!(rt; dues.is_empty());
+    Some(())
+}
+
 /// A packet in service is due at its finish, then at its exit. Its pipe's step touches both, and not
 /// the next command.
 #[test]
 fn dues_of_one_packet(rt: HostRuntime) -> Result<(), Fail> {
     let mut bench = sent(rt.alloc()).ok_or("bench")?;
-    assert!(rt; bench.apply(20_000_000, Command::End).is_ok());
-    let end = due(Class::NextCommand, 0, 20_000_000);
-    let finish = due(Class::Finish, 256, 8_000_000);
-    let exit = due(Class::Exit, 256, 18_000_000);
-    let dues = bench.dues_in_the_end(rt.alloc()).ok_or("dues")?;
-    assert_eq!(rt; dues.len(), 2);
-    assert!(rt; dues[0] == end);
-    assert!(rt; dues[1] == finish);
-    let touched = bench.touched_in_the_end(rt.alloc()).ok_or("touched")?;
-    assert!(rt; names(&touched, finish));
-    assert!(rt; names(&touched, end));
-    assert!(rt; bench.experiment.noted() == dues.as_slice());
-
-    assert!(rt; bench.event() == Event::Ran);
-    let dues = bench.dues_in_the_end(rt.alloc()).ok_or("dues")?;
-    assert_eq!(rt; dues.len(), 2);
-    assert!(rt; dues[0] == end);
-    assert!(rt; dues[1] == exit);
-    let touched = bench.touched_in_the_end(rt.alloc()).ok_or("touched")?;
-    assert!(rt; names(&touched, finish));
-    assert!(rt; names(&touched, exit));
-    assert!(rt; !names(&touched, end));
-
-    assert!(rt; bench.event() == Event::Ran);
-    assert!(rt; bench.event() == Event::Ended);
-    let dues = bench.dues_in_the_end(rt.alloc()).ok_or("dues")?;
-    assert!(rt; dues.is_empty());
+    let seen = dues_to_the_end(&rt, rt.alloc(), &mut bench);
+    drop(bench);
+    seen.ok_or("memory")?;
     Ok(())
 }
 
-/// With the end at the moment of the exit it isn't delivered: the command comes first.
-#[test]
-fn one_packet_held(rt: HostRuntime) -> Result<(), Fail> {
-    let mut bench = sent(rt.alloc()).ok_or("bench")?;
+/// It is held when the end comes.
+fn is_held_in_the_end(rt: &impl Abort, bench: &mut Bench) {
     assert!(rt; bench.apply(18_000_000, Command::End).is_ok());
     assert!(rt; bench.event() == Event::Ran);
     assert!(rt; bench.event() == Event::Ended);
@@ -294,13 +346,19 @@ fn one_packet_held(rt: HostRuntime) -> Result<(), Fail> {
         (counters.made, counters.delivered, counters.held),
         (1, 0, 1)
     );
+}
+
+/// With the end at the moment of the exit it isn't delivered: the command comes first.
+#[test]
+fn one_packet_held(rt: HostRuntime) -> Result<(), Fail> {
+    let mut bench = sent(rt.alloc()).ok_or("bench")?;
+    is_held_in_the_end(&rt, &mut bench);
+    drop(bench);
     Ok(())
 }
 
-/// Two steps: the second listing ends with `spent`, and `end` has no step.
-#[test]
-fn step_budget(rt: HostRuntime) -> Result<(), Fail> {
-    let mut bench = Bench::new(rt.alloc(), 10, 2).ok_or("bench")?;
+/// The budget's two steps are two listings.
+fn spends_two_steps(rt: &impl Abort, bench: &mut Bench) {
     assert!(rt; bench.takes(0, Command::Show));
     assert!(rt; bench.apply(0, Command::Show).is_ok());
     assert!(rt; bench.event() == Event::Ended);
@@ -323,18 +381,40 @@ fn step_budget(rt: HostRuntime) -> Result<(), Fail> {
     assert!(rt; records[2] == done(0, 1));
     assert!(rt; records[4] == Record::StepsSpent { moment: 0 });
     assert_eq!(rt; bench.experiment.events(), 2);
+}
+
+/// Two steps: the second listing ends with `spent`, and `end` has no step.
+#[test]
+fn step_budget(rt: HostRuntime) -> Result<(), Fail> {
+    let mut bench = Bench::new(rt.alloc(), 10, 2).ok_or("bench")?;
+    spends_two_steps(&rt, &mut bench);
+    drop(bench);
     Ok(())
+}
+
+/// The end is the one step there is.
+fn ends_at_once(rt: &impl Abort, bench: &mut Bench) {
+    assert!(rt; bench.apply(7, Command::End).is_ok());
+    assert!(rt; bench.event() == Event::Ended);
+    assert!(rt; matches!(bench.experiment.ending(), Some(Ending::Ended)));
+    assert_eq!(rt; bench.experiment.records().len(), 1);
 }
 
 /// An `end` that is the last step of the budget isn't spent.
 #[test]
 fn last_step_is_the_end(rt: HostRuntime) -> Result<(), Fail> {
     let mut bench = Bench::new(rt.alloc(), 10, 1).ok_or("bench")?;
-    assert!(rt; bench.apply(7, Command::End).is_ok());
-    assert!(rt; bench.event() == Event::Ended);
-    assert!(rt; matches!(bench.experiment.ending(), Some(Ending::Ended)));
-    assert_eq!(rt; bench.experiment.records().len(), 1);
+    ends_at_once(&rt, &mut bench);
+    drop(bench);
     Ok(())
+}
+
+/// There is room at the second try at the latest, and nothing has changed.
+fn has_room_in_the_end(rt: &impl Abort, bench: &mut Bench) {
+    let before = bench.seen();
+    assert!(rt; bench.has_room() || bench.has_room());
+    assert!(rt; bench.seen() == before);
+    assert!(rt; bench.apply(5, Command::Show).is_ok());
 }
 
 /// There is room for a command before it comes, at the second try where memory was refused; nothing has
@@ -344,11 +424,46 @@ fn a_command_has_room(rt: HostRuntime) -> Result<(), Fail> {
     let Some(mut bench) = Bench::new(rt.alloc(), 10, 1000) else {
         return Ok(());
     };
-    let before = bench.seen();
-    assert!(rt; bench.has_room() || bench.has_room());
-    assert!(rt; bench.seen() == before);
-    assert!(rt; bench.apply(5, Command::Show).is_ok());
+    has_room_in_the_end(&rt, &mut bench);
+    drop(bench);
     Ok(())
+}
+
+/// Commands come in the end, and an event that halts leaves all as it was. Whether it goes on; None where an
+/// answer was another.
+fn obeys_or_halts(rt: &impl Abort, bench: &mut Bench, commands: &[Command]) -> Option<bool> {
+    for command in commands {
+        assert!(rt; bench.applies_in_the_end(0, *command));
+        if bench.event_or_halt()? == Event::Halted {
+            return Some(false);
+        }
+    }
+    Some(true)
+}
+
+/// Three events more, or a halt before. Whether it came to its end; None where an answer was another.
+fn ends_or_halts(rt: &impl Abort, alloc: Global, bench: &mut Bench) -> Option<bool> {
+    assert!(rt; bench.applies_in_the_end(20_000_000, Command::End));
+    let dues = bench.dues_in_the_end(alloc)?;
+    assert_eq!(rt; dues.len(), 2);
+    let touched = bench.touched_in_the_end(alloc)?;
+    assert!(rt; !touched.is_empty());
+    for _ in 0..3 {
+        if bench.event_or_halt()? == Event::Halted {
+            return Some(false);
+        }
+    }
+    assert!(rt; matches!(bench.experiment.ending(), Some(Ending::Ended)));
+    Some(true)
+}
+
+/// All commands and events. None where an answer was another than is wanted.
+fn plays_or_halts(rt: &impl Abort, alloc: Global, bench: &mut Bench) -> Option<bool> {
+    let commands = [config()?, rule()?, inject()?, Command::PipeShow];
+    if !obeys_or_halts(rt, bench, &commands)? {
+        return Some(false);
+    }
+    ends_or_halts(rt, alloc, bench)
 }
 
 /// Passes with ample memory, and where any one allocation is refused: a command comes at the second
@@ -358,28 +473,8 @@ fn refused_memory_changes_nothing(rt: HostRuntime) -> Result<(), Fail> {
     let Some(mut bench) = Bench::new(rt.alloc(), 10, 1000) else {
         return Ok(());
     };
-    let commands = [
-        config().ok_or("config")?,
-        rule().ok_or("rule")?,
-        inject().ok_or("inject")?,
-        Command::PipeShow,
-    ];
-    for command in commands {
-        assert!(rt; bench.applies_in_the_end(0, command));
-        if bench.event_or_halt().ok_or("event")? == Event::Halted {
-            return Ok(());
-        }
-    }
-    assert!(rt; bench.applies_in_the_end(20_000_000, Command::End));
-    let dues = bench.dues_in_the_end(rt.alloc()).ok_or("dues")?;
-    assert_eq!(rt; dues.len(), 2);
-    let touched = bench.touched_in_the_end(rt.alloc()).ok_or("touched")?;
-    assert!(rt; !touched.is_empty());
-    for _ in 0..3 {
-        if bench.event_or_halt().ok_or("event")? == Event::Halted {
-            return Ok(());
-        }
-    }
-    assert!(rt; matches!(bench.experiment.ending(), Some(Ending::Ended)));
+    let played = plays_or_halts(&rt, rt.alloc(), &mut bench);
+    drop(bench);
+    played.ok_or("event")?;
     Ok(())
 }

@@ -3,6 +3,7 @@
 use super::*;
 use emu_model::{Budget, Command, PacketBudget, Record, Spec, StepBudget, Timed};
 use std::alloc::Global;
+use std::process::Abort;
 use std::test::Fail;
 use timer_wheel::ListAgenda;
 
@@ -22,17 +23,13 @@ fn parcel(alloc: Global, name: u32) -> Option<Parcel<ListMail>> {
     }
 }
 
-// A shard with a resident of each name, from slot 0 on; None where memory was refused.
-fn with_residents(alloc: Global, names: &[u32]) -> Option<Lists> {
-    let Ok(mut shard) = Lists::new(alloc) else {
-        return None;
-    };
+// Takes in a resident of each name; None where memory was refused.
+fn seat_all(alloc: Global, shard: &mut Lists, names: &[u32]) -> Option<()> {
     for name in names {
-        if shard.take_in(parcel(alloc, *name)?).is_err() {
-            return None;
-        }
+        let parcel = parcel(alloc, *name)?;
+        shard.take_in(parcel).ok()?;
     }
-    Some(shard)
+    Some(())
 }
 
 fn put(shard: &mut Lists, slot: usize, moment: u16) -> Result<(), PostError> {
@@ -41,40 +38,70 @@ fn put(shard: &mut Lists, slot: usize, moment: u16) -> Result<(), PostError> {
     shard.put(slot, Timed { moment, command })
 }
 
-#[test]
-fn nobody_is_in_a_new_shard(rt: HostRuntime) -> Result<(), Fail> {
-    let mut shard = Lists::with_clock(rt.alloc(), 7)?;
+// What a turn was.
+#[derive(Clone, Copy, Debug, PartialEq)]
+enum Was {
+    Ran(u32),
+    Ended,
+    Idle,
+}
+
+// Makes a turn. A shard, a parcel and what a turn gives are dropped by calls: where they stand, each of their parts
+// would be proved.
+fn turned(shard: &mut Lists) -> Was {
+    let turned = shard.turn();
+    let was = match &turned {
+        Turned::Ran(name) => Was::Ran(*name),
+        Turned::Ended(_) => Was::Ended,
+        Turned::Idle => Was::Idle,
+    };
+    drop(turned);
+    was
+}
+
+// How many commands the resident of a slot consumed.
+fn consumed(shard: &Lists, slot: usize) -> Option<usize> {
+    Some(shard.consumed(slot)?.len())
+}
+
+fn has_nobody(rt: &impl Abort, shard: &mut Lists) {
     assert!(rt; shard.slot_of(1).is_none());
     assert!(rt; shard.records(0).is_none());
     assert!(rt; shard.consumed(255).is_none());
     for slot in [0, 255, 256] {
-        assert!(rt; matches!(put(&mut shard, slot, 5), Err(PostError::Vacant(t)) if t.moment == 5));
+        assert!(rt; matches!(put(shard, slot, 5), Err(PostError::Vacant(t)) if t.moment == 5));
         assert!(rt; shard.read(slot).is_err());
     }
     shard.known();
-    Ok(())
 }
 
 #[test]
-fn a_resident_is_posted_to_and_read(rt: HostRuntime) -> Result<(), Fail> {
-    let mut shard = with_residents(rt.alloc(), &[10, 20]).ok_or("memory")?;
+fn nobody_is_in_a_new_shard(rt: HostRuntime) -> Result<(), Fail> {
+    let mut shard = Lists::with_clock(rt.alloc(), 7)?;
+    has_nobody(&rt, &mut shard);
+    drop(shard);
+    Ok(())
+}
+
+fn fills_a_mail(rt: &impl Abort, shard: &mut Lists) {
     assert_eq!(rt; shard.slot_of(20), Some(1));
     assert_eq!(rt; shard.slot_of(30), None);
     for moment in 0..64 {
-        assert!(rt; put(&mut shard, 1, moment).is_ok());
+        assert!(rt; put(shard, 1, moment).is_ok());
     }
-    assert!(rt; matches!(put(&mut shard, 1, 64), Err(PostError::Full(t)) if t.moment == 64));
-    assert!(rt; put(&mut shard, 0, 64).is_ok());
+    assert!(rt; matches!(put(shard, 1, 64), Err(PostError::Full(t)) if t.moment == 64));
+    assert!(rt; put(shard, 0, 64).is_ok());
 
     // A place is free again once the first command is taken.
     assert_eq!(rt; shard.poll(1), Polled::Took(20));
-    assert_eq!(rt; shard.consumed(1).ok_or("there")?.len(), 1);
-    assert!(rt; put(&mut shard, 1, 64).is_ok());
+    assert_eq!(rt; consumed(shard, 1), Some(1));
+    assert!(rt; put(shard, 1, 64).is_ok());
+}
 
+fn reads_a_letter(rt: &impl Abort, shard: &mut Lists) {
     assert!(rt; matches!(shard.read(1), Ok(None)));
-    assert!(rt; matches!(shard.turn(), Turned::Ran(20)));
-    let records = shard.records(1).ok_or("there")?;
-    assert_eq!(rt; records.len(), 1);
+    assert_eq!(rt; turned(shard), Was::Ran(20));
+    assert_eq!(rt; shard.records(1).map(|records| records.len()), Some(1));
     assert!(rt;
         matches!(
             shard.read(1),
@@ -82,33 +109,59 @@ fn a_resident_is_posted_to_and_read(rt: HostRuntime) -> Result<(), Fail> {
         )
     );
     assert!(rt; matches!(shard.read(1), Ok(None)));
-    Ok(())
 }
 
 #[test]
-fn a_rebase_changes_nobody(rt: HostRuntime) -> Result<(), Fail> {
-    let mut shard = with_residents(rt.alloc(), &[10, 20]).ok_or("memory")?;
-    assert!(rt; put(&mut shard, 0, 9).is_ok());
-    assert!(rt; put(&mut shard, 1, 5).is_ok());
+fn a_resident_is_posted_to_and_read(rt: HostRuntime) -> Result<(), Fail> {
+    let mut shard = Lists::new(rt.alloc())?;
+    let seated = seat_all(rt.alloc(), &mut shard, &[10, 20]);
+    if seated.is_some() {
+        fills_a_mail(&rt, &mut shard);
+        reads_a_letter(&rt, &mut shard);
+    }
+    drop(shard);
+    seated.ok_or("memory")?;
+    Ok(())
+}
+
+fn goes_on_after_rebases(rt: &impl Abort, shard: &mut Lists) {
+    assert!(rt; put(shard, 0, 9).is_ok());
+    assert!(rt; put(shard, 1, 5).is_ok());
     assert_eq!(rt; shard.poll(0), Polled::Took(10));
     assert_eq!(rt; shard.poll(1), Polled::Took(20));
     shard.rebase();
     assert_eq!(rt; shard.slot_of(20), Some(1));
-    assert!(rt; matches!(shard.turn(), Turned::Ran(20)));
+    assert_eq!(rt; turned(shard), Was::Ran(20));
     shard.rebase();
-    assert!(rt; matches!(shard.turn(), Turned::Ran(10)));
-    assert!(rt; matches!(shard.turn(), Turned::Idle));
-    assert_eq!(rt; shard.consumed(0).ok_or("there")?.len(), 1);
+    assert_eq!(rt; turned(shard), Was::Ran(10));
+    assert_eq!(rt; turned(shard), Was::Idle);
+    assert_eq!(rt; consumed(shard, 0), Some(1));
+}
+
+#[test]
+fn a_rebase_changes_nobody(rt: HostRuntime) -> Result<(), Fail> {
+    let mut shard = Lists::new(rt.alloc())?;
+    let seated = seat_all(rt.alloc(), &mut shard, &[10, 20]);
+    if seated.is_some() {
+        goes_on_after_rebases(&rt, &mut shard);
+    }
+    drop(shard);
+    seated.ok_or("memory")?;
     Ok(())
 }
 
 // Passes with ample memory, and where any one allocation of it is refused.
 #[test]
 fn a_refused_shard_is_made_at_the_second_try(rt: HostRuntime) -> Result<(), Fail> {
-    let shard = match Lists::new(rt.alloc()) {
-        Ok(shard) => shard,
-        Err(_) => Lists::new(rt.alloc())?,
+    let first = Lists::new(rt.alloc());
+    let shard = if first.is_ok() {
+        first.ok()
+    } else {
+        drop(first);
+        Lists::new(rt.alloc()).ok()
     };
-    assert!(rt; shard.slot_of(0).is_none());
+    let vacant = shard.as_ref().map(|shard| shard.slot_of(0).is_none());
+    drop(shard);
+    assert_eq!(rt; vacant, Some(true));
     Ok(())
 }

@@ -2,52 +2,97 @@
 
 mod calls;
 mod desk;
-mod texts;
+mod refusals;
 
-use calls::{Desk, crowded_out, pack, poll, put, slot_of, take_in};
-use desk::{Guest, MOST_TURNS, Move, attend, host, invite, parcel, settle, turn};
+use calls::{
+    Desk, arrive, counted, is_crowded, pack, packs_nobody, poll, put, seen_back, seen_in, slot_of,
+    take_in,
+};
+use desk::{
+    Guest, MOST_TURNS, Move, attend, host, invite, invite_all, parcel, settle, settle_all, turn,
+};
 use emu_model::Command;
-use shard::{PackError, Polled};
+use example_texts as texts;
+use shard::Polled;
 use std::alloc::{AllocError, Global};
 use std::mem;
 use std::process::Abort;
 use std::test::Fail;
 
-#[test]
-fn shard_answers(rt: HostRuntime) -> Result<(), Fail> {
-    let guests = [invite(&rt, 0, texts::ONE_SLOT, texts::ONE_SLOT_REPORT)?];
-    let config = *guests[0].commands().first().ok_or("no command")?;
+// Polls, turns and posts of a shard with nobody in it, and then with one guest.
+fn answers(
+    rt: &(impl Abort + AllocGlobal),
+    shard: &mut Desk,
+    guests: &[Guest],
+) -> Result<(), AllocError> {
+    let Some(guest) = guests.first() else {
+        assert!(rt; false, "no guest");
+        return Ok(());
+    };
+    let Some(config) = guest.commands().first() else {
+        assert!(rt; false, "no command");
+        return Ok(());
+    };
     assert_eq!(rt; config.moment, 0);
     assert!(rt; matches!(config.command, Command::Config { .. }));
 
-    let mut shard = Desk::new(rt.alloc())?;
-    assert_eq!(rt; poll(&mut shard, 0), Polled::Vacant);
-    assert_eq!(rt; turn(&rt, &mut shard, &guests)?, Move::Idle);
-    assert!(rt; matches!(pack(&mut shard, 0), Err(PackError::Vacant)));
+    assert_eq!(rt; poll(shard, 0), Polled::Vacant);
+    assert_eq!(rt; turn(rt, shard, guests)?, Move::Idle);
+    assert!(rt; packs_nobody(shard, 0));
 
-    assert_eq!(rt; settle(rt.alloc(), &mut shard, &guests[0])?, 0);
-    assert_eq!(rt; poll(&mut shard, 0), Polled::Empty(0));
-    assert!(rt; matches!(put(&mut shard, 0, config), Some(Ok(()))));
-    assert_eq!(rt; poll(&mut shard, 0), Polled::Took(0));
-    assert_eq!(rt; poll(&mut shard, 0), Polled::Held(0));
-    assert_eq!(rt; turn(&rt, &mut shard, &guests)?, Move::Ran(0));
-    assert_eq!(rt; turn(&rt, &mut shard, &guests)?, Move::Idle);
+    assert_eq!(rt; settle(rt.alloc(), shard, guest)?, 0);
+    assert_eq!(rt; poll(shard, 0), Polled::Empty(0));
+    assert!(rt; matches!(put(shard, 0, *config), Some(Ok(()))));
+    assert_eq!(rt; poll(shard, 0), Polled::Took(0));
+    assert_eq!(rt; poll(shard, 0), Polled::Held(0));
+    assert_eq!(rt; turn(rt, shard, guests)?, Move::Ran(0));
+    assert_eq!(rt; turn(rt, shard, guests)?, Move::Idle);
     Ok(())
 }
 
-// Has four guests on one shard, and reads their letters or not.
-fn hosts_four(rt: &(impl Abort + AllocGlobal), reads: bool) -> Result<(), AllocError> {
+#[test]
+fn shard_answers(rt: HostRuntime) -> Result<(), Fail> {
+    let guests = invite_all(&rt, 0, &[(texts::ONE_SLOT, texts::ONE_SLOT_REPORT)])?;
     let mut shard = Desk::new(rt.alloc())?;
-    let mut guests = [
-        invite(rt, 0, texts::ONE_SLOT, texts::ONE_SLOT_REPORT)?,
-        invite(rt, 1, texts::FAST_RETRANSMIT, texts::FAST_RETRANSMIT_REPORT)?,
-        invite(rt, 2, texts::NEW_RATE, texts::NEW_RATE_REPORT)?,
-        invite(rt, 3, texts::CODEL_ONE_DROP, texts::CODEL_ONE_DROP_REPORT)?,
+    let answered = answers(&rt, &mut shard, guests.as_slice());
+    drop(shard);
+    answered?;
+    Ok(())
+}
+
+// Takes all guests in, and has them to their ends.
+fn hosts(
+    rt: &(impl Abort + AllocGlobal),
+    shard: &mut Desk,
+    guests: &mut [Guest],
+    reads: bool,
+) -> Result<(), AllocError> {
+    settle_all(rt.alloc(), shard, guests)?;
+    host(rt, shard, guests, reads)
+}
+
+// Has guests on one shard, and reads their letters or not.
+fn are_hosted(
+    rt: &(impl Abort + AllocGlobal),
+    cards: &[(&'static str, &'static str)],
+    reads: bool,
+) -> Result<(), AllocError> {
+    let mut guests = invite_all(rt, 0, cards)?;
+    let mut shard = Desk::new(rt.alloc())?;
+    let hosted = hosts(rt, &mut shard, guests.as_mut_slice(), reads);
+    drop(shard);
+    hosted
+}
+
+// Has four guests on one shard.
+fn hosts_four(rt: &(impl Abort + AllocGlobal), reads: bool) -> Result<(), AllocError> {
+    let cards = [
+        (texts::ONE_SLOT, texts::ONE_SLOT_REPORT),
+        (texts::FAST_RETRANSMIT, texts::FAST_RETRANSMIT_REPORT),
+        (texts::NEW_RATE, texts::NEW_RATE_REPORT),
+        (texts::CODEL_ONE_DROP, texts::CODEL_ONE_DROP_REPORT),
     ];
-    for guest in &guests {
-        settle(rt.alloc(), &mut shard, guest)?;
-    }
-    host(rt, &mut shard, &mut guests, reads)
+    are_hosted(rt, &cards, reads)
 }
 
 #[test]
@@ -58,14 +103,9 @@ fn side_by_side(rt: HostRuntime) -> Result<(), Fail> {
 }
 
 // Packs a resident, and takes it in on the other shard.
-fn hand_over(here: &mut Desk, there: &mut Desk, slot: usize) -> Result<usize, AllocError> {
-    let Ok(parcel) = pack(here, slot) else {
-        return Err(AllocError);
-    };
-    match take_in(there, parcel) {
-        Some(slot) => Ok(slot),
-        None => Err(AllocError),
-    }
+fn hand_over(here: &mut Desk, there: &mut Desk, slot: usize) -> Option<usize> {
+    let parcel = pack(here, slot).ok()?;
+    take_in(there, parcel)
 }
 
 // Moves the resident of a name to the other shard.
@@ -79,42 +119,50 @@ fn moves(
         assert!(rt; false, "nobody to be moved");
         return Ok(());
     };
-    let found = hand_over(here, there, slot)?;
+    let found = hand_over(here, there, slot).ok_or(AllocError)?;
     assert_eq!(rt; slot_of(here, name), None);
     assert_eq!(rt; slot_of(there, name), Some(found));
     Ok(())
 }
 
-// Two shards, of which the second one's clock is far: the first guest and one more on the first, another on the
-// second.
-fn two_shards(
-    rt: &(impl Abort + AllocGlobal),
-    guests: &[Guest; 3],
-) -> Result<(Desk, Desk), AllocError> {
-    let mut here = Desk::new(rt.alloc())?;
-    let mut there = Desk::with_clock(rt.alloc(), (1 << 62) - 1000)?;
-    settle(rt.alloc(), &mut here, &guests[0])?;
-    settle(rt.alloc(), &mut here, &guests[1])?;
-    settle(rt.alloc(), &mut there, &guests[2])?;
-    Ok((here, there))
+// The first guest and one more on one shard, the others on another.
+fn settle_on_two(
+    alloc: Global,
+    here: &mut Desk,
+    there: &mut Desk,
+    guests: &[Guest],
+) -> Result<(), AllocError> {
+    for (place, guest) in guests.iter().enumerate() {
+        if place < 2 {
+            settle(alloc, here, guest)?;
+        } else {
+            settle(alloc, there, guest)?;
+        }
+    }
+    Ok(())
 }
 
-// Has the first guest stand on two shards in turn, after each of its events on the other, and answers how often it
-// was moved.
-fn travels(rt: &(impl Abort + AllocGlobal), guests: &mut [Guest; 3]) -> Result<u64, AllocError> {
-    let (mut here, mut there) = two_shards(rt, guests)?;
+// Has the first of three guests stand on two shards in turn, after each of its events on the other, and answers how
+// often it was moved.
+fn goes(
+    rt: &(impl Abort + AllocGlobal),
+    here: &mut Desk,
+    there: &mut Desk,
+    guests: &mut [Guest],
+) -> Result<u64, AllocError> {
+    settle_on_two(rt.alloc(), here, there, guests)?;
     let mut moved = 0u64;
     let mut ended = 0u64;
     for _ in 0..MOST_TURNS {
         if ended == 3 {
             return Ok(moved);
         }
-        attend(&mut here, guests, false);
-        match turn(rt, &mut here, guests)? {
+        attend(rt, here, guests, false);
+        match turn(rt, here, guests)? {
             Move::Ran(0) => {
-                moves(rt, &mut here, &mut there, 0)?;
+                moves(rt, here, there, 0)?;
                 moved = moved.saturating_add(1);
-                mem::swap(&mut here, &mut there);
+                mem::swap(here, there);
             }
             Move::Ran(_) => {}
             Move::Ended(name, events) => {
@@ -122,25 +170,39 @@ fn travels(rt: &(impl Abort + AllocGlobal), guests: &mut [Guest; 3]) -> Result<u
                 assert!(rt; name != 0 || events == moved.saturating_add(1));
                 ended = ended.saturating_add(1);
             }
-            Move::Idle => mem::swap(&mut here, &mut there),
+            Move::Idle => mem::swap(here, there),
         }
     }
     assert!(rt; false, "not ended");
     Ok(moved)
 }
 
+// Has three guests on two shards, of which the second one's clock is far.
+fn travels(rt: &(impl Abort + AllocGlobal), guests: &mut [Guest]) -> Result<u64, AllocError> {
+    let mut here = Desk::new(rt.alloc())?;
+    let Ok(mut there) = Desk::with_clock(rt.alloc(), (1 << 62) - 1000) else {
+        drop(here);
+        return Err(AllocError);
+    };
+    let moved = goes(rt, &mut here, &mut there, guests);
+    drop(here);
+    drop(there);
+    moved
+}
+
 // Has a guest travel beside two that flood their budgets.
 fn is_packed_every_event(
     rt: &(impl Abort + AllocGlobal),
-    text: &str,
+    text: &'static str,
     report: &'static str,
 ) -> Result<(), AllocError> {
-    let mut guests = [
-        invite(rt, 0, text, report)?,
-        invite(rt, 1, texts::FLOOD, texts::FLOOD_REPORT)?,
-        invite(rt, 2, texts::FLOOD, texts::FLOOD_REPORT)?,
+    let cards = [
+        (text, report),
+        (texts::FLOOD, texts::FLOOD_REPORT),
+        (texts::FLOOD, texts::FLOOD_REPORT),
     ];
-    let moved = travels(rt, &mut guests)?;
+    let mut guests = invite_all(rt, 0, &cards)?;
+    let moved = travels(rt, guests.as_mut_slice())?;
     assert!(rt; moved > 10);
     Ok(())
 }
@@ -156,37 +218,51 @@ fn packed_every_event(rt: HostRuntime) -> Result<(), Fail> {
     Ok(())
 }
 
-// The name of a guest's parcel that came back, since the shard was crowded.
-fn crowds_out(alloc: Global, shard: &mut Desk, guest: &Guest) -> Result<Option<u32>, AllocError> {
+// Whether a guest's parcel comes back as it was, since the shard is crowded.
+fn crowds_out(alloc: Global, shard: &mut Desk, guest: &Guest) -> Result<bool, AllocError> {
     let parcel = parcel(alloc, guest)?;
-    Ok(crowded_out(shard, parcel))
+    let before = seen_in(&parcel);
+    let answer = arrive(shard, parcel);
+    let is_back = is_crowded(&answer) && seen_back(&answer) == Some(before);
+    drop(answer);
+    Ok(is_back)
+}
+
+// Takes a new guest in.
+fn seats(
+    rt: &(impl Abort + AllocGlobal),
+    shard: &mut Desk,
+    name: u32,
+) -> Result<usize, AllocError> {
+    let guest = invite(rt, name, texts::NEW_RATE, texts::NEW_RATE_REPORT)?;
+    settle(rt.alloc(), shard, &guest)
+}
+
+// Fills a shard, and has one guest more before its door.
+fn crowds(rt: &(impl Abort + AllocGlobal), shard: &mut Desk) -> Result<(), AllocError> {
+    for slot in 0..256u32 {
+        assert_eq!(rt; seats(rt, shard, slot)?, slot as usize);
+    }
+    let last = invite(rt, 777, texts::NEW_RATE, texts::NEW_RATE_REPORT)?;
+    assert!(rt; crowds_out(rt.alloc(), shard, &last)?);
+    assert_eq!(rt; slot_of(shard, 777), None);
+    Ok(())
 }
 
 #[test]
 fn crowded(rt: HostRuntime) -> Result<(), Fail> {
     let mut shard = Desk::new(rt.alloc())?;
-    for slot in 0..256u32 {
-        let guest = invite(&rt, slot, texts::NEW_RATE, texts::NEW_RATE_REPORT)?;
-        assert_eq!(rt; settle(rt.alloc(), &mut shard, &guest)?, slot as usize);
-    }
-    let last = invite(&rt, 777, texts::NEW_RATE, texts::NEW_RATE_REPORT)?;
-    assert_eq!(rt; crowds_out(rt.alloc(), &mut shard, &last)?, Some(777));
-    assert_eq!(rt; slot_of(&shard, 777), None);
+    let done = crowds(&rt, &mut shard);
+    drop(shard);
+    done?;
     Ok(())
 }
 
 #[test]
 fn unread(rt: HostRuntime) -> Result<(), Fail> {
-    let mut shard = Desk::new(rt.alloc())?;
-    let mut guests = [invite(
-        &rt,
-        0,
-        texts::CODEL_TWO_DROPS,
-        texts::CODEL_TWO_DROPS_REPORT,
-    )?];
-    settle(rt.alloc(), &mut shard, &guests[0])?;
     // Its report has 82 lines of records.
-    host(&rt, &mut shard, &mut guests, false)?;
+    let cards = [(texts::CODEL_TWO_DROPS, texts::CODEL_TWO_DROPS_REPORT)];
+    are_hosted(&rt, &cards, false)?;
     Ok(())
 }
 
@@ -195,33 +271,43 @@ const HELD: usize = 65_538;
 
 // How many records the resident of a slot has.
 fn recorded(shard: &Desk, slot: usize) -> usize {
-    shard.records(slot).map_or(0, |records| records.len())
+    counted(shard, slot).map_or(0, |(records, _)| records)
 }
 
-// A shard whose resident 1, at slot 0, holds 65535 packets.
-fn flooded(rt: &(impl Abort + AllocGlobal), neighbour: &mut [Guest]) -> Result<Desk, AllocError> {
-    let mut shard = Desk::new(rt.alloc())?;
-    for guest in &*neighbour {
-        settle(rt.alloc(), &mut shard, guest)?;
-    }
+// Has resident 1 of a shard, at slot 0, hold 65535 packets.
+fn flooded(
+    rt: &(impl Abort + AllocGlobal),
+    shard: &mut Desk,
+    neighbour: &mut [Guest],
+) -> Result<(), AllocError> {
+    settle_all(rt.alloc(), shard, neighbour)?;
     for _ in 0..MOST_TURNS {
-        if recorded(&shard, 0) == HELD {
-            return Ok(shard);
+        if recorded(shard, 0) == HELD {
+            return Ok(());
         }
-        attend(&mut shard, neighbour, false);
-        assert_eq!(rt; turn(rt, &mut shard, neighbour)?, Move::Ran(1));
+        attend(rt, shard, neighbour, false);
+        assert_eq!(rt; turn(rt, shard, neighbour)?, Move::Ran(1));
     }
     assert!(rt; false, "not flooded");
-    Ok(shard)
+    Ok(())
+}
+
+// Has a guest beside a neighbour that holds 65535 packets.
+fn is_beside(rt: &(impl Abort + AllocGlobal), shard: &mut Desk) -> Result<(), AllocError> {
+    let mut neighbour = invite_all(rt, 1, &[(texts::NEIGHBOUR, "")])?;
+    flooded(rt, shard, neighbour.as_mut_slice())?;
+    let cards = [(texts::PACKET_BUDGET, texts::PACKET_BUDGET_REPORT)];
+    let mut guests = invite_all(rt, 0, &cards)?;
+    hosts(rt, shard, guests.as_mut_slice(), false)?;
+    assert_eq!(rt; recorded(shard, 0), HELD);
+    Ok(())
 }
 
 #[test]
 fn beside_a_flood(rt: HostRuntime) -> Result<(), Fail> {
-    let mut neighbour = [invite(&rt, 1, texts::NEIGHBOUR, "")?];
-    let mut guests = [invite(&rt, 0, texts::PACKET_BUDGET, texts::PACKET_BUDGET_REPORT)?];
-    let mut shard = flooded(&rt, &mut neighbour)?;
-    settle(rt.alloc(), &mut shard, &guests[0])?;
-    host(&rt, &mut shard, &mut guests, false)?;
-    assert_eq!(rt; recorded(&shard, 0), HELD);
+    let mut shard = Desk::new(rt.alloc())?;
+    let done = is_beside(&rt, &mut shard);
+    drop(shard);
+    done?;
     Ok(())
 }

@@ -4,15 +4,18 @@ mod calls;
 mod desk;
 mod refusals;
 
-use calls::{counted, made, place, run, step};
-use desk::{Guest, MOST_ROUNDS, finish, invite, next_post, post_all, register, reported};
+use calls::{Stage, counted, run, step};
+use desk::{
+    Guest, MOST_ROUNDS, finish, invite, invite_all, next_post, post_all, register, reported,
+};
+use emu_model::Spec;
 use rand_chacha::ChaCha20Rng;
 use rand_core::SeedableRng;
 use rand_core::utils::NextWord;
 use std::alloc::AllocError;
 use std::process::Abort;
 use std::test::Fail;
-use timer_wheel::{Agenda, ListAgenda, Wheel};
+use timer_wheel::{ListAgenda, Wheel};
 use world::{Place, Step, World};
 
 /// How many lists of steps are drawn, and how long each is.
@@ -55,78 +58,95 @@ fn drawn(words: &mut ChaCha20Rng, guests: &mut [Guest]) -> Step {
 }
 
 // Six guests.
-fn six(rt: &(impl Abort + AllocGlobal)) -> Result<[Guest; 6], AllocError> {
-    Ok([
-        invite(rt, example_texts::ONE_SLOT, example_texts::ONE_SLOT_REPORT)?,
-        invite(
-            rt,
+fn six(rt: &(impl Abort + AllocGlobal)) -> Result<Vec<Guest>, AllocError> {
+    let texts = [
+        (example_texts::ONE_SLOT, example_texts::ONE_SLOT_REPORT),
+        (
             example_texts::FAST_RETRANSMIT,
             example_texts::FAST_RETRANSMIT_REPORT,
-        )?,
-        invite(rt, example_texts::NEW_RATE, example_texts::NEW_RATE_REPORT)?,
-        invite(
-            rt,
+        ),
+        (example_texts::NEW_RATE, example_texts::NEW_RATE_REPORT),
+        (
             example_texts::CODEL_ONE_DROP,
             example_texts::CODEL_ONE_DROP_REPORT,
-        )?,
-        invite(
-            rt,
+        ),
+        (
             example_texts::TWO_PIPES_IN_TURN,
             example_texts::TWO_PIPES_IN_TURN_REPORT,
-        )?,
-        invite(
-            rt,
+        ),
+        (
             example_texts::PACKET_BUDGET,
             example_texts::PACKET_BUDGET_REPORT,
-        )?,
-    ])
+        ),
+    ];
+    invite_all(rt, &texts)
 }
 
-// A world in which a list of steps is made, one by one, and which is brought to its end then. Answers how many had ended
-// before.
-fn lives<A: Agenda>(
+// A new world in which a list of steps is made, one by one, and which is brought to its end then. Answers how many had
+// ended before.
+fn lives_in<W: Stage>(
     rt: &(impl Abort + AllocGlobal),
+    world: &mut W,
     words: &mut ChaCha20Rng,
     guests: &mut [Guest],
 ) -> Result<usize, AllocError> {
-    let mut world = made::<A>(rt.alloc(), SHARDS as usize)?;
     for guest in guests.iter_mut() {
         guest.again();
     }
-    register(&mut world, guests)?;
+    register(world, guests)?;
     for _ in 0..STEPS {
         let one = [drawn(words, guests)];
-        run(&mut world, &one)?;
+        run(world, &one)?;
     }
-    let early = reported(rt, &world, guests)?.whole;
-    finish(rt, &mut world, guests)?;
-    assert_eq!(rt; reported(rt, &world, guests)?.whole, guests.len());
+    let early = reported(rt, world, guests)?.whole;
+    finish(rt, world, guests)?;
+    assert_eq!(rt; reported(rt, world, guests)?.whole, guests.len());
     Ok(early)
 }
 
+// The list of a seed and a number, in a world of its own.
+fn lives<W: Stage>(
+    rt: &(impl Abort + AllocGlobal),
+    seed: u8,
+    list: u8,
+    guests: &mut [Guest],
+) -> Result<usize, AllocError> {
+    let mut key = [0u8; 32];
+    key[0] = seed;
+    key[1] = list;
+    let mut words = ChaCha20Rng::from_seed(key);
+    let mut world = W::built(rt.alloc(), SHARDS as usize)?;
+    lives_in(rt, &mut world, &mut words, guests)
+}
+
 // As many lists of a seed. Answers how many names had ended with their lists.
-fn lives_all<A: Agenda>(
+fn lives_through<W: Stage>(
+    rt: &(impl Abort + AllocGlobal),
+    seed: u8,
+    lists: u8,
+    guests: &mut [Guest],
+) -> Result<usize, AllocError> {
+    let mut early = 0usize;
+    for list in 0..lists {
+        early = early.saturating_add(lives::<W>(rt, seed, list, guests)?);
+    }
+    Ok(early)
+}
+
+fn lives_all<W: Stage>(
     rt: &(impl Abort + AllocGlobal),
     seed: u8,
     lists: u8,
 ) -> Result<usize, AllocError> {
     let mut guests = six(rt)?;
-    let mut early = 0usize;
-    for list in 0..lists {
-        let mut key = [0u8; 32];
-        key[0] = seed;
-        key[1] = list;
-        let mut words = ChaCha20Rng::from_seed(key);
-        early = early.saturating_add(lives::<A>(rt, &mut words, &mut guests)?);
-    }
-    Ok(early)
+    lives_through::<W>(rt, seed, lists, guests.as_mut_slice())
 }
 
 #[test]
 fn random_steps_over_a_list(rt: HostRuntime) -> Result<(), Fail> {
     let seed = 17;
     let _ = println!(rt; "seed {seed}");
-    let early = lives_all::<ListAgenda>(&rt, seed, LISTS)?;
+    let early = lives_all::<World<ListAgenda>>(&rt, seed, LISTS)?;
     assert!(rt; early > 0);
     Ok(())
 }
@@ -135,75 +155,92 @@ fn random_steps_over_a_list(rt: HostRuntime) -> Result<(), Fail> {
 fn random_steps_over_a_wheel(rt: HostRuntime) -> Result<(), Fail> {
     let seed = 18;
     let _ = println!(rt; "seed {seed}");
-    let early = lives_all::<Wheel>(&rt, seed, LISTS)?;
+    let early = lives_all::<World<Wheel>>(&rt, seed, LISTS)?;
     assert!(rt; early > 0);
     Ok(())
 }
 
 // Polls a name where it is.
-fn attend<A: Agenda>(world: &mut World<A>, name: u32) -> Result<(), AllocError> {
-    if let Some(Place::Resident { shard, slot }) = place(world, name) {
+fn attend<W: Stage>(world: &mut W, name: u32) -> Result<(), AllocError> {
+    if let Some(Place::Resident { shard, slot }) = world.place_of(name) {
         step(world, Step::Poll { shard, slot })?;
     }
     Ok(())
 }
 
-// Has a guest of two shards go to the other one after each turn, beside two that flood their budgets. Answers how
-// often it moved.
-fn travels<A: Agenda>(
-    rt: &(impl Abort + AllocGlobal),
-    text: &str,
-    report: &'static str,
-) -> Result<u64, AllocError> {
-    let mut guests = [
-        invite(rt, text, report)?,
-        invite(rt, example_texts::FLOOD, example_texts::FLOOD_REPORT)?,
-        invite(rt, example_texts::FLOOD, example_texts::FLOOD_REPORT)?,
+// A guest's command is taken, it makes an event, and goes from its shard to the other one.
+fn goes_on<W: Stage>(world: &mut W, shard: usize, slot: usize) -> Result<(), AllocError> {
+    let other = usize::from(shard == 0);
+    let round = [
+        Step::Poll { shard, slot },
+        Step::Turn { shard },
+        Step::Offer { shard, slot },
+        Step::Adopt {
+            shard: other,
+            from: shard,
+        },
     ];
-    let mut world = made::<A>(rt.alloc(), 2)?;
-    register(&mut world, &guests)?;
-    for name in 0..3 {
-        let shard = usize::from(name == 2);
-        step(&mut world, Step::Admit { name, shard })?;
-        post_all(&mut world, &mut guests, name)?;
-    }
+    run(world, &round)
+}
+
+// Has the guest 0 of two shards go to the other one after each turn, beside two others, until it has ended. Answers how
+// often it moved.
+fn travels_in<W: Stage>(world: &mut W) -> Result<u64, AllocError> {
     let mut moved = 0u64;
     for _ in 0..MOST_ROUNDS {
-        attend(&mut world, 1)?;
-        attend(&mut world, 2)?;
-        let Some(Place::Resident { shard, slot }) = place(&world, 0) else {
+        attend(world, 1)?;
+        attend(world, 2)?;
+        let Some(Place::Resident { shard, slot }) = world.place_of(0) else {
             break;
         };
-        let other = usize::from(shard == 0);
-        let round = [
-            Step::Poll { shard, slot },
-            Step::Turn { shard },
-            Step::Offer { shard, slot },
-            Step::Adopt {
-                shard: other,
-                from: shard,
-            },
-        ];
-        run(&mut world, &round)?;
+        goes_on(world, shard, slot)?;
         moved = moved.saturating_add(1);
     }
-    assert!(rt; place(&world, 0) == Some(Place::Ended));
-    finish(rt, &mut world, &mut guests)?;
-    assert_eq!(rt; reported(rt, &world, &guests)?.whole, 3);
     Ok(moved)
+}
+
+// The same from the guests' first steps on to their reports.
+fn travels_through<W: Stage>(
+    rt: &(impl Abort + AllocGlobal),
+    world: &mut W,
+    guests: &mut [Guest],
+) -> Result<u64, AllocError> {
+    register(world, guests)?;
+    for name in 0..3 {
+        let shard = usize::from(name == 2);
+        step(world, Step::Admit { name, shard })?;
+        post_all(world, guests, name)?;
+    }
+    let moved = travels_in(world)?;
+    assert!(rt; world.place_of(0) == Some(Place::Ended));
+    finish(rt, world, guests)?;
+    assert_eq!(rt; reported(rt, world, guests)?.whole, 3);
+    Ok(moved)
+}
+
+// The guest of a text, beside two that flood their budgets.
+fn travels<W: Stage>(
+    rt: &(impl Abort + AllocGlobal),
+    text: &'static str,
+    report: &'static str,
+) -> Result<u64, AllocError> {
+    let flood = (example_texts::FLOOD, example_texts::FLOOD_REPORT);
+    let mut guests = invite_all(rt, &[(text, report), flood, flood])?;
+    let mut world = W::built(rt.alloc(), 2)?;
+    travels_through(rt, &mut world, guests.as_mut_slice())
 }
 
 #[test]
 fn packed_every_event(rt: HostRuntime) -> Result<(), Fail> {
     assert!(rt;
-        travels::<ListAgenda>(
+        travels::<World<ListAgenda>>(
             &rt,
             example_texts::FAST_RETRANSMIT,
             example_texts::FAST_RETRANSMIT_REPORT
         )? > 10
     );
     assert!(rt;
-        travels::<Wheel>(
+        travels::<World<Wheel>>(
             &rt,
             example_texts::TWO_PIPES_IN_TURN,
             example_texts::TWO_PIPES_IN_TURN_REPORT
@@ -216,7 +253,7 @@ fn packed_every_event(rt: HostRuntime) -> Result<(), Fail> {
 const HELD: usize = 65_538;
 
 // Polls and turns the resident of the first slot until it holds all its packets.
-fn floods<A: Agenda>(world: &mut World<A>) -> Result<(), AllocError> {
+fn floods<W: Stage>(world: &mut W) -> Result<(), AllocError> {
     for _ in 0..8 {
         step(world, Step::Poll { shard: 0, slot: 0 })?;
         step(world, Step::Turn { shard: 0 })?;
@@ -236,56 +273,90 @@ fn floods<A: Agenda>(world: &mut World<A>) -> Result<(), AllocError> {
     Ok(())
 }
 
-#[test]
-fn beside_a_flood(rt: HostRuntime) -> Result<(), Fail> {
-    let mut guests = [
-        invite(&rt, example_texts::NEIGHBOUR, "")?,
-        invite(
-            &rt,
-            example_texts::PACKET_BUDGET,
-            example_texts::PACKET_BUDGET_REPORT,
-        )?,
-    ];
-    let mut world = made::<Wheel>(rt.alloc(), 1)?;
-    register(&mut world, &guests)?;
-    step(&mut world, Step::Admit { name: 0, shard: 0 })?;
-    post_all(&mut world, &mut guests, 0)?;
-    floods(&mut world)?;
-    assert!(rt; counted(&world, 0) == (HELD, 4));
-
-    step(&mut world, Step::Admit { name: 1, shard: 0 })?;
-    post_all(&mut world, &mut guests, 1)?;
+// Turns a shard of two residents until the second one has ended.
+fn turns_beside<W: Stage>(world: &mut W) -> Result<(), AllocError> {
     let round = [Step::Poll { shard: 0, slot: 1 }, Step::Turn { shard: 0 }];
     for _ in 0..MOST_ROUNDS {
-        if place(&world, 1) == Some(Place::Ended) {
+        if world.place_of(1) == Some(Place::Ended) {
             break;
         }
-        run(&mut world, &round)?;
+        run(world, &round)?;
     }
-    assert!(rt; counted(&world, 0) == (HELD, 4));
-    assert_eq!(rt; reported(&rt, &world, &guests)?.whole, 1);
     Ok(())
+}
+
+fn is_beside_a_flood<W: Stage>(
+    rt: &(impl Abort + AllocGlobal),
+    world: &mut W,
+    guests: &mut [Guest],
+) -> Result<(), AllocError> {
+    register(world, guests)?;
+    step(world, Step::Admit { name: 0, shard: 0 })?;
+    post_all(world, guests, 0)?;
+    floods(world)?;
+    assert!(rt; counted(world, 0) == (HELD, 4));
+
+    step(world, Step::Admit { name: 1, shard: 0 })?;
+    post_all(world, guests, 1)?;
+    turns_beside(world)?;
+    assert!(rt; counted(world, 0) == (HELD, 4));
+    assert_eq!(rt; reported(rt, world, guests)?.whole, 1);
+    Ok(())
+}
+
+fn flooded<W: Stage>(rt: &(impl Abort + AllocGlobal)) -> Result<(), AllocError> {
+    let texts = [
+        (example_texts::NEIGHBOUR, ""),
+        (
+            example_texts::PACKET_BUDGET,
+            example_texts::PACKET_BUDGET_REPORT,
+        ),
+    ];
+    let mut guests = invite_all(rt, &texts)?;
+    let mut world = W::built(rt.alloc(), 1)?;
+    is_beside_a_flood(rt, &mut world, guests.as_mut_slice())
+}
+
+#[test]
+fn beside_a_flood(rt: HostRuntime) -> Result<(), Fail> {
+    flooded::<World<Wheel>>(&rt)?;
+    Ok(())
+}
+
+// Nothing can be done in a world of no name but to begin a shard's time anew.
+fn has_nobody<W: Stage>(rt: &impl Abort, world: &mut W) -> Result<(), AllocError> {
+    assert!(rt; world.place_of(0).is_none());
+    assert!(rt; counted(world, 0) == (0, 0));
+    assert!(rt; !step(world, Step::Admit { name: 0, shard: 0 })?);
+    assert!(rt; !step(world, Step::Turn { shard: 0 })?);
+    assert!(rt; !step(world, Step::Turn { shard: 2 })?);
+    assert!(rt; !step(world, Step::Retake { shard: 1 })?);
+    assert!(rt; step(world, Step::Rebase { shard: 1 })?);
+    Ok(())
+}
+
+// The first name of a world goes where these steps take it.
+fn has_one<W: Stage>(rt: &impl Abort, world: &mut W, spec: Spec) -> Result<(), AllocError> {
+    assert!(rt; step(world, Step::Registered(spec))?);
+    assert!(rt; world.place_of(0) == Some(Place::HandedOut));
+    assert!(rt; step(world, Step::Admit { name: 0, shard: 1 })?);
+    assert!(rt; world.place_of(0) == Some(Place::Resident { shard: 1, slot: 0 }));
+    assert!(rt; step(world, Step::Offer { shard: 1, slot: 0 })?);
+    assert!(rt; world.place_of(0) == Some(Place::InDeque { shard: 1 }));
+    assert!(rt; step(world, Step::Adopt { shard: 0, from: 1 })?);
+    assert!(rt; world.place_of(0) == Some(Place::Resident { shard: 0, slot: 0 }));
+    Ok(())
+}
+
+fn begins<W: Stage>(rt: &(impl Abort + AllocGlobal), spec: Spec) -> Result<(), AllocError> {
+    let mut world = W::built(rt.alloc(), 2)?;
+    has_nobody(rt, &mut world)?;
+    has_one(rt, &mut world, spec)
 }
 
 #[test]
 fn nobody_is_in_a_new_world(rt: HostRuntime) -> Result<(), Fail> {
-    let mut world = made::<ListAgenda>(rt.alloc(), 2)?;
-    let guest = invite(&rt, example_texts::ONE_SLOT, "")?;
-    assert!(rt; place(&world, 0).is_none());
-    assert!(rt; counted(&world, 0) == (0, 0));
-    assert!(rt; !step(&mut world, Step::Admit { name: 0, shard: 0 })?);
-    assert!(rt; !step(&mut world, Step::Turn { shard: 0 })?);
-    assert!(rt; !step(&mut world, Step::Turn { shard: 2 })?);
-    assert!(rt; !step(&mut world, Step::Retake { shard: 1 })?);
-    assert!(rt; step(&mut world, Step::Rebase { shard: 1 })?);
-
-    assert!(rt; step(&mut world, Step::Registered(guest.spec()))?);
-    assert!(rt; place(&world, 0) == Some(Place::HandedOut));
-    assert!(rt; step(&mut world, Step::Admit { name: 0, shard: 1 })?);
-    assert!(rt; place(&world, 0) == Some(Place::Resident { shard: 1, slot: 0 }));
-    assert!(rt; step(&mut world, Step::Offer { shard: 1, slot: 0 })?);
-    assert!(rt; place(&world, 0) == Some(Place::InDeque { shard: 1 }));
-    assert!(rt; step(&mut world, Step::Adopt { shard: 0, from: 1 })?);
-    assert!(rt; place(&world, 0) == Some(Place::Resident { shard: 0, slot: 0 }));
+    let spec = invite(&rt, example_texts::ONE_SLOT, "")?.spec();
+    begins::<World<ListAgenda>>(&rt, spec)?;
     Ok(())
 }

@@ -5,18 +5,40 @@ use bench::{
     AdoptError, Bench, Closing, OfferError, OpenError, Outcome, Peer, Refusal, Refused, Registry,
     RetakeError, RingMail, Strange, Tenant,
 };
-use emu_model::{Record, Spec, Timed};
-use shard::{Dossier, Parcel, Polled, Turned};
+use emu_model::{Counters, Ending, Record, Spec, Timed};
+use shard::{Dossier, Parcel, Polled, TakeInError, Turned};
 use std::alloc::{AllocError, Global};
 
-/// What a call that moves an experiment answered: it is done, nobody was there, another thread was
-/// there first, or it failed.
+/// What a call that moves an experiment answered, with the parcel that it handed out: it is done,
+/// nobody was there, another thread was there first, memory was wanted while nothing was handed
+/// out, or the parcel was not taken in for want of memory, or since there was no room, or the deque
+/// refused it.
+#[derive(Drop)]
+pub enum Answer<P> {
+    Done,
+    Nobody,
+    Retry,
+    NoMemory,
+    Refused(P),
+    Crowded(P),
+    DequeFull(P),
+}
+
+/// An answer without the parcel.
 #[derive(Clone, Copy, PartialEq)]
 pub enum Move {
     Done,
     Nobody,
     Retry,
     Failed,
+}
+
+/// What a turn answered.
+#[derive(Drop)]
+pub enum Event<D> {
+    Ran(u32),
+    Ended(D),
+    Idle,
 }
 
 /// What a turn answered, without the dossier of who ended.
@@ -27,131 +49,315 @@ pub enum Advance {
     Idle,
 }
 
-pub fn open(
-    registry: &mut Registry,
-    alloc: Global,
-    spec: Spec,
-) -> Result<(Tenant, Parcel<RingMail>), OpenError> {
-    registry.open(alloc, spec)
+/// What shows of a parcel.
+#[derive(Clone, Copy)]
+pub struct Shape {
+    pub name: u32,
+    pub spec: Spec,
+    pub events: u64,
+    pub consumed: usize,
+    pub records: usize,
 }
 
-pub fn post(tenant: &mut Tenant, timed: Timed) -> Result<(), Refusal> {
-    tenant.post(timed)
+/// What shows of an outcome, but for its records.
+#[derive(Clone, Copy)]
+pub struct Final {
+    pub name: u32,
+    pub spec: Spec,
+    pub commands: usize,
+    pub events: u64,
+    pub ending: Ending,
+    pub counters: Counters,
 }
 
-pub fn read(tenant: &mut Tenant) -> Result<Option<Record>, AllocError> {
-    tenant.read()
+/// The calls, and the types that they take and give. An example is written over any kit, and run
+/// with `Real`: so its proof needn't take a bench apart wherever one is dropped.
+pub trait Kit {
+    type Tenant: Drop;
+
+    type Parcel: Drop;
+
+    type Dossier: Drop;
+
+    type Outcome: Drop;
+
+    type Bench: Drop;
+
+    type Peer: Drop;
+
+    fn open(
+        registry: &mut Registry,
+        alloc: Global,
+        spec: Spec,
+    ) -> Result<(Self::Tenant, Self::Parcel), OpenError>;
+
+    fn post(tenant: &mut Self::Tenant, timed: Timed) -> Result<(), Refusal>;
+
+    fn read(tenant: &mut Self::Tenant) -> Result<Option<Record>, AllocError>;
+
+    fn name(tenant: &Self::Tenant) -> u32;
+
+    fn posted_len(tenant: &Self::Tenant) -> usize;
+
+    fn letters(tenant: &Self::Tenant) -> &[Record];
+
+    /// The outcome; or both come back.
+    fn settle(
+        tenant: Self::Tenant,
+        dossier: Self::Dossier,
+    ) -> Result<Self::Outcome, (Self::Tenant, Self::Dossier)>;
+
+    fn shape(parcel: &Self::Parcel) -> Shape;
+
+    fn ended_name(dossier: &Self::Dossier) -> u32;
+
+    fn ended_records(dossier: &Self::Dossier) -> &[Record];
+
+    fn last(outcome: &Self::Outcome) -> Final;
+
+    fn records(outcome: &Self::Outcome) -> &[Record];
+
+    fn into_records(outcome: Self::Outcome) -> Vec<Record>;
+
+    /// A bench, and the thief's end of its deque.
+    fn with_peer(alloc: Global) -> Result<(Self::Bench, Self::Peer), AllocError>;
+
+    /// The same, where the peer may be asked for again at the same bench.
+    fn with_peer_again(alloc: Global) -> Result<(Self::Bench, Self::Peer), AllocError>;
+
+    fn slot_of(bench: &Self::Bench, name: u32) -> Option<usize>;
+
+    fn poll(bench: &mut Self::Bench, slot: usize) -> Polled;
+
+    fn turn(bench: &mut Self::Bench) -> Event<Self::Dossier>;
+
+    fn admit(bench: &mut Self::Bench, parcel: Self::Parcel) -> Answer<Self::Parcel>;
+
+    fn offer(bench: &mut Self::Bench, slot: usize) -> Answer<Self::Parcel>;
+
+    fn retake(bench: &mut Self::Bench) -> Answer<Self::Parcel>;
+
+    fn adopt(bench: &mut Self::Bench, peer: &mut Self::Peer) -> Answer<Self::Parcel>;
+
+    fn close(bench: Self::Bench) -> Closing;
 }
 
-pub fn settle(tenant: Tenant, dossier: Dossier<RingMail>) -> Result<Outcome, Strange> {
-    tenant.settle(dossier)
+/// The calls of the crate bench.
+#[derive(Clone, Copy)]
+pub struct Real;
+
+// What was handed out and not taken in.
+fn of_refused(refused: Refused) -> Answer<Parcel<RingMail>> {
+    match refused {
+        TakeInError::NoMemory(parcel) => return Answer::Refused(parcel),
+        TakeInError::Crowded(parcel) => return Answer::Crowded(parcel),
+    }
 }
 
-/// A bench, and the thief's end of its deque.
-pub fn with_peer(alloc: Global) -> Result<(Bench, Peer), AllocError> {
-    let mut bench = Bench::new(alloc)?;
-    let peer = bench.peer()?;
-    Ok((bench, peer))
+impl Kit for Real {
+    type Tenant = Tenant;
+
+    type Parcel = Parcel<RingMail>;
+
+    type Dossier = Dossier<RingMail>;
+
+    type Outcome = Outcome;
+
+    type Bench = Bench;
+
+    type Peer = Peer;
+
+    fn open(
+        registry: &mut Registry,
+        alloc: Global,
+        spec: Spec,
+    ) -> Result<(Tenant, Parcel<RingMail>), OpenError> {
+        registry.open(alloc, spec)
+    }
+
+    fn post(tenant: &mut Tenant, timed: Timed) -> Result<(), Refusal> {
+        tenant.post(timed)
+    }
+
+    fn read(tenant: &mut Tenant) -> Result<Option<Record>, AllocError> {
+        tenant.read()
+    }
+
+    fn name(tenant: &Tenant) -> u32 {
+        tenant.name()
+    }
+
+    fn posted_len(tenant: &Tenant) -> usize {
+        tenant.posted_len()
+    }
+
+    fn letters(tenant: &Tenant) -> &[Record] {
+        tenant.letters()
+    }
+
+    fn settle(
+        tenant: Tenant,
+        dossier: Dossier<RingMail>,
+    ) -> Result<Outcome, (Tenant, Dossier<RingMail>)> {
+        match tenant.settle(dossier) {
+            Ok(outcome) => return Ok(outcome),
+            Err(Strange { tenant, dossier }) => return Err((tenant, dossier)),
+        }
+    }
+
+    fn shape(parcel: &Parcel<RingMail>) -> Shape {
+        Shape {
+            name: parcel.name(),
+            spec: parcel.spec(),
+            events: parcel.events(),
+            consumed: parcel.consumed().len(),
+            records: parcel.records().len(),
+        }
+    }
+
+    fn ended_name(dossier: &Dossier<RingMail>) -> u32 {
+        dossier.name()
+    }
+
+    fn ended_records(dossier: &Dossier<RingMail>) -> &[Record] {
+        dossier.records()
+    }
+
+    fn last(outcome: &Outcome) -> Final {
+        Final {
+            name: outcome.name(),
+            spec: outcome.spec(),
+            commands: outcome.commands().len(),
+            events: outcome.events(),
+            ending: outcome.ending(),
+            counters: outcome.counters(),
+        }
+    }
+
+    fn records(outcome: &Outcome) -> &[Record] {
+        outcome.records()
+    }
+
+    fn into_records(outcome: Outcome) -> Vec<Record> {
+        outcome.into_records()
+    }
+
+    fn with_peer(alloc: Global) -> Result<(Bench, Peer), AllocError> {
+        let mut bench = Bench::new(alloc)?;
+        let Ok(peer) = bench.peer() else {
+            drop(bench);
+            return Err(AllocError);
+        };
+        Ok((bench, peer))
+    }
+
+    fn with_peer_again(alloc: Global) -> Result<(Bench, Peer), AllocError> {
+        let mut bench = Bench::new(alloc)?;
+        if let Ok(peer) = bench.peer() {
+            return Ok((bench, peer));
+        }
+        let Ok(peer) = bench.peer() else {
+            drop(bench);
+            return Err(AllocError);
+        };
+        Ok((bench, peer))
+    }
+
+    fn slot_of(bench: &Bench, name: u32) -> Option<usize> {
+        bench.slot_of(name)
+    }
+
+    fn poll(bench: &mut Bench, slot: usize) -> Polled {
+        bench.poll(slot)
+    }
+
+    fn turn(bench: &mut Bench) -> Event<Dossier<RingMail>> {
+        match bench.turn() {
+            Turned::Ran(name) => return Event::Ran(name),
+            Turned::Ended(dossier) => return Event::Ended(dossier),
+            Turned::Idle => return Event::Idle,
+        }
+    }
+
+    fn admit(bench: &mut Bench, parcel: Parcel<RingMail>) -> Answer<Parcel<RingMail>> {
+        match bench.admit(parcel) {
+            Ok(()) => return Answer::Done,
+            Err(refused) => return of_refused(refused),
+        }
+    }
+
+    fn offer(bench: &mut Bench, slot: usize) -> Answer<Parcel<RingMail>> {
+        match bench.offer(slot) {
+            Ok(()) => return Answer::Done,
+            Err(OfferError::Vacant) => return Answer::Nobody,
+            Err(OfferError::NoMemory) => return Answer::NoMemory,
+            Err(OfferError::DequeFull(parcel)) => return Answer::DequeFull(parcel),
+        }
+    }
+
+    fn retake(bench: &mut Bench) -> Answer<Parcel<RingMail>> {
+        match bench.retake() {
+            Ok(()) => return Answer::Done,
+            Err(RetakeError::Empty) => return Answer::Nobody,
+            Err(RetakeError::NoMemory) => return Answer::NoMemory,
+            Err(RetakeError::Refused(refused)) => return of_refused(refused),
+        }
+    }
+
+    fn adopt(bench: &mut Bench, peer: &mut Peer) -> Answer<Parcel<RingMail>> {
+        match bench.adopt(peer) {
+            Ok(()) => return Answer::Done,
+            Err(AdoptError::Empty) => return Answer::Nobody,
+            Err(AdoptError::Retry) => return Answer::Retry,
+            Err(AdoptError::NoMemory) => return Answer::NoMemory,
+            Err(AdoptError::Refused(refused)) => return of_refused(refused),
+        }
+    }
+
+    fn close(bench: Bench) -> Closing {
+        bench.close()
+    }
 }
 
-pub fn slot_of(bench: &Bench, name: u32) -> Option<usize> {
-    bench.slot_of(name)
-}
-
-pub fn poll(bench: &mut Bench, slot: usize) -> Polled {
-    bench.poll(slot)
-}
-
-pub fn try_turn(bench: &mut Bench) -> Turned<RingMail> {
-    bench.turn()
-}
-
-fn turned(answer: &Turned<RingMail>) -> Advance {
+/// An answer without the parcel.
+pub fn moved<P>(answer: &Answer<P>) -> Move {
     match answer {
-        Turned::Ran(name) => return Advance::Ran(*name),
-        Turned::Ended(dossier) => return Advance::Ended(dossier.name()),
-        Turned::Idle => return Advance::Idle,
+        Answer::Done => return Move::Done,
+        Answer::Nobody => return Move::Nobody,
+        Answer::Retry => return Move::Retry,
+        _ => return Move::Failed,
     }
-}
-
-pub fn turn(bench: &mut Bench) -> Advance {
-    let answer = try_turn(bench);
-    turned(&answer)
-}
-
-/// The dossier of who ended by a turn, if somebody did.
-pub fn last_turn(bench: &mut Bench) -> Option<Dossier<RingMail>> {
-    match try_turn(bench) {
-        Turned::Ran(_) => return None,
-        Turned::Ended(dossier) => return Some(dossier),
-        Turned::Idle => return None,
-    }
-}
-
-pub fn try_admit(bench: &mut Bench, parcel: Parcel<RingMail>) -> Result<(), Refused> {
-    bench.admit(parcel)
 }
 
 /// Whether a parcel was taken in.
-pub fn admit(bench: &mut Bench, parcel: Parcel<RingMail>) -> bool {
-    try_admit(bench, parcel).is_ok()
+pub fn admit<K: Kit>(bench: &mut K::Bench, parcel: K::Parcel) -> bool {
+    moved(&K::admit(bench, parcel)) == Move::Done
 }
 
-pub fn try_offer(bench: &mut Bench, slot: usize) -> Result<(), OfferError> {
-    bench.offer(slot)
+pub fn offer<K: Kit>(bench: &mut K::Bench, slot: usize) -> Move {
+    moved(&K::offer(bench, slot))
 }
 
-fn offered(answer: &Result<(), OfferError>) -> Move {
-    match answer {
-        Ok(()) => return Move::Done,
-        Err(OfferError::Vacant) => return Move::Nobody,
-        Err(OfferError::NoMemory) => return Move::Failed,
-        Err(OfferError::DequeFull(_)) => return Move::Failed,
+pub fn retake<K: Kit>(bench: &mut K::Bench) -> Move {
+    moved(&K::retake(bench))
+}
+
+pub fn adopt<K: Kit>(bench: &mut K::Bench, peer: &mut K::Peer) -> Move {
+    moved(&K::adopt(bench, peer))
+}
+
+pub fn turn<K: Kit>(bench: &mut K::Bench) -> Advance {
+    match K::turn(bench) {
+        Event::Ran(name) => return Advance::Ran(name),
+        Event::Ended(dossier) => return Advance::Ended(K::ended_name(&dossier)),
+        Event::Idle => return Advance::Idle,
     }
 }
 
-pub fn offer(bench: &mut Bench, slot: usize) -> Move {
-    let answer = try_offer(bench, slot);
-    offered(&answer)
-}
-
-pub fn try_retake(bench: &mut Bench) -> Result<(), RetakeError> {
-    bench.retake()
-}
-
-fn retaken(answer: &Result<(), RetakeError>) -> Move {
-    match answer {
-        Ok(()) => return Move::Done,
-        Err(RetakeError::Empty) => return Move::Nobody,
-        Err(RetakeError::NoMemory) => return Move::Failed,
-        Err(RetakeError::Refused(_)) => return Move::Failed,
+/// The dossier of who ended by a turn, if somebody did.
+pub fn last_turn<K: Kit>(bench: &mut K::Bench) -> Option<K::Dossier> {
+    match K::turn(bench) {
+        Event::Ended(dossier) => return Some(dossier),
+        _ => return None,
     }
-}
-
-pub fn retake(bench: &mut Bench) -> Move {
-    let answer = try_retake(bench);
-    retaken(&answer)
-}
-
-pub fn try_adopt(bench: &mut Bench, peer: &mut Peer) -> Result<(), AdoptError> {
-    bench.adopt(peer)
-}
-
-fn adopted(answer: &Result<(), AdoptError>) -> Move {
-    match answer {
-        Ok(()) => return Move::Done,
-        Err(AdoptError::Empty) => return Move::Nobody,
-        Err(AdoptError::Retry) => return Move::Retry,
-        Err(AdoptError::NoMemory) => return Move::Failed,
-        Err(AdoptError::Refused(_)) => return Move::Failed,
-    }
-}
-
-pub fn adopt(bench: &mut Bench, peer: &mut Peer) -> Move {
-    let answer = try_adopt(bench, peer);
-    adopted(&answer)
-}
-
-pub fn close(bench: Bench) -> Closing {
-    bench.close()
 }

@@ -1,25 +1,24 @@
 //! Tenants that post the commands of a text, and want its report.
 
-use super::calls::{open, post, settle};
-use bench::{OpenError, Outcome, Registry, RingMail, Tenant};
+use super::calls::Kit;
+use bench::{OpenError, Registry};
 use control::{Experiment as Plan, ParseError, parse_scenario};
 use report::report_text;
-use shard::{Dossier, Parcel};
 use std::alloc::{AllocError, Global};
 use std::process::Abort;
 
 /// The tenant of an experiment of a text, and the report that is wanted of it.
 #[derive(Drop)]
-pub struct Guest {
-    pub tenant: Tenant,
+pub struct Guest<T> {
+    pub tenant: T,
     pub plan: Plan,
     report: &'static str,
 }
 
 /// What a guest got in the end.
 #[derive(Drop)]
-pub struct Settled {
-    pub outcome: Outcome,
+pub struct Settled<O> {
+    pub outcome: O,
     plan: Plan,
     report: &'static str,
 }
@@ -40,14 +39,14 @@ fn plan_of(rt: &(impl Abort + AllocGlobal), text: &str) -> Result<Plan, AllocErr
 }
 
 /// The guest of a text with just one experiment, and that experiment.
-pub fn invite(
+pub fn invite<K: Kit>(
     rt: &(impl Abort + AllocGlobal),
     registry: &mut Registry,
     text: &str,
     report: &'static str,
-) -> Result<(Guest, Parcel<RingMail>), AllocError> {
+) -> Result<(Guest<K::Tenant>, K::Parcel), AllocError> {
     let plan = plan_of(rt, text)?;
-    match open(registry, rt.alloc(), plan.spec) {
+    match K::open(registry, rt.alloc(), plan.spec) {
         Ok((tenant, parcel)) => {
             let guest = Guest {
                 tenant,
@@ -64,48 +63,51 @@ pub fn invite(
 }
 
 /// The guest of a name, once.
-pub fn taken(rt: &impl Abort, guests: &mut [Option<Guest>], name: u32) -> Guest {
+pub fn taken<T: Drop>(rt: &impl Abort, guests: &mut [Option<Guest<T>>], name: u32) -> Guest<T> {
     let index = name as usize;
     assert!(rt; index < guests.len());
     guests[index].take().expect(rt, "a second dossier")
 }
 
-impl Guest {
-    /// Posts all commands, of which there are 64 at most.
-    pub fn post_all(&mut self, rt: &impl Abort) {
-        for command in self.plan.commands.as_slice() {
-            assert!(rt; post(&mut self.tenant, *command).is_ok());
-        }
-    }
-
-    /// Takes a dossier for its own.
-    pub fn settle(self, rt: &impl Abort, dossier: Dossier<RingMail>) -> Settled {
-        let Guest {
-            tenant,
-            plan,
-            report,
-        } = self;
-        match settle(tenant, dossier) {
-            Ok(outcome) => {
-                return Settled {
-                    outcome,
-                    plan,
-                    report,
-                };
-            }
-            Err(_) => panic!(rt; "strange"),
-        }
+/// Posts all commands, of which there are 64 at most.
+pub fn post_all<K: Kit>(rt: &impl Abort, guest: &mut Guest<K::Tenant>) {
+    for command in guest.plan.commands.as_slice() {
+        assert!(rt; K::post(&mut guest.tenant, *command).is_ok());
     }
 }
 
-impl Settled {
-    /// The report of its outcome.
-    pub fn text(&self, alloc: Global) -> Result<Vec<u8>, AllocError> {
-        let name = self.plan.name.as_bytes();
-        let counters = self.outcome.counters();
-        report_text(alloc, name, self.outcome.records(), &counters)
+/// Takes a dossier for its own.
+pub fn settle<K: Kit>(
+    rt: &impl Abort,
+    guest: Guest<K::Tenant>,
+    dossier: K::Dossier,
+) -> Settled<K::Outcome> {
+    let Guest {
+        tenant,
+        plan,
+        report,
+    } = guest;
+    let Some(outcome) = K::settle(tenant, dossier).ok() else {
+        panic!(rt; "strange");
+    };
+    Settled {
+        outcome,
+        plan,
+        report,
     }
+}
 
+/// The report of an outcome.
+pub fn text_of<K: Kit>(
+    alloc: Global,
+    settled: &Settled<K::Outcome>,
+) -> Result<Vec<u8>, AllocError> {
+    let name = settled.plan.name.as_bytes();
+    let counters = K::last(&settled.outcome).counters;
+    report_text(alloc, name, K::records(&settled.outcome), &counters)
+}
+
+impl<O> Settled<O> {
     /// The report that is wanted of it.
     pub fn wanted(&self) -> &[u8] {
         self.report.as_bytes()

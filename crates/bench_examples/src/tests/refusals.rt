@@ -1,19 +1,13 @@
 //! Any one allocation may be refused: what is refused comes back as it was and is asked for again,
 //! nothing is lost, and what goes on has its report.
 
-use super::calls::{
-    Move, admit, adopt, close, last_turn, offer, poll, post, read, retake, slot_of, try_admit,
-    try_adopt, try_offer, try_retake,
-};
-use super::guests::{Guest, Settled, invite, taken};
-use bench::{
-    AdoptError, Bench, OfferError, Peer, PostError, Refused, Registry, RetakeError, RingMail,
-    Tenant, audit,
-};
-use emu_model::{Ending, Record, Spec, Timed};
+use super::calls::{Answer, Kit, Move, Real, Shape, admit, adopt, last_turn, moved, offer, retake};
+use super::guests::{Guest, Settled, invite, settle, taken, text_of};
+use bench::{PostError, Registry, audit};
+use emu_model::{Ending, Record, Timed};
 use example_texts as texts;
-use shard::{Dossier, Parcel, Polled, TakeInError};
-use std::alloc::{AllocError, Global};
+use shard::Polled;
+use std::alloc::AllocError;
 use std::mem;
 use std::process::Abort;
 
@@ -22,208 +16,167 @@ const GUESTS: u32 = 6;
 /// More rounds than it takes.
 const MOST_ROUNDS: u32 = 1000;
 
-/// What shows of a parcel.
-#[derive(Clone, Copy)]
-struct Shape {
-    name: u32,
-    spec: Spec,
-    events: u64,
-    consumed: usize,
-    records: usize,
+// A parcel has the shape that it had before.
+fn has_shape(rt: &impl Abort, now: &Shape, shape: &Shape) {
+    assert!(rt; now.name == shape.name);
+    assert!(rt; now.spec == shape.spec);
+    assert!(rt; now.events == shape.events);
+    assert!(rt; now.consumed == shape.consumed);
+    assert!(rt; now.records == shape.records);
 }
 
-fn shape_of(parcel: &Parcel<RingMail>) -> Shape {
-    Shape {
-        name: parcel.name(),
-        spec: parcel.spec(),
-        events: parcel.events(),
-        consumed: parcel.consumed().len(),
-        records: parcel.records().len(),
+// The parcel that comes back for want of memory, if one does.
+fn back<P: Drop>(rt: &impl Abort, answer: Answer<P>) -> Option<P> {
+    match answer {
+        Answer::Refused(parcel) => return Some(parcel),
+        Answer::Crowded(_) => panic!(rt; "crowded"),
+        _ => return None,
     }
-}
-
-// The parcel has this shape.
-fn has_shape(rt: &impl Abort, parcel: &Parcel<RingMail>, shape: Shape) {
-    assert!(rt; parcel.name() == shape.name);
-    assert!(rt; parcel.spec() == shape.spec);
-    assert!(rt; parcel.events() == shape.events);
-    assert!(rt; parcel.consumed().len() == shape.consumed);
-    assert!(rt; parcel.records().len() == shape.records);
-}
-
-// A parcel that comes back for want of memory.
-fn back(rt: &impl Abort, refused: Refused) -> Parcel<RingMail> {
-    match refused {
-        TakeInError::NoMemory(parcel) => return parcel,
-        TakeInError::Crowded(_) => panic!(rt; "crowded"),
-    }
-}
-
-// What was handed out is admitted again.
-fn admits_again(rt: &impl Abort, bench: &mut Bench, refused: Refused) {
-    let parcel = back(rt, refused);
-    assert!(rt; admit(bench, parcel));
 }
 
 // What was not admitted comes back as it was, and is admitted then.
-fn admits(rt: &impl Abort, bench: &mut Bench, parcel: Parcel<RingMail>) {
-    let shape = shape_of(&parcel);
-    let Err(refused) = try_admit(bench, parcel) else {
+fn admits<K: Kit>(rt: &impl Abort, bench: &mut K::Bench, parcel: K::Parcel) {
+    let shape = K::shape(&parcel);
+    let answer = K::admit(bench, parcel);
+    if moved(&answer) == Move::Done {
         return;
-    };
-    let parcel = back(rt, refused);
-    has_shape(rt, &parcel, shape);
-    assert!(rt; admit(bench, parcel));
-}
-
-// The peer is asked for again at the same bench.
-fn try_with_peer(alloc: Global) -> Result<(Bench, Peer), AllocError> {
-    let mut bench = Bench::new(alloc)?;
-    if let Ok(peer) = bench.peer() {
-        return Ok((bench, peer));
     }
-    let peer = bench.peer()?;
-    Ok((bench, peer))
+    let parcel = back(rt, answer).expect(rt, "a parcel");
+    has_shape(rt, &K::shape(&parcel), &shape);
+    assert!(rt; admit::<K>(bench, parcel));
 }
 
-fn bench_and_peer(rt: &(impl Abort + AllocGlobal)) -> (Bench, Peer) {
-    if let Ok(both) = try_with_peer(rt.alloc()) {
+fn bench_and_peer<K: Kit>(rt: &(impl Abort + AllocGlobal)) -> (K::Bench, K::Peer) {
+    if let Ok(both) = K::with_peer_again(rt.alloc()) {
         return both;
     }
-    try_with_peer(rt.alloc()).expect(rt, "memory")
+    K::with_peer_again(rt.alloc()).expect(rt, "memory")
 }
 
-fn invited(
+fn invited<K: Kit>(
     rt: &(impl Abort + AllocGlobal),
     registry: &mut Registry,
     text: &str,
     report: &'static str,
-) -> (Guest, Parcel<RingMail>) {
-    if let Ok(both) = invite(rt, registry, text, report) {
+) -> (Guest<K::Tenant>, K::Parcel) {
+    if let Ok(both) = invite::<K>(rt, registry, text, report) {
         return both;
     }
-    invite(rt, registry, text, report).expect(rt, "memory")
+    invite::<K>(rt, registry, text, report).expect(rt, "memory")
 }
 
 // What came back of a command that was not posted, and why.
-fn refusal(tenant: &mut Tenant, timed: Timed) -> Option<(PostError, Timed)> {
-    match post(tenant, timed) {
+fn refusal<K: Kit>(tenant: &mut K::Tenant, timed: Timed) -> Option<(PostError, Timed)> {
+    match K::post(tenant, timed) {
         Ok(()) => return None,
         Err(refused) => return Some((refused.cause, refused.command)),
     }
 }
 
 // The command comes back as it was, and is posted then.
-fn posts(rt: &impl Abort, tenant: &mut Tenant, timed: Timed) {
-    let count = tenant.posted_len();
-    let Some((cause, command)) = refusal(tenant, timed) else {
+fn posts<K: Kit>(rt: &impl Abort, tenant: &mut K::Tenant, timed: Timed) {
+    let count = K::posted_len(tenant);
+    let Some((cause, command)) = refusal::<K>(tenant, timed) else {
         return;
     };
     assert!(rt; cause == PostError::NoMemory);
     assert!(rt; command == timed);
-    assert!(rt; tenant.posted_len() == count);
-    assert!(rt; post(tenant, timed).is_ok());
+    assert!(rt; K::posted_len(tenant) == count);
+    assert!(rt; K::post(tenant, timed).is_ok());
 }
 
-fn posts_all(rt: &impl Abort, guest: &mut Guest) {
+fn posts_all<K: Kit>(rt: &impl Abort, guest: &mut Guest<K::Tenant>) {
     let Guest { tenant, plan, .. } = guest;
     for command in plan.commands.as_slice() {
-        posts(rt, tenant, *command);
+        posts::<K>(rt, tenant, *command);
     }
 }
 
 // The next letter, if one is there. None is lost where memory is refused.
-fn reads(rt: &impl Abort, tenant: &mut Tenant) -> Option<Record> {
-    let count = tenant.letters().len();
-    if let Ok(letter) = read(tenant) {
+fn reads<K: Kit>(rt: &impl Abort, tenant: &mut K::Tenant) -> Option<Record> {
+    let count = K::letters(tenant).len();
+    if let Ok(letter) = K::read(tenant) {
         return letter;
     }
-    assert!(rt; tenant.letters().len() == count);
-    read(tenant).expect(rt, "memory")
+    assert!(rt; K::letters(tenant).len() == count);
+    K::read(tenant).expect(rt, "memory")
 }
 
 // Reads all letters that are there.
-fn reads_all(rt: &impl Abort, tenant: &mut Tenant) {
+fn reads_all<K: Kit>(rt: &impl Abort, tenant: &mut K::Tenant) {
     for _ in 0..64 {
-        if reads(rt, tenant).is_none() {
+        if reads::<K>(rt, tenant).is_none() {
             return;
         }
     }
 }
 
 // A resident that was parked resumes, and a command for which there was no room is taken.
-fn polls(rt: &impl Abort, bench: &mut Bench, slot: usize) {
-    if let Polled::NoMemory(name) = poll(bench, slot) {
-        let again = poll(bench, slot);
+fn polls<K: Kit>(rt: &impl Abort, bench: &mut K::Bench, slot: usize) {
+    if let Polled::NoMemory(name) = K::poll(bench, slot) {
+        let again = K::poll(bench, slot);
         assert!(rt; again == Polled::Resumed(name) || again == Polled::Took(name));
     }
 }
 
 // What the deque refused.
-fn of_offer(error: OfferError) -> Option<Parcel<RingMail>> {
-    let OfferError::DequeFull(parcel) = error else {
+fn of_offer<P: Drop>(answer: Answer<P>) -> Option<P> {
+    let Answer::DequeFull(parcel) = answer else {
         return None;
     };
     Some(parcel)
 }
 
 // The resident stays where it was, and is offered then; or it was handed out, and is admitted then.
-fn offers_again(rt: &impl Abort, bench: &mut Bench, name: u32, slot: usize, error: OfferError) {
-    if let Some(parcel) = of_offer(error) {
-        assert!(rt; parcel.name() == name);
-        admits(rt, bench, parcel);
+fn offers_again<K: Kit>(
+    rt: &impl Abort,
+    bench: &mut K::Bench,
+    name: u32,
+    slot: usize,
+    answer: Answer<K::Parcel>,
+) {
+    if let Some(parcel) = of_offer(answer) {
+        assert!(rt; K::shape(&parcel).name == name);
+        admits::<K>(rt, bench, parcel);
         return;
     }
-    assert!(rt; slot_of(bench, name) == Some(slot));
-    assert!(rt; offer(bench, slot) == Move::Done);
+    assert!(rt; K::slot_of(bench, name) == Some(slot));
+    assert!(rt; offer::<K>(bench, slot) == Move::Done);
 }
 
-fn offers(rt: &impl Abort, bench: &mut Bench, name: u32) {
-    let Some(slot) = slot_of(bench, name) else {
+fn offers<K: Kit>(rt: &impl Abort, bench: &mut K::Bench, name: u32) {
+    let Some(slot) = K::slot_of(bench, name) else {
         return;
     };
-    let Err(error) = try_offer(bench, slot) else {
-        return;
-    };
-    offers_again(rt, bench, name, slot, error);
-}
-
-// What was taken back and not taken in.
-fn of_retake(error: RetakeError) -> Option<Refused> {
-    let RetakeError::Refused(refused) = error else {
-        return None;
-    };
-    Some(refused)
-}
-
-fn retakes(rt: &impl Abort, bench: &mut Bench) {
-    let Err(error) = try_retake(bench) else {
-        return;
-    };
-    if let Some(refused) = of_retake(error) {
-        admits_again(rt, bench, refused);
+    let answer = K::offer(bench, slot);
+    if moved(&answer) == Move::Done {
         return;
     }
-    assert!(rt; retake(bench) != Move::Failed);
+    offers_again::<K>(rt, bench, name, slot, answer);
 }
 
-// What was taken of another bench and not taken in.
-fn of_adopt(error: AdoptError) -> Option<Refused> {
-    let AdoptError::Refused(refused) = error else {
-        return None;
-    };
-    Some(refused)
-}
-
-fn adopts(rt: &impl Abort, bench: &mut Bench, peer: &mut Peer) {
-    let Err(error) = try_adopt(bench, peer) else {
-        return;
-    };
-    if let Some(refused) = of_adopt(error) {
-        admits_again(rt, bench, refused);
+fn retakes<K: Kit>(rt: &impl Abort, bench: &mut K::Bench) {
+    let answer = K::retake(bench);
+    if moved(&answer) == Move::Done {
         return;
     }
-    assert!(rt; adopt(bench, peer) != Move::Failed);
+    if let Some(parcel) = back(rt, answer) {
+        assert!(rt; admit::<K>(bench, parcel));
+        return;
+    }
+    assert!(rt; retake::<K>(bench) != Move::Failed);
+}
+
+fn adopts<K: Kit>(rt: &impl Abort, bench: &mut K::Bench, peer: &mut K::Peer) {
+    let answer = K::adopt(bench, peer);
+    if moved(&answer) == Move::Done {
+        return;
+    }
+    if let Some(parcel) = back(rt, answer) {
+        assert!(rt; admit::<K>(bench, parcel));
+        return;
+    }
+    assert!(rt; adopt::<K>(bench, peer) != Move::Failed);
 }
 
 // Whether all lines of a text but the last are the first of another one.
@@ -240,18 +193,22 @@ fn begins_like(text: &[u8], whole: &[u8]) -> bool {
     text[..end] == whole[..end]
 }
 
-fn text_of(rt: &(impl Abort + AllocGlobal), settled: &Settled) -> Vec<u8> {
-    if let Ok(written) = settled.text(rt.alloc()) {
+fn written<K: Kit>(rt: &(impl Abort + AllocGlobal), settled: &Settled<K::Outcome>) -> Vec<u8> {
+    if let Ok(written) = text_of::<K>(rt.alloc(), settled) {
         return written;
     }
-    settled.text(rt.alloc()).expect(rt, "memory")
+    text_of::<K>(rt.alloc(), settled).expect(rt, "memory")
 }
 
 // Wants the guest's report; of one that was halted, that its lines begin so.
-fn has_report(rt: &(impl Abort + AllocGlobal), guest: Guest, dossier: Dossier<RingMail>) {
-    let settled = guest.settle(rt, dossier);
-    let written = text_of(rt, &settled);
-    if matches!(settled.outcome.ending(), Ending::Halted) {
+fn has_report<K: Kit>(
+    rt: &(impl Abort + AllocGlobal),
+    guest: Guest<K::Tenant>,
+    dossier: K::Dossier,
+) {
+    let settled = settle::<K>(rt, guest, dossier);
+    let written = written::<K>(rt, &settled);
+    if matches!(K::last(&settled.outcome).ending, Ending::Halted) {
         assert!(rt; begins_like(written.as_slice(), settled.wanted()));
         return;
     }
@@ -259,10 +216,14 @@ fn has_report(rt: &(impl Abort + AllocGlobal), guest: Guest, dossier: Dossier<Ri
 }
 
 // Makes an event, and settles with who has ended by it.
-fn turns(rt: &(impl Abort + AllocGlobal), bench: &mut Bench, guests: &mut [Option<Guest>]) {
-    if let Some(dossier) = last_turn(bench) {
-        let guest = taken(rt, guests, dossier.name());
-        has_report(rt, guest, dossier);
+fn turns<K: Kit>(
+    rt: &(impl Abort + AllocGlobal),
+    bench: &mut K::Bench,
+    guests: &mut [Option<Guest<K::Tenant>>],
+) {
+    if let Some(dossier) = last_turn::<K>(bench) {
+        let guest = taken(rt, guests, K::ended_name(&dossier));
+        has_report::<K>(rt, guest, dossier);
     }
 }
 
@@ -276,88 +237,96 @@ fn example(name: u32) -> (&'static str, &'static str) {
 }
 
 // A guest whose experiment is on a bench, and whose commands are posted.
-fn seated(
+fn seated<K: Kit>(
     rt: &(impl Abort + AllocGlobal),
     registry: &mut Registry,
-    bench: &mut Bench,
+    bench: &mut K::Bench,
     name: u32,
-) -> Guest {
+) -> Guest<K::Tenant> {
     let (text, report) = example(name);
-    let (mut guest, parcel) = invited(rt, registry, text, report);
-    assert!(rt; parcel.name() == name);
-    admits(rt, bench, parcel);
-    posts_all(rt, &mut guest);
+    let (mut guest, parcel) = invited::<K>(rt, registry, text, report);
+    assert!(rt; K::shape(&parcel).name == name);
+    admits::<K>(rt, bench, parcel);
+    posts_all::<K>(rt, &mut guest);
     guest
 }
 
-fn seat_all(
+fn seat_all<K: Kit>(
     rt: &(impl Abort + AllocGlobal),
     registry: &mut Registry,
-    bench: &mut Bench,
-) -> Result<Vec<Option<Guest>>, AllocError> {
+    bench: &mut K::Bench,
+) -> Result<Vec<Option<Guest<K::Tenant>>>, AllocError> {
     let mut guests = Vec::new(rt.alloc());
     if guests.reserve(GUESTS as usize).is_err() {
         guests.reserve(GUESTS as usize)?;
     }
     for name in 0..GUESTS {
-        guests.push(Some(seated(rt, registry, bench, name)))?;
+        guests.push(Some(seated::<K>(rt, registry, bench, name)))?;
     }
     Ok(guests)
 }
 
 // Each resident of a bench is polled, and some of them make an event.
-fn serve(rt: &(impl Abort + AllocGlobal), bench: &mut Bench, guests: &mut [Option<Guest>]) {
+fn serve<K: Kit>(
+    rt: &(impl Abort + AllocGlobal),
+    bench: &mut K::Bench,
+    guests: &mut [Option<Guest<K::Tenant>>],
+) {
     for slot in 0..GUESTS as usize {
-        polls(rt, bench, slot);
+        polls::<K>(rt, bench, slot);
     }
     for _ in 0..GUESTS {
-        turns(rt, bench, guests);
+        turns::<K>(rt, bench, guests);
     }
 }
 
 // Reads the letters of all guests that are still there.
-fn read_letters(rt: &impl Abort, guests: &mut [Option<Guest>]) {
+fn read_letters<K: Kit>(rt: &impl Abort, guests: &mut [Option<Guest<K::Tenant>>]) {
     for guest in guests.iter_mut() {
         if let Some(guest) = guest {
-            reads_all(rt, &mut guest.tenant);
+            reads_all::<K>(rt, &mut guest.tenant);
         }
     }
 }
 
 // All residents of the first bench are offered; one is retaken, and the second bench adopts the
 // others.
-fn hand_on(rt: &impl Abort, from: &mut Bench, to: &mut Bench, peer: &mut Peer) {
+fn hand_on<K: Kit>(rt: &impl Abort, from: &mut K::Bench, to: &mut K::Bench, peer: &mut K::Peer) {
     for name in 0..GUESTS {
-        offers(rt, from, name);
+        offers::<K>(rt, from, name);
     }
-    retakes(rt, from);
+    retakes::<K>(rt, from);
     for _ in 0..GUESTS {
-        adopts(rt, to, peer);
+        adopts::<K>(rt, to, peer);
     }
 }
 
-fn all_left(guests: &[Option<Guest>]) -> bool {
+fn all_left<T: Drop>(guests: &[Option<Guest<T>>]) -> bool {
     guests.iter().all(|guest| guest.is_none())
+}
+
+fn refused_of<K: Kit>(rt: &(impl Abort + AllocGlobal)) {
+    let mut registry = Registry::new();
+    let (mut here, mut mine) = bench_and_peer::<K>(rt);
+    let (mut there, mut theirs) = bench_and_peer::<K>(rt);
+    let mut guests = seat_all::<K>(rt, &mut registry, &mut here).expect(rt, "memory");
+    for _ in 0..MOST_ROUNDS {
+        serve::<K>(rt, &mut here, guests.as_mut_slice());
+        serve::<K>(rt, &mut there, guests.as_mut_slice());
+        read_letters::<K>(rt, guests.as_mut_slice());
+        if all_left(guests.as_slice()) {
+            break;
+        }
+        hand_on::<K>(rt, &mut here, &mut there, &mut mine);
+        mem::swap(&mut here, &mut there);
+        mem::swap(&mut mine, &mut theirs);
+    }
+    assert!(rt; all_left(guests.as_slice()));
+    assert!(rt; audit(&[K::close(here), K::close(there)]).is_ok());
 }
 
 // Passes with ample memory, and where any one allocation of it is refused.
 #[test]
 fn refused(rt: HostRuntime) {
-    let mut registry = Registry::new();
-    let (mut here, mut mine) = bench_and_peer(&rt);
-    let (mut there, mut theirs) = bench_and_peer(&rt);
-    let mut guests = seat_all(&rt, &mut registry, &mut here).expect(&rt, "memory");
-    for _ in 0..MOST_ROUNDS {
-        serve(&rt, &mut here, guests.as_mut_slice());
-        serve(&rt, &mut there, guests.as_mut_slice());
-        read_letters(&rt, guests.as_mut_slice());
-        if all_left(guests.as_slice()) {
-            break;
-        }
-        hand_on(&rt, &mut here, &mut there, &mut mine);
-        mem::swap(&mut here, &mut there);
-        mem::swap(&mut mine, &mut theirs);
-    }
-    assert!(rt; all_left(guests.as_slice()));
-    assert!(rt; audit(&[close(here), close(there)]).is_ok());
+    refused_of::<Real>(&rt);
 }

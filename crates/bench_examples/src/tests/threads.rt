@@ -1,10 +1,9 @@
 //! Two threads hand 64 experiments to each other while each turns.
 
-use super::calls::{Move, admit, adopt, close, last_turn, offer, poll, retake, with_peer};
-use super::guests::{Guest, invite, taken};
-use bench::{Bench, Closing, Peer, Registry, RingMail, audit};
+use super::calls::{Kit, Move, Real, admit, adopt, last_turn, offer, retake};
+use super::guests::{Guest, invite, post_all, settle, taken, text_of};
+use bench::{Closing, Registry, audit};
 use example_texts as texts;
-use shard::Dossier;
 use std::process::Abort;
 use std::sync::atomic::{AtomicU64, Ordering};
 use std::thread;
@@ -22,76 +21,83 @@ const MOST_ROUNDS: u64 = 1_000_000_000;
 
 /// A thread's bench, the thief's end of the other one's deque, and what it has done.
 #[derive(Drop)]
-struct Desk {
-    bench: Bench,
-    peer: Peer,
-    dossiers: Vec<Dossier<RingMail>>,
+struct Desk<B, P, D> {
+    bench: B,
+    peer: P,
+    dossiers: Vec<D>,
     events: u64,
     exchanges: u64,
 }
 
 /// What a thread leaves.
 #[derive(Drop)]
-struct Left {
+struct Left<D> {
     closing: Closing,
-    dossiers: Vec<Dossier<RingMail>>,
+    dossiers: Vec<D>,
     exchanges: u64,
 }
 
 // Whether one came from the other bench's deque, or else from its own.
-fn takes(rt: &impl Abort, bench: &mut Bench, peer: &mut Peer) -> bool {
-    let adopted = adopt(bench, peer);
+fn takes<K: Kit>(rt: &impl Abort, bench: &mut K::Bench, peer: &mut K::Peer) -> bool {
+    let adopted = adopt::<K>(bench, peer);
     assert!(rt; adopted != Move::Failed);
     if adopted == Move::Done {
         return true;
     }
-    let retaken = retake(bench);
+    let retaken = retake::<K>(bench);
     assert!(rt; retaken != Move::Failed);
     retaken == Move::Done
 }
 
 // Polls all residents.
-fn poll_all(bench: &mut Bench) {
+fn poll_all<K: Kit>(bench: &mut K::Bench) {
     for slot in 0..GUESTS {
-        poll(bench, slot);
+        K::poll(bench, slot);
     }
 }
 
-impl Desk {
-    // Offers the resident of a slot, if there is one, and takes one.
-    fn exchange(&mut self, rt: &impl Abort, slot: usize) {
-        let offered = offer(&mut self.bench, slot);
-        assert!(rt; offered != Move::Failed);
-        if takes(rt, &mut self.bench, &mut self.peer) {
-            self.exchanges = self.exchanges.saturating_add(1);
-        }
+// Offers the resident of a slot, if there is one, and takes one.
+fn exchange<K: Kit>(rt: &impl Abort, desk: &mut Desk<K::Bench, K::Peer, K::Dossier>, slot: usize) {
+    let offered = offer::<K>(&mut desk.bench, slot);
+    assert!(rt; offered != Move::Failed);
+    if takes::<K>(rt, &mut desk.bench, &mut desk.peer) {
+        desk.exchanges = desk.exchanges.saturating_add(1);
     }
+}
 
-    // Makes an event, if it is time for one, and counts who ended.
-    fn event(&mut self, rt: &impl Abort, ended: &AtomicU64) {
-        if self.events > self.exchanges / PACE {
-            return;
-        }
-        self.events = self.events.saturating_add(1);
-        poll_all(&mut self.bench);
-        let Some(dossier) = last_turn(&mut self.bench) else {
-            return;
-        };
-        assert!(rt; self.dossiers.push(dossier).is_ok());
-        ended.fetch_add(1, Ordering::SeqCst);
+// Makes an event, if it is time for one, and counts who ended.
+fn event<K: Kit>(
+    rt: &impl Abort,
+    desk: &mut Desk<K::Bench, K::Peer, K::Dossier>,
+    ended: &AtomicU64,
+) {
+    if desk.events > desk.exchanges / PACE {
+        return;
     }
+    desk.events = desk.events.saturating_add(1);
+    poll_all::<K>(&mut desk.bench);
+    let Some(dossier) = last_turn::<K>(&mut desk.bench) else {
+        return;
+    };
+    assert!(rt; desk.dossiers.push(dossier).is_ok());
+    ended.fetch_add(1, Ordering::SeqCst);
+}
 
-    fn leave(self) -> Left {
-        Left {
-            closing: close(self.bench),
-            dossiers: self.dossiers,
-            exchanges: self.exchanges,
-        }
+fn leave<K: Kit>(desk: Desk<K::Bench, K::Peer, K::Dossier>) -> Left<K::Dossier> {
+    Left {
+        closing: K::close(desk.bench),
+        dossiers: desk.dossiers,
+        exchanges: desk.exchanges,
     }
 }
 
 // Goes on until all experiments have ended, here or there.
-fn work(rt: &(impl Abort + AllocGlobal), bench: Bench, peer: Peer, ended: &AtomicU64) -> Left {
+fn work<K: Kit>(
+    rt: &(impl Abort + AllocGlobal),
+    bench: K::Bench,
+    peer: K::Peer,
+    ended: &AtomicU64,
+) -> Left<K::Dossier> {
     let mut desk = Desk {
         bench,
         peer,
@@ -103,14 +109,14 @@ fn work(rt: &(impl Abort + AllocGlobal), bench: Bench, peer: Peer, ended: &Atomi
         if ended.load(Ordering::SeqCst) >= GUESTS as u64 {
             break;
         }
-        desk.event(rt, ended);
-        desk.exchange(rt, (round % GUESTS as u64) as usize);
+        event::<K>(rt, &mut desk, ended);
+        exchange::<K>(rt, &mut desk, (round % GUESTS as u64) as usize);
     }
-    desk.leave()
+    leave::<K>(desk)
 }
 
 // The texts of the examples in their turn.
-fn text_of(k: usize) -> (&'static str, &'static str) {
+fn example(k: usize) -> (&'static str, &'static str) {
     match k % 4 {
         0 => return (texts::ONE_SLOT, texts::ONE_SLOT_REPORT),
         1 => return (texts::FAST_RETRANSMIT, texts::FAST_RETRANSMIT_REPORT),
@@ -120,81 +126,86 @@ fn text_of(k: usize) -> (&'static str, &'static str) {
 }
 
 // A guest whose commands are posted, and whose experiment is on a bench.
-fn seated(
+fn seated<K: Kit>(
     rt: &(impl Abort + AllocGlobal),
     registry: &mut Registry,
-    bench: &mut Bench,
+    bench: &mut K::Bench,
     k: usize,
-) -> Guest {
-    let (text, report) = text_of(k);
-    let (mut guest, parcel) = invite(rt, registry, text, report).expect(rt, "a guest");
-    guest.post_all(rt);
-    assert!(rt; admit(bench, parcel));
+) -> Guest<K::Tenant> {
+    let (text, report) = example(k);
+    let (mut guest, parcel) = invite::<K>(rt, registry, text, report).expect(rt, "a guest");
+    post_all::<K>(rt, &mut guest);
+    assert!(rt; admit::<K>(bench, parcel));
     guest
 }
 
 // 64 guests, of whom each bench has every other one.
-fn seat_all(
+fn seat_all<K: Kit>(
     rt: &(impl Abort + AllocGlobal),
-    here: &mut Bench,
-    there: &mut Bench,
-) -> Vec<Option<Guest>> {
+    here: &mut K::Bench,
+    there: &mut K::Bench,
+) -> Vec<Option<Guest<K::Tenant>>> {
     let mut registry = Registry::new();
     let mut guests = Vec::new(rt.alloc());
     for k in 0..GUESTS / 2 {
-        let guest = seated(rt, &mut registry, here, k);
+        let guest = seated::<K>(rt, &mut registry, here, k);
         assert!(rt; guests.push(Some(guest)).is_ok());
-        let guest = seated(rt, &mut registry, there, k);
+        let guest = seated::<K>(rt, &mut registry, there, k);
         assert!(rt; guests.push(Some(guest)).is_ok());
     }
     guests
 }
 
 // Wants the report of a dossier's guest.
-fn has_report(
+fn has_report<K: Kit>(
     rt: &(impl Abort + AllocGlobal),
-    guests: &mut [Option<Guest>],
-    dossier: Dossier<RingMail>,
+    guests: &mut [Option<Guest<K::Tenant>>],
+    dossier: K::Dossier,
 ) {
-    let guest = taken(rt, guests, dossier.name());
-    let settled = guest.settle(rt, dossier);
-    let written = settled.text(rt.alloc()).expect(rt, "memory");
+    let guest = taken(rt, guests, K::ended_name(&dossier));
+    let settled = settle::<K>(rt, guest, dossier);
+    let written = text_of::<K>(rt.alloc(), &settled).expect(rt, "memory");
     assert!(rt; written.as_slice() == settled.wanted());
 }
 
 // Wants the report of each dossier's guest, and answers how many there are.
-fn settle_all(
+fn settle_all<K: Kit>(
     rt: &(impl Abort + AllocGlobal),
-    guests: &mut [Option<Guest>],
-    dossiers: Vec<Dossier<RingMail>>,
+    guests: &mut [Option<Guest<K::Tenant>>],
+    dossiers: Vec<K::Dossier>,
 ) -> usize {
     let count = dossiers.len();
     for dossier in dossiers {
-        has_report(rt, guests, dossier);
+        has_report::<K>(rt, guests, dossier);
     }
     count
 }
 
 // Wants many exchanges, nothing lost, and all reports.
-fn judge(rt: &(impl Abort + AllocGlobal), guests: &mut [Option<Guest>], here: Left, there: Left) {
+fn judge<K: Kit>(
+    rt: &(impl Abort + AllocGlobal),
+    guests: &mut [Option<Guest<K::Tenant>>],
+    here: Left<K::Dossier>,
+    there: Left<K::Dossier>,
+) {
     let exchanges = here.exchanges.saturating_add(there.exchanges);
     assert!(rt; exchanges >= EXCHANGES, "{exchanges} exchanges");
     assert!(rt; audit(&[here.closing, there.closing]).is_ok());
-    let count = settle_all(rt, guests, here.dossiers);
-    let also_count = settle_all(rt, guests, there.dossiers);
+    let count = settle_all::<K>(rt, guests, here.dossiers);
+    let also_count = settle_all::<K>(rt, guests, there.dossiers);
     assert!(rt; count.saturating_add(also_count) == GUESTS);
 }
 
 #[test]
 fn two_threads_exchange(rt: HostRuntime) {
-    let (mut here, mine) = with_peer(rt.alloc()).expect(&rt, "a bench");
-    let (mut there, theirs) = with_peer(rt.alloc()).expect(&rt, "a bench");
-    let mut guests = seat_all(&rt, &mut here, &mut there);
+    let (mut here, mine) = Real::with_peer(rt.alloc()).expect(&rt, "a bench");
+    let (mut there, theirs) = Real::with_peer(rt.alloc()).expect(&rt, "a bench");
+    let mut guests = seat_all::<Real>(&rt, &mut here, &mut there);
     let ended = AtomicU64::new(0);
     let (left, also_left) = thread::join(
         &rt,
-        || work(&rt, here, theirs, &ended),
-        || work(&rt, there, mine, &ended),
+        || work::<Real>(&rt, here, theirs, &ended),
+        || work::<Real>(&rt, there, mine, &ended),
     );
-    judge(&rt, guests.as_mut_slice(), left, also_left);
+    judge::<Real>(&rt, guests.as_mut_slice(), left, also_left);
 }

@@ -4,7 +4,7 @@ use super::calls::{Desk, advance, poll, put, read, slot_of, take_in};
 use control::{Experiment as Plan, ParseError, parse_scenario};
 use emu_model::Timed;
 use report::report_text;
-use shard::{Dossier, ListMail, Parcel, Turned};
+use shard::{Dossier, ListMail, Parcel, Polled, Turned};
 use std::alloc::{AllocError, Global};
 use std::process::Abort;
 
@@ -66,6 +66,23 @@ pub fn invite(
     })
 }
 
+/// The guests of texts with the reports that are wanted of them, named from a number on.
+pub fn invite_all(
+    rt: &(impl Abort + AllocGlobal),
+    first: u32,
+    cards: &[(&'static str, &'static str)],
+) -> Result<Vec<Guest>, AllocError> {
+    let mut guests = Vec::new(rt.alloc());
+    let mut name = first;
+    for (text, report) in cards {
+        guests.reserve(1)?;
+        let guest = invite(rt, name, text, report)?;
+        guests.push_reserved(guest);
+        name = name.saturating_add(1);
+    }
+    Ok(guests)
+}
+
 /// A guest's experiment, to which no command came yet.
 pub fn parcel(alloc: Global, guest: &Guest) -> Result<Parcel<ListMail>, AllocError> {
     let mail = ListMail::new(alloc)?;
@@ -78,10 +95,15 @@ pub fn parcel(alloc: Global, guest: &Guest) -> Result<Parcel<ListMail>, AllocErr
 /// Takes a guest in.
 pub fn settle(alloc: Global, shard: &mut Desk, guest: &Guest) -> Result<usize, AllocError> {
     let parcel = parcel(alloc, guest)?;
-    match take_in(shard, parcel) {
-        Some(slot) => Ok(slot),
-        None => Err(AllocError),
+    take_in(shard, parcel).ok_or(AllocError)
+}
+
+/// Takes all guests in.
+pub fn settle_all(alloc: Global, shard: &mut Desk, guests: &[Guest]) -> Result<(), AllocError> {
+    for guest in guests {
+        settle(alloc, shard, guest)?;
     }
+    Ok(())
 }
 
 /// Puts a guest's commands into its mail until that is full.
@@ -97,8 +119,8 @@ pub fn post(shard: &mut Desk, slot: usize, guest: &mut Guest) {
     }
 }
 
-// Reads the letters that wait.
-fn read_all(shard: &mut Desk, slot: usize) {
+/// Reads the letters that wait.
+pub fn read_all(shard: &mut Desk, slot: usize) {
     for _ in 0..LETTERS {
         if !matches!(read(shard, slot), Ok(Some(_))) {
             return;
@@ -106,14 +128,16 @@ fn read_all(shard: &mut Desk, slot: usize) {
     }
 }
 
-/// Posts the commands of each guest that is there, polls it, and reads its letters where they are to be read.
-pub fn attend(shard: &mut Desk, guests: &mut [Guest], reads: bool) {
+/// Posts the commands of each guest that is there, polls it, and reads its letters where they are to be read. None is
+/// to be refused memory.
+pub fn attend(rt: &impl Abort, shard: &mut Desk, guests: &mut [Guest], reads: bool) {
     for guest in guests.iter_mut() {
         let Some(slot) = slot_of(shard, guest.name) else {
             continue;
         };
         post(shard, slot, guest);
-        poll(shard, slot);
+        let answer = poll(shard, slot);
+        assert!(rt; !matches!(answer, Polled::NoMemory(_) | Polled::Resumed(_)));
         if reads {
             read_all(shard, slot);
         }
@@ -134,11 +158,23 @@ pub fn turn(
     shard: &mut Desk,
     guests: &[Guest],
 ) -> Result<Move, AllocError> {
-    match advance(shard) {
-        Turned::Ran(name) => Ok(Move::Ran(name)),
+    let turned = advance(shard);
+    let seen = seen_of(rt, guests, &turned);
+    drop(turned);
+    seen
+}
+
+// What a turn was. Wants the report of a guest that ended.
+fn seen_of(
+    rt: &(impl Abort + AllocGlobal),
+    guests: &[Guest],
+    turned: &Turned<ListMail>,
+) -> Result<Move, AllocError> {
+    match turned {
+        Turned::Ran(name) => Ok(Move::Ran(*name)),
         Turned::Idle => Ok(Move::Idle),
         Turned::Ended(left) => {
-            has_report(rt, guests, &left)?;
+            has_report(rt, guests, left)?;
             Ok(Move::Ended(left.name(), left.events()))
         }
     }
@@ -156,7 +192,7 @@ pub fn host(
         if ended == guests.len() {
             return Ok(());
         }
-        attend(shard, guests, reads);
+        attend(rt, shard, guests, reads);
         if let Move::Ended(..) = turn(rt, shard, guests)? {
             ended = ended.saturating_add(1);
         }
@@ -171,18 +207,53 @@ pub fn has_report(
     guests: &[Guest],
     left: &Dossier<ListMail>,
 ) -> Result<(), AllocError> {
+    let (text, wanted) = reports(rt, guests, left)?;
+    assert!(rt; text.as_slice() == wanted.as_bytes(), "of {}", left.name());
+    Ok(())
+}
+
+/// Wants of a guest that was halted the first lines of its report; the last one, of counters, may be another.
+pub fn has_lines(
+    rt: &(impl Abort + AllocGlobal),
+    guests: &[Guest],
+    left: &Dossier<ListMail>,
+) -> Result<(), AllocError> {
+    let (text, wanted) = reports(rt, guests, left)?;
+    assert!(rt;
+        begins_like(text.as_slice(), wanted.as_bytes()),
+        "of {}",
+        left.name()
+    );
+    Ok(())
+}
+
+// The report of what a guest left, and the one that is wanted of it.
+fn reports(
+    rt: &(impl Abort + AllocGlobal),
+    guests: &[Guest],
+    left: &Dossier<ListMail>,
+) -> Result<(Vec<u8>, &'static str), AllocError> {
     for guest in guests {
         if guest.name == left.name() {
             let name = guest.plan.name.as_bytes();
             let text = report_text(rt.alloc(), name, left.records(), &left.counters())?;
-            assert!(rt;
-                text.as_slice() == guest.report.as_bytes(),
-                "of {}",
-                guest.name
-            );
-            return Ok(());
+            return Ok((text, guest.report));
         }
     }
     assert!(rt; false, "not invited: {}", left.name());
-    Ok(())
+    Err(AllocError)
+}
+
+// Whether all lines of a text but the last are the first of another one.
+fn begins_like(text: &[u8], whole: &[u8]) -> bool {
+    let mut end = 0;
+    for (at, byte) in text.iter().enumerate() {
+        if *byte == b'\n' && at.saturating_add(1) < text.len() {
+            end = at;
+        }
+    }
+    if end > text.len() || end > whole.len() {
+        return false;
+    }
+    text[..end] == whole[..end]
 }

@@ -1,49 +1,10 @@
 //! The calls of a world, of whose answers the examples know nothing beforehand.
 
 use emu_model::Ending;
-use shard::{Dossier, ListMail};
+use report::report_text;
 use std::alloc::{AllocError, Global};
 use timer_wheel::Agenda;
 use world::{Did, Place, Step, World};
-
-pub fn made<A: Agenda>(alloc: Global, shards: usize) -> Result<World<A>, AllocError> {
-    World::new(alloc, shards)
-}
-
-/// Makes a step; an error for want of memory.
-pub fn step<A: Agenda>(world: &mut World<A>, step: Step) -> Result<bool, AllocError> {
-    match world.step(step) {
-        Did::Done => Ok(true),
-        Did::Still => Ok(false),
-        Did::NoMemory => Err(AllocError),
-    }
-}
-
-/// Makes steps; an error where one met want of memory.
-pub fn run<A: Agenda>(world: &mut World<A>, steps: &[Step]) -> Result<(), AllocError> {
-    if world.run(steps) > 0 {
-        return Err(AllocError);
-    }
-    Ok(())
-}
-
-pub fn place<A: Agenda>(world: &World<A>, name: u32) -> Option<Place> {
-    world.place(name)
-}
-
-pub fn ended<A: Agenda>(world: &World<A>, name: u32) -> Option<&Dossier<ListMail>> {
-    world.ended(name)
-}
-
-/// How many records a name has, and how many commands came to it.
-pub fn counted<A: Agenda>(world: &World<A>, name: u32) -> (usize, usize) {
-    (world.records(name).len(), world.consumed(name).len())
-}
-
-/// Makes a step as a list of one. Answers how often it was refused memory.
-pub fn counted_run<A: Agenda>(world: &mut World<A>, one: &Step) -> u64 {
-    world.run(&[*one])
-}
 
 /// What is seen of a name: where it is, and how many records and commands it has.
 #[derive(Clone, Copy)]
@@ -53,18 +14,110 @@ pub struct Sight {
     pub commands: usize,
 }
 
-pub fn seen_of<A: Agenda>(world: &World<A>, name: u32) -> Sight {
-    Sight {
-        place: world.place(name),
-        records: world.records(name).len(),
-        commands: world.consumed(name).len(),
+/// The report of what a name left, and whether it was halted for want of memory.
+#[derive(Drop)]
+pub struct Written {
+    pub text: Vec<u8>,
+    pub halted: bool,
+}
+
+/// A world. The examples are written over any, and run with that of the crate world: so their
+/// proofs needn't take it apart wherever it is dropped.
+pub trait Stage: Drop {
+    fn built(alloc: Global, shards: usize) -> Result<Self, AllocError>;
+
+    fn makes(&mut self, step: Step) -> Did;
+
+    /// Makes steps. Answers how often memory was refused.
+    fn makes_all(&mut self, steps: &[Step]) -> u64;
+
+    fn place_of(&self, name: u32) -> Option<Place>;
+
+    fn sight(&self, name: u32) -> Sight;
+
+    /// Of a name that has ended, under a title.
+    fn written(
+        &self,
+        alloc: Global,
+        name: u32,
+        title: &[u8],
+    ) -> Result<Option<Written>, AllocError>;
+
+    /// Whether a name was halted for want of memory.
+    fn is_halted(&self, name: u32) -> bool;
+}
+
+impl<A: Agenda> Stage for World<A> {
+    fn built(alloc: Global, shards: usize) -> Result<World<A>, AllocError> {
+        World::new(alloc, shards)
+    }
+
+    fn makes(&mut self, step: Step) -> Did {
+        self.step(step)
+    }
+
+    fn makes_all(&mut self, steps: &[Step]) -> u64 {
+        self.run(steps)
+    }
+
+    fn place_of(&self, name: u32) -> Option<Place> {
+        self.place(name)
+    }
+
+    fn sight(&self, name: u32) -> Sight {
+        Sight {
+            place: self.place(name),
+            records: self.records(name).len(),
+            commands: self.consumed(name).len(),
+        }
+    }
+
+    fn written(
+        &self,
+        alloc: Global,
+        name: u32,
+        title: &[u8],
+    ) -> Result<Option<Written>, AllocError> {
+        let Some(left) = self.ended(name) else {
+            return Ok(None);
+        };
+        let text = report_text(alloc, title, left.records(), &left.counters())?;
+        let halted = matches!(left.ending(), Ending::Halted);
+        Ok(Some(Written { text, halted }))
+    }
+
+    fn is_halted(&self, name: u32) -> bool {
+        match self.ended(name) {
+            Some(left) => matches!(left.ending(), Ending::Halted),
+            None => false,
+        }
     }
 }
 
-/// Whether a name was halted for want of memory.
-pub fn is_halted<A: Agenda>(world: &World<A>, name: u32) -> bool {
-    match world.ended(name) {
-        Some(left) => matches!(left.ending(), Ending::Halted),
-        None => false,
+/// Makes a step; an error for want of memory.
+pub fn step<W: Stage>(world: &mut W, step: Step) -> Result<bool, AllocError> {
+    match world.makes(step) {
+        Did::Done => Ok(true),
+        Did::Still => Ok(false),
+        Did::NoMemory => Err(AllocError),
     }
+}
+
+/// Makes steps; an error where one met want of memory.
+pub fn run<W: Stage>(world: &mut W, steps: &[Step]) -> Result<(), AllocError> {
+    if world.makes_all(steps) > 0 {
+        return Err(AllocError);
+    }
+    Ok(())
+}
+
+/// How many records a name has, and how many commands came to it.
+pub fn counted<W: Stage>(world: &W, name: u32) -> (usize, usize) {
+    let sight = world.sight(name);
+    (sight.records, sight.commands)
+}
+
+/// Makes a step as a list of one. Answers how often it was refused memory.
+pub fn counted_run<W: Stage>(world: &mut W, one: &Step) -> u64 {
+    world.makes_all(&[*one])
 }

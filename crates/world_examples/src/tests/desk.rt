@@ -1,14 +1,11 @@
 //! What the examples share: guests of a world, whose commands are posted in their order.
 
-use super::calls::{ended, place, step};
+use super::calls::{Stage, step};
 use control::{Experiment as Plan, ParseError, parse_scenario};
-use emu_model::{Ending, Spec};
-use report::report_text;
-use shard::{Dossier, ListMail};
-use std::alloc::{AllocError, Global};
+use emu_model::Spec;
+use std::alloc::AllocError;
 use std::process::Abort;
-use timer_wheel::Agenda;
-use world::{Place, Step, World};
+use world::{Place, Step};
 
 /// More rounds than any of the examples takes.
 pub const MOST_ROUNDS: u32 = 1_000_000;
@@ -34,15 +31,17 @@ impl Guest {
 
 // The only experiment of a text.
 fn plan(rt: &(impl Abort + AllocGlobal), text: &str) -> Result<Plan, AllocError> {
-    let mut plans = match parse_scenario(rt.alloc(), text.as_bytes()) {
-        Ok(scenario) => scenario.into_vec(),
+    match parse_scenario(rt.alloc(), text.as_bytes()) {
+        Ok(scenario) => {
+            let mut plans = scenario.into_vec();
+            assert_eq!(rt; plans.len(), 1, "{text}");
+            return Ok(plans.remove(0));
+        }
         Err(error) => {
             assert!(rt; matches!(error, ParseError::NoMemory), "{text}");
             return Err(AllocError);
         }
-    };
-    assert_eq!(rt; plans.len(), 1, "{text}");
-    Ok(plans.remove(0))
+    }
 }
 
 /// The guest of a text with just one experiment.
@@ -56,6 +55,18 @@ pub fn invite(
         posted: 0,
         report,
     })
+}
+
+/// The guests of texts, each with its report.
+pub fn invite_all(
+    rt: &(impl Abort + AllocGlobal),
+    texts: &[(&'static str, &'static str)],
+) -> Result<Vec<Guest>, AllocError> {
+    let mut guests = Vec::new(rt.alloc());
+    for (text, report) in texts {
+        guests.push(invite(rt, *text, *report)?)?;
+    }
+    Ok(guests)
 }
 
 /// Guests have the names from 0 on.
@@ -72,7 +83,7 @@ pub fn next_post(guests: &mut [Guest], name: u32) -> Option<Step> {
 }
 
 /// Registers all guests, in their order.
-pub fn register<A: Agenda>(world: &mut World<A>, guests: &[Guest]) -> Result<(), AllocError> {
+pub fn register<W: Stage>(world: &mut W, guests: &[Guest]) -> Result<(), AllocError> {
     for guest in guests {
         step(world, Step::Registered(guest.spec()))?;
     }
@@ -80,8 +91,8 @@ pub fn register<A: Agenda>(world: &mut World<A>, guests: &[Guest]) -> Result<(),
 }
 
 /// Posts all commands of a name that are left.
-pub fn post_all<A: Agenda>(
-    world: &mut World<A>,
+pub fn post_all<W: Stage>(
+    world: &mut W,
     guests: &mut [Guest],
     name: u32,
 ) -> Result<(), AllocError> {
@@ -95,12 +106,8 @@ pub fn post_all<A: Agenda>(
 }
 
 // One thing that helps a name to its end; false where it has ended.
-fn help<A: Agenda>(
-    world: &mut World<A>,
-    guests: &mut [Guest],
-    name: u32,
-) -> Result<bool, AllocError> {
-    match place(world, name) {
+fn help<W: Stage>(world: &mut W, guests: &mut [Guest], name: u32) -> Result<bool, AllocError> {
+    match world.place_of(name) {
         Some(Place::HandedOut) => step(world, Step::Admit { name, shard: 0 })?,
         Some(Place::InDeque { shard }) => step(world, Step::Retake { shard })?,
         Some(Place::Resident { shard, slot }) => {
@@ -115,9 +122,9 @@ fn help<A: Agenda>(
 }
 
 /// Helps all names to their ends.
-pub fn finish<A: Agenda>(
+pub fn finish<W: Stage>(
     rt: &(impl Abort + AllocGlobal),
-    world: &mut World<A>,
+    world: &mut W,
     guests: &mut [Guest],
 ) -> Result<(), AllocError> {
     for _ in 0..MOST_ROUNDS {
@@ -136,20 +143,24 @@ pub fn finish<A: Agenda>(
 }
 
 // Wants the guest's report of what it left, or of one that was halted, which answers false, that its lines but for the
-// last begin so.
-fn has_report(
+// last begin so. None where it hasn't ended.
+fn has_report<W: Stage>(
     rt: &(impl Abort + AllocGlobal),
+    world: &W,
     guest: &Guest,
-    left: &Dossier<ListMail>,
-) -> Result<bool, AllocError> {
-    let name = guest.plan.name.as_bytes();
-    let text = report_text(rt.alloc(), name, left.records(), &left.counters())?;
-    if matches!(left.ending(), Ending::Halted) {
-        assert!(rt; begins_like(text.as_slice(), guest.report.as_bytes()));
-        return Ok(false);
+    name: u32,
+) -> Result<Option<bool>, AllocError> {
+    let title = guest.plan.name.as_bytes();
+    let Some(written) = world.written(rt.alloc(), name, title)? else {
+        return Ok(None);
+    };
+    let text = written.text.as_slice();
+    if written.halted {
+        assert!(rt; begins_like(text, guest.report.as_bytes()));
+        return Ok(Some(false));
     }
-    assert!(rt; text.as_slice() == guest.report.as_bytes());
-    Ok(true)
+    assert!(rt; text == guest.report.as_bytes());
+    Ok(Some(true))
 }
 
 // Whether all lines of a text but the last are the first of another one.
@@ -174,19 +185,17 @@ pub struct Reports {
 }
 
 /// Wants the reports of all names that have ended.
-pub fn reported<A: Agenda>(
+pub fn reported<W: Stage>(
     rt: &(impl Abort + AllocGlobal),
-    world: &World<A>,
+    world: &W,
     guests: &[Guest],
 ) -> Result<Reports, AllocError> {
     let mut reports = Reports { whole: 0, cut: 0 };
     for (index, guest) in guests.iter().enumerate() {
-        if let Some(left) = ended(world, name_of(index)) {
-            if has_report(rt, guest, left)? {
-                reports.whole = reports.whole.saturating_add(1);
-            } else {
-                reports.cut = reports.cut.saturating_add(1);
-            }
+        match has_report(rt, world, guest, name_of(index))? {
+            Some(true) => reports.whole = reports.whole.saturating_add(1),
+            Some(false) => reports.cut = reports.cut.saturating_add(1),
+            None => {}
         }
     }
     Ok(reports)

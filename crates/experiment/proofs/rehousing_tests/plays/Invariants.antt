@@ -3,7 +3,7 @@ use Rattle.packet_store.specs.Pocket.{empty_pocket}
 use Rattle.packet_store.specs.Own.{own_pocket}
 use Rattle.packet_store.specs.Books.{pocket_of}
 use Rattle.experiment.specs.Kept.{IsHousedIn}
-use Rattle.experiment.proofs.rehousing_tests.recorded.Given as goal
+use Rattle.experiment.proofs.rehousing_tests.plays.Given as goal
 
 abbrev pub invariant-loop-command : goal.invariant-loop-command
 invariant-loop-command l = record {

@@ -1,0 +1,232 @@
+//! Three guests on their way between two shards, of whom one allocation may be refused.
+
+use super::calls::{
+    Desk, advance, arrive, counted, is_crowded, pack, poll, rebase, seen_back, seen_in, slot_of,
+    take_in_again,
+};
+use super::desk::{
+    Guest, MOST_TURNS, Move, has_lines, has_report, invite_all, parcel, post, read_all,
+};
+use emu_model::Ending;
+use example_texts as texts;
+use shard::{Dossier, ListMail, PackError, Parcel, Polled, Turned};
+use std::alloc::AllocError;
+use std::mem;
+use std::process::Abort;
+use std::test::Fail;
+
+/// What was met: how often memory was refused, and how many guests have ended.
+#[derive(Clone, Copy)]
+struct Road {
+    refused: u64,
+    ended: u64,
+}
+
+impl Road {
+    // One more refusal.
+    fn refuses(&mut self) {
+        self.refused = self.refused.saturating_add(1);
+    }
+}
+
+// Takes a parcel in, again where it came back for want of memory, as it was.
+fn takes_in(rt: &impl Abort, shard: &mut Desk, parcel: Parcel<ListMail>, road: &mut Road) {
+    let before = seen_in(&parcel);
+    let name = parcel.name();
+    let answer = arrive(shard, parcel);
+    assert!(rt; !is_crowded(&answer), "crowded");
+    if answer.is_err() {
+        road.refuses();
+        assert!(rt; seen_back(&answer) == Some(before), "another parcel");
+        assert!(rt; slot_of(shard, name).is_none());
+    }
+    assert!(rt; take_in_again(shard, answer).is_some(), "refused again");
+}
+
+// Packs the first guest. Refused memory, it stays as it was, and is packed then.
+fn packs(
+    rt: &impl Abort,
+    shard: &mut Desk,
+    slot: usize,
+    road: &mut Road,
+) -> Option<Parcel<ListMail>> {
+    let before = counted(shard, slot);
+    let packed = pack(shard, slot);
+    if packed.is_ok() {
+        return packed.ok();
+    }
+    road.refuses();
+    assert_eq!(rt; packed.unwrap_err(), PackError::NoMemory);
+    assert!(rt; slot_of(shard, 0) == Some(slot) && counted(shard, slot) == before);
+    pack(shard, slot).ok()
+}
+
+// Has the first guest go from one shard to the other.
+fn moves(rt: &impl Abort, here: &mut Desk, there: &mut Desk, road: &mut Road) {
+    let Some(slot) = slot_of(here, 0) else {
+        assert!(rt; false, "nobody to be moved");
+        return;
+    };
+    let Some(parcel) = packs(rt, here, slot, road) else {
+        assert!(rt; false, "refused again");
+        return;
+    };
+    takes_in(rt, there, parcel, road);
+}
+
+// Posts the commands of each guest that is there, polls it and reads its letters. One that was parked for want of
+// memory has entries again; one that was refused memory now is as it was.
+fn attends(rt: &impl Abort, shard: &mut Desk, guests: &mut [Guest], road: &mut Road) {
+    for guest in guests.iter_mut() {
+        let Some(slot) = slot_of(shard, guest.name()) else {
+            continue;
+        };
+        post(shard, slot, guest);
+        let before = counted(shard, slot);
+        match poll(shard, slot) {
+            Polled::Resumed(_) => road.refuses(),
+            Polled::NoMemory(_) => {
+                road.refuses();
+                assert!(rt; counted(shard, slot) == before);
+                assert!(rt;
+                    !matches!(poll(shard, slot), Polled::NoMemory(_)),
+                    "refused again"
+                );
+            }
+            _ => {}
+        }
+        read_all(shard, slot);
+    }
+}
+
+// Wants the report of who ended; one that was halted for want of memory has its first lines.
+fn ends(
+    rt: &(impl Abort + AllocGlobal),
+    guests: &[Guest],
+    left: &Dossier<ListMail>,
+    road: &mut Road,
+) -> Result<(), AllocError> {
+    road.ended = road.ended.saturating_add(1);
+    if matches!(left.ending(), Ending::Halted) {
+        road.refuses();
+        return has_lines(rt, guests, left);
+    }
+    has_report(rt, guests, left)
+}
+
+// A turn, and what it was.
+fn turns(
+    rt: &(impl Abort + AllocGlobal),
+    shard: &mut Desk,
+    guests: &[Guest],
+    road: &mut Road,
+) -> Result<Move, AllocError> {
+    let turned = advance(shard);
+    let seen = seen_of(rt, guests, &turned, road);
+    drop(turned);
+    seen
+}
+
+// What a turn was. Wants the report of who ended.
+fn seen_of(
+    rt: &(impl Abort + AllocGlobal),
+    guests: &[Guest],
+    turned: &Turned<ListMail>,
+    road: &mut Road,
+) -> Result<Move, AllocError> {
+    match turned {
+        Turned::Ran(name) => Ok(Move::Ran(*name)),
+        Turned::Idle => Ok(Move::Idle),
+        Turned::Ended(left) => {
+            ends(rt, guests, left, road)?;
+            Ok(Move::Ended(left.name(), left.events()))
+        }
+    }
+}
+
+// Opens three guests: the first and one more on one shard, the last on the other.
+fn opens(
+    rt: &(impl Abort + AllocGlobal),
+    here: &mut Desk,
+    there: &mut Desk,
+    guests: &[Guest],
+    road: &mut Road,
+) -> Result<(), AllocError> {
+    for (place, guest) in guests.iter().enumerate() {
+        let parcel = parcel(rt.alloc(), guest)?;
+        if place < 2 {
+            takes_in(rt, here, parcel, road);
+        } else {
+            takes_in(rt, there, parcel, road);
+        }
+    }
+    Ok(())
+}
+
+// Has the first of three guests go to the other shard after each of its events. Answers how often memory was refused:
+// a parcel came back, a resident stayed or was parked or halted.
+fn go(
+    rt: &(impl Abort + AllocGlobal),
+    here: &mut Desk,
+    there: &mut Desk,
+    guests: &mut [Guest],
+) -> Result<u64, AllocError> {
+    let mut road = Road {
+        refused: 0,
+        ended: 0,
+    };
+    opens(rt, here, there, guests, &mut road)?;
+    for turn in 0..MOST_TURNS {
+        if road.ended == 3 {
+            return Ok(road.refused);
+        }
+        attends(rt, here, guests, &mut road);
+        if turn % 8 == 7 {
+            rebase(here);
+        }
+        match turns(rt, here, guests, &mut road)? {
+            Move::Ran(0) => {
+                moves(rt, here, there, &mut road);
+                mem::swap(here, there);
+            }
+            Move::Ran(_) | Move::Ended(..) => {}
+            Move::Idle => mem::swap(here, there),
+        }
+    }
+    assert!(rt; false, "not ended");
+    Ok(road.refused)
+}
+
+// Three guests on two shards, of which the second one's clock is far.
+fn three_to_their_ends(rt: &(impl Abort + AllocGlobal)) -> Result<u64, AllocError> {
+    let cards = [
+        (texts::FAST_RETRANSMIT, texts::FAST_RETRANSMIT_REPORT),
+        (texts::ONE_SLOT, texts::ONE_SLOT_REPORT),
+        (texts::PACKET_BUDGET, texts::PACKET_BUDGET_REPORT),
+    ];
+    let mut guests = invite_all(rt, 0, &cards)?;
+    let mut here = Desk::new(rt.alloc())?;
+    let Ok(mut there) = Desk::with_clock(rt.alloc(), (1 << 62) - 1000) else {
+        drop(here);
+        return Err(AllocError);
+    };
+    let met = go(rt, &mut here, &mut there, guests.as_mut_slice());
+    drop(here);
+    drop(there);
+    met
+}
+
+// One allocation is refused at most. So where memory was refused, be it for what the test itself holds, all is done
+// again, and nothing is refused then.
+#[test]
+fn refused(rt: HostRuntime) -> Result<(), Fail> {
+    let met = match three_to_their_ends(&rt) {
+        Ok(met) => met,
+        Err(AllocError) => 1,
+    };
+    assert!(rt; met <= 1, "refused {met} times");
+    if met > 0 {
+        assert_eq!(rt; three_to_their_ends(&rt)?, 0);
+    }
+    Ok(())
+}
