@@ -1,5 +1,5 @@
 -- What is due in a state.
-use Rattle.std.specs.Prelude.{◌≡◌, Bool, false, List, [], ◌∷◌, ◌++◌, filter}
+use Rattle.std.specs.Prelude.{◌≡◌, ℕ, Bool, false, List, [], ◌∷◌, ◌++◌, filter, take}
 use Rattle.std.specs.List.{list_any}
 use Rattle.emu_model.specs.declared.commands.Timed.{Timed}
 use Rattle.emu_model.specs.declared.sources.Due.{Due}
@@ -35,3 +35,8 @@ Covers before now named = (s : Source) → names s named ≡ false →
 abbrev pub NamesNoOther : List Due → List Due → List Source → Type 0
 NamesNoOther before now named = (s : Source) → dues_at s before ≡ [] → dues_at s now ≡ [] →
     names s named ≡ false
+
+-- as far as two lists were gone through, each source is named whose dues differ, and none that has no due
+pub record NamesUpTo (i j : ℕ) (before now : List Due) (named : List Source) : Type 0 where
+  pub covers : Covers (take i before) (take j now) named
+  pub no_other : NamesNoOther before now named

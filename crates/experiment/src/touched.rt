@@ -1,12 +1,9 @@
 //! Which sources have other dues than when that was noted last.
 
-ghost use Rattle.std.specs.Prelude.{◌≡◌, ◌+◌, ◌≤◌, ◌++◌, ◌||◌, true, length, map, take, drop, slice_get, vec_len, vec_capacity, Some, IsTrue, OnOk, OnErr};
-ghost use Rattle.emu_model.specs.declared.sources.Due.{Due as Moment};
-ghost use Rattle.emu_model.specs.declared.sources.Source.{Source as From};
-ghost use Rattle.emu_model.specs.Laws.{same_source};
+ghost use Rattle.std.specs.Prelude.{◌≡◌, ◌+◌, ◌<◌, ◌≤◌, length, vec_len, vec_capacity, OnOk, OnErr};
 ghost use Rattle.packet_store.specs.Pocket.{Pocket};
 ghost use Rattle.experiment.specs.Kept.{view};
-ghost use Rattle.experiment.specs.Dues.{dues_in, Covers, NamesNoOther, names};
+ghost use Rattle.experiment.specs.Dues.{dues_in, Covers, NamesNoOther, NamesUpTo};
 
 use crate::Experiment;
 use crate::told::append_dues;
@@ -40,88 +37,78 @@ impl Experiment {
     }
 }
 
-// The sources of what stands between the common front and the common end of two lists.
+// The sources of what differs between two lists, as both are gone through side by side.
 fn name_changed(old: &[Due], new: &[Due], sources: &mut Vec<Source>) -> Result<(), NoMemory>
     ensures covers { OnOk result (Covers old.now new.now sources.new.items) }
     ensures no_other { OnOk result (NamesNoOther old.now new.now sources.new.items) }
     ensures err { OnErr result (sources.new.items ≡ sources.old.items) }
 {
-    let front = common_front(old, new);
-    let (_, gone) = old.split_at(front);
-    let (_, come) = new.split_at(front);
-    let (gone_end, come_end) = before_common_end(gone, come);
-    let (gone, _) = gone.split_at(gone_end);
-    let (come, _) = come.split_at(come_end);
-    let wanted = gone_end + come_end;
+    let wanted = old.len() + new.len();
     let Ok(()) = sources.reserve(wanted.saturating_sub(sources.len())) else {
         return Err(NoMemory);
     };
     sources.clear();
-    name_all(gone, sources);
-    name_others(come, gone, sources);
+    let mut i = 0;
+    let mut j = 0;
+    while i < old.len() && j < new.len() {
+        (i, j) = compare(old, new, i, j, sources);
+    }
+    while i < old.len() {
+        sources.push_reserved(old[i].source);
+        i += 1;
+    }
+    while j < new.len() {
+        sources.push_reserved(new[j].source);
+        j += 1;
+    }
     Ok(())
 }
 
-// How many dues at the front of two lists are equal.
-fn common_front(a: &[Due], b: &[Due]) -> usize
-    ensures in_a { result ≤ length a.now }
-    ensures in_b { result ≤ length b.now }
-    ensures same { take result a.now ≡ take result b.now }
-{
-    let mut n = 0;
-    while n < a.len() && n < b.len() && a[n] == b[n] {
-        n += 1;
+// Whether a place of a list is of a source.
+fn is_of(dues: &[Due], place: usize, source: Source) -> bool {
+    match dues.get(place) {
+        Some(due) => due.source == source,
+        None => false,
     }
-    n
 }
 
-// Where the equal dues at the end of two lists begin in each.
-fn before_common_end(a: &[Due], b: &[Due]) -> (usize, usize)
-    ensures in_a { result.0 ≤ length a.now }
-    ensures in_b { result.1 ≤ length b.now }
-    ensures same { drop result.0 a.now ≡ drop result.1 b.now }
-{
-    let mut i = a.len();
-    let mut j = b.len();
-    while i > 0 && j > 0 && a[i - 1] == b[j - 1] {
-        i -= 1;
-        j -= 1;
-    }
-    (i, j)
-}
-
-// Appends the sources of dues, for which there is room.
-fn name_all(dues: &[Due], sources: &mut Vec<Source>)
-    requires { vec_len sources.old + length dues.now ≤ vec_capacity sources.old }
-    ensures items { sources.new.items ≡ sources.old.items ++ map (λ d. d.source) dues.now }
+// Compares a due of one list with one of another, names what differs, and says where to go on. Where a due came
+// in between or went away, the other list waits at its place: so what follows is compared again.
+fn compare(
+    old: &[Due],
+    new: &[Due],
+    i: usize,
+    j: usize,
+    sources: &mut Vec<Source>,
+) -> (usize, usize)
+    requires in_old { i < length old.now }
+    requires in_new { j < length new.now }
+    requires room { vec_len sources.old + 2 ≤ vec_capacity sources.old }
+    requires names { NamesUpTo i j old.now new.now sources.old.items }
+    ensures in_old { result.0 ≤ length old.now }
+    ensures in_new { result.1 ≤ length new.now }
+    ensures ahead { i + j < result.0 + result.1 }
+    ensures names { NamesUpTo result.0 result.1 old.now new.now sources.new.items }
+    ensures room { vec_len sources.new + (i + j) ≤ vec_len sources.old + (result.0 + result.1) }
     ensures capacity { vec_capacity sources.new ≡ vec_capacity sources.old }
 {
-    for due in dues {
-        sources.push_reserved(due.source);
+    let gone = old[i];
+    let come = new[j];
+    if gone == come {
+        return (i + 1, j + 1);
     }
-}
-
-// Whether a place of a list is of a source.
-fn is_of(dues: &[Due], place: usize, source: Source) -> bool
-    ensures { IsTrue result → (d : Moment) × (slice_get dues.now place ≡ Some d) × (same_source d.source source ≡ true) }
-{
-    let Some(due) = dues.get(place) else {
-        return false;
-    };
-    due.source == source
-}
-
-// Appends the sources of dues, but for one that stands at the same place of others, which are named: a due that
-// only moved is named once.
-fn name_others(dues: &[Due], others: &[Due], sources: &mut Vec<Source>)
-    requires room { vec_len sources.old + length dues.now ≤ vec_capacity sources.old }
-    requires named { (s : From) → names s (map (λ d. d.source) others.now) ≡ true → names s sources.old.items ≡ true }
-    ensures { (s : From) → names s sources.new.items ≡ (names s sources.old.items || names s (map (λ d. d.source) dues.now)) }
-{
-    for place in 0..dues.len() {
-        let due = &dues[place];
-        if !is_of(others, place, due.source) {
-            sources.push_reserved(due.source);
-        }
+    if gone.source == come.source {
+        sources.push_reserved(gone.source);
+        return (i + 1, j + 1);
     }
+    if is_of(new, j + 1, gone.source) {
+        sources.push_reserved(come.source);
+        return (i, j + 1);
+    }
+    sources.push_reserved(gone.source);
+    if is_of(old, i + 1, come.source) {
+        return (i + 1, j);
+    }
+    sources.push_reserved(come.source);
+    (i + 1, j + 1)
 }

@@ -18,7 +18,7 @@ use Rattle.shard.specs.declared.resident.Resident.{Resident}
 use Rattle.shard.specs.Stand.{Final}
 use Rattle.shard.specs.Entries.{entries_of}
 use Rattle.shard.specs.Kept.{dues_kept}
-use Rattle.shard.specs.Seats.{resident_at, standing, IsSeated, IsShard}
+use Rattle.shard.specs.Seats.{IsDossierOf, resident_at, standing, IsSeated, IsShard}
 use Rattle.shard.specs.Steps.{IsLeast, IsLeaving, Steps}
 use Rattle.shard.specs.Turns.{IsTurn, IsEnd, last_state}
 use Rattle.shard.proofs.Slots.{late-later}
@@ -64,18 +64,10 @@ module _ {M : Type 0} (seen : M → Seen) where
   over Halted p old q row clock new e s = s
   over Still p old q row clock new e s = absurd s
 
-  pub ended : (p q : Pocket) (e : Ending) (old new : Resident M) (d : Final M) → IsLeaving seen p q e old new → new.experiment.ending ≡ Some d.ending →
-      (let s = view q new.experiment in d ≡ record {
-        name = new.name;
-        spec = new.experiment.spec;
-        commands = new.experiment.consumed;
-        records = s.net.records;
-        counters = counters_of s.net;
-        ending = d.ending;
-        events = s.steps;
-        mail = new.mail;
-      }) → IsEnd seen (standing p old) d
-  ended p q e old new d l ends rest =
+  pub ended : (p q : Pocket) (e : Ending) (old new : Resident M) (d : Final M) → IsLeaving seen p q e old new → IsDossierOf q new d → IsEnd seen (standing p old) d
+  ended p q e old new d l done =
+      let ends = done.ending in
+      let rest = done.rest in
       let same : e ≡ d.ending = ap (λ (o : Option Ending). unwrap_or o e) (sym l.ending_is ∙ ends) in
       let mail : d.mail ≡ new.mail = ap (λ (x : Final M). x.mail) rest in
       let state : view q new.experiment ≡ last_state d.ending (view p old.experiment) = l.state ∙ ap (λ x. last_state x (view p old.experiment)) same in

@@ -1,11 +1,13 @@
 -- The residents of a shard, and their seats.
 use Rattle.std.specs.Prelude.{◌≡◌, ◌≢◌, ℕ, ◌+◌, ◌*◌, ◌^◌, ◌<◌, ◌≤◌, List, length, map, Option, Some, None, IsSome, IfSome, slice_index_or}
 use Rattle.emu_model.specs.declared.sources.Source.{Source}
+use Rattle.emu_model.specs.Net.{counters_of}
 use Rattle.packet_store.specs.Pocket.{Pocket}
 use Rattle.timer_wheel.specs.Rows.{Row}
 use Rattle.shard.specs.Seen.{Seen}
 use Rattle.shard.specs.declared.resident.Resident.{Resident}
-use Rattle.shard.specs.Stand.{Stand, Seat}
+use Rattle.experiment.specs.Kept.{view}
+use Rattle.shard.specs.Stand.{Stand, Seat, Final}
 use Rattle.shard.specs.Entries.{entries_of}
 use Rattle.shard.specs.Kept.{stand_of, IsGoing, dues_kept}
 
@@ -15,6 +17,20 @@ module _ {M : Type 0} where
 
   abbrev pub standing : Pocket → Resident M → Stand M
   standing p r = stand_of p r.name r.experiment r.published r.mail
+
+  -- what is left of a resident that has ended
+  pub record IsDossierOf (p : Pocket) (r : Resident M) (d : Final M) : Type 0 where
+    pub ending : r.experiment.ending ≡ Some d.ending
+    pub rest : let s = view p r.experiment in d ≡ record {
+      name = r.name;
+      spec = r.experiment.spec;
+      commands = r.experiment.consumed;
+      records = s.net.records;
+      counters = counters_of s.net;
+      ending = d.ending;
+      events = s.steps;
+      mail = r.mail;
+    }
 
   abbrev pub seat : Pocket → Resident M → Seat M
   seat p r = record { stand = standing p r; offset = r.offset }

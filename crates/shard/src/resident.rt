@@ -57,10 +57,9 @@ impl<M: Mail> Resident<M> {
     ghost use Rattle.packet_store.specs.Own.{own_pocket, own_room};
     ghost use Rattle.network.specs.Kept.{net_keys};
     ghost use Rattle.packet_store.specs.Pocket.{Pocket};
-    ghost use Rattle.emu_model.specs.Net.{counters_of};
     ghost use Rattle.experiment.specs.Kept.{view, IsAlone};
     ghost use Rattle.shard.specs.Kept.{IsKept, IsGoing};
-    ghost use Rattle.shard.specs.Seats.{IsSeated, standing, seat};
+    ghost use Rattle.shard.specs.Seats.{IsDossierOf, IsSeated, standing, seat};
     ghost use Rattle.shard.specs.Turns.{Polls};
     ghost use Rattle.shard.specs.Steps.{IsLeast, IsStale, Steps};
 
@@ -220,17 +219,7 @@ impl<M: Mail> Resident<M> {
     pub(crate) fn end(self, store: &mut Store) -> Dossier<M>
         requires kept { IsKept M.seen (pocket_of store.old self.owner) self.experiment self.published self.mail }
         requires ended { IsSome self.experiment.ending }
-        ensures ending { self.experiment.ending ≡ Some result.ending }
-        ensures rest { let s = view (pocket_of store.old self.owner) self.experiment in result ≡ record {
-          name = self.name;
-          spec = self.experiment.spec;
-          commands = self.experiment.consumed;
-          records = s.net.records;
-          counters = counters_of s.net;
-          ending = result.ending;
-          events = s.steps;
-          mail = self.mail;
-        } }
+        ensures ends { IsDossierOf (pocket_of store.old self.owner) self result }
         ensures gone { pocket_of store.new self.owner ≡ empty_pocket 0 }
         ensures others { (o : ℕ) → o ≢ self.owner → pocket_of store.new o ≡ pocket_of store.old o }
     {

@@ -1,7 +1,10 @@
 //! The residents of one worker, by slot.
 
 ghost use Rattle.std.specs.Prelude.{◌≡◌, ◌<◌, ℕ, None, Some, IsSome, IfSome, IfNone, length, map, slice_index_or};
-ghost use Rattle.shard.specs.Seats.{parked};
+ghost use Rattle.std.specs.Prelude.{◌≢◌};
+ghost use Rattle.packet_store.specs.Books.{pocket_of};
+ghost use Rattle.shard.specs.Kept.{IsKept};
+ghost use Rattle.shard.specs.Seats.{parked, IsDossierOf};
 
 use crate::dossier::Dossier;
 use crate::entries::Scratch;
@@ -150,11 +153,8 @@ impl<A: Agenda, M: Mail> Shard<A, M> {
         if event == Event::Ran {
             return Turned::Ran(name);
         }
-        let Some(gone) = mem::replace(&mut self.slots[slot], None) else {
-            unreachable!();
-        };
         self.agenda.clear_owner(slot);
-        Turned::Ended(gone.end(&mut self.store))
+        Turned::Ended(take_ended(&mut self.slots[slot], &mut self.store))
     }
 
     /// Takes a command for a resident without a next one, or sets the entries of a parked one again. Room for a
@@ -303,6 +303,22 @@ impl<A: Agenda, M: Mail> Shard<A, M> {
     {
         let _ = &self.agenda;
     }
+}
+
+// Takes a resident that has ended out of its slot, and makes its dossier. By itself, since a turn that ends nobody
+// would clear the room for one.
+fn take_ended<M: Mail>(place: &mut Option<Resident<M>>, store: &mut Store) -> Dossier<M>
+    requires there { IsSome place.old }
+    requires kept { IfSome place.old (λ r. IsKept M.seen (pocket_of store.old r.owner) r.experiment r.published r.mail) }
+    requires ended { IfSome place.old (λ r. IsSome r.experiment.ending) }
+    ensures gone { place.new ≡ None }
+    ensures ends { IfSome place.old (λ r. IsDossierOf (pocket_of store.old r.owner) r result) }
+    ensures others { IfSome place.old (λ r. (o : ℕ) → o ≢ r.owner → pocket_of store.new o ≡ pocket_of store.old o) }
+{
+    let Some(gone) = mem::replace(place, None) else {
+        unreachable!();
+    };
+    gone.end(store)
 }
 
 // The least slot with nobody.

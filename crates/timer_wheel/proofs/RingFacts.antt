@@ -250,3 +250,29 @@ module _ (n : ℕ) (next prev list height : ℕ → ℕ) (top : ℕ) (w : AreLin
 
   pub none_there : (q : ℕ) → 2051 ≤ q → q < n → list q ≡ c → ⊥
   none_there q h hn is = climb top q (omega arith) h hn is
+
+-- a list that has the same behind its head and before it has no two keys
+module _ (n : ℕ) (next prev list height : ℕ → ℕ) (top : ℕ) (w : AreLinked n next prev list height top) (c : ℕ) (c_in : c < 2051) (single : next c ≡ prev c) where
+  single_in : c < n
+  single_in = let l : 2051 ≤ n = w.long in omega arith
+
+  -- what comes behind the only key is the head again
+  back_again : next (next c) ≡ c
+  back_again = ap next single ∙ w.forth c single_in
+
+  back_from : (fuel q : ℕ) → top ≤ height q + fuel → 2051 ≤ q → q < n → list q ≡ c → q ≡ next c
+  back_from zero q f h hn is = let b : height q < top = w.bound q in absurd (omega arith)
+  back_from (suc fuel) q f h hn is =
+      let there : list (prev q) ≡ c = sym (w.same (prev q) (w.prev_in q hn)) ∙ ap list (w.forth q hn) ∙ is in
+      elim (cases_lt (prev q) 2051) [
+        | inl l ↦ sym (w.forth q hn) ∙ ap next (sym (w.heads (prev q) l) ∙ there)
+        | inr g ↦ elim (w.falls q h hn) [
+          | inl l ↦ absurd (omega arith)
+          | inr up ↦ let e : prev q ≡ next c = back_from fuel (prev q) (omega arith) (omega arith) (w.prev_in q hn) there in
+              let bad : q ≡ c = sym (w.forth q hn) ∙ ap next e ∙ back_again in
+              absurd (omega arith)
+        ]
+      ]
+
+  pub only_key : (q : ℕ) → 2051 ≤ q → q < n → list q ≡ c → q ≡ next c
+  only_key q h hn is = back_from top q (omega arith) h hn is

@@ -1,5 +1,5 @@
 -- The least entry of a wheel, and what it leaves.
-use Rattle.std.proofs.Common.{zero, suc, List, [], ◌∷◌, inl, inr, ◌⊎◌, ◌≡◌, ◌≢◌, ℕ, ◌<◌, ◌≤◌, ◌^◌, Bool, true, false, ◌==◌, ◌&&◌, nat_lt, cond, map, Option, Some, None, slice_get, length, get_or, MatchOption, IfSome, IfNone, refl, sym, ap, subst, ◌∙◌, eq-eqb, arith}
+use Rattle.std.proofs.Common.{zero, suc, List, [], ◌∷◌, inl, inr, ◌⊎◌, ◌≡◌, ◌≢◌, ℕ, ◌<◌, ◌≤◌, ◌^◌, Bool, true, false, ◌==◌, ◌&&◌, nat_lt, cond, map, Option, Some, None, slice_get, length, get_or, set, count_by, min, MatchOption, IfSome, IfNone, refl, sym, ap, subst, ◌∙◌, eq-eqb, arith}
 use Rattle.std.proofs.lemmas.Bool.{cases_eq, cases_lt, ne_eqb, le-ltb}
 use Rattle.std.proofs.lemmas.Option.{slice_get_within, get_or_from_slice_get}
 use Rattle.std.proofs.lemmas.List.Sorted.{Contains-permutation}
@@ -18,7 +18,8 @@ use Rattle.timer_wheel.proofs.Sources.{same_source-true}
 use Rattle.timer_wheel.specs.Ties.{TiesBook, Waits, IsRising, tie_of, tie_before}
 use Rattle.timer_wheel.proofs.Order.{is_before-low, is_before-order}
 use Rattle.timer_wheel.proofs.PlaceFacts.{place_of-order, place_of-stays, place_of-within}
-use Rattle.timer_wheel.proofs.StockFacts.{some_same, rows_slots}
+use Rattle.timer_wheel.proofs.SlotFacts.{set_there, set_elsewhere}
+use Rattle.timer_wheel.proofs.StockFacts.{some_same, rows_slots, is_free, free_stays}
 use Rattle.timer_wheel.proofs.TieFacts.{before_at}
 use Rattle.timer_wheel.proofs.MoveFacts.{IsLesser, stands, map_back, unless_from, unless_other}
 
@@ -82,6 +83,20 @@ unwithout : (t : Bool) (r : Option ℕ) (d : ℕ) → cond t None r ≡ Some d �
 unwithout true r d h = let bad : None ≡ Some d = h in cc
 unwithout false r d h = h
 
+-- an entry isn't before itself, and the only one of a slot is its least
+not_before_itself : (x : Entry) → is_before x x ≡ false
+not_before_itself x = by (is_before x x) refl
+  where
+    by : (t : Bool) → is_before x x ≡ t → is_before x x ≡ false
+    by true h = is_before-order.one_way x x h
+    by false h = h
+
+pub alone_least : (b : StockBook) (p : ℕ) (e : Entry) (k0 : ℕ) → Holds b.entries b.slots k0 e p → ((k : ℕ) → slice_get b.slots k ≡ Some p → k ≡ k0) →
+    (k : ℕ) (x : Entry) → Holds b.entries b.slots k x p → is_before x e ≡ false
+alone_least b p e k0 h0 alone k x h =
+    let same : e ≡ x = some_same e x (slice_get b.entries k) (ap (slice_get b.entries) (alone k h.slot) ∙ h0.entry) h.entry in
+    subst (λ y. is_before y e ≡ false) same (not_before_itself e)
+
 -- the least entry of the first slot
 module _ (c : ℕ) (b : StockBook) (st : IsStock b) (w : IsBare c b) (p : ℕ) (e : Entry) (k0 : ℕ) (h0 : Holds b.entries b.slots k0 e p)
     (first : (q : ℕ) → q < p → (k : ℕ) → slice_get b.slots k ≢ Some q)
@@ -123,6 +138,36 @@ module _ (c : ℕ) (b : StockBook) (st : IsStock b) (w : IsBare c b) (p : ℕ) (
             due_later (record { due = d; owner = o; source = s }) e
             (place_of-order c e.due d popped_low (w.low o s d row) (w.small e.owner e.source e.due popped_was) (w.small o s d row) (omega arith))
       ]
+
+  -- once the only key of the slot went where the new clock puts it
+  module _ (alone : (k : ℕ) → slice_get b.slots k ≡ Some p → k ≡ k0) (n : StockBook) (t : TiesBook) (put : n ≡ record b { slots = set b.slots k0 (place_of e.due e.due) }) where
+    lifted_slots : n.slots ≡ set b.slots k0 (place_of e.due e.due)
+    lifted_slots = ap (λ (x : StockBook). x.slots) put
+
+    pub lifted_rows : (o : ℕ) (s : Source) → due_of n o s ≡ due_of b o s
+    lifted_rows o s = rows_slots b n (put ∙ (λ i. record b { slots = sym lifted_slots i })) o s
+
+    pub lifted_placed : IsPlaced e.due n t
+    lifted_placed k x q h =
+        let entry : slice_get b.entries k ≡ Some x = sym (ap (λ (y : StockBook). slice_get y.entries k) put) ∙ h.entry in
+        let slot : slice_get (set b.slots k0 (place_of e.due e.due)) k ≡ Some q = sym (ap (λ l. slice_get l k) lifted_slots) ∙ h.slot in
+        elim (cases_eq k k0) [
+          | inl at ↦
+              let same : e ≡ x = some_same e x (slice_get b.entries k) (ap (slice_get b.entries) at ∙ h0.entry) entry in
+              let here : place_of e.due e.due ≡ q =
+              some_same (place_of e.due e.due) q (slice_get (set b.slots k0 (place_of e.due e.due)) k)
+              (ap (slice_get (set b.slots k0 (place_of e.due e.due))) at ∙ set_there b.slots k0 (place_of e.due e.due) (slice_get_within b.slots k0 p h0.slot)) slot in
+              inl (sym here ∙ ap (λ (y : Entry). place_of e.due y.due) same)
+          | inr ne ↦
+              let was : slice_get b.slots k ≡ Some q = sym (set_elsewhere b.slots k0 k (place_of e.due e.due) ne) ∙ slot in
+              inl (popped_stays k x q (record { entry = entry; slot = was; full = h.full }) (λ r. ne (alone k (was ∙ ap Some r))))
+        ]
+
+    pub lifted_room : room_of n ≡ room_of b
+    lifted_room =
+        let l : place_of e.due e.due < 2048 = place_of-within e.due e.due in
+        let q : count_by is_free (set b.slots k0 (place_of e.due e.due)) ≡ count_by is_free b.slots = free_stays b.slots k0 (place_of e.due e.due) p h0.slot h0.full (λ r. omega arith) in
+        ap room_of put ∙ ap (λ v. min v b.index.room) q
 
   -- once the slot is emptied, and its keys went where the new clock puts them
   module _ (m n : StockBook) (t : TiesBook) (gathered : m ≡ record b { slots = map (unless p) b.slots }) (sp : IsSpread (StandsAt e.due t) m n) where

@@ -1,5 +1,8 @@
 //! Which key each source of each owner has.
 ghost use Rattle.std.specs.Prelude.{◌≡◌, ℕ, ◌+◌, ◌<◌, ◌≤◌, ◌==◌, ◌&&◌, cond, [], Option, None, Some, IfOk, OnOk, OnErr, IfSome, IfNone, IsOk};
+ghost use Rattle.std.proofs.Common.{rules};
+ghost use Rattle.std.specs.Cmp.Rules.{hashing};
+ghost use Rattle.std.specs.Hash as fed;
 ghost use Rattle.emu_model.specs.declared.sources.Source.{Source};
 ghost use Rattle.emu_model.specs.Laws.{same_source};
 ghost use Rattle.timer_wheel.specs.Index.{key_in, whose_of};
@@ -8,10 +11,11 @@ use crate::Owner;
 use emu_model::Source;
 use indexmap::IndexMap;
 use std::alloc::{AllocError, Global};
+use std::hash::{Hash, Hasher};
 use std::marker::Model;
 
 /// A source of an owner, in numbers, of which a hash is made.
-#[derive(Clone, Copy, PartialEq, Eq, Hash)]
+#[derive(Clone, Copy, PartialEq, Eq)]
 pub struct Whose {
     owner: Owner,
     class: u8,
@@ -31,6 +35,21 @@ impl Model for Index {
     ghost Value = { IndexBook };
 
     ghost view = { λ i. record { keys = i.map.entries; room = spare i.map } };
+}
+
+// One number is fed to the hash instead of three, since a source is looked up at each of its dues.
+impl Hash for Whose {
+    ghost use Rattle.std.specs.Prelude.{◌+◌, ◌*◌, ◌^◌, ◌%◌};
+
+    ghost hash_input = { λ w. fed.u64 ((w.owner * 2 ^ 40 % 2 ^ 64 + (w.class * 2 ^ 32 + w.number)) % 2 ^ 64) };
+
+    ghost respects_eq = { Prim.search (hashing, rules) };
+
+    fn hash<H: Hasher>(&self, state: &mut H) {
+        let source = u64::from(self.class) * (1 << 32) + u64::from(self.number);
+        let owner = (self.owner as u64).wrapping_mul(1 << 40);
+        state.write_u64(owner.wrapping_add(source));
+    }
 }
 
 impl Whose {

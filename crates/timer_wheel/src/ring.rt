@@ -1,5 +1,5 @@
 //! Lists of keys, linked both ways.
-ghost use Rattle.std.specs.Prelude.{◌≡◌, ◌≢◌, ℕ, ◌+◌, ◌<◌, ◌==◌, [], ◌∷◌, ◌++◌, cond, length, slice_get, slice_set, Some, IfOk, OnOk, OnErr, IfSome, IfNone};
+ghost use Rattle.std.specs.Prelude.{◌≡◌, ◌≢◌, ℕ, ◌+◌, ◌<◌, ◌==◌, [], ◌∷◌, ◌++◌, cond, length, slice_get, slice_set, Some, IfOk, OnOk, OnErr, IfSome, IfNone, IsTrue};
 ghost use Rattle.timer_wheel.specs.Rings.{next_of, prev_of, list_of};
 
 use std::alloc::{AllocError, Global};
@@ -159,6 +159,19 @@ impl Ring {
             return None;
         }
         Some(behind - LISTS)
+    }
+
+    /// Whether a list has no more than one key.
+    pub fn is_alone(&self, list: usize) -> bool
+        requires { list < 2051 }
+        ensures { IsTrue result → (j k : ℕ) → slice_get self.now j ≡ Some list → slice_get self.now k ≡ Some list → j ≡ k }
+    {
+        let behind = next(&self.links, list);
+        let before = prev(&self.links, list);
+        if behind != before {
+            return false;
+        }
+        true
     }
 
     /// Makes one key more, in a list.

@@ -1,5 +1,5 @@
 //! The slots of all levels, and three lists beside them.
-ghost use Rattle.std.specs.Prelude.{◌≡◌, ◌≢◌, ℕ, ◌<◌, [], ◌∷◌, ◌++◌, length, slice_get, slice_set, Some, IfOk, OnOk, OnErr, IfSome, IfNone};
+ghost use Rattle.std.specs.Prelude.{◌≡◌, ◌≢◌, ℕ, ◌<◌, [], ◌∷◌, ◌++◌, length, slice_get, slice_set, Some, IfOk, OnOk, OnErr, IfSome, IfNone, IsTrue};
 ghost use Rattle.timer_wheel.specs.Marks.{mark_at};
 
 use crate::marks::Marks;
@@ -98,6 +98,14 @@ impl Slots {
         ensures none { IfNone result ((k : ℕ) → slice_get self.now k ≢ Some list) }
     {
         self.keys.first(list)
+    }
+
+    /// Whether a list has no more than one key.
+    pub fn is_alone(&self, list: usize) -> bool
+        requires { list < 2051 }
+        ensures { IsTrue result → (j k : ℕ) → slice_get self.now j ≡ Some list → slice_get self.now k ≡ Some list → j ≡ k }
+    {
+        self.keys.is_alone(list)
     }
 
     /// Makes one key more, which holds nothing.

@@ -1,5 +1,5 @@
 //! Entries under keys: by source, by owner, and in slots.
-ghost use Rattle.std.specs.Prelude.{◌≡◌, ◌≢◌, ℕ, ◌<◌, ◌≤◌, ◌+◌, ◌==◌, ◌&&◌, ◌%◌, ◌⊎◌, cond, length, count_by, slice_get, slice_set, Option, Some, None, IfOk, OnOk, OnErr, IfSome, IfNone, IsOk, IsSome};
+ghost use Rattle.std.specs.Prelude.{◌≡◌, ◌≢◌, ℕ, ◌<◌, ◌≤◌, ◌+◌, ◌==◌, ◌&&◌, ◌%◌, ◌⊎◌, cond, length, count_by, slice_get, slice_set, Option, Some, None, IfOk, OnOk, OnErr, IfSome, IfNone, IsTrue, IsOk, IsSome};
 ghost use Rattle.emu_model.specs.declared.sources.Source.{Source};
 ghost use Rattle.emu_model.specs.Laws.{same_source};
 ghost use Rattle.timer_wheel.specs.declared.Entry.{Entry};
@@ -158,6 +158,14 @@ impl Stock {
         ensures none { IfNone result ((k : ℕ) → slice_get self.now.slots k ≢ Some list) }
     {
         self.slots.first_of(list)
+    }
+
+    /// Whether a list has no more than one key.
+    pub fn is_alone(&self, list: usize) -> bool
+        requires { list < 2051 }
+        ensures { IsTrue result → (j k : ℕ) → slice_get self.now.slots j ≡ Some list → slice_get self.now.slots k ≡ Some list → j ≡ k }
+    {
+        self.slots.is_alone(list)
     }
 
     /// Puts a key that holds an entry into another list.

@@ -1,5 +1,5 @@
 //! A hierarchical timing wheel, after Varghese and Lauck, "Hashed and hierarchical timing wheels" (1987).
-ghost use Rattle.std.specs.Prelude.{◌≡◌, ◌≢◌, ℕ, ◌<◌, ◌≤◌, ◌==◌, ◌&&◌, ◌⊎◌, cond, map, false, Some, None, length, slice_get, IfSome, IfNone, MatchOption, IsTrue, IsFalse};
+ghost use Rattle.std.specs.Prelude.{◌≡◌, ◌≢◌, ℕ, ◌<◌, ◌≤◌, ◌==◌, ◌&&◌, ◌⊎◌, cond, map, false, Some, None, length, slice_get, slice_set, IfSome, IfNone, MatchOption, IsTrue, IsFalse};
 ghost use Rattle.emu_model.specs.declared.sources.Source.{Source};
 ghost use Rattle.emu_model.specs.Laws.{same_source};
 ghost use Rattle.timer_wheel.specs.declared.Entry.{Entry};
@@ -27,8 +27,8 @@ use std::marker::Model;
 /// - `set` and `clear` move one key from list to list, whatever else is there, and look into the index, which
 ///   is by a hash. `set` of a source that has a due takes no memory.
 /// - `pop_least` looks at 32 words at most. Where the clock comes to a slot, it goes over its entries, and an
-///   entry goes down 7 times at most. Those of the clock's own moment are the ties: they are put in order once,
-///   and popped one by one. What is set to that moment afterwards stands in its slot, and is compared with the
+///   entry goes down 7 times at most. Those of the clock's own moment, where the slot has more than one entry,
+///   are the ties: they are put in order once, and popped one by one. What is set to that moment afterwards stands in its slot, and is compared with the
 ///   first tie at each pop.
 /// - `clear_owner` looks at the entries of the owners with its remainder by 2048, and `restart` at all.
 #[derive(Drop)]
@@ -155,6 +155,23 @@ fn waiting(stock: &Stock, ties: &mut Ties) -> Option<Tie>
     None
 }
 
+// Takes the only entry of a slot down to its place at its due. As a tie it would be moved twice, put in order and
+// looked up again for nothing.
+fn lift(stock: &mut Stock, from: usize) -> Entry
+    requires within { from < 2048 }
+    requires there { (k : ℕ) × (slice_get stock.old.slots k ≡ Some from) }
+    ensures { (k : ℕ) × Holds stock.old.entries stock.old.slots k result from
+        × (stock.new ≡ record stock.old { slots = slice_set stock.old.slots k (place_of result.due result.due) }) }
+{
+    stock.known();
+    let Some(key) = stock.first_of(from) else {
+        unreachable!()
+    };
+    let entry = stock.entry(key);
+    stock.put(key, place(entry.due, entry.due));
+    entry
+}
+
 // The least entry where no tie waits: of the first slot, whose entries go down.
 fn turn(stock: &mut Stock, ties: &mut Ties, clock: u64) -> Option<Entry>
     requires wheel { IsWheel clock stock.old ties.old }
@@ -164,6 +181,10 @@ fn turn(stock: &mut Stock, ties: &mut Ties, clock: u64) -> Option<Entry>
 {
     stock.known();
     let first = stock.first()?;
+    if stock.is_alone(first) {
+        ties.clear();
+        return Some(lift(stock, first));
+    }
     let Some(entry) = gather(stock, first) else {
         unreachable!()
     };

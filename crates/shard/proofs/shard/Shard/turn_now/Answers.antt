@@ -1,14 +1,12 @@
 use Rattle.std.proofs.Common.{◌≡◌, ℕ, ◌^◌, ◌<◌, List, length, get_or, set, Option, Some, None, IsSome, refl, sym, ap, ◌∙◌, arith, subst}
-use Rattle.std.specs.Prelude.{is_some, unwrap_or}
+use Rattle.std.specs.Prelude.{◌≢◌, IfSome, is_some}
 use Rattle.std.proofs.lemmas.List.{get_or_read, get_or-set_same, length-set}
-use Rattle.emu_model.specs.Net.{counters_of}
-use Rattle.experiment.specs.Kept.{view}
 use Rattle.packet_store.specs.Books.{pocket_of}
 use Rattle.shard.specs.declared.resident.Resident.{Resident}
 use Rattle.shard.specs.Stand.{Seating, seat_at}
 use Rattle.shard.specs.Kept.{IsKept}
 use Rattle.shard.proofs.Slots.{set-set}
-use Rattle.shard.specs.Seats.{resident_at, seat, seat_of, seats_of, IsShard}
+use Rattle.shard.specs.Seats.{IsDossierOf, resident_at, seat, seat_of, seats_of, IsShard}
 use Rattle.shard.proofs.SlotChanges.{read_at, seat_is, due_at, all_parked}
 use Rattle.shard.proofs.TurnFacts.{least, over, ended, Called, ran, gone}
 use Rattle.shard.proofs.shard.Shard.turn_now.Goals as goal
@@ -100,8 +98,8 @@ index_mut-requires-2 g c =
     let d = due_at g.M.Mail.seen (pocket_of s.store) (g.A.Agenda.entries s.agenda) (g.A.Agenda.time s.agenda) s.slots.items e.owner e.source e.due c.self.invariant c.in-Some.ensures.was in
     omega (arith, d.within, s.slots.ok.0)
 
-pub unreachable-requires-in_default-replace : goal.unreachable-requires-in_default-replace
-unreachable-requires-in_default-replace g c =
+pub take_ended-requires-clause-there : goal.take_ended-requires-clause-there
+take_ended-requires-clause-there g c =
     let s = c.self.inside in
     let e = c.in-Some.entry in
     let r = c.in-Some-index_mut.resident in
@@ -114,12 +112,11 @@ unreachable-requires-in_default-replace g c =
     let after = pocket_of c.step-event.new.store in
     let middle : ℕ = g.A.Agenda.time c.move_to_least.new.self in
     let long : e.owner < length (set s.slots.items e.owner (Some t)) = omega (arith, d.within, length-set s.slots.items e.owner (Some t)) in
-    let none : None ≡ get_or (set s.slots.items e.owner (Some t)) e.owner None = c.in_default-replace.ensures.value ∙ get_or_read (set s.slots.items e.owner (Some t)) e.owner c.index_mut-2.result.now long c.index_mut-2.ensures.value None in
-    let some = none ∙ get_or-set_same s.slots.items e.owner (Some t) None d.within in
-    absurd (cc)
+    let there : c.index_mut-2.result.now ≡ Some t = get_or_read (set s.slots.items e.owner (Some t)) e.owner c.index_mut-2.result.now long c.index_mut-2.ensures.value None ∙ get_or-set_same s.slots.items e.owner (Some t) None d.within in
+    ap is_some there
 
-pub end-requires-clause-kept : goal.end-requires-clause-kept
-end-requires-clause-kept g c =
+pub take_ended-requires-clause-kept : goal.take_ended-requires-clause-kept
+take_ended-requires-clause-kept g c =
     let s = c.self.inside in
     let e = c.in-Some.entry in
     let r = c.in-Some-index_mut.resident in
@@ -132,14 +129,13 @@ end-requires-clause-kept g c =
     let after = pocket_of c.step-event.new.store in
     let middle : ℕ = g.A.Agenda.time c.move_to_least.new.self in
     let long : e.owner < length (set s.slots.items e.owner (Some t)) = omega (arith, d.within, length-set s.slots.items e.owner (Some t)) in
-    let read = read_at (set s.slots.items e.owner (Some t)) e.owner c.index_mut-2.result.now c.in-Some-replace.gone long c.index_mut-2.ensures.value c.in-Some-replace.ensures.value in
-    let same : c.in-Some-replace.gone ≡ t = ap (λ (o : Option (Resident _)). unwrap_or o t) (sym read ∙ get_or-set_same s.slots.items e.owner (Some t) None d.within) in
+    let there : c.index_mut-2.result.now ≡ Some t = get_or_read (set s.slots.items e.owner (Some t)) e.owner c.index_mut-2.result.now long c.index_mut-2.ensures.value None ∙ get_or-set_same s.slots.items e.owner (Some t) None d.within in
     let left = over g.M.Mail.seen c.step-event.result (pocket_of s.store r.owner) r (after r.owner) (g.A.Agenda.entries c.step-event.new.agenda e.owner) middle t (sym c.eq.ensures ∙ c.if-eq.false) c.step-event.ensures.steps in
-    subst (λ (x : Resident _). IsKept g.M.Mail.seen (after x.owner) x.experiment x.published x.mail) (sym same)
+    subst (λ (x : Option (Resident _)). IfSome x (λ y. IsKept g.M.Mail.seen (after y.owner) y.experiment y.published y.mail)) (sym there)
     (subst (λ o. IsKept g.M.Mail.seen (after o) t.experiment t.published t.mail) (sym left.1.owner) left.1.kept)
 
-pub end-requires-clause-ended : goal.end-requires-clause-ended
-end-requires-clause-ended g c =
+pub take_ended-requires-clause-ended : goal.take_ended-requires-clause-ended
+take_ended-requires-clause-ended g c =
     let s = c.self.inside in
     let e = c.in-Some.entry in
     let r = c.in-Some-index_mut.resident in
@@ -152,10 +148,9 @@ end-requires-clause-ended g c =
     let after = pocket_of c.step-event.new.store in
     let middle : ℕ = g.A.Agenda.time c.move_to_least.new.self in
     let long : e.owner < length (set s.slots.items e.owner (Some t)) = omega (arith, d.within, length-set s.slots.items e.owner (Some t)) in
-    let read = read_at (set s.slots.items e.owner (Some t)) e.owner c.index_mut-2.result.now c.in-Some-replace.gone long c.index_mut-2.ensures.value c.in-Some-replace.ensures.value in
-    let same : c.in-Some-replace.gone ≡ t = ap (λ (o : Option (Resident _)). unwrap_or o t) (sym read ∙ get_or-set_same s.slots.items e.owner (Some t) None d.within) in
+    let there : c.index_mut-2.result.now ≡ Some t = get_or_read (set s.slots.items e.owner (Some t)) e.owner c.index_mut-2.result.now long c.index_mut-2.ensures.value None ∙ get_or-set_same s.slots.items e.owner (Some t) None d.within in
     let left = over g.M.Mail.seen c.step-event.result (pocket_of s.store r.owner) r (after r.owner) (g.A.Agenda.entries c.step-event.new.agenda e.owner) middle t (sym c.eq.ensures ∙ c.if-eq.false) c.step-event.ensures.steps in
-    subst (λ (x : Resident _). IsSome x.experiment.ending) (sym same) (ap is_some left.1.ending_is)
+    subst (λ (x : Option (Resident _)). IfSome x (λ y. IsSome y.experiment.ending)) (sym there) (ap is_some left.1.ending_is)
 
 pub invariant_of-self-2 : goal.invariant_of-self-2
 invariant_of-self-2 g c =
@@ -171,8 +166,7 @@ invariant_of-self-2 g c =
     let after = pocket_of c.step-event.new.store in
     let middle : ℕ = g.A.Agenda.time c.move_to_least.new.self in
     let long : e.owner < length (set s.slots.items e.owner (Some t)) = omega (arith, d.within, length-set s.slots.items e.owner (Some t)) in
-    let read = read_at (set s.slots.items e.owner (Some t)) e.owner c.index_mut-2.result.now c.in-Some-replace.gone long c.index_mut-2.ensures.value c.in-Some-replace.ensures.value in
-    let same : c.in-Some-replace.gone ≡ t = ap (λ (o : Option (Resident _)). unwrap_or o t) (sym read ∙ get_or-set_same s.slots.items e.owner (Some t) None d.within) in
+    let there : c.index_mut-2.result.now ≡ Some t = get_or_read (set s.slots.items e.owner (Some t)) e.owner c.index_mut-2.result.now long c.index_mut-2.ensures.value None ∙ get_or-set_same s.slots.items e.owner (Some t) None d.within in
     let left = over g.M.Mail.seen c.step-event.result (pocket_of s.store r.owner) r (after r.owner) (g.A.Agenda.entries c.step-event.new.agenda e.owner) middle t (sym c.eq.ensures ∙ c.if-eq.false) c.step-event.ensures.steps in
     let later = g.A.Agenda.entries c.clear_owner.new.self in
     let time : ℕ = g.A.Agenda.time c.clear_owner.new.self in
@@ -181,11 +175,11 @@ invariant_of-self-2 g c =
       at = record { is = is; within = omega (arith, d.within, c.self.invariant.long); rows_stay = λ o n. c.clear_owner.ensures.others o n ∙ c.step-event.ensures.rows o n ∙ was.entries o; pockets_stay = c.step-event.ensures.others };
       on = record { on = omega (arith, was.rises, timed); early = omega (arith, pop.early, timed) };
     } in
-    let owner : c.in-Some-replace.gone.owner ≡ r.owner = ap (λ (x : Resident _). x.owner) same ∙ left.1.owner in
-    let h = gone g.M.Mail.seen (pocket_of s.store) after (pocket_of c.end.new.store) (g.A.Agenda.entries s.agenda) later clock time s.slots.items e.owner r c.self.invariant a c.clear_owner.ensures.cleared (λ o n. c.end.ensures.others o (λ x. n (x ∙ owner))) in
-    let cleared : set (set s.slots.items e.owner (Some t)) e.owner c.replace.new.dest ≡ set s.slots.items e.owner None =
-    ap (set (set s.slots.items e.owner (Some t)) e.owner) c.replace.ensures.after ∙ set-set s.slots.items e.owner (Some t) None in
-    subst (λ (l : List (Option (Resident _))). IsShard g.M.Mail.seen (pocket_of c.end.new.store) later time l) (sym cleared) h.shard
+    let others = subst (λ (x : Option (Resident _)). IfSome x (λ y. (o : ℕ) → o ≢ y.owner → pocket_of c.take_ended.new.store o ≡ after o)) there c.take_ended.ensures.others in
+    let h = gone g.M.Mail.seen (pocket_of s.store) after (pocket_of c.take_ended.new.store) (g.A.Agenda.entries s.agenda) later clock time s.slots.items e.owner r c.self.invariant a c.clear_owner.ensures.cleared (λ o n. others o (λ x. n (x ∙ left.1.owner))) in
+    let cleared : set (set s.slots.items e.owner (Some t)) e.owner c.take_ended.new.place ≡ set s.slots.items e.owner None =
+    ap (set (set s.slots.items e.owner (Some t)) e.owner) c.take_ended.ensures.gone ∙ set-set s.slots.items e.owner (Some t) None in
+    subst (λ (l : List (Option (Resident _))). IsShard g.M.Mail.seen (pocket_of c.take_ended.new.store) later time l) (sym cleared) h.shard
 
 pub returns : goal.returns
 returns g c =
@@ -201,8 +195,7 @@ returns g c =
     let after = pocket_of c.step-event.new.store in
     let middle : ℕ = g.A.Agenda.time c.move_to_least.new.self in
     let long : e.owner < length (set s.slots.items e.owner (Some t)) = omega (arith, d.within, length-set s.slots.items e.owner (Some t)) in
-    let read = read_at (set s.slots.items e.owner (Some t)) e.owner c.index_mut-2.result.now c.in-Some-replace.gone long c.index_mut-2.ensures.value c.in-Some-replace.ensures.value in
-    let same : c.in-Some-replace.gone ≡ t = ap (λ (o : Option (Resident _)). unwrap_or o t) (sym read ∙ get_or-set_same s.slots.items e.owner (Some t) None d.within) in
+    let there : c.index_mut-2.result.now ≡ Some t = get_or_read (set s.slots.items e.owner (Some t)) e.owner c.index_mut-2.result.now long c.index_mut-2.ensures.value None ∙ get_or-set_same s.slots.items e.owner (Some t) None d.within in
     let left = over g.M.Mail.seen c.step-event.result (pocket_of s.store r.owner) r (after r.owner) (g.A.Agenda.entries c.step-event.new.agenda e.owner) middle t (sym c.eq.ensures ∙ c.if-eq.false) c.step-event.ensures.steps in
     let later = g.A.Agenda.entries c.clear_owner.new.self in
     let time : ℕ = g.A.Agenda.time c.clear_owner.new.self in
@@ -211,37 +204,18 @@ returns g c =
       at = record { is = is; within = omega (arith, d.within, c.self.invariant.long); rows_stay = λ o n. c.clear_owner.ensures.others o n ∙ c.step-event.ensures.rows o n ∙ was.entries o; pockets_stay = c.step-event.ensures.others };
       on = record { on = omega (arith, was.rises, timed); early = omega (arith, pop.early, timed) };
     } in
-    let owner : c.in-Some-replace.gone.owner ≡ r.owner = ap (λ (x : Resident _). x.owner) same ∙ left.1.owner in
-    let h = gone g.M.Mail.seen (pocket_of s.store) after (pocket_of c.end.new.store) (g.A.Agenda.entries s.agenda) later clock time s.slots.items e.owner r c.self.invariant a c.clear_owner.ensures.cleared (λ o n. c.end.ensures.others o (λ x. n (x ∙ owner))) in
-    let cleared : set (set s.slots.items e.owner (Some t)) e.owner c.replace.new.dest ≡ set s.slots.items e.owner None =
-    ap (set (set s.slots.items e.owner (Some t)) e.owner) c.replace.ensures.after ∙ set-set s.slots.items e.owner (Some t) None in
-    let ends = subst (λ (x : Resident _). x.experiment.ending ≡ Some c.end.result.ending) same c.end.ensures.ending in
-    let rest = subst (λ (x : Resident _). (let v = view (after x.owner) x.experiment in c.end.result ≡ record {
-      name = x.name;
-      spec = x.experiment.spec;
-      commands = x.experiment.consumed;
-      records = v.net.records;
-      counters = counters_of v.net;
-      ending = c.end.result.ending;
-      events = v.steps;
-      mail = x.mail;
-    })) same c.end.ensures.rest in
-    let rest' = subst (λ o. (let v = view (after o) t.experiment in c.end.result ≡ record {
-      name = t.name;
-      spec = t.experiment.spec;
-      commands = t.experiment.consumed;
-      records = v.net.records;
-      counters = counters_of v.net;
-      ending = c.end.result.ending;
-      events = v.steps;
-      mail = t.mail;
-    })) left.1.owner rest in (
+    let others = subst (λ (x : Option (Resident _)). IfSome x (λ y. (o : ℕ) → o ≢ y.owner → pocket_of c.take_ended.new.store o ≡ after o)) there c.take_ended.ensures.others in
+    let h = gone g.M.Mail.seen (pocket_of s.store) after (pocket_of c.take_ended.new.store) (g.A.Agenda.entries s.agenda) later clock time s.slots.items e.owner r c.self.invariant a c.clear_owner.ensures.cleared (λ o n. others o (λ x. n (x ∙ left.1.owner))) in
+    let cleared : set (set s.slots.items e.owner (Some t)) e.owner c.take_ended.new.place ≡ set s.slots.items e.owner None =
+    ap (set (set s.slots.items e.owner (Some t)) e.owner) c.take_ended.ensures.gone ∙ set-set s.slots.items e.owner (Some t) None in
+    let ends = subst (λ (x : Option (Resident _)). IfSome x (λ y. IsDossierOf (after y.owner) y c.take_ended.result)) there c.take_ended.ensures.ends in
+    let dossier = subst (λ o. IsDossierOf (after o) t c.take_ended.result) left.1.owner ends in (
       e.owner,
       seat (pocket_of s.store r.owner) r,
       record {
         was = seat_is (pocket_of s.store) s.slots.items c.args.self.now.seats e.owner r (ap (λ (x : Seating _). x.seats) c.self.view_is) is;
         ready = pop.ready;
-        end = ended g.M.Mail.seen (pocket_of s.store r.owner) (after r.owner) left.0 r t c.end.result left.1 ends rest';
-        others = ap (seats_of (pocket_of c.end.new.store)) cleared ∙ h.seats ∙ ap (λ (x : Seating _). set x.seats e.owner None) c.self.view_is;
+        end = ended g.M.Mail.seen (pocket_of s.store r.owner) (after r.owner) left.0 r t c.take_ended.result left.1 dossier;
+        others = ap (seats_of (pocket_of c.take_ended.new.store)) cleared ∙ h.seats ∙ ap (λ (x : Seating _). set x.seats e.owner None) c.self.view_is;
       },
     )
