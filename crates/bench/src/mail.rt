@@ -1,7 +1,7 @@
 //! A mail over two rings, whose other ends a tenant has.
 
 use emu_model::{Record, Timed};
-use rtrb::{Consumer, Producer, Protocol, PushError};
+use rtrb::{Consumer, Producer, Protocol};
 use shard::Mail;
 use std::alloc::Global;
 
@@ -57,9 +57,11 @@ impl Mail for RingMail {
     }
 
     fn letter(&mut self, news: Record) -> Result<(), Record> {
-        match self.to.push(News { letter: news }) {
-            Ok(()) => Ok(()),
-            Err(PushError::Full(back)) => Err(back.letter),
+        // Asked first, so that a letter for which there is no room isn't copied.
+        if self.to.is_full() {
+            return Err(news);
         }
+        self.to.push_reserved(News { letter: news });
+        Ok(())
     }
 }

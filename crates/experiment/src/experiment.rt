@@ -179,6 +179,7 @@ impl Experiment {
         requires { IsHousedIn (S.pocket shelf.old owner) self.old }
         ensures housed { IsHousedIn (S.pocket shelf.new owner) self.new }
         ensures makes { Makes result (S.pocket shelf.old owner) self.old (S.pocket shelf.new owner) self.new }
+        ensures halted { result ≡ Event.Halted → (self.old.ending ≡ None) × IsSome self.old.next }
         ensures alone { IsAlone (S.pocket shelf.old owner) self.old → IsAlone (S.pocket shelf.new owner) self.new }
         ensures grows { IsAlone (S.pocket shelf.old owner) self.old → (more : List Entry) × (self.new.net.log.records ≡ self.old.net.log.records ++ more) }
         ensures consumed { self.new.consumed ≡ self.old.consumed }

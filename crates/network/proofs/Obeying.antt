@@ -1,5 +1,5 @@
 -- A command is done, or refused.
-use Rattle.std.proofs.Common.{◌≡◌, ℕ, zero, suc, ◌/◌, ◌%◌, Bool, true, false, cond, refl, sym, ap, ◌∙◌, subst, List, [], ◌∷◌, ◌++◌, length, map, Option, Some, None, arith}
+use Rattle.std.proofs.Common.{◌≡◌, ℕ, zero, suc, ◌/◌, ◌%◌, Bool, true, false, cond, refl, sym, ap, ◌∙◌, subst, List, [], ◌∷◌, ◌++◌, length, map, Option, Some, None, IsSome, arith}
 use Rattle.std.specs.Prelude.{is_some}
 use Rattle.std.specs.Option.{option_map_or}
 use Rattle.emu_model.specs.declared.commands.Command.{Command}
@@ -195,3 +195,8 @@ ready-shown o p old mid n still same is = (λ i. net_of (same i) (is i)) ∙ sti
 pub event-exit : (at : Setting) (k : ℕ) (m : Net) → (k ≡ 0 → ⊥) → event_of at Exit k m ≡ option_map_or (pipe_exits at (k / 256) (k % 256) m) (find_pipe (k / 256) m) m
 event-exit at zero m h = absurd (h refl)
 event-exit at (suc k) m h = refl
+
+-- what isn't there isn't some
+pub none-there : {X : Type 0} (o : Option X) → o ≡ None → IsSome o → ⊥
+none-there None e some = absurd (cc)
+none-there (Some x) e some = absurd (cc)

@@ -1,11 +1,14 @@
 -- What needs no memory, where the shelf has room for a packet.
-use Rattle.std.specs.Prelude.{◌≡◌, ◌<◌, true, false, Some}
+use Rattle.std.specs.Prelude.{◌≡◌, ◌<◌, true, false, Some, IsSome}
+use Rattle.emu_model.specs.declared.commands.Command.{Command}
+use Rattle.emu_model.specs.declared.commands.Command.TheVariants.{Delete, PipeDelete, Stop, OnePass, End}
 use Rattle.emu_model.specs.declared.packets.Load.{Load}
 use Rattle.emu_model.specs.declared.packets.Load.TheVariants.{Plain, Seg, Ack}
 use Rattle.emu_model.specs.declared.packets.Packet.{Packet}
 use Rattle.emu_model.specs.declared.rules.Verdict.{Verdict}
 use Rattle.emu_model.specs.declared.rules.Verdict.TheVariants.{Allow, Deny, Pipe}
 use Rattle.emu_model.specs.declared.sources.SendSpec.{SendSpec}
+use Rattle.emu_model.specs.Commands.{refusal_of}
 use Rattle.emu_model.specs.Rules.{verdict, start_behind}
 use Rattle.emu_model.specs.Net.{Net, packet_of}
 use Rattle.pipe_table.specs.Table.{HasRoomIn}
@@ -45,3 +48,12 @@ CanDeliver (Ack k upto) n = Unit {0}
 pub record CanLeave (packet : Packet) (n : KeptNet) : Type 0 where
   pub delivered : n.one_pass ≡ true → CanDeliver packet.load n
   pub goes_on : n.one_pass ≡ false → IsReady (verdict_behind packet n) packet n
+
+-- a command that takes no memory but for its records: it is refused, or changes what is there
+abbrev pub TakesNoMemory : Command → Net → Type 0
+TakesNoMemory (Delete k) n = Unit {0}
+TakesNoMemory (Stop k) n = Unit {0}
+TakesNoMemory (OnePass on) n = Unit {0}
+TakesNoMemory End n = Unit {0}
+TakesNoMemory (PipeDelete k) n = ⊥
+TakesNoMemory c n = IsSome (refusal_of c n)

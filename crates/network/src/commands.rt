@@ -1,11 +1,14 @@
 //! What commands do.
 
-ghost use Rattle.std.specs.Prelude.{◌≡◌, ◌≢◌, ℕ, ◌+◌, ◌*◌, ◌^◌, ◌<◌, ◌≤◌, ◌++◌, ◌∷◌, [], Some, None, OnOk, OnErr, map, length};
+ghost use Rattle.std.specs.Prelude.{◌≡◌, ◌≢◌, ℕ, ◌+◌, ◌*◌, ◌^◌, ◌<◌, ◌≤◌, ◌++◌, ◌∷◌, [], Some, None, IsOk, IsSome, OnOk, OnErr, map, length};
 ghost use Rattle.emu_model.specs.declared.commands.Command.TheVariants.{Add, Delete, Config, PipeDelete, PipeShow, Show, Inject, Train, Flow, Stop, OnePass, End};
 ghost use Rattle.emu_model.specs.declared.records.Record.TheVariants.{CommandDone, CommandRefused, RuleLine};
-ghost use Rattle.emu_model.specs.Commands.{obey as obeyed};
+ghost use Rattle.emu_model.specs.Commands.{obey as obeyed, config_refusal, source_refusal};
+ghost use Rattle.emu_model.specs.Rules.{add_refusal};
+ghost use Rattle.packet_store.specs.Pocket.{Pocket};
 ghost use Rattle.network.specs.Kept.{net_of, setting_of, Stands};
 ghost use Rattle.network.specs.Changes.{Becomes, IsStill, Notes, Obeys};
+ghost use Rattle.network.specs.Ready.{TakesNoMemory};
 
 use crate::events::MOST_RECORDS;
 use crate::state::{Moment, Network};
@@ -38,6 +41,7 @@ impl Network {
             (S.pocket shelf.old owner) (S.pocket shelf.new owner) self.old self.new) }
         ensures room { OnOk result (0 < self.new.log.spare) }
         ensures refused { OnErr result (IsStill self.old self.new) }
+        ensures succeeds { TakesNoMemory command.now (net_of (S.pocket shelf.old owner) self.old) → 3 ≤ self.old.log.spare → IsOk result }
         ensures refused_pocket { OnErr result (S.pocket shelf.new owner ≡ S.pocket shelf.old owner) }
         ensures others { (o : ℕ) → o ≢ owner → S.pocket shelf.new o ≡ S.pocket shelf.old o }
     {
@@ -95,6 +99,7 @@ impl Network {
         ensures ok { OnOk result (Obeys (setting_of at) number (Add rule.now) self.old self.new) }
         ensures room { OnOk result (0 < self.new.log.spare) }
         ensures refused { OnErr result (IsStill self.old self.new) }
+        ensures succeeds { IsSome (add_refusal rule.now self.old.book) → IsOk result }
     {
         match self.book.add(*rule) {
             Ok(()) => {
@@ -115,6 +120,7 @@ impl Network {
         ensures ok { OnOk result (Obeys (setting_of at) number (Delete rule) self.old self.new) }
         ensures room { OnOk result (0 < self.new.log.spare) }
         ensures refused { OnErr result (IsStill self.old self.new) }
+        ensures succeeds { IsOk result }
     {
         match self.book.delete(rule) {
             Ok(()) => {
@@ -140,6 +146,7 @@ impl Network {
         ensures ok { OnOk result (Obeys (setting_of at) number (Config pipe config.now) self.old self.new) }
         ensures room { OnOk result (0 < self.new.log.spare) }
         ensures refused { OnErr result (IsStill self.old self.new) }
+        ensures succeeds { (p : Pocket) → IsSome (config_refusal pipe config.now (net_of p self.old)) → IsOk result }
     {
         match self.table.configure(pipe, config) {
             Ok(()) => {
@@ -254,6 +261,7 @@ impl Network {
         ensures ok { OnOk result (Obeys (setting_of at) number (Train source train.now) self.old self.new) }
         ensures room { OnOk result (0 < self.new.log.spare) }
         ensures refused { OnErr result (IsStill self.old self.new) }
+        ensures succeeds { (p : Pocket) → IsSome (source_refusal source (net_of p self.old)) → IsOk result }
     {
         if let Some(refusal) = self.traffic.refusal(source) {
             self.refuse(at.now, number, refusal);
@@ -278,6 +286,7 @@ impl Network {
         ensures ok { OnOk result (Obeys (setting_of at) number (Flow source flow.now) self.old self.new) }
         ensures room { OnOk result (0 < self.new.log.spare) }
         ensures refused { OnErr result (IsStill self.old self.new) }
+        ensures succeeds { (p : Pocket) → IsSome (source_refusal source (net_of p self.old)) → IsOk result }
     {
         if let Some(reason) = self.traffic.refusal(source) {
             self.refuse(at.now, number, reason);
@@ -296,6 +305,7 @@ impl Network {
         ensures ok { OnOk result (Obeys (setting_of at) number (Stop flow) self.old self.new) }
         ensures room { OnOk result (0 < self.new.log.spare) }
         ensures refused { OnErr result (IsStill self.old self.new) }
+        ensures succeeds { IsOk result }
     {
         if !self.traffic.has_flow(flow) {
             self.refuse(at.now, number, Refusal::NoFlow);
@@ -312,6 +322,7 @@ impl Network {
         ensures ok { OnOk result (Obeys (setting_of at) number (OnePass one_pass) self.old self.new) }
         ensures room { OnOk result (0 < self.new.log.spare) }
         ensures refused { OnErr result (IsStill self.old self.new) }
+        ensures succeeds { IsOk result }
     {
         self.one_pass = one_pass;
         self.done(at.now, number);
@@ -324,6 +335,7 @@ impl Network {
         ensures ok { OnOk result (Obeys (setting_of at) number End self.old self.new) }
         ensures room { OnOk result (0 < self.new.log.spare) }
         ensures refused { OnErr result (IsStill self.old self.new) }
+        ensures succeeds { IsOk result }
     {
         self.done(at.now, number);
         Ok(())

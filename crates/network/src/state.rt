@@ -1,6 +1,6 @@
 //! What an experiment holds.
 
-ghost use Rattle.std.specs.Prelude.{◌≡◌, ℕ, ◌+◌, ◌<◌, ◌≤◌, ◌∷◌, [], IfOk, OnOk};
+ghost use Rattle.std.specs.Prelude.{◌≡◌, ℕ, ◌+◌, ◌<◌, ◌≤◌, ◌∷◌, [], IfOk, IsOk, OnOk};
 ghost use Rattle.emu_model.specs.Net.{opening_net};
 ghost use Rattle.packet_store.specs.Pocket.{Pocket};
 ghost use Rattle.network.specs.Kept.{net_of, net_keys};
@@ -99,6 +99,7 @@ impl Network {
         ensures records { self.new.log.records ≡ self.old.log.records }
         ensures still { IsStill self.old self.new }
         ensures ready { OnOk result (additional ≤ self.new.log.spare) }
+        ensures succeeds { additional ≤ self.old.log.spare → IsOk result }
     {
         if self.log.reserve(additional).is_err() {
             return Err(NoMemory);

@@ -26,6 +26,10 @@ pub fn append_number(out: &mut Vec<u8>, number: u64)
     ensures room { spare out.old ≤ spare out.new + 20 }
     ensures capacity { vec_capacity out.old ≤ vec_capacity out.new }
 {
+    // Half of all numbers are a flow, a pipe or an instance of one digit.
+    if number < 10 {
+        return append(out, &[b'0' + number as u8]);
+    }
     let mut buffer = Buffer::new();
     append(out, buffer.format(number).as_bytes());
 }

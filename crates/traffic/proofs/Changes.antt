@@ -1,11 +1,13 @@
 -- What one changed flow or train leaves of a net.
-use Rattle.std.proofs.Common.{◌≡◌, ℕ, ◌<◌, ◌==◌, Bool, List, length, get_or, set, map, sym, ◌∙◌, ap, subst}
-use Rattle.std.specs.Prelude.{Some, None, option_map, position, find}
+use Rattle.std.proofs.Common.{◌≡◌, ℕ, zero, suc, ◌<◌, ◌≤◌, ◌==◌, Bool, true, false, nat_lt, cond, List, [], ◌∷◌, length, get_or, set, map, sym, ◌∙◌, ap, subst, arith}
+use Rattle.std.specs.Prelude.{Option, Some, None, option_map, position, find}
+use Rattle.std.specs.Option.{option_map_or}
+use Rattle.std.proofs.lemmas.Bool.Decides.{nat_tests}
 use Rattle.std.proofs.Math.ListN.{get_or-map}
 use Rattle.std.proofs.lemmas.List.{map-set, set-get_or}
 use Rattle.std.proofs.lemmas.List.Folds.{find-set}
 use Rattle.std.proofs.lemmas.Bool.{eqb-true, eq-eqb}
-use Rattle.emu_model.specs.Net.{Net, TrainState, find_flow, put_flow, find_train, put_train}
+use Rattle.emu_model.specs.Net.{Net, FlowState, TrainState, find_flow, put_flow, find_train, put_train}
 use Rattle.emu_model.specs.Lists.{replace_first}
 use Rattle.traffic.specs.Kept.{KeptFlow, KeptTraffic, states_of, with_traffic, AreNumbers, IsSound}
 use Rattle.traffic.proofs.Places.{IsPlace, place_from_some, past_from_none, find_place, passes_place, find_past_all, replace_place, find-map, replace_first-map}
@@ -118,3 +120,26 @@ sound_train fs ts i u v h at e =
     let same : map num (set ts i v) ≡ map num ts =
     map-set num ts i v ∙ ap (set (map num ts) i) (e ∙ ap num at ∙ sym (get_or-map num ts i u)) ∙ set-get_or (map num ts) i u.number in
     subst (λ xs. AreNumbers (map (λ f. f.state.number) fs) xs) (sym same) h
+
+-- whether a receiver, if there is one, takes any segment without memory
+abbrev roomy : Option KeptFlow → Bool
+roomy o = option_map_or (λ f. nat_lt 0 f.room) o true
+
+same_first : (b : Bool) (x : KeptFlow) (o q : Option KeptFlow) → (roomy o ≡ true → roomy q ≡ true) → roomy (cond b (Some x) o) ≡ true → roomy (cond b (Some x) q) ≡ true
+same_first true x o q keep h = h
+same_first false x o q keep h = keep h
+
+more_first : (b : Bool) (x g : KeptFlow) (o : Option KeptFlow) → x.room ≤ g.room → roomy (cond b (Some x) o) ≡ true → roomy (cond b (Some g) o) ≡ true
+more_first true x g o more h = grind (arith, nat_tests, h, more)
+more_first false x g o more h = h
+
+-- where one flow's room only grew, no flow's room is gone
+pub room_kept : (k : ℕ) (fs : List KeptFlow) (i : ℕ) (f g : KeptFlow) → i < length fs → f ≡ get_or fs i f → g.state ≡ f.state → f.room ≤ g.room →
+    roomy (find (has_number k) fs) ≡ true → roomy (find (has_number k) (set fs i g)) ≡ true
+room_kept k [] i f g below at same more h = absurd (omega arith)
+room_kept k (x ∷ xs) zero f g below at same more h =
+    let number : has_number k x ≡ has_number k g = ap (λ (s : FlowState). s.number == k) (ap (λ (y : KeptFlow). y.state) (sym at) ∙ sym same) in
+    subst (λ b. roomy (cond b (Some g) (find (has_number k) xs)) ≡ true) number
+    (more_first (has_number k x) x g (find (has_number k) xs) (subst (λ (y : KeptFlow). y.room ≤ g.room) at more) h)
+room_kept k (x ∷ xs) (suc i) f g below at same more h =
+    same_first (has_number k x) x (find (has_number k) xs) (find (has_number k) (set xs i g)) (room_kept k xs i f g (omega arith) at same more) h

@@ -1,6 +1,6 @@
 //! A flow: its sender and its receiver.
 
-ghost use Rattle.std.specs.Prelude.{◌≡◌, ℕ, ◌+◌, ◌*◌, ◌^◌, ◌<◌, ◌≤◌, ◌++◌, option_to_list, true, OnOk, IfSome, IfNone};
+ghost use Rattle.std.specs.Prelude.{◌≡◌, ℕ, ◌+◌, ◌*◌, ◌^◌, ◌<◌, ◌≤◌, ◌++◌, option_to_list, true, OnOk, IfSome, IfNone, OnErr};
 ghost use Rattle.emu_model.specs.Dues.{flow_dues};
 ghost use Rattle.emu_model.specs.Net.{Net, Setting, put_flow, note, data_send, ack_send, take_ack as acknowledged};
 ghost use Rattle.emu_model.specs.Reno.{emit as sent, emitted, expire as expired, with_segment, missing};
@@ -140,6 +140,8 @@ impl Flow {
     pub(crate) fn take_ready(&mut self, first: u64) -> Result<(), AllocError>
         ensures ready { OnOk result (0 < self.new.room) }
         ensures state { self.new.state ≡ self.old.state }
+        ensures grows { self.old.room ≤ self.new.room }
+        ensures refused { OnErr result (self.old.room ≡ 0) }
     {
         self.receiver.take_ready(first)
     }

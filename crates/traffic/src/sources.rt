@@ -1,6 +1,6 @@
 //! All flows and trains.
 
-ghost use Rattle.std.specs.Prelude.{◌≡◌, ℕ, ◌+◌, ◌*◌, ◌^◌, ◌<◌, ◌≤◌, ◌++◌, [], is_some, option_map, position, ◌==◌, IfNone, OnOk, OnErr};
+ghost use Rattle.std.specs.Prelude.{◌≡◌, ℕ, ◌+◌, ◌*◌, ◌^◌, ◌<◌, ◌≤◌, ◌++◌, [], is_some, option_map, position, ◌==◌, IfNone, IsOk, OnOk, OnErr};
 ghost use Rattle.std.specs.Option.{option_map_or};
 ghost use Rattle.std.specs.List.{best_of};
 ghost use Rattle.emu_model.specs.declared.records.Record.TheVariants.{AckTaken, TimerExpired};
@@ -181,6 +181,8 @@ impl Traffic {
     /// Makes the growth of a `take` of any segment of this flow. Only room changes.
     pub fn take_ready(&mut self, number: FlowNumber, first: u64) -> Result<(), AllocError>
         ensures ready { OnOk result (HasRoomFor number self.new) }
+        ensures others { (k : ℕ) → HasRoomFor k self.old → HasRoomFor k self.new }
+        ensures succeeds { HasRoomFor number self.old → IsOk result }
         ensures same { (n : Net) → with_traffic self.new n ≡ with_traffic self.old n }
     {
         let Some(place) = self.flow_place(number) else {

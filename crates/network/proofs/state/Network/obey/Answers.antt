@@ -1,8 +1,9 @@
-use Rattle.std.proofs.Common.{sym, subst}
+use Rattle.std.proofs.Common.{IsSome, sym, subst}
 use Rattle.emu_model.specs.declared.commands.Command.TheVariants.{Add, Delete, Config, PipeDelete, PipeShow, Show, Inject, Train, Flow, Stop, OnePass, End}
-use Rattle.emu_model.specs.Commands.{obey}
+use Rattle.emu_model.specs.Commands.{obey, source_refusal}
 use Rattle.network.specs.Kept.{net_of, setting_of}
 use Rattle.network.specs.Changes.{Becomes, Obeys}
+use Rattle.network.specs.Ready.{TakesNoMemory}
 use Rattle.network.proofs.Steps.{still-housed}
 use Rattle.network.proofs.Sources.{on_ok}
 use Rattle.network.proofs.Obeying.{from_still}
@@ -128,3 +129,17 @@ returns-in-End-clause-ok g c =
     on_ok (Obeys at c.args.number End n c.end.new.self) (Becomes 1 (obey at c.args.number c.args.command.now (net_of p old)) p p old c.end.new.self) c.end.result
     (λ b. subst (λ (cm : Command). Becomes 1 (obey at c.args.number cm (net_of p old)) p p old c.end.new.self) (sym c.in-End.is)
     (from_still (obey at c.args.number End) 1 p p old n c.end.new.self c.requires.stands.housed c.reserve.ensures.still (b p (still-housed p old n c.requires.stands.housed c.reserve.ensures.still)))) c.end.ensures.ok
+
+pub returns-in-Train-clause-succeeds : goal.returns-in-Train-clause-succeeds
+returns-in-Train-clause-succeeds g c =
+    let p = g.S.Shelf.pocket c.args.shelf.now c.args.owner in
+    λ asks room.
+    let some : IsSome (source_refusal c.in-Train.source (net_of p c.args.self.now)) = subst (λ x. TakesNoMemory x (net_of p c.args.self.now)) c.in-Train.is asks in
+    c.start_train.ensures.succeeds p (subst (λ n. IsSome (source_refusal c.in-Train.source (net_of p n))) (sym c.in_ok-reserve.ensures.rest) some)
+
+pub returns-in-Flow-clause-succeeds : goal.returns-in-Flow-clause-succeeds
+returns-in-Flow-clause-succeeds g c =
+    let p = g.S.Shelf.pocket c.args.shelf.now c.args.owner in
+    λ asks room.
+    let some : IsSome (source_refusal c.in-Flow.source (net_of p c.args.self.now)) = subst (λ x. TakesNoMemory x (net_of p c.args.self.now)) c.in-Flow.is asks in
+    c.start_flow.ensures.succeeds p (subst (λ n. IsSome (source_refusal c.in-Flow.source (net_of p n))) (sym c.in_ok-reserve.ensures.rest) some)

@@ -1,9 +1,9 @@
-use Rattle.std.proofs.Common.{true, nat_lt, sym, ◌∙◌, ap}
-use Rattle.std.specs.Prelude.{OnOk}
+use Rattle.std.proofs.Common.{◌≡◌, ℕ, refl, true, nat_lt, sym, ◌∙◌, ap, subst}
+use Rattle.std.specs.Prelude.{IsOk, OnOk, OnErr}
 use Rattle.std.specs.Option.{option_map_or}
 use Rattle.emu_model.specs.Net.{FlowState}
-use Rattle.traffic.specs.Kept.{KeptFlow}
-use Rattle.traffic.proofs.Changes.{flow_at, no_first, sound_flow}
+use Rattle.traffic.specs.Kept.{KeptFlow, HasRoomFor}
+use Rattle.traffic.proofs.Changes.{flow_at, no_first, room_kept, sound_flow}
 use Rattle.std.specs.Prelude.{Result, Ok, Err}
 use Rattle.std.proofs.lemmas.Bool.{lt-ltb}
 use Rattle.traffic.specs.Leaves.{expiry_due, emission_due}
@@ -13,6 +13,10 @@ use Rattle.traffic.proofs.sources.Traffic.take_ready.Goals as goal
 on_ok : {T E : Type 0} (P Q : Type 0) (r : Result T E) → (P → Q) → OnOk r P → OnOk r Q
 on_ok P Q (Ok x) f h = f h
 on_ok P Q (Err e) f h = h
+
+unrefused : {T E : Type 0} (r : Result T E) (n : ℕ) → OnErr r (n ≡ 0) → nat_lt 0 n ≡ true → IsOk r
+unrefused (Ok x) n e h = refl
+unrefused (Err x) n e h = let bad : nat_lt 0 0 ≡ true = ap (nat_lt 0) (sym e) ∙ h in absurd (cc)
 
 pub returns-in_default-clause-ready : goal.returns-in_default-clause-ready
 returns-in_default-clause-ready c =
@@ -43,3 +47,20 @@ returns-clause-same c = λ n.
     let f = c.index_mut-flow.result.now in
     let at = flow_at c.args.number c.args.self.now fs ts c.in-Some.place f c.self.view_is (sym c.in-Some.is ∙ c.flow_place.ensures) c.index_mut-flow.ensures.value in
     at.still c.take_ready.new.self n c.take_ready.ensures.state
+
+pub returns-clause-others : goal.returns-clause-others
+returns-clause-others c k room =
+    let fs = c.self.inside.flows.items in
+    let ts = c.self.inside.trains.items in
+    let f = c.index_mut-flow.result.now in
+    let at = flow_at c.args.number c.args.self.now fs ts c.in-Some.place f c.self.view_is (sym c.in-Some.is ∙ c.flow_place.ensures) c.index_mut-flow.ensures.value in
+    room_kept k fs c.in-Some.place f c.take_ready.new.self at.within c.index_mut-flow.ensures.value c.take_ready.ensures.state c.take_ready.ensures.grows (subst (HasRoomFor k) (sym c.self.view_is) room)
+
+pub returns-clause-succeeds : goal.returns-clause-succeeds
+returns-clause-succeeds c room =
+    let fs = c.self.inside.flows.items in
+    let ts = c.self.inside.trains.items in
+    let f = c.index_mut-flow.result.now in
+    let at = flow_at c.args.number c.args.self.now fs ts c.in-Some.place f c.self.view_is (sym c.in-Some.is ∙ c.flow_place.ensures) c.index_mut-flow.ensures.value in
+    unrefused c.take_ready.result f.room c.take_ready.ensures.refused
+    (sym (ap (λ o. option_map_or (λ (f : KeptFlow). nat_lt 0 f.room) o true) at.first) ∙ room)
