@@ -1,4 +1,6 @@
 pub mod Counted
 pub mod InOrder
+pub mod Joining
 pub mod Order
+pub mod Parting
 pub mod Walk

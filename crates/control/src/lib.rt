@@ -2,10 +2,12 @@
 #![tactic(auto)]
 
 mod fault;
+mod laws;
 mod reading;
 mod scenario;
 
 pub use fault::{Cause, Fault, ParseError};
+pub use laws::{texts_join, texts_part, texts_spell_one};
 pub use reading::parse_scenario;
 pub use scenario::{CommandList, Experiment, ExperimentName, Scenario};
 

@@ -88,6 +88,13 @@ inside_only : Laws → (line : List ℕ) (l : Line) (e other : Entry) → shape_
 inside_only laws line l e other s w (inl h) = absurd (true_false (sym h.0 ∙ unskipped (words line) l (line_found laws (words line) l s)))
 inside_only laws line l e other s w (inr h) = sym (same_Some e other (sym w ∙ ap line_within (sym (one_line laws (words line) l h.0 s h.1)) ∙ h.2))
 
+-- a line that says something is skipped, or is one line
+pub says_one : Laws → (line : List ℕ) (e other : Entry) → Says line e → Says line other → e ≡ other
+says_one laws line e other (inl h) (inl k) = h.1 ∙ sym k.1
+says_one laws line e other (inl h) (inr k) = absurd (true_false (sym h.0 ∙ unskipped (words line) k.0 k.1))
+says_one laws line e other (inr h) (inl k) = absurd (true_false (sym k.0 ∙ unskipped (words line) h.0 h.1))
+says_one laws line e other (inr h) (inr k) = sym (inside_only laws line h.0 e other (line_again laws (words line) h.0 h.1) h.2 (inr k))
+
 inside_fine : Laws → (line : List ℕ) (l : Line) (e : Entry) → length line ≤ 512 → list_all is_printable line ≡ true → shape_of (words line) ≡ Some l → line_within l ≡ Some e → (c : LineFault) → StandsAlone c line → ⊥
 inside_fine laws line l e le p s w TooLong h = omega (arith, le, h)
 inside_fine laws line l e le p s w BadByte h = true_false (sym p ∙ h)

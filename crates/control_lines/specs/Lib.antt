@@ -1,4 +1,5 @@
-pub mod Grammar
-pub mod Shape
-pub mod Ranges
 pub mod Entries
+pub mod Grammar
+pub mod Laws
+pub mod Ranges
+pub mod Shape

@@ -2,9 +2,11 @@
 //! of ipfw(8)). A line is read by its shape first, and then each number by its range.
 #![tactic(auto)]
 
+mod laws;
 mod line;
 mod ranges;
 mod raw;
 mod shape;
 
+pub use laws::lines_say_one;
 pub use line::{LineEntry, LineFault, read_line};

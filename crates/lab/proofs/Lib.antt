@@ -1,5 +1,6 @@
 pub mod Answering
 pub mod Endings
+pub mod Joined
 pub mod Ownings
 pub mod ReadFacts
 pub mod Reporting

@@ -1,5 +1,6 @@
 pub mod Bytes
-pub mod Runs
-pub mod Reports
+pub mod Laws
 pub mod Plans
+pub mod Reports
+pub mod Runs
 pub mod Serving
