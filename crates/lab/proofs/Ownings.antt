@@ -1,5 +1,5 @@
 -- What a tenant's own dossier says of its experiment.
-use Rattle.std.proofs.Common.{◌≡◌, ℕ, ◌≤◌, List, [], ◌++◌, length, take, drop, Some, IsSome, sym, ap, subst, ◌∙◌}
+use Rattle.std.proofs.Common.{◌≡◌, ◌≤◌, List, ◌++◌, length, take, drop, Some, IsSome, sym, ap, subst, ◌∙◌}
 use Rattle.std.proofs.lemmas.List.{take-append-drop, append_assoc}
 use Rattle.std.proofs.Math.Seq.{take-append_seam, take-length}
 use Rattle.emu_model.specs.declared.commands.Spec.{Spec}
@@ -7,7 +7,7 @@ use Rattle.emu_model.specs.declared.commands.Timed.{Timed}
 use Rattle.emu_model.specs.declared.records.Ending.{Ending}
 use Rattle.emu_model.specs.declared.records.Ending.TheVariants.{Ended, Spent, Halted}
 use Rattle.emu_model.specs.Net.{counters_of}
-use Rattle.emu_model.specs.Alone.{Trace, alone, trace_of}
+use Rattle.emu_model.specs.Alone.{alone, trace_of}
 use Rattle.emu_model.specs.Laws.{TakesSteps, LaterCommandsWait}
 use Rattle.experiment.specs.Kept.{shown_ending}
 use Rattle.control.specs.declared.scenario.Experiment.{Experiment}

@@ -1,6 +1,7 @@
 pub mod Bytes
 pub mod Laws
-pub mod Plans
-pub mod Reports
+pub mod Troubles
 pub mod Runs
+pub mod Reports
+pub mod Plans
 pub mod Serving

@@ -1,5 +1,5 @@
 -- What the calls of the program read and write.
-use Rattle.std.specs.Prelude.{◌≡◌, ℕ, List, [], ◌∷◌, ◌++◌, length, map, sum, flat_map, codes, decimal, Option, IfSome, Result, Ok, Err, Bool, true}
+use Rattle.std.specs.Prelude.{ℕ, List, [], ◌∷◌, ◌++◌, length, map, sum, flat_map, codes, decimal, Option, IfSome, Result, Ok, Err, Bool, true, false}
 use Rattle.std.specs.Io.KnownBytes.{Appends, Keeps}
 use Rattle.emu_model.specs.Alone.{Trace, alone, trace_of}
 use Rattle.report.specs.Lines.{report_of}
@@ -52,26 +52,31 @@ Calls says read old new (Err faults.Memory) = Keeps old new
 Calls says read old new (Err faults.Strange) = Keeps old new
 Calls says read old new (Err faults.Gate) = Keeps old new
 
--- a device is blamed only where it has noted a failure
-abbrev pub Blames : Bool → Bool → Result (Unit {0}) RunFault → Type 0
-Blames reader writer (Err faults.Read) = reader ≡ true
-Blames reader writer (Err faults.Write) = writer ≡ true
-Blames reader writer _ = Unit {0}
+-- whether the reader has failed after a call that answers this
+abbrev pub reader_failed : {T : Type 0} → Result T RunFault → Bool
+reader_failed (Err faults.Read) = true
+reader_failed _ = false
+
+-- whether the writer has, which had failed before or not; it is reached by these two answers alone
+abbrev pub writer_failed : {T : Type 0} → Bool → Result T RunFault → Bool
+writer_failed old (Ok _) = false
+writer_failed old (Err faults.Write) = true
+writer_failed old (Err _) = old
 
 -- a fault of reading alone
-abbrev pub IsInputFault : Bool → RunFault → Type 0
-IsInputFault failed faults.Read = failed ≡ true
-IsInputFault failed faults.Memory = Unit {0}
-IsInputFault failed _ = ⊥
+abbrev pub IsInputFault : RunFault → Type 0
+IsInputFault faults.Read = Unit {0}
+IsInputFault faults.Memory = Unit {0}
+IsInputFault _ = ⊥
 
 -- what was read of a text spells these experiments
 abbrev pub Reads : Option (List ℕ) → List Experiment → Type 0
 Reads read es = IfSome read (λ text. Spells text es)
 
-abbrev pub ReadsFault : Option (List ℕ) → Bool → RunFault → Type 0
-ReadsFault read failed (faults.Scenario f) = IfSome read (λ text. HasFault text f)
-ReadsFault read failed faults.Read = failed ≡ true
-ReadsFault read failed faults.Write = ⊥
-ReadsFault read failed faults.Memory = Unit {0}
-ReadsFault read failed faults.Strange = ⊥
-ReadsFault read failed faults.Gate = ⊥
+abbrev pub ReadsFault : Option (List ℕ) → RunFault → Type 0
+ReadsFault read (faults.Scenario f) = IfSome read (λ text. HasFault text f)
+ReadsFault read faults.Read = Unit {0}
+ReadsFault read faults.Write = ⊥
+ReadsFault read faults.Memory = Unit {0}
+ReadsFault read faults.Strange = ⊥
+ReadsFault read faults.Gate = ⊥

@@ -1,12 +1,12 @@
 //! `run_alone`, `run` and `check`: all is read before any step, and all steps are made before anything is written.
 
-ghost use Rattle.std.specs.Prelude.{◌≡◌, ◌≤◌, ◌⊎◌, length, sum, map, IfOk, IfErr, Err, All, true};
+ghost use Rattle.std.specs.Prelude.{◌≡◌, ◌≢◌, ◌≤◌, length, sum, map, IfOk, IfErr, Err, All, true};
 ghost use Rattle.control.specs.Order.{AreInOrder};
 ghost use Rattle.lab.specs.Plans.{IsOwnFault};
-ghost use Rattle.lab.specs.Reports.{reports, tally, Calls, Blames, Reads, ReadsFault};
+ghost use Rattle.lab.specs.Reports.{reports, tally, Calls, Reads, ReadsFault, reader_failed, writer_failed};
 
 use crate::alone::run_all;
-use crate::device::Device;
+use crate::ends::{Inlet, Outlet, flush_all, write_all};
 use crate::fault::RunFault;
 use crate::input::read_text;
 use crate::output::Buffer;
@@ -16,21 +16,17 @@ use crate::together::run_together;
 use control::{Experiment, ParseError, Scenario, parse_scenario};
 use itoa::Buffer as Digits;
 use std::alloc::{AllocError, Global};
-use std::io::{Read, Write};
 use std::sync::Wait;
 use std::thread::Threads;
 
 // Reads a scenario.
 #[tactic(auto, using(crate::proofs::ReadFacts::read_spells, crate::proofs::ReadFacts::read_faults))]
-fn read_scenario<R: Read + Drop>(
-    alloc: Global,
-    reader: &mut Device<R>,
-) -> Result<Scenario, RunFault>
-    ensures read { IfOk result (λ es. Reads (R.remaining reader.old.inner) es) }
+fn read_scenario<R: Inlet>(alloc: Global, reader: &mut R) -> Result<Scenario, RunFault>
+    ensures read { IfOk result (λ es. Reads (R.remaining reader.old) es) }
     ensures in_order { IfOk result (λ es. All (λ e. AreInOrder 0 e.commands) es) }
     ensures few { IfOk result (λ es. sum (map (λ e. length e.commands) es) ≤ 16777216) }
-    ensures fault { IfErr result (λ e. ReadsFault (R.remaining reader.old.inner) reader.new.failed e) }
-    ensures noted { (result ≡ Err RunFault.Read) ⊎ (reader.new.failed ≡ reader.old.failed) }
+    ensures fault { IfErr result (λ e. ReadsFault (R.remaining reader.old) e) }
+    ensures failed { R.failed reader.new ≡ reader_failed result }
 {
     let text = read_text(alloc, reader)?;
     match parse_scenario(alloc, text.as_slice()) {
@@ -43,15 +39,15 @@ fn read_scenario<R: Read + Drop>(
 /// Reads a scenario and runs each of its experiments by itself; then writes their reports in its order.
 /// A `Scenario` fault is that of the text. After `Write` some first bytes of the reports were written,
 /// after any other fault none.
-pub fn run_alone<R: Read + Drop, W: Write + Drop>(
+pub fn run_alone<R: Inlet, W: Outlet>(
     alloc: Global,
-    reader: &mut Device<R>,
-    writer: &mut Device<W>,
+    reader: &mut R,
+    writer: &mut W,
 ) -> Result<(), RunFault>
-    ensures calls { Calls reports (R.remaining reader.old.inner) (W.contents writer.old.inner) (W.contents writer.new.inner) result }
-    ensures blames { Blames reader.new.failed writer.new.failed result }
-    ensures noted_read { (result ≡ Err RunFault.Read) ⊎ (reader.new.failed ≡ reader.old.failed) }
-    ensures noted_write { (result ≡ Err RunFault.Write) ⊎ (writer.new.failed ≡ writer.old.failed) }
+    ensures calls { Calls reports (R.remaining reader.old) (W.contents writer.old) (W.contents writer.new) result }
+    ensures read { R.failed reader.new ≡ reader_failed result }
+    ensures write { W.failed writer.new ≡ writer_failed (W.failed writer.old) result }
+    ensures untouched { IfErr result (λ e. e ≢ RunFault.Write → writer.new ≡ writer.old) }
     ensures own { IfErr result IsOwnFault }
 {
     run_alone_told(alloc, reader, writer, &Silent)
@@ -59,16 +55,16 @@ pub fn run_alone<R: Read + Drop, W: Write + Drop>(
 
 /// `run_alone`, with somebody who is told how far it is.
 #[tactic(auto, using(crate::proofs::Endings::reports_written, crate::proofs::Endings::reports_cut, crate::proofs::Endings::reports_cut_after))]
-pub fn run_alone_told<R: Read + Drop, W: Write + Drop, P: Progress>(
+pub fn run_alone_told<R: Inlet, W: Outlet, P: Progress>(
     alloc: Global,
-    reader: &mut Device<R>,
-    writer: &mut Device<W>,
+    reader: &mut R,
+    writer: &mut W,
     progress: &P,
 ) -> Result<(), RunFault>
-    ensures calls { Calls reports (R.remaining reader.old.inner) (W.contents writer.old.inner) (W.contents writer.new.inner) result }
-    ensures blames { Blames reader.new.failed writer.new.failed result }
-    ensures noted_read { (result ≡ Err RunFault.Read) ⊎ (reader.new.failed ≡ reader.old.failed) }
-    ensures noted_write { (result ≡ Err RunFault.Write) ⊎ (writer.new.failed ≡ writer.old.failed) }
+    ensures calls { Calls reports (R.remaining reader.old) (W.contents writer.old) (W.contents writer.new) result }
+    ensures read { R.failed reader.new ≡ reader_failed result }
+    ensures write { W.failed writer.new ≡ writer_failed (W.failed writer.old) result }
+    ensures untouched { IfErr result (λ e. e ≢ RunFault.Write → writer.new ≡ writer.old) }
     ensures own { IfErr result IsOwnFault }
 {
     let scenario = read_scenario(alloc, reader)?;
@@ -92,18 +88,18 @@ pub fn run_alone_told<R: Read + Drop, W: Write + Drop, P: Progress>(
 /// reports in its order: just what `run_alone` writes, whatever the plan and the gate. Its faults are those of
 /// `run_alone`; `Memory` also where a thread can't be started, `Gate` only where the gate said so, `Strange` where a
 /// dossier is nobody's, there is none or there are two, or an experiment was lost.
-pub fn run<H: Threads + Wait + Sync, R: Read + Drop, W: Write + Drop, G: Gate>(
+pub fn run<H: Threads + Wait + Sync, R: Inlet, W: Outlet, G: Gate>(
     rt: &H,
     alloc: Global,
-    reader: &mut Device<R>,
-    writer: &mut Device<W>,
+    reader: &mut R,
+    writer: &mut W,
     plan: Plan,
     gate: &G,
 ) -> Result<(), RunFault>
-    ensures calls { Calls reports (R.remaining reader.old.inner) (W.contents writer.old.inner) (W.contents writer.new.inner) result }
-    ensures blames { Blames reader.new.failed writer.new.failed result }
-    ensures noted_read { (result ≡ Err RunFault.Read) ⊎ (reader.new.failed ≡ reader.old.failed) }
-    ensures noted_write { (result ≡ Err RunFault.Write) ⊎ (writer.new.failed ≡ writer.old.failed) }
+    ensures calls { Calls reports (R.remaining reader.old) (W.contents writer.old) (W.contents writer.new) result }
+    ensures read { R.failed reader.new ≡ reader_failed result }
+    ensures write { W.failed writer.new ≡ writer_failed (W.failed writer.old) result }
+    ensures untouched { IfErr result (λ e. e ≢ RunFault.Write → writer.new ≡ writer.old) }
     ensures gate { result ≡ Err RunFault.Gate → G.may_refuse ≡ true }
 {
     run_told(rt, alloc, reader, writer, plan, gate, &Silent)
@@ -111,25 +107,19 @@ pub fn run<H: Threads + Wait + Sync, R: Read + Drop, W: Write + Drop, G: Gate>(
 
 /// `run`, with somebody who is told how many experiments have ended.
 #[tactic(auto, using(crate::proofs::Endings::reports_written, crate::proofs::Endings::reports_cut, crate::proofs::Endings::reports_cut_after))]
-pub fn run_told<
-    H: Threads + Wait + Sync,
-    R: Read + Drop,
-    W: Write + Drop,
-    G: Gate,
-    P: Progress + Sync,
->(
+pub fn run_told<H: Threads + Wait + Sync, R: Inlet, W: Outlet, G: Gate, P: Progress + Sync>(
     rt: &H,
     alloc: Global,
-    reader: &mut Device<R>,
-    writer: &mut Device<W>,
+    reader: &mut R,
+    writer: &mut W,
     plan: Plan,
     gate: &G,
     progress: &P,
 ) -> Result<(), RunFault>
-    ensures calls { Calls reports (R.remaining reader.old.inner) (W.contents writer.old.inner) (W.contents writer.new.inner) result }
-    ensures blames { Blames reader.new.failed writer.new.failed result }
-    ensures noted_read { (result ≡ Err RunFault.Read) ⊎ (reader.new.failed ≡ reader.old.failed) }
-    ensures noted_write { (result ≡ Err RunFault.Write) ⊎ (writer.new.failed ≡ writer.old.failed) }
+    ensures calls { Calls reports (R.remaining reader.old) (W.contents writer.old) (W.contents writer.new) result }
+    ensures read { R.failed reader.new ≡ reader_failed result }
+    ensures write { W.failed writer.new ≡ writer_failed (W.failed writer.old) result }
+    ensures untouched { IfErr result (λ e. e ≢ RunFault.Write → writer.new ≡ writer.old) }
     ensures gate { result ≡ Err RunFault.Gate → G.may_refuse ≡ true }
 {
     let scenario = read_scenario(alloc, reader)?;
@@ -178,25 +168,25 @@ fn tally_line(alloc: Global, plans: &[Experiment]) -> Result<Vec<u8>, AllocError
 /// Reads a scenario and writes `ok`, how many experiments and how many commands it has. The faults are
 /// those of `run_alone`.
 #[tactic(auto, using(crate::proofs::Endings::written, crate::proofs::Endings::cut, crate::proofs::Endings::cut_after))]
-pub fn check<R: Read + Drop, W: Write + Drop>(
+pub fn check<R: Inlet, W: Outlet>(
     alloc: Global,
-    reader: &mut Device<R>,
-    writer: &mut Device<W>,
+    reader: &mut R,
+    writer: &mut W,
 ) -> Result<(), RunFault>
-    ensures calls { Calls tally (R.remaining reader.old.inner) (W.contents writer.old.inner) (W.contents writer.new.inner) result }
-    ensures blames { Blames reader.new.failed writer.new.failed result }
-    ensures noted_read { (result ≡ Err RunFault.Read) ⊎ (reader.new.failed ≡ reader.old.failed) }
-    ensures noted_write { (result ≡ Err RunFault.Write) ⊎ (writer.new.failed ≡ writer.old.failed) }
+    ensures calls { Calls tally (R.remaining reader.old) (W.contents writer.old) (W.contents writer.new) result }
+    ensures read { R.failed reader.new ≡ reader_failed result }
+    ensures write { W.failed writer.new ≡ writer_failed (W.failed writer.old) result }
+    ensures untouched { IfErr result (λ e. e ≢ RunFault.Write → writer.new ≡ writer.old) }
     ensures own { IfErr result IsOwnFault }
 {
     let scenario = read_scenario(alloc, reader)?;
     let Ok(line) = tally_line(alloc, scenario.experiments()) else {
         return Err(RunFault::Memory);
     };
-    let Ok(()) = writer.write_all(line.as_slice()) else {
+    let Ok(()) = write_all(writer, line.as_slice()) else {
         return Err(RunFault::Write);
     };
-    let Ok(()) = writer.flush() else {
+    let Ok(()) = flush_all(writer) else {
         return Err(RunFault::Write);
     };
     Ok(())

@@ -1,25 +1,22 @@
-//! Readers and writers that tell whether they failed.
+//! Readers and writers of std as ends of ours. Here alone std's errors are seen.
 
-ghost use Rattle.std.specs.Prelude.{◌≡◌, ◌<◌, ◌≤◌, true, false, length, drop, OnOk, OnErr, IfOk};
-ghost use Rattle.std.specs.Io.KnownBytes.{Appends, Keeps, ReadConsumes, WriteAppends};
-ghost use Rattle.lab.specs.Bytes.{IsCut};
+ghost use Rattle.std.specs.Prelude.{◌≡◌, ◌<◌, ◌+◌, ◌≢◌, ◌↔◌, true, false};
+ghost use Rattle.std.specs.IoError.{error_kind};
 
-use std::io::{ErrorKind, Read, Write};
+use crate::ends::{Inlet, Outlet, Trouble};
+use std::io::{Error, ErrorKind, Read, Write};
 
-/// How often a call that was interrupted is made again.
-const TURNS: u32 = u32::MAX;
+/// How many calls in a row can be interrupted.
+const PATIENCE: u32 = u32::MAX;
 
-/// A reader or a writer, and whether one of its calls failed: it answered an error other than
-/// `Interrupted`, or that one without end, or took no byte of some.
+/// A reader or a writer of std. It fails where a call of it answers an error other than `Interrupted`, or that one
+/// too often in a row, and where it takes no byte of some. From then on it isn't called.
 #[derive(Drop)]
 pub struct Device<T: Drop> {
     inner: T,
     failed: bool,
+    patience: u32,
 }
-
-/// The device failed.
-#[derive(Drop)]
-pub struct Failed;
 
 impl<T: Drop> Device<T> {
     /// A device that hasn't failed.
@@ -27,13 +24,23 @@ impl<T: Drop> Device<T> {
         ensures inner { result.inner ≡ inner }
         ensures failed { result.failed ≡ false }
     {
+        Device::with_patience(inner, PATIENCE)
+    }
+
+    /// A device that hasn't failed, of which so many calls can be interrupted at first.
+    pub(crate) fn with_patience(inner: T, patience: u32) -> Self
+        ensures inner { result.inner ≡ inner }
+        ensures failed { result.failed ≡ false }
+        ensures patience { result.patience ≡ patience }
+    {
         Device {
             inner,
             failed: false,
+            patience,
         }
     }
 
-    /// Whether one of its calls failed.
+    /// Whether it has failed.
     pub fn has_failed(&self) -> bool
         ensures { result ≡ self.now.failed }
     {
@@ -47,87 +54,84 @@ impl<T: Drop> Device<T> {
         let Device { inner, .. } = self;
         inner
     }
-}
 
-impl<R: Read + Drop> Device<R> {
-    /// Reads some bytes, none only at the end or where there is no room for any.
-    pub(crate) fn read(&mut self, room: &mut [u8]) -> Result<usize, Failed>
-        ensures bound { IfOk result (λ n. n ≤ length room.new) }
-        ensures bytes { ReadConsumes (R.remaining self.old.inner) (R.remaining self.new.inner) result room.new }
-        ensures fine { OnOk result (self.new.failed ≡ self.old.failed) }
-        ensures failed { OnErr result (self.new.failed ≡ true) }
+    // Notes a failure.
+    fn fail(&mut self) -> Trouble
+        ensures same { self.new.inner ≡ self.old.inner }
+        ensures failed { self.new.failed ≡ true }
+        ensures result { result ≡ Trouble.Failed }
     {
-        for _ in 0..TURNS {
-            match self.inner.read(room) {
-                Ok(count) => return Ok(count),
-                Err(error) if error.kind() == ErrorKind::Interrupted => {}
-                Err(_) => break,
-            }
-        }
         self.failed = true;
-        Err(Failed)
+        Trouble::Failed
+    }
+
+    // Notes what an error says.
+    fn note(&mut self, error: &Error) -> Trouble
+        ensures same { self.new.inner ≡ self.old.inner }
+        ensures kind { (result ≡ Trouble.Interrupted) ↔ ((error_kind error.now ≡ ErrorKind.Interrupted) × (0 < self.old.patience)) }
+        ensures again { result ≡ Trouble.Interrupted → (self.new.failed ≡ self.old.failed) × (self.new.patience + 1 ≡ self.old.patience) }
+        ensures failed { result ≡ Trouble.Failed → self.new.failed ≡ true }
+    {
+        if self.patience == 0 || error.kind() != ErrorKind::Interrupted {
+            return self.fail();
+        }
+        self.patience -= 1;
+        Trouble::Interrupted
     }
 }
 
-// The bytes behind the first ones.
-fn past(bytes: &[u8], count: usize) -> &[u8]
-    requires { count ≤ length bytes.now }
-    ensures { result.now ≡ drop count bytes.now }
-{
-    &bytes[count..]
+impl<R: Read + Drop> Inlet for Device<R> {
+    ghost remaining = { λ d. R.remaining d.inner };
+
+    ghost failed = { λ d. d.failed };
+
+    ghost patience = { λ d. d.patience };
+
+    fn read(&mut self, room: &mut [u8]) -> Result<usize, Trouble> {
+        if self.failed {
+            return Err(Trouble::Failed);
+        }
+        match self.inner.read(room) {
+            Ok(count) => {
+                self.patience = PATIENCE;
+                Ok(count)
+            }
+            Err(error) => Err(self.note(&error)),
+        }
+    }
 }
 
-impl<W: Write + Drop> Device<W> {
-    // Writes some of these bytes, and at least one.
-    fn write_some(&mut self, bytes: &[u8]) -> Result<usize, Failed>
-        requires { 0 < length bytes.now }
-        ensures bound { IfOk result (λ n. (0 < n) × (n ≤ length bytes.now)) }
-        ensures bytes { WriteAppends (W.contents self.old.inner) (W.contents self.new.inner) result bytes.now }
-        ensures fine { OnOk result (self.new.failed ≡ self.old.failed) }
-        ensures failed { OnErr result (self.new.failed ≡ true) }
-    {
-        for _ in 0..TURNS {
-            match self.inner.write(bytes) {
-                Ok(0) => break,
-                Ok(count) => return Ok(count),
-                Err(error) if error.kind() == ErrorKind::Interrupted => {}
-                Err(_) => break,
-            }
+impl<W: Write + Drop> Outlet for Device<W> {
+    ghost contents = { λ d. W.contents d.inner };
+
+    ghost failed = { λ d. d.failed };
+
+    ghost patience = { λ d. d.patience };
+
+    fn write(&mut self, bytes: &[u8]) -> Result<usize, Trouble> {
+        if self.failed {
+            return Err(Trouble::Failed);
         }
-        self.failed = true;
-        Err(Failed)
+        match self.inner.write(bytes) {
+            Ok(0) => Err(self.fail()),
+            Ok(count) => {
+                self.patience = PATIENCE;
+                Ok(count)
+            }
+            Err(error) => Err(self.note(&error)),
+        }
     }
 
-    /// Writes all of these bytes, or some first ones of them where it fails.
-    #[tactic(auto, using(crate::proofs::Writing::writing_all, crate::proofs::Writing::writing_past, crate::proofs::Writing::writing_done_as, crate::proofs::Writing::writing_cut))]
-    pub(crate) fn write_all(&mut self, bytes: &[u8]) -> Result<(), Failed>
-        ensures bytes { OnOk result (Appends (W.contents self.old.inner) (W.contents self.new.inner) bytes.now) }
-        ensures cut { OnErr result (IsCut (W.contents self.old.inner) (W.contents self.new.inner) bytes.now) }
-        ensures fine { OnOk result (self.new.failed ≡ self.old.failed) }
-        ensures failed { OnErr result (self.new.failed ≡ true) }
-    {
-        let mut rest = bytes;
-        while !rest.is_empty() {
-            let count = self.write_some(rest)?;
-            rest = past(rest, count);
+    fn flush(&mut self) -> Result<(), Trouble> {
+        if self.failed {
+            return Err(Trouble::Failed);
         }
-        Ok(())
-    }
-
-    /// Hands on what the writer itself still keeps.
-    pub(crate) fn flush(&mut self) -> Result<(), Failed>
-        ensures bytes { Keeps (W.contents self.old.inner) (W.contents self.new.inner) }
-        ensures fine { OnOk result (self.new.failed ≡ self.old.failed) }
-        ensures failed { OnErr result (self.new.failed ≡ true) }
-    {
-        for _ in 0..TURNS {
-            match self.inner.flush() {
-                Ok(()) => return Ok(()),
-                Err(error) if error.kind() == ErrorKind::Interrupted => {}
-                Err(_) => break,
+        match self.inner.flush() {
+            Ok(()) => {
+                self.patience = PATIENCE;
+                Ok(())
             }
+            Err(error) => Err(self.note(&error)),
         }
-        self.failed = true;
-        Err(Failed)
     }
 }

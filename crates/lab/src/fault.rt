@@ -9,10 +9,10 @@ pub enum RunFault {
     /// What was read spells no scenario.
     #[error("{0}")]
     Scenario(Fault),
-    /// The reader answered an error.
+    /// The reader failed.
     #[error("read")]
     Read,
-    /// The writer answered an error, or took nothing.
+    /// The writer failed.
     #[error("write")]
     Write,
     /// Memory was refused, or a thread can't be started.

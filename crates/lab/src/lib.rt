@@ -4,6 +4,7 @@
 mod alone;
 mod calls;
 mod device;
+mod ends;
 mod fault;
 mod input;
 mod laws;
@@ -19,6 +20,7 @@ mod worker;
 pub use alone::Outcome;
 pub use calls::{check, run, run_alone, run_alone_told, run_told};
 pub use device::Device;
+pub use ends::{Inlet, Outlet, Trouble};
 pub use fault::RunFault;
 pub use laws::reports_join;
 pub use plan::{Gate, OpenGate, Plan};

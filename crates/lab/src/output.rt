@@ -1,17 +1,16 @@
 //! Writing the reports, by way of a buffer that finds its room before the first byte is written.
 
-ghost use Rattle.std.specs.Prelude.{◌≡◌, ◌+◌, ◌≤◌, ◌++◌, [], true, length, flat_map, IfOk, OnOk, OnErr};
+ghost use Rattle.std.specs.Prelude.{◌≡◌, ◌+◌, ◌≤◌, ◌++◌, [], true, is_err, length, flat_map, IfOk, OnOk, OnErr};
 ghost use Rattle.report.specs.Lines.{line_of, heading_of, counters_of};
 ghost use Rattle.lab.specs.Bytes.{Puts, Stops};
 ghost use Rattle.lab.specs.Reports.{reports_with, report_with};
 
 use crate::alone::Outcome;
-use crate::device::{Device, Failed};
+use crate::ends::{Failed, Outlet, flush_all, write_all};
 use control::Experiment as Plan;
 use emu_model::{Counters, Record};
 use report::{write_counters, write_record};
 use std::alloc::{AllocError, Global};
-use std::io::Write;
 use std::marker::Model;
 
 /// How many bytes are kept back before they are written.
@@ -47,26 +46,24 @@ impl Buffer {
 
     // Writes all that is kept.
     #[tactic(auto, using(crate::proofs::Writing::puts_out_as, crate::proofs::Writing::stops_out))]
-    fn hand_on<W: Write + Drop>(&mut self, writer: &mut Device<W>) -> Result<(), Failed>
-        ensures ok { OnOk result (Puts (W.contents writer.old.inner) self.old (W.contents writer.new.inner) self.new []) }
+    fn hand_on<W: Outlet>(&mut self, writer: &mut W) -> Result<(), Failed>
+        ensures ok { OnOk result (Puts (W.contents writer.old) self.old (W.contents writer.new) self.new []) }
         ensures empty { OnOk result (self.new ≡ []) }
-        ensures cut { OnErr result (Stops (W.contents writer.old.inner) self.old (W.contents writer.new.inner) []) }
-        ensures fine { OnOk result (writer.new.failed ≡ writer.old.failed) }
-        ensures failed { OnErr result (writer.new.failed ≡ true) }
+        ensures cut { OnErr result (Stops (W.contents writer.old) self.old (W.contents writer.new) []) }
+        ensures failed { OnErr result (W.failed writer.new ≡ true) }
     {
-        writer.write_all(self.kept.as_slice())?;
+        write_all(writer, self.kept.as_slice())?;
         self.kept.clear();
         Ok(())
     }
 
     // Writes what is kept where there is no room for another line.
     #[tactic(auto, using(crate::proofs::Writing::puts_none))]
-    fn make_room<W: Write + Drop>(&mut self, writer: &mut Device<W>) -> Result<(), Failed>
-        ensures ok { OnOk result (Puts (W.contents writer.old.inner) self.old (W.contents writer.new.inner) self.new []) }
+    fn make_room<W: Outlet>(&mut self, writer: &mut W) -> Result<(), Failed>
+        ensures ok { OnOk result (Puts (W.contents writer.old) self.old (W.contents writer.new) self.new []) }
         ensures room { OnOk result (length self.new + 400 ≤ 65536) }
-        ensures cut { OnErr result (Stops (W.contents writer.old.inner) self.old (W.contents writer.new.inner) []) }
-        ensures fine { OnOk result (writer.new.failed ≡ writer.old.failed) }
-        ensures failed { OnErr result (writer.new.failed ≡ true) }
+        ensures cut { OnErr result (Stops (W.contents writer.old) self.old (W.contents writer.new) []) }
+        ensures failed { OnErr result (W.failed writer.new ≡ true) }
     {
         if self.kept.len() > CAPACITY - LONGEST_LINE {
             return self.hand_on(writer);
@@ -76,19 +73,14 @@ impl Buffer {
 
     /// Puts bytes behind the others.
     #[tactic(auto, using(crate::proofs::Writing::puts_next, crate::proofs::Writing::puts_kept_as, crate::proofs::Writing::puts_straight_as, crate::proofs::Writing::puts_none, crate::proofs::Writing::stops_any, crate::proofs::Writing::stops_straight_as, crate::proofs::Writing::stops_next))]
-    pub fn put<W: Write + Drop>(
-        &mut self,
-        writer: &mut Device<W>,
-        bytes: &[u8],
-    ) -> Result<(), Failed>
-        ensures ok { OnOk result (Puts (W.contents writer.old.inner) self.old (W.contents writer.new.inner) self.new bytes.now) }
-        ensures cut { OnErr result (Stops (W.contents writer.old.inner) self.old (W.contents writer.new.inner) bytes.now) }
-        ensures fine { OnOk result (writer.new.failed ≡ writer.old.failed) }
-        ensures failed { OnErr result (writer.new.failed ≡ true) }
+    pub fn put<W: Outlet>(&mut self, writer: &mut W, bytes: &[u8]) -> Result<(), Failed>
+        ensures ok { OnOk result (Puts (W.contents writer.old) self.old (W.contents writer.new) self.new bytes.now) }
+        ensures cut { OnErr result (Stops (W.contents writer.old) self.old (W.contents writer.new) bytes.now) }
+        ensures failed { OnErr result (W.failed writer.new ≡ true) }
     {
         if bytes.len() > CAPACITY {
             self.hand_on(writer)?;
-            return writer.write_all(bytes);
+            return write_all(writer, bytes);
         }
         if self.kept.len() > CAPACITY - bytes.len() {
             self.hand_on(writer)?;
@@ -101,15 +93,10 @@ impl Buffer {
 
     // Puts the line of a record.
     #[tactic(auto, using(crate::proofs::Writing::puts_next, crate::proofs::Writing::puts_kept_as, crate::proofs::Writing::stops_any))]
-    fn put_record<W: Write + Drop>(
-        &mut self,
-        writer: &mut Device<W>,
-        line: &Record,
-    ) -> Result<(), Failed>
-        ensures ok { OnOk result (Puts (W.contents writer.old.inner) self.old (W.contents writer.new.inner) self.new (line_of line.now)) }
-        ensures cut { OnErr result (Stops (W.contents writer.old.inner) self.old (W.contents writer.new.inner) (line_of line.now)) }
-        ensures fine { OnOk result (writer.new.failed ≡ writer.old.failed) }
-        ensures failed { OnErr result (writer.new.failed ≡ true) }
+    fn put_record<W: Outlet>(&mut self, writer: &mut W, line: &Record) -> Result<(), Failed>
+        ensures ok { OnOk result (Puts (W.contents writer.old) self.old (W.contents writer.new) self.new (line_of line.now)) }
+        ensures cut { OnErr result (Stops (W.contents writer.old) self.old (W.contents writer.new) (line_of line.now)) }
+        ensures failed { OnErr result (W.failed writer.new ≡ true) }
     {
         self.make_room(writer)?;
         let Ok(()) = write_record(&mut self.kept, line) else {
@@ -120,15 +107,10 @@ impl Buffer {
 
     // Puts the line of the counters.
     #[tactic(auto, using(crate::proofs::Writing::puts_next, crate::proofs::Writing::puts_kept_as, crate::proofs::Writing::stops_any))]
-    fn put_counters<W: Write + Drop>(
-        &mut self,
-        writer: &mut Device<W>,
-        counters: &Counters,
-    ) -> Result<(), Failed>
-        ensures ok { OnOk result (Puts (W.contents writer.old.inner) self.old (W.contents writer.new.inner) self.new (counters_of counters.now)) }
-        ensures cut { OnErr result (Stops (W.contents writer.old.inner) self.old (W.contents writer.new.inner) (counters_of counters.now)) }
-        ensures fine { OnOk result (writer.new.failed ≡ writer.old.failed) }
-        ensures failed { OnErr result (writer.new.failed ≡ true) }
+    fn put_counters<W: Outlet>(&mut self, writer: &mut W, counters: &Counters) -> Result<(), Failed>
+        ensures ok { OnOk result (Puts (W.contents writer.old) self.old (W.contents writer.new) self.new (counters_of counters.now)) }
+        ensures cut { OnErr result (Stops (W.contents writer.old) self.old (W.contents writer.new) (counters_of counters.now)) }
+        ensures failed { OnErr result (W.failed writer.new ≡ true) }
     {
         self.make_room(writer)?;
         let Ok(()) = write_counters(&mut self.kept, counters) else {
@@ -139,15 +121,10 @@ impl Buffer {
 
     // Puts the line of an experiment's name.
     #[tactic(auto, using(crate::proofs::Reporting::heading_puts, crate::proofs::Reporting::heading_stops_first, crate::proofs::Reporting::heading_stops_second, crate::proofs::Reporting::heading_stops_third))]
-    fn put_heading<W: Write + Drop>(
-        &mut self,
-        writer: &mut Device<W>,
-        name: &[u8],
-    ) -> Result<(), Failed>
-        ensures ok { OnOk result (Puts (W.contents writer.old.inner) self.old (W.contents writer.new.inner) self.new (heading_of name.now)) }
-        ensures cut { OnErr result (Stops (W.contents writer.old.inner) self.old (W.contents writer.new.inner) (heading_of name.now)) }
-        ensures fine { OnOk result (writer.new.failed ≡ writer.old.failed) }
-        ensures failed { OnErr result (writer.new.failed ≡ true) }
+    fn put_heading<W: Outlet>(&mut self, writer: &mut W, name: &[u8]) -> Result<(), Failed>
+        ensures ok { OnOk result (Puts (W.contents writer.old) self.old (W.contents writer.new) self.new (heading_of name.now)) }
+        ensures cut { OnErr result (Stops (W.contents writer.old) self.old (W.contents writer.new) (heading_of name.now)) }
+        ensures failed { OnErr result (W.failed writer.new ≡ true) }
     {
         self.put(writer, b"experiment ")?;
         self.put(writer, name)?;
@@ -156,15 +133,10 @@ impl Buffer {
 
     // Puts the lines of records.
     #[tactic(auto, using(crate::proofs::Writing::puts_none, crate::proofs::Reporting::records_puts, crate::proofs::Reporting::records_stops))]
-    fn put_records<W: Write + Drop>(
-        &mut self,
-        writer: &mut Device<W>,
-        records: &[Record],
-    ) -> Result<(), Failed>
-        ensures ok { OnOk result (Puts (W.contents writer.old.inner) self.old (W.contents writer.new.inner) self.new (flat_map line_of records.now)) }
-        ensures cut { OnErr result (Stops (W.contents writer.old.inner) self.old (W.contents writer.new.inner) (flat_map line_of records.now)) }
-        ensures fine { OnOk result (writer.new.failed ≡ writer.old.failed) }
-        ensures failed { OnErr result (writer.new.failed ≡ true) }
+    fn put_records<W: Outlet>(&mut self, writer: &mut W, records: &[Record]) -> Result<(), Failed>
+        ensures ok { OnOk result (Puts (W.contents writer.old) self.old (W.contents writer.new) self.new (flat_map line_of records.now)) }
+        ensures cut { OnErr result (Stops (W.contents writer.old) self.old (W.contents writer.new) (flat_map line_of records.now)) }
+        ensures failed { OnErr result (W.failed writer.new ≡ true) }
     {
         for line in records {
             self.put_record(writer, line)?;
@@ -174,16 +146,15 @@ impl Buffer {
 
     // Puts the report of an experiment.
     #[tactic(auto, using(crate::proofs::Reporting::report_puts, crate::proofs::Reporting::report_stops_first, crate::proofs::Reporting::report_stops_second, crate::proofs::Reporting::report_stops_third))]
-    fn put_report<W: Write + Drop>(
+    fn put_report<W: Outlet>(
         &mut self,
-        writer: &mut Device<W>,
+        writer: &mut W,
         plan: &Plan,
         outcome: &Outcome,
     ) -> Result<(), Failed>
-        ensures ok { OnOk result (Puts (W.contents writer.old.inner) self.old (W.contents writer.new.inner) self.new (report_with plan.now outcome.now)) }
-        ensures cut { OnErr result (Stops (W.contents writer.old.inner) self.old (W.contents writer.new.inner) (report_with plan.now outcome.now)) }
-        ensures fine { OnOk result (writer.new.failed ≡ writer.old.failed) }
-        ensures failed { OnErr result (writer.new.failed ≡ true) }
+        ensures ok { OnOk result (Puts (W.contents writer.old) self.old (W.contents writer.new) self.new (report_with plan.now outcome.now)) }
+        ensures cut { OnErr result (Stops (W.contents writer.old) self.old (W.contents writer.new) (report_with plan.now outcome.now)) }
+        ensures failed { OnErr result (W.failed writer.new ≡ true) }
     {
         self.put_heading(writer, plan.name.as_bytes())?;
         self.put_records(writer, outcome.records())?;
@@ -192,17 +163,16 @@ impl Buffer {
 
     /// Puts the reports of experiments that were run.
     #[tactic(auto, using(crate::proofs::Writing::puts_none, crate::proofs::Reporting::reports_puts, crate::proofs::Reporting::reports_stops))]
-    pub fn put_reports<W: Write + Drop>(
+    pub fn put_reports<W: Outlet>(
         &mut self,
-        writer: &mut Device<W>,
+        writer: &mut W,
         plans: &[Plan],
         outcomes: &[Outcome],
     ) -> Result<(), Failed>
         requires { length outcomes.now ≡ length plans.now }
-        ensures ok { OnOk result (Puts (W.contents writer.old.inner) self.old (W.contents writer.new.inner) self.new (reports_with plans.now outcomes.now)) }
-        ensures cut { OnErr result (Stops (W.contents writer.old.inner) self.old (W.contents writer.new.inner) (reports_with plans.now outcomes.now)) }
-        ensures fine { OnOk result (writer.new.failed ≡ writer.old.failed) }
-        ensures failed { OnErr result (writer.new.failed ≡ true) }
+        ensures ok { OnOk result (Puts (W.contents writer.old) self.old (W.contents writer.new) self.new (reports_with plans.now outcomes.now)) }
+        ensures cut { OnErr result (Stops (W.contents writer.old) self.old (W.contents writer.new) (reports_with plans.now outcomes.now)) }
+        ensures failed { OnErr result (W.failed writer.new ≡ true) }
     {
         for index in 0..plans.len() {
             self.put_report(writer, &plans[index], &outcomes[index])?;
@@ -212,14 +182,13 @@ impl Buffer {
 
     /// Writes all that is kept, and has the writer hand it on.
     #[tactic(auto, using(crate::proofs::Writing::puts_flushed_as, crate::proofs::Writing::stops_flushed_as))]
-    pub fn finish<W: Write + Drop>(self, writer: &mut Device<W>) -> Result<(), Failed>
-        ensures ok { OnOk result (Puts (W.contents writer.old.inner) self (W.contents writer.new.inner) [] []) }
-        ensures cut { OnErr result (Stops (W.contents writer.old.inner) self (W.contents writer.new.inner) []) }
-        ensures fine { OnOk result (writer.new.failed ≡ writer.old.failed) }
-        ensures failed { OnErr result (writer.new.failed ≡ true) }
+    pub fn finish<W: Outlet>(self, writer: &mut W) -> Result<(), Failed>
+        ensures ok { OnOk result (Puts (W.contents writer.old) self (W.contents writer.new) [] []) }
+        ensures cut { OnErr result (Stops (W.contents writer.old) self (W.contents writer.new) []) }
+        ensures failed { W.failed writer.new ≡ is_err result }
     {
         let mut buffer = self;
         buffer.hand_on(writer)?;
-        writer.flush()
+        flush_all(writer)
     }
 }

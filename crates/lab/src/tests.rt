@@ -3,33 +3,38 @@
 use super::*;
 use control::{Cause, Fault};
 use std::alloc::Global;
-use std::io::{self, Read, Write};
+use std::io;
 use std::process::Abort;
 use std::sync::Wait;
 use std::test::Fail;
 use std::thread::Threads;
 
 mod devices;
+mod ends;
 mod texts;
 mod workers;
 
-/// How a scenario is run: by itself or by two workers.
+/// How a scenario is run: by itself, by two workers, or not at all.
 #[derive(Clone, Copy, PartialEq)]
 enum Way {
     Alone,
     Together,
+    Check,
 }
 
 /// What a call answers from a reader to a writer.
-fn call<H: Threads + Wait + Sync, R: Read + Drop, W: Write + Drop>(
+fn call<H: Threads + Wait + Sync, R: Inlet, W: Outlet>(
     rt: &H,
     alloc: Global,
     way: Way,
-    reader: &mut Device<R>,
-    writer: &mut Device<W>,
+    reader: &mut R,
+    writer: &mut W,
 ) -> Result<(), RunFault> {
     if way == Way::Alone {
         return run_alone(alloc, reader, writer);
+    }
+    if way == Way::Check {
+        return check(alloc, reader, writer);
     }
     let Some(plan) = Plan::new(2, 1) else {
         return Err(RunFault::Strange);

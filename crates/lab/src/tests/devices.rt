@@ -1,7 +1,7 @@
 //! Readers and writers that fail, are interrupted, give or take little, or keep bytes back.
 
 use super::*;
-use std::io::ErrorKind;
+use std::io::{ErrorKind, Read, Write};
 
 /// A reader that gives a few bytes at each read, and fails at the read after so many.
 #[derive(Drop)]
@@ -206,4 +206,112 @@ fn flushed(rt: HostRuntime) {
         assert!(rt; outcome == Err(RunFault::Write));
         assert!(rt; out.is_empty());
     }
+}
+
+/// A device whose calls are interrupted without end. It counts them.
+#[derive(Drop)]
+struct Endless {
+    calls: u64,
+}
+
+impl Endless {
+    fn interrupt(&mut self) -> io::Error {
+        self.calls = self.calls.wrapping_add(1);
+        io::Error::from(ErrorKind::Interrupted)
+    }
+}
+
+impl Read for Endless {
+    fn read(&mut self, _: &mut [u8]) -> io::Result<usize> {
+        Err(self.interrupt())
+    }
+}
+
+impl Write for Endless {
+    fn write(&mut self, _: &[u8]) -> io::Result<usize> {
+        Err(self.interrupt())
+    }
+
+    fn flush(&mut self) -> io::Result<()> {
+        Err(self.interrupt())
+    }
+}
+
+#[test]
+fn interrupted_without_end(rt: HostRuntime) {
+    for way in [Way::Alone, Way::Together, Way::Check] {
+        let mut reader = Device::with_patience(Endless { calls: 0 }, 1000);
+        let mut writer = Device::new(Vec::new(rt.alloc()));
+        let outcome = call(&rt, rt.alloc(), way, &mut reader, &mut writer);
+        assert!(rt; outcome == Err(RunFault::Read));
+        assert!(rt; reader.has_failed() && !writer.has_failed());
+        assert_eq!(rt; reader.into_inner().calls, 1001);
+        assert!(rt; writer.into_inner().is_empty());
+        let mut reader = Device::new(texts::ONE_PACKET.as_bytes());
+        let mut writer = Device::with_patience(Endless { calls: 0 }, 1000);
+        let outcome = call(&rt, rt.alloc(), way, &mut reader, &mut writer);
+        assert!(rt; outcome == Err(RunFault::Write));
+        assert!(rt; writer.has_failed() && !reader.has_failed());
+        assert_eq!(rt; writer.into_inner().calls, 1001);
+    }
+}
+
+#[test]
+fn flush_interrupted_without_end(rt: HostRuntime) {
+    // Nothing is written, so the flush is the one call.
+    let mut reader = Device::new("".as_bytes());
+    let mut writer = Device::with_patience(Endless { calls: 0 }, 1000);
+    let outcome = run_alone(rt.alloc(), &mut reader, &mut writer);
+    assert!(rt; outcome == Err(RunFault::Write));
+    assert_eq!(rt; writer.into_inner().calls, 1001);
+}
+
+/// A device whose first call fails, and no later one. It counts them.
+#[derive(Drop)]
+struct Once {
+    calls: u64,
+}
+
+impl Once {
+    fn begin(&mut self) -> io::Result<()> {
+        self.calls = self.calls.wrapping_add(1);
+        if self.calls == 1 {
+            return Err(io::Error::from(ErrorKind::Other));
+        }
+        Ok(())
+    }
+}
+
+impl Read for Once {
+    fn read(&mut self, _: &mut [u8]) -> io::Result<usize> {
+        self.begin()?;
+        Ok(0)
+    }
+}
+
+impl Write for Once {
+    fn write(&mut self, buf: &[u8]) -> io::Result<usize> {
+        self.begin()?;
+        Ok(buf.len())
+    }
+
+    fn flush(&mut self) -> io::Result<()> {
+        self.begin()
+    }
+}
+
+#[test]
+fn failed_for_good(rt: HostRuntime) {
+    // A device that failed isn't called again, also by the next run.
+    let mut reader = Device::new(Once { calls: 0 });
+    let mut writer = Device::new(Once { calls: 0 });
+    for way in [Way::Alone, Way::Together, Way::Check] {
+        let outcome = call(&rt, rt.alloc(), way, &mut reader, &mut writer);
+        assert!(rt; outcome == Err(RunFault::Read));
+        let mut fine = Device::new(texts::ONE_PACKET.as_bytes());
+        let outcome = call(&rt, rt.alloc(), way, &mut fine, &mut writer);
+        assert!(rt; outcome == Err(RunFault::Write));
+    }
+    assert_eq!(rt; reader.into_inner().calls, 1);
+    assert_eq!(rt; writer.into_inner().calls, 1);
 }

@@ -1,4 +1,4 @@
-use Rattle.std.proofs.Common.{arith, ◌+◌, ◌∙◌, ap}
+use Rattle.std.proofs.Common.{arith}
 use Rattle.lab.proofs.Servings.{serves_open}
 use Rattle.lab.proofs.tenants.open_all.Goals as goal
 

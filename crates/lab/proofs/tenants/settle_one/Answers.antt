@@ -1,4 +1,4 @@
-use Rattle.std.proofs.Common.{◌≡◌, ◌∙◌, Some, IsSome, subst}
+use Rattle.std.proofs.Common.{◌∙◌, Some, IsSome, subst}
 use Rattle.experiment.specs.Kept.{shown_ending}
 use Rattle.lab.proofs.Ownings.{IsTraced, settled_alone}
 use Rattle.lab.proofs.tenants.settle_one.Goals as goal

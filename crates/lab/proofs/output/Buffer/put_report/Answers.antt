@@ -5,7 +5,7 @@ use Rattle.lab.proofs.output.Buffer.put_report.Goals as goal
 pub returns-clause-ok : goal.returns-clause-ok
 returns-clause-ok g c =
     on_ok_by c.put_counters.result (
-    report_puts_as (g.W.Write.contents c.args.writer.now.inner) (g.W.Write.contents c.put_heading.new.writer.inner) (g.W.Write.contents c.put_records.new.writer.inner) (g.W.Write.contents c.put_counters.new.writer.inner)
+    report_puts_as (g.W.Outlet.contents c.args.writer.now) (g.W.Outlet.contents c.put_heading.new.writer) (g.W.Outlet.contents c.put_records.new.writer) (g.W.Outlet.contents c.put_counters.new.writer)
     c.args.self.now c.put_heading.new.self c.put_records.new.self c.put_counters.new.self
     c.args.plan.now.name c.as_bytes.result.now c.args.outcome.now.records c.records.result.now c.args.outcome.now.counters c.counters.result.now
     c.as_bytes.ensures c.records.ensures c.counters.ensures
