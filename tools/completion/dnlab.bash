@@ -14,9 +14,9 @@ _dnlab() {
   case $command:$before in
     run:--workers) words="1 2 4 8 16" ;;
     run:--moves) words="0 1 64 1000" ;;
-    run:*) words="--workers --moves --progress --help" ;;
-    alone:*) words="--progress --help" ;;
-    check:*) words="--help" ;;
+    run:*) words="--workers --moves --progress --explain --help" ;;
+    alone:*) words="--progress --explain --help" ;;
+    check:*) words="--explain --help" ;;
     help:help) words="alone run check help" ;;
     help:*) ;;
     *) words="alone run check help --help --version" ;;

@@ -2,9 +2,12 @@
 //! and what it prints on standard error; all else is in `lab`.
 #![tactic(auto)]
 
+mod kept;
 mod meter;
+mod tell;
 #[cfg(test)]
 mod tests;
+mod watched;
 mod words;
 
 ghost use Rattle.std.specs.Prelude.{◌≡◌};
@@ -12,11 +15,16 @@ ghost use Rattle.dnlab.specs.Status.{status_after};
 
 use clap::Error;
 use clap::error::ErrorKind;
+use explain::{find, show_finding};
+use kept::{Keeper, Kept};
 use lab::{Device, OpenGate, Plan, RunFault, check, run_alone_told, run_told};
 use meter::Meter;
+use std::alloc::Global;
 use std::process::ExitCode;
 use std::{env, io};
-use words::{Task, task_of};
+use tell::{hint_at, print, tell_refusals};
+use watched::{Watched, Watcher};
+use words::{Task, stray_word, task_of};
 
 /// The exit status after a call.
 fn status_of(outcome: &Result<(), RunFault>) -> u8
@@ -40,13 +48,44 @@ fn end(rt: &impl Eprint, outcome: Result<(), RunFault>) -> ExitCode {
     ExitCode::from(status)
 }
 
-// Prints what `clap` has to say: a mistake in the words, help or the version.
-fn say<R: Print + Eprint>(rt: &R, error: &Error) -> ExitCode {
+// The same, and where it is asked for what is wrong with the text and which commands were refused. Where memory for that
+// is refused the program says so and nothing else.
+fn end_with(
+    rt: &impl Eprint,
+    alloc: Global,
+    outcome: Result<(), RunFault>,
+    kept: &Kept,
+    watched: &Watched,
+) -> ExitCode {
+    if kept.lacks_memory() || watched.lacks_memory() {
+        return end(rt, Err(RunFault::Memory));
+    }
+    match outcome {
+        Ok(()) if tell_refusals(rt, alloc, kept, watched).is_err() => {
+            end(rt, Err(RunFault::Memory))
+        }
+        Err(RunFault::Scenario(fault)) if kept.is_wanted() => {
+            let Ok(shown) = show_finding(alloc, &find(kept.text(), &fault)) else {
+                return end(rt, Err(RunFault::Memory));
+            };
+            let code = end(rt, outcome);
+            print(rt, shown.as_slice());
+            code
+        }
+        _ => end(rt, outcome),
+    }
+}
+
+// Prints what `clap` has to say: a mistake in the words, help or the version; of a word too many also how a text is given.
+fn say<R: Print + Eprint>(rt: &R, error: &Error, words: &[String]) -> ExitCode {
     if error.kind() == ErrorKind::OutOfMemory {
         return end(rt, Err(RunFault::Memory));
     }
     if error.print(rt).is_err() {
         return end(rt, Err(RunFault::Write));
+    }
+    if error.kind() == ErrorKind::UnknownArgument && words.len() > 1 {
+        hint_at(rt, words[1].as_str(), stray_word(words));
     }
     ExitCode::from(if error.use_stderr() { 2 } else { 0 })
 }
@@ -68,15 +107,18 @@ fn main(rt: HostRuntime) -> ExitCode {
     };
     let task = match task_of(alloc, words.as_slice()) {
         Ok(task) => task,
-        Err(error) => return say(&rt, &error),
+        Err(error) => return say(&rt, &error, words.as_slice()),
     };
-    let mut reader = Device::new(rt.reader());
-    let mut writer = Device::new(io::writer(&rt));
+    let kept = Kept::new(alloc, task.explains());
+    let watched = Watched::new(alloc, task.explains());
+    let mut reader = Device::new(Keeper::new(rt.reader(), kept));
+    let mut writer = Device::new(Watcher::new(io::writer(&rt), watched));
     let outcome = match task {
         Task::Run {
             workers,
             moves,
             progress,
+            ..
         } => {
             // The words' ranges are those of a plan.
             let Some(plan) = Plan::new(workers, moves) else {
@@ -93,11 +135,13 @@ fn main(rt: HostRuntime) -> ExitCode {
                 &meter,
             )
         }
-        Task::Alone { progress } => {
+        Task::Alone { progress, .. } => {
             let meter = Meter::new(&rt, progress);
             run_alone_told(alloc, &mut reader, &mut writer, &meter)
         }
-        Task::Check => check(alloc, &mut reader, &mut writer),
+        Task::Check { .. } => check(alloc, &mut reader, &mut writer),
     };
-    end(&rt, outcome)
+    let kept = reader.into_inner().into_kept();
+    let watched = writer.into_inner().into_watched();
+    end_with(&rt, alloc, outcome, &kept, &watched)
 }

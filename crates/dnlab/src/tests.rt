@@ -51,6 +51,7 @@ fn runs(
     moves: u32,
 ) -> Result<(), Fail> {
     let progress = false;
+    let explain = false;
     asks(
         rt,
         words,
@@ -58,19 +59,49 @@ fn runs(
             workers,
             moves,
             progress,
+            explain,
         },
     )
 }
 
 #[test]
 fn words(rt: HostRuntime) -> Result<(), Fail> {
-    asks(&rt, &["alone"], Task::Alone { progress: false })?;
+    asks(
+        &rt,
+        &["alone"],
+        Task::Alone {
+            progress: false,
+            explain: false,
+        },
+    )?;
     asks(
         &rt,
         &["alone", "--progress"],
-        Task::Alone { progress: true },
+        Task::Alone {
+            progress: true,
+            explain: false,
+        },
     )?;
-    asks(&rt, &["check"], Task::Check)?;
+    asks(&rt, &["check"], Task::Check { explain: false })?;
+    asks(&rt, &["check", "--explain"], Task::Check { explain: true })?;
+    asks(
+        &rt,
+        &["alone", "--explain"],
+        Task::Alone {
+            progress: false,
+            explain: true,
+        },
+    )?;
+    asks(
+        &rt,
+        &["run", "--explain", "--progress"],
+        Task::Run {
+            workers: 2,
+            moves: 64,
+            progress: true,
+            explain: true,
+        },
+    )?;
     says(&rt, &["--help"], ErrorKind::DisplayHelp, 0)?;
     says(&rt, &["--version"], ErrorKind::DisplayVersion, 0)?;
     says(&rt, &["runs"], ErrorKind::InvalidSubcommand, 2)?;

@@ -12,13 +12,28 @@ pub enum Task {
         workers: usize,
         moves: u32,
         progress: bool,
+        explain: bool,
     },
     /// To run each experiment by itself, and to say how far it is.
     Alone {
         progress: bool,
+        explain: bool,
     },
     /// To say whether a text is a scenario.
-    Check,
+    Check {
+        explain: bool,
+    },
+}
+
+impl Task {
+    /// Whether faults and refused commands are to be explained.
+    pub fn explains(&self) -> bool {
+        match self {
+            Task::Run { explain, .. } => *explain,
+            Task::Alone { explain, .. } => *explain,
+            Task::Check { explain } => *explain,
+        }
+    }
 }
 
 const ABOUT: &str =
@@ -37,6 +52,7 @@ const EXAMPLE: &str = "Example:
     END
 
   The same by four workers, to the same bytes: dnlab run --workers 4 < scenario
+  What is wrong with a text, and where: dnlab check --explain < scenario
 
 Exit status: 0 done, 1 a fault in the scenario (standard error says `line L: CAUSE`), 2 words that are no command, 3 memory was refused or a read or write failed, 4 the workers lost an experiment (never, unless the program is wrong).";
 
@@ -51,6 +67,15 @@ fn progress_word<'a>(alloc: Global) -> Arg<'a> {
         .long("progress")
         .action(ArgAction::SetTrue)
         .help("Says on standard error how far it is, at most five times a second")
+}
+
+fn explain_word<'a>(alloc: Global) -> Arg<'a> {
+    Arg::new(alloc, "explain")
+        .long("explain")
+        .action(ArgAction::SetTrue)
+        .help(
+            "Says on standard error where in the line a fault stands and what was expected there, and after a run which commands were refused, and why",
+        )
 }
 
 fn run_command<'a>(alloc: Global) -> Result<Command<'a>, Error> {
@@ -72,17 +97,21 @@ fn run_command<'a>(alloc: Global) -> Result<Command<'a>, Error> {
         )
         .arg(workers)?
         .arg(moves)?
-        .arg(progress_word(alloc))?;
+        .arg(progress_word(alloc))?
+        .arg(explain_word(alloc))?;
     Ok(run)
 }
 
 fn command<'a>(alloc: Global) -> Result<Command<'a>, Error> {
     let alone = Command::new(alloc, "alone")
         .about("Reads a scenario on standard input, runs each experiment and prints its report")
-        .arg(progress_word(alloc))?;
-    let check = Command::new(alloc, "check").about(
-        "Reads a scenario on standard input and prints `ok`, its experiments and its commands",
-    );
+        .arg(progress_word(alloc))?
+        .arg(explain_word(alloc))?;
+    let check = Command::new(alloc, "check")
+        .about(
+            "Reads a scenario on standard input and prints `ok`, its experiments and its commands",
+        )
+        .arg(explain_word(alloc))?;
     let program = Command::new(alloc, "dnlab")
         .about(ABOUT)
         .version("0.1.0")
@@ -104,10 +133,35 @@ pub fn task_of(alloc: Global, words: &[String]) -> Result<Task, Error> {
             workers: given.get_one::<usize>("workers").unwrap_or(WORKERS),
             moves: given.get_one::<u32>("moves").unwrap_or(MOVES),
             progress: given.get_flag("progress"),
+            explain: given.get_flag("explain"),
         }),
         Some(("alone", given)) => Ok(Task::Alone {
             progress: given.get_flag("progress"),
+            explain: given.get_flag("explain"),
         }),
-        _ => Ok(Task::Check),
+        Some((_, given)) => Ok(Task::Check {
+            explain: given.get_flag("explain"),
+        }),
+        None => Ok(Task::Check { explain: false }),
     }
+}
+
+fn has_value(word: &str) -> bool {
+    word == "--workers" || word == "--moves"
+}
+
+/// The first word behind a command that is neither an option nor its value: most often it is the name of a file.
+pub fn stray_word(words: &[String]) -> Option<&str> {
+    let mut is_value = false;
+    for word in words.iter().skip(2) {
+        let word = word.as_str();
+        if is_value {
+            is_value = false;
+        } else if has_value(word) {
+            is_value = true;
+        } else if !word.starts_with("-") {
+            return Some(word);
+        }
+    }
+    None
 }

@@ -1,0 +1,72 @@
+//! The refused commands of a report, as it is written, where they are wanted.
+
+use explain::{Refusal, Replies};
+use std::alloc::Global;
+use std::io::{self, Write};
+
+/// The refused commands of what was written, if they are wanted.
+#[derive(Drop)]
+pub struct Watched {
+    replies: Replies,
+    is_wanted: bool,
+    lacks_memory: bool,
+}
+
+/// A writer that notes the refused commands of the report that it writes, if they are wanted.
+#[derive(Drop)]
+pub struct Watcher<W> {
+    inner: W,
+    watched: Watched,
+}
+
+impl Watched {
+    /// Nothing was written.
+    pub fn new(alloc: Global, is_wanted: bool) -> Watched {
+        Watched {
+            replies: Replies::new(alloc),
+            is_wanted,
+            lacks_memory: false,
+        }
+    }
+
+    pub fn refusals(&self) -> &[Refusal] {
+        self.replies.refusals()
+    }
+
+    /// Whether memory for a note was refused.
+    pub fn lacks_memory(&self) -> bool {
+        self.lacks_memory
+    }
+
+    fn see(&mut self, bytes: &[u8]) {
+        if self.is_wanted && !self.lacks_memory && self.replies.take(bytes).is_err() {
+            self.lacks_memory = true;
+        }
+    }
+}
+
+impl<W: Drop> Watcher<W> {
+    pub fn new(inner: W, watched: Watched) -> Watcher<W> {
+        Watcher { inner, watched }
+    }
+
+    /// What was noted.
+    pub fn into_watched(self) -> Watched {
+        let Watcher { watched, .. } = self;
+        watched
+    }
+}
+
+impl<W: Write> Write for Watcher<W> {
+    ghost contents = { λ w. W.contents w.inner };
+
+    fn write(&mut self, buf: &[u8]) -> io::Result<usize> {
+        let count = self.inner.write(buf)?;
+        self.watched.see(&buf[..count]);
+        Ok(count)
+    }
+
+    fn flush(&mut self) -> io::Result<()> {
+        self.inner.flush()
+    }
+}

@@ -1,0 +1,38 @@
+-- Lines by their numbers, and places in a line.
+use Rattle.std.specs.Prelude.{◌≡◌, ℕ, ◌+◌, ◌-◌, ◌≤◌, List, [], ◌∷◌, length, take, drop, Option, Some, None, if◌then◌else◌, ◌==◌}
+use Rattle.std.specs.List.{prefix_len, position_or_len}
+use Rattle.explain.specs.declared.place.Place.{Place}
+
+-- the line with this number, counted from 1
+abbrev pub nth_line : ℕ → List (List ℕ) → Option (List ℕ)
+nth_line n [] = None
+nth_line n (l ∷ ls) = if n == 1 then Some l else nth_line (n - 1) ls
+
+-- a line that has a byte
+abbrev pub nonempty : Option (List ℕ) → Option (List ℕ)
+nonempty None = None
+nonempty (Some []) = None
+nonempty (Some (b ∷ bs)) = Some (b ∷ bs)
+
+-- a place, if there is one, lies in the line
+abbrev pub IsWithin : Option Place → List ℕ → Type 0
+IsWithin None line = Unit {0}
+IsWithin (Some p) line = p.start + p.width ≤ length line
+
+-- the same of the line that is shown, or of no byte where none is
+abbrev pub IsInLine : Option Place → Option (List ℕ) → Type 0
+IsInLine place None = IsWithin place []
+IsInLine place (Some line) = IsWithin place line
+
+-- the place has the first of these words, or, where there is none, no byte behind the line's last
+abbrev pub IsFirstAt : List (List ℕ) → List ℕ → Place → Type 0
+IsFirstAt [] line p = (p.start ≡ length line) × (p.width ≡ 0)
+IsFirstAt (w ∷ ws) line p = take p.width (drop p.start line) ≡ w
+
+-- behind what stands up to the first space, and the spaces there
+abbrev pub past_first : List ℕ → ℕ
+past_first bytes = let e = position_or_len (λ b. b == 32) bytes in e + prefix_len (λ b. b == 32) (drop e bytes)
+
+pub record IsPastWord (line : List ℕ) (start after : ℕ) : Type 0 where
+  pub value : after ≡ start + past_first (drop start line)
+  pub within : after ≤ length line

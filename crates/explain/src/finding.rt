@@ -1,0 +1,217 @@
+//! What there is to say of a fault.
+
+ghost use Rattle.std.specs.Prelude.{◌≡◌, ℕ, List, option_map};
+ghost use Rattle.control_words.specs.Text.{lines};
+ghost use Rattle.explain.specs.Lines.{nth_line, nonempty, IsWithin, IsInLine};
+ghost use Rattle.explain.specs.Past.{IsBefore, IsPastOf};
+
+use crate::past::{Earlier, Past, name_in, past_of};
+use crate::place::{Place, line_at, part, place_of_word};
+use control::{Cause, Fault};
+use explain_line::{byte_hint, first_trouble, hint, range_hint};
+
+/// What is found in a line: where the first word at fault stands, what was expected there, an example, and what to
+/// write instead.
+#[derive(Clone, Copy)]
+pub struct Inside {
+    pub place: Option<Place>,
+    pub expected: &'static str,
+    pub example: Option<&'static str>,
+    pub hint: Option<&'static str>,
+}
+
+/// What there is to say of a fault: its line, if that has a byte; what is found in it; and a line before it, if the
+/// fault goes by one.
+#[derive(Clone, Copy)]
+pub struct Finding<'a> {
+    pub line: Option<&'a [u8]>,
+    pub inside: Inside,
+    pub before: Option<Earlier<'a>>,
+}
+
+// Of the whole line.
+fn whole(expected: &'static str, hint: Option<&'static str>) -> Inside
+    ensures { result.place ≡ None }
+{
+    Inside {
+        place: None,
+        expected,
+        example: None,
+        hint,
+    }
+}
+
+// Of the word with this number.
+fn at_word(
+    line: &[u8],
+    index: usize,
+    expected: &'static str,
+    example: Option<&'static str>,
+) -> Inside
+    ensures { IsWithin result.place line.now }
+{
+    Inside {
+        place: Some(place_of_word(line, index)),
+        expected,
+        example,
+        hint: None,
+    }
+}
+
+// A byte that isn't one of 32 to 126.
+fn bad_byte(line: &[u8]) -> Inside
+    ensures { IsWithin result.place line.now }
+{
+    let expected = "bytes 32 to 126 alone: printable ASCII and spaces";
+    for (start, byte) in line.iter().enumerate() {
+        if *byte < 32 || *byte > 126 {
+            return Inside {
+                place: Some(Place { start, width: 1 }),
+                expected,
+                example: None,
+                hint: Some(byte_hint(*byte, start + 1 == line.len())),
+            };
+        }
+    }
+    whole(expected, None)
+}
+
+// A word without the form that is wanted, or a number outside its range.
+fn bad_word(line: &[u8], ranges: bool) -> Inside
+    ensures { IsWithin result.place line.now }
+{
+    let Some(trouble) = first_trouble(line, ranges) else {
+        return whole("a line of docs/SCENARIO.md", None);
+    };
+    let wanted = trouble.wanted;
+    let place = place_of_word(line, trouble.index);
+    let word = part(line, place);
+    let hint = if word.is_empty() {
+        Some("the line ends before it")
+    } else if ranges {
+        range_hint(wanted.form, word)
+    } else {
+        hint(wanted.form, word)
+    };
+    Inside {
+        place: Some(place),
+        expected: wanted.expected,
+        example: Some(wanted.example),
+        hint,
+    }
+}
+
+// The last line has no line feed.
+fn cut_off(line: &[u8]) -> Inside
+    ensures { IsWithin result.place line.now }
+{
+    Inside {
+        place: Some(Place {
+            start: line.len(),
+            width: 0,
+        }),
+        expected: "a line feed at the end of the last line",
+        example: None,
+        hint: Some("the text was cut off, or the editor left the last line feed out"),
+    }
+}
+
+const NO_END: &str = "`end`, as the last command of the experiment before";
+
+const AFTER_END: &str = "an experiment's line: the experiment before has its `end`";
+
+const BACKWARDS: &str = "a moment not below that of the command before it";
+
+// By the cause.
+fn in_line(line: &[u8], cause: Cause) -> Inside
+    ensures { IsWithin result.place line.now }
+{
+    match cause {
+        Cause::TooBig => whole(
+            "at most 16777216 bytes",
+            Some("split it between its experiments (docs/MANY_MACHINES.md)"),
+        ),
+        Cause::Cut => cut_off(line),
+        Cause::TooLong => whole("at most 512 bytes in a line, comments too", None),
+        Cause::BadByte => bad_byte(line),
+        Cause::BadWord => bad_word(line, false),
+        Cause::OutOfRange => bad_word(line, true),
+        Cause::NoEnd => at_word(line, 0, NO_END, Some("@5000000000 end")),
+        Cause::TooMany => whole(
+            "at most 256 experiments",
+            Some("put the others into a text of their own"),
+        ),
+        Cause::SameName => at_word(line, 1, "a name that no experiment before it has", None),
+        Cause::NoExperiment => at_word(
+            line,
+            0,
+            "an experiment's line before its commands",
+            Some("experiment first seed 1 budget 1000"),
+        ),
+        Cause::AfterEnd => at_word(
+            line,
+            0,
+            AFTER_END,
+            Some("experiment second seed 1 budget 1000"),
+        ),
+        Cause::Backwards => at_word(line, 0, BACKWARDS, None),
+    }
+}
+
+// The line that the fault goes by.
+fn earlier<'a>(past: &Past<'a>, cause: Cause) -> Option<Earlier<'a>>
+    ensures { (ls : List (List ℕ)) (n : ℕ) → IsPastOf ls n past.now → IsBefore ls n result }
+{
+    match cause {
+        Cause::NoEnd => past.begun,
+        Cause::SameName => past.named,
+        Cause::AfterEnd | Cause::Backwards => past.command,
+        _ => None,
+    }
+}
+
+// Whether a fault goes by the lines before.
+fn goes_by_past(cause: Cause) -> bool {
+    match cause {
+        Cause::NoEnd | Cause::SameName | Cause::AfterEnd | Cause::Backwards => true,
+        _ => false,
+    }
+}
+
+// The line before that the fault of this line goes by.
+fn before<'a>(text: &'a [u8], line: &[u8], fault: &Fault) -> Option<Earlier<'a>>
+    ensures { IsBefore (lines text.now) fault.now.line result }
+{
+    if !goes_by_past(fault.cause) {
+        return None;
+    }
+    let past = past_of(text, fault.line, name_in(line));
+    earlier(&past, fault.cause)
+}
+
+fn with_a_byte(line: &[u8]) -> Option<&[u8]>
+    ensures { option_map (λ l. l.now) result ≡ nonempty (Some line.now) }
+{
+    if line.is_empty() { None } else { Some(line) }
+}
+
+/// What there is to say of the fault of a text. It takes the fault's word for it, and takes no memory. One pass over
+/// the lines up to it, and one more where the fault goes by those before. Own.
+pub fn find<'a>(text: &'a [u8], fault: &Fault) -> Finding<'a>
+    ensures line { option_map (λ l. l.now) result.line ≡ nonempty (nth_line fault.now.line (lines text.now)) }
+    ensures place { IsInLine result.inside.place (option_map (λ l. l.now) result.line) }
+    ensures before { IsBefore (lines text.now) fault.now.line result.before }
+{
+    let Some(line) = line_at(text, fault.line) else {
+        return Finding {
+            line: None,
+            inside: in_line(b"", fault.cause),
+            before: None,
+        };
+    };
+    Finding {
+        line: with_a_byte(line),
+        inside: in_line(line, fault.cause),
+        before: before(text, line, fault),
+    }
+}

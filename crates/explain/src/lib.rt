@@ -1,0 +1,19 @@
+//! Why a text is no scenario, and why a command was refused, in words for its author: the line, a mark under
+//! the first word at fault, what was expected there, an example, and what stood before. Own.
+#![tactic(auto)]
+
+mod finding;
+mod past;
+mod place;
+mod refused;
+mod replies;
+mod show;
+#[cfg(test)]
+mod tests;
+
+pub use finding::{Finding, find};
+pub use past::Earlier;
+pub use place::{Place, line_at, place_of_word};
+pub use refused::{Refused, Text};
+pub use replies::{Refusal, Replies};
+pub use show::{show_finding, show_refused};

@@ -1,0 +1,99 @@
+//! What stood before a line.
+
+ghost use Rattle.std.specs.Prelude.{ℕ, List, Some};
+ghost use Rattle.control_words.specs.Text.{lines};
+ghost use Rattle.explain.specs.Past.{IsBefore, IsPastOf};
+
+use control_lines::{LineEntry, read_line};
+use control_words::first_line;
+use emu_model::Command;
+
+/// A line that stood before, and its number, from 1.
+#[derive(Clone, Copy)]
+pub struct Earlier<'a> {
+    pub number: u64,
+    pub line: &'a [u8],
+}
+
+/// What the lines before one say, as far as its fault goes by them.
+#[derive(Clone, Copy)]
+pub struct Past<'a> {
+    /// The line of the experiment that began last.
+    pub begun: Option<Earlier<'a>>,
+    /// Its last command.
+    pub command: Option<Earlier<'a>>,
+    /// Whether that is an end.
+    pub has_ended: bool,
+    /// The first experiment of the name that is looked for.
+    pub named: Option<Earlier<'a>>,
+}
+
+/// The name of the experiment that begins in a line.
+pub fn name_in(line: &[u8]) -> Option<&[u8]> {
+    match read_line(line) {
+        Ok(LineEntry::Begins { name, .. }) => Some(name),
+        _ => None,
+    }
+}
+
+fn is_end(command: &Command) -> bool {
+    match command {
+        Command::End => true,
+        _ => false,
+    }
+}
+
+impl<'a> Past<'a> {
+    ghost use Rattle.std.specs.Prelude.{ℕ, List, Some};
+    ghost use Rattle.explain.specs.Past.{IsBefore, IsPastOf};
+
+    fn nothing() -> Past<'a>
+        ensures { (ls : List (List ℕ)) (n : ℕ) → IsPastOf ls n result }
+    {
+        Past {
+            begun: None,
+            command: None,
+            has_ended: false,
+            named: None,
+        }
+    }
+
+    fn take(&mut self, earlier: Earlier<'a>, name: Option<&[u8]>)
+        ensures { (ls : List (List ℕ)) (n : ℕ) → IsBefore ls n (Some earlier.entry) → IsPastOf ls n self.old → IsPastOf ls n self.new }
+    {
+        match read_line(earlier.line) {
+            Ok(LineEntry::Begins { name: other, .. }) => {
+                if self.named.is_none() && name == Some(other) {
+                    self.named = Some(earlier);
+                }
+                self.begun = Some(earlier);
+                self.command = None;
+                self.has_ended = false;
+            }
+            Ok(LineEntry::Does(timed)) => {
+                self.command = Some(earlier);
+                self.has_ended = is_end(&timed.command);
+            }
+            _ => {}
+        }
+    }
+}
+
+/// What stands before the line with this number, from 1; the first experiment of that name besides. One pass over
+/// the lines before. Own.
+pub fn past_of<'a>(text: &'a [u8], before: u64, name: Option<&[u8]>) -> Past<'a>
+    ensures { IsPastOf (lines text.now) before result }
+{
+    let mut past = Past::nothing();
+    let mut rest = text;
+    let mut number = 1u64;
+    while let Some((line, after)) = first_line(rest) {
+        if number >= before {
+            break;
+        }
+        past.take(Earlier { number, line }, name);
+        rest = after;
+        number += 1;
+    }
+    past
+}

@@ -1,0 +1,163 @@
+//! Where in a scenario a refused command stands, and what its code means.
+
+use crate::replies::Refusal;
+use control_lines::{LineEntry, read_line};
+use control_words::first_line;
+
+/// What a code means, and what to do.
+#[derive(Clone, Copy)]
+pub struct Meaning {
+    pub text: &'static str,
+    pub hint: &'static str,
+}
+
+/// A refused command: the number of its line, from 1, the line, the name of its experiment, the code and its meaning.
+#[derive(Clone, Copy)]
+pub struct Refused<'a> {
+    pub number: u64,
+    pub line: &'a [u8],
+    pub experiment: &'a [u8],
+    pub code: u64,
+    pub meaning: Meaning,
+}
+
+const fn means(text: &'static str, hint: &'static str) -> Meaning {
+    Meaning { text, hint }
+}
+
+fn of_rules(code: u64) -> Option<Meaning> {
+    match code {
+        10 => Some(means(
+            "it isn't a number that a rule may have",
+            "a rule's number is 1 to 65534; 65535 is the last rule, which denies what is left and stays",
+        )),
+        11 => Some(means(
+            "`skipto` must go forward",
+            "the number behind `skipto` is above the rule's own and at most 65535",
+        )),
+        12 => Some(means(
+            "there are 256 rules already",
+            "delete rules first, or write prefixes and ranges in place of many rules",
+        )),
+        13 => Some(means(
+            "no rule has this number",
+            "it was never added, is deleted by now, or its `add` was refused: `show` lists the rules",
+        )),
+        _ => None,
+    }
+}
+
+fn of_pipes(code: u64) -> Option<Meaning> {
+    match code {
+        20 => Some(means(
+            "there is no pipe of this number",
+            "it was never configured, or is deleted by now: `pipe show` lists the pipes",
+        )),
+        21 => Some(means(
+            "the pipe's mask is fixed, since packets have come to it",
+            "give the same mask again, or `pipe delete` it first",
+        )),
+        24 => Some(means(
+            "there are 64 pipes already",
+            "delete a pipe first, or use a mask, which makes an instance for each flow",
+        )),
+        _ => None,
+    }
+}
+
+fn of_sources(code: u64) -> Option<Meaning> {
+    match code {
+        22 => Some(means(
+            "a flow or a train has this number already",
+            "flows and trains share their numbers, and keep them when they have ended: take another",
+        )),
+        23 => Some(means(
+            "there is no flow of this number that could be stopped",
+            "its command comes later, was refused, or is a train's",
+        )),
+        25 => Some(means(
+            "there are 256 flows and trains already",
+            "those that have ended count too: put the others into another experiment",
+        )),
+        _ => None,
+    }
+}
+
+const UNKNOWN: Meaning = Meaning {
+    text: "a code that this program doesn't know",
+    hint: "docs/REPORT.md lists the codes",
+};
+
+/// What a code of the report means. Own.
+pub fn meaning_of(code: u64) -> Meaning {
+    of_rules(code)
+        .or(of_pipes(code))
+        .or(of_sources(code))
+        .unwrap_or(UNKNOWN)
+}
+
+/// A scenario's text from some line on, and how many experiments and commands came before.
+#[derive(Clone, Copy)]
+pub struct Text<'a> {
+    rest: &'a [u8],
+    // The number of the next line.
+    number: u64,
+    // How many experiments began, and the name of the last.
+    experiments: u64,
+    name: &'a [u8],
+    // How many commands it has so far.
+    commands: u64,
+}
+
+impl<'a> Text<'a> {
+    /// All of a text.
+    pub fn new(text: &'a [u8]) -> Text<'a> {
+        Text {
+            rest: text,
+            number: 1,
+            experiments: 0,
+            name: b"",
+            commands: 0,
+        }
+    }
+
+    // Takes a line, and says whether it is the command that was refused.
+    fn is_at(&mut self, line: &'a [u8], refusal: &Refusal) -> bool {
+        match read_line(line) {
+            Ok(LineEntry::Begins { name, .. }) => {
+                self.experiments = self.experiments.saturating_add(1);
+                self.name = name;
+                self.commands = 0;
+                false
+            }
+            Ok(LineEntry::Does(_)) => {
+                let command = self.commands;
+                self.commands = command.saturating_add(1);
+                self.experiments == refusal.experiment && command == refusal.command
+            }
+            _ => false,
+        }
+    }
+
+    /// Goes on to the command that was refused. `None` where it doesn't stand in what is left; then nothing is. The
+    /// refusals of a report come in the order of the text, so one pass finds them all. Own.
+    pub fn find(&mut self, refusal: &Refusal) -> Option<Refused<'a>> {
+        let mut rest = self.rest;
+        while let Some((line, after)) = first_line(rest) {
+            let number = self.number;
+            rest = after;
+            self.rest = after;
+            self.number = number.saturating_add(1);
+            if self.is_at(line, refusal) {
+                return Some(Refused {
+                    number,
+                    line,
+                    experiment: self.name,
+                    code: refusal.code,
+                    meaning: meaning_of(refusal.code),
+                });
+            }
+        }
+        None
+    }
+}

@@ -1,0 +1,136 @@
+//! What is printed of a fault and of a refused command.
+
+ghost use Rattle.std.specs.Prelude.{◌≡◌, ◌+◌, ◌≤◌, ◌++◌, length, map, take, replicate, OnOk};
+ghost use Rattle.explain.specs.Shown.{shown_byte, shown_line, row, marks, marked_line};
+
+use crate::finding::Finding;
+use crate::past::Earlier;
+use crate::place::Place;
+use crate::refused::Refused;
+use itoa::Buffer as Digits;
+use std::alloc::{AllocError, Global};
+
+/// No line of a scenario is longer, so of a longer one only the beginning is shown.
+const LONGEST: usize = 512;
+
+const BEGINNING: usize = 64;
+
+// Bytes as they are printed: those that aren't printable ASCII as `?`.
+fn put_plain(out: &mut Vec<u8>, bytes: &[u8]) -> Result<(), AllocError>
+    ensures { OnOk result (out.new.items ≡ out.old.items ++ map shown_byte bytes.now) }
+{
+    for byte in bytes {
+        let shown = if *byte < 32 || *byte > 126 {
+            b'?'
+        } else {
+            *byte
+        };
+        out.push(shown)?;
+    }
+    Ok(())
+}
+
+fn put_times(out: &mut Vec<u8>, byte: u8, times: usize) -> Result<(), AllocError>
+    ensures { OnOk result (out.new.items ≡ out.old.items ++ replicate times byte) }
+{
+    for _count in 0..times {
+        out.push(byte)?;
+    }
+    Ok(())
+}
+
+fn beginning(text: &[u8]) -> &[u8]
+    requires { 64 ≤ length text.now }
+    ensures { result.now ≡ take 64 text.now }
+{
+    text.split_at(BEGINNING).0
+}
+
+// A label, bytes of a text, and a line feed.
+fn put_row(out: &mut Vec<u8>, label: &str, text: &[u8]) -> Result<(), AllocError>
+    ensures { OnOk result (out.new.items ≡ out.old.items ++ row label.now text.now) }
+{
+    out.extend_from_slice(label.as_bytes())?;
+    if text.len() <= LONGEST {
+        put_plain(out, text)?;
+    } else {
+        put_plain(out, beginning(text))?;
+        out.extend_from_slice(b"...")?;
+    }
+    out.push(b'\n')?;
+    Ok(())
+}
+
+// The marks under a part of a line.
+fn put_marks(out: &mut Vec<u8>, place: Place) -> Result<(), AllocError>
+    ensures { OnOk result (out.new.items ≡ out.old.items ++ marks place) }
+{
+    out.extend_from_slice(b"  ")?;
+    put_times(out, b' ', place.start)?;
+    put_times(out, b'^', place.width.max(1))?;
+    out.push(b'\n')?;
+    Ok(())
+}
+
+// The line, and marks beneath it.
+fn put_line(out: &mut Vec<u8>, line: &[u8], place: Option<Place>) -> Result<(), AllocError>
+    ensures { OnOk result (out.new.items ≡ out.old.items ++ marked_line line.now place) }
+{
+    put_row(out, "  ", line)?;
+    match place {
+        Some(place) if line.len() <= LONGEST => put_marks(out, place),
+        _ => Ok(()),
+    }
+}
+
+fn put_optional(out: &mut Vec<u8>, label: &str, text: Option<&str>) -> Result<(), AllocError> {
+    match text {
+        None => Ok(()),
+        Some(text) => put_row(out, label, text.as_bytes()),
+    }
+}
+
+fn put_number(out: &mut Vec<u8>, number: u64) -> Result<(), AllocError> {
+    let mut digits = Digits::new();
+    out.extend_from_slice(digits.format(number).as_bytes())
+}
+
+fn put_before(out: &mut Vec<u8>, before: Option<Earlier>) -> Result<(), AllocError> {
+    let Some(earlier) = before else {
+        return Ok(());
+    };
+    out.extend_from_slice(b"  before: line ")?;
+    put_number(out, earlier.number)?;
+    put_row(out, ": ", earlier.line)
+}
+
+/// What is printed of a fault behind its `line L: CAUSE`: the line, marks under the first word at fault, what was
+/// expected, an example, what to write instead, and the line before that it goes by. ASCII, each row with two spaces
+/// in front and a line feed behind. Own.
+pub fn show_finding(alloc: Global, finding: &Finding) -> Result<Vec<u8>, AllocError> {
+    let mut out = Vec::new(alloc);
+    if let Some(line) = finding.line {
+        put_line(&mut out, line, finding.inside.place)?;
+    }
+    put_row(&mut out, "  expected: ", finding.inside.expected.as_bytes())?;
+    put_optional(&mut out, "  example: ", finding.inside.example)?;
+    put_optional(&mut out, "  hint: ", finding.inside.hint)?;
+    put_before(&mut out, finding.before)?;
+    Ok(out)
+}
+
+/// What is printed of a refused command: `line L: refused CODE`, the line, its experiment, what the code means and
+/// what to do. Own.
+pub fn show_refused(alloc: Global, refused: &Refused) -> Result<Vec<u8>, AllocError> {
+    let mut out = Vec::new(alloc);
+    out.extend_from_slice(b"line ")?;
+    put_number(&mut out, refused.number)?;
+    out.extend_from_slice(b": refused ")?;
+    put_number(&mut out, refused.code)?;
+    out.push(b'\n')?;
+    put_row(&mut out, "  ", refused.line)?;
+    put_row(&mut out, "  experiment: ", refused.experiment)?;
+    put_row(&mut out, "  means: ", refused.meaning.text.as_bytes())?;
+    put_row(&mut out, "  hint: ", refused.meaning.hint.as_bytes())?;
+    Ok(out)
+}

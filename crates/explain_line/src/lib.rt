@@ -1,0 +1,14 @@
+//! The first word at fault in a line of a scenario, what is wanted in its place, and what to write instead. Own.
+#![tactic(auto)]
+
+mod hints;
+mod option_walk;
+mod tables;
+#[cfg(test)]
+mod tests;
+mod walk;
+mod wanted;
+
+pub use hints::{byte_hint, hint, range_hint};
+pub use walk::{Trouble, first_trouble};
+pub use wanted::{Choice, Form, Wanted};
