@@ -7,7 +7,9 @@ use Rattle.std.proofs.lemmas.List.{map_more}
 use Rattle.control.specs.declared.scenario.Experiment.{Experiment}
 use Rattle.control.specs.declared.fault.Fault.{Fault}
 use Rattle.control.specs.Scenario.{Spells, HasFault}
-use Rattle.lab.specs.Bytes.{IsRead}
+use Rattle.std.specs.Io.KnownBytes.{Consumes, Keeps}
+use Rattle.std.proofs.KnownBytes.{Consumes-kept, Consumes-trans}
+use Rattle.lab.specs.Bytes.{IsRead, TakesFew, limit}
 
 -- all of a text within the limit was read
 whole : (xs ys text : List ℕ) → xs ≡ text ++ ys → ys ≡ [] → text ≡ xs
@@ -26,6 +28,19 @@ pub read_faults : (old new : Option (List ℕ)) (text : List ℕ) (f : Fault) �
 read_faults None new text f r fault = tt
 read_faults (Some xs) None text f r fault = absurd r.first
 read_faults (Some xs) (Some ys) text f r fault = faulty xs ys text f r fault
+
+-- so much was read, and then a call more was made
+pub few_left : (a b : Option (List ℕ)) (bytes : List ℕ) → Consumes a b bytes → length bytes ≤ limit + 1 → TakesFew a b
+unfolding TakesFew
+few_left a b bytes took few = (bytes, took, few)
+
+pub few_kept : (a b c : Option (List ℕ)) (bytes : List ℕ) → Consumes a b bytes → Keeps b c → length bytes ≤ limit + 1 → TakesFew a c
+unfolding TakesFew
+few_kept a b c bytes took keeps few = (bytes, Consumes-kept a b c bytes took keeps, few)
+
+pub few_more : (a b c : Option (List ℕ)) (bytes more : List ℕ) → Consumes a b bytes → Consumes b c more → length bytes + length more ≤ limit + 1 → TakesFew a c
+unfolding TakesFew
+few_more a b c bytes more took next few = (bytes ++ more, Consumes-trans a b c bytes more took next, omega (arith, length-append bytes more, few))
 
 -- the commands that were counted
 abbrev pub commands_of : Experiment → ℕ

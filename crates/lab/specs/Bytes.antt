@@ -22,6 +22,10 @@ Stops old kept new bytes = (first : Option (List ℕ)) (text : List ℕ) → IsW
 abbrev pub limit : ℕ
 limit = 16777216
 
+-- so much at most was taken of what was left to read
+unfoldable pub TakesFew : Option (List ℕ) → Option (List ℕ) → Type 0
+TakesFew old new = (bytes : List ℕ) × Consumes old new bytes × (length bytes ≤ limit + 1)
+
 -- the text is what was left to read; of one past the limit it is the beginning, a byte past the limit at most
 pub record IsRead (old new : Option (List ℕ)) (text : List ℕ) : Type 0 where
   pub first : Consumes old new text

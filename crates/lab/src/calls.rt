@@ -2,6 +2,7 @@
 
 ghost use Rattle.std.specs.Prelude.{◌≡◌, ◌≢◌, ◌≤◌, length, sum, map, IfOk, IfErr, Err, All, true};
 ghost use Rattle.control.specs.Order.{AreInOrder};
+ghost use Rattle.lab.specs.Bytes.{TakesFew};
 ghost use Rattle.lab.specs.Plans.{IsOwnFault};
 ghost use Rattle.lab.specs.Reports.{reports, tally, Calls, Reads, ReadsFault, reader_failed, writer_failed};
 
@@ -25,6 +26,7 @@ fn read_scenario<R: Inlet>(alloc: Global, reader: &mut R) -> Result<Scenario, Ru
     ensures read { IfOk result (λ es. Reads (R.remaining reader.old) es) }
     ensures in_order { IfOk result (λ es. All (λ e. AreInOrder 0 e.commands) es) }
     ensures few { IfOk result (λ es. sum (map (λ e. length e.commands) es) ≤ 16777216) }
+    ensures taken { TakesFew (R.remaining reader.old) (R.remaining reader.new) }
     ensures fault { IfErr result (λ e. ReadsFault (R.remaining reader.old) e) }
     ensures failed { R.failed reader.new ≡ reader_failed result }
 {
@@ -45,6 +47,7 @@ pub fn run_alone<R: Inlet, W: Outlet>(
     writer: &mut W,
 ) -> Result<(), RunFault>
     ensures calls { Calls reports (R.remaining reader.old) (W.contents writer.old) (W.contents writer.new) result }
+    ensures taken { TakesFew (R.remaining reader.old) (R.remaining reader.new) }
     ensures read { R.failed reader.new ≡ reader_failed result }
     ensures write { W.failed writer.new ≡ writer_failed (W.failed writer.old) result }
     ensures untouched { IfErr result (λ e. e ≢ RunFault.Write → writer.new ≡ writer.old) }
@@ -62,6 +65,7 @@ pub fn run_alone_told<R: Inlet, W: Outlet, P: Progress>(
     progress: &P,
 ) -> Result<(), RunFault>
     ensures calls { Calls reports (R.remaining reader.old) (W.contents writer.old) (W.contents writer.new) result }
+    ensures taken { TakesFew (R.remaining reader.old) (R.remaining reader.new) }
     ensures read { R.failed reader.new ≡ reader_failed result }
     ensures write { W.failed writer.new ≡ writer_failed (W.failed writer.old) result }
     ensures untouched { IfErr result (λ e. e ≢ RunFault.Write → writer.new ≡ writer.old) }
@@ -97,6 +101,7 @@ pub fn run<H: Threads + Wait + Sync, R: Inlet, W: Outlet, G: Gate>(
     gate: &G,
 ) -> Result<(), RunFault>
     ensures calls { Calls reports (R.remaining reader.old) (W.contents writer.old) (W.contents writer.new) result }
+    ensures taken { TakesFew (R.remaining reader.old) (R.remaining reader.new) }
     ensures read { R.failed reader.new ≡ reader_failed result }
     ensures write { W.failed writer.new ≡ writer_failed (W.failed writer.old) result }
     ensures untouched { IfErr result (λ e. e ≢ RunFault.Write → writer.new ≡ writer.old) }
@@ -117,6 +122,7 @@ pub fn run_told<H: Threads + Wait + Sync, R: Inlet, W: Outlet, G: Gate, P: Progr
     progress: &P,
 ) -> Result<(), RunFault>
     ensures calls { Calls reports (R.remaining reader.old) (W.contents writer.old) (W.contents writer.new) result }
+    ensures taken { TakesFew (R.remaining reader.old) (R.remaining reader.new) }
     ensures read { R.failed reader.new ≡ reader_failed result }
     ensures write { W.failed writer.new ≡ writer_failed (W.failed writer.old) result }
     ensures untouched { IfErr result (λ e. e ≢ RunFault.Write → writer.new ≡ writer.old) }
@@ -174,6 +180,7 @@ pub fn check<R: Inlet, W: Outlet>(
     writer: &mut W,
 ) -> Result<(), RunFault>
     ensures calls { Calls tally (R.remaining reader.old) (W.contents writer.old) (W.contents writer.new) result }
+    ensures taken { TakesFew (R.remaining reader.old) (R.remaining reader.new) }
     ensures read { R.failed reader.new ≡ reader_failed result }
     ensures write { W.failed writer.new ≡ writer_failed (W.failed writer.old) result }
     ensures untouched { IfErr result (λ e. e ≢ RunFault.Write → writer.new ≡ writer.old) }

@@ -23,6 +23,7 @@ impl<T: Drop> Device<T> {
     pub fn new(inner: T) -> Self
         ensures inner { result.inner ≡ inner }
         ensures failed { result.failed ≡ false }
+        ensures patience { result.patience ≡ u32.MAX }
     {
         Device::with_patience(inner, PATIENCE)
     }
