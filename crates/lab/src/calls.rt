@@ -39,8 +39,8 @@ fn read_scenario<R: Inlet>(alloc: Global, reader: &mut R) -> Result<Scenario, Ru
 }
 
 /// Reads a scenario and runs each of its experiments by itself; then writes their reports in its order.
-/// A `Scenario` fault is that of the text. After `Write` some first bytes of the reports were written,
-/// after any other fault none.
+/// A `Scenario` fault is that of the text; `Read` comes just where the reader failed, `Write` where the
+/// writer did. After `Write` some first bytes of the reports were written, after any other fault none.
 pub fn run_alone<R: Inlet, W: Outlet>(
     alloc: Global,
     reader: &mut R,
