@@ -111,6 +111,9 @@ fn main(rt: HostRuntime) -> ExitCode {
     };
     let kept = Kept::new(alloc, task.explains());
     let watched = Watched::new(alloc, task.explains());
+    if watched.lacks_memory() {
+        return end(&rt, Err(RunFault::Memory));
+    }
     let mut reader = Device::new(Keeper::new(rt.reader(), kept));
     let mut writer = Device::new(Watcher::new(io::writer(&rt), watched));
     let outcome = match task {

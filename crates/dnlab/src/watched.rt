@@ -22,10 +22,12 @@ pub struct Watcher<W> {
 impl Watched {
     /// Nothing was written.
     pub fn new(alloc: Global, is_wanted: bool) -> Watched {
+        let mut replies = Replies::new(alloc);
+        let lacks_memory = is_wanted && replies.make_room().is_err();
         Watched {
-            replies: Replies::new(alloc),
+            replies,
             is_wanted,
-            lacks_memory: false,
+            lacks_memory,
         }
     }
 

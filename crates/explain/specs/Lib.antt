@@ -1,3 +1,4 @@
 pub mod Lines
 pub mod Past
+pub mod Replies
 pub mod Shown

@@ -1,6 +1,8 @@
 -- What is printed.
-use Rattle.std.specs.Prelude.{ℕ, List, [], ◌∷◌, ◌++◌, length, take, map, replicate, max, Option, Some, None, if◌then◌else◌, nat_lt, nat_le}
+use Rattle.std.specs.Prelude.{ℕ, List, [], ◌∷◌, ◌++◌, length, take, map, replicate, max, Option, Some, None, if◌then◌else◌, nat_lt, nat_le, codes, decimal}
+use Rattle.explain.specs.declared.past.Earlier.{Earlier}
 use Rattle.explain.specs.declared.place.Place.{Place}
+use Rattle.explain.specs.declared.refused.Refused.{Refused}
 
 -- printable ASCII as it is, any other byte as `?`
 abbrev pub shown_byte : ℕ → ℕ
@@ -23,4 +25,27 @@ marked line (Some p) = if nat_le (length line) 512 then marks p else []
 
 -- a line, and marks beneath it
 abbrev pub marked_line : List ℕ → Option Place → List ℕ
-marked_line line place = row (32 ∷ 32 ∷ []) line ++ marked line place
+marked_line line place = row (codes "  ") line ++ marked line place
+
+abbrev pub earlier_row : Earlier → List ℕ
+earlier_row e = codes "  before: line " ++ decimal e.number ++ row (codes ": ") e.line.now
+
+abbrev pub before_row : Option Earlier → List ℕ
+before_row None = []
+before_row (Some e) = earlier_row e
+
+abbrev pub line_rows : Option (List ℕ) → Option Place → List ℕ
+line_rows None place = []
+line_rows (Some line) place = marked_line line place
+
+abbrev pub optional_row : List ℕ → Option (List ℕ) → List ℕ
+optional_row label None = []
+optional_row label (Some text) = row label text
+
+-- what is printed of a fault: its line, the place in it, what was expected, an example, a hint, the line before
+abbrev pub finding_text : Option (List ℕ) → Option Place → List ℕ → Option (List ℕ) → Option (List ℕ) → Option Earlier → List ℕ
+finding_text line place expected example hint before = line_rows line place ++ row (codes "  expected: ") expected ++ optional_row (codes "  example: ") example ++ optional_row (codes "  hint: ") hint ++ before_row before
+
+-- what is printed of a refused command
+abbrev pub refused_text : Refused → List ℕ
+refused_text r = codes "line " ++ decimal r.number ++ codes ": refused " ++ decimal r.code ++ codes "\n" ++ row (codes "  ") r.line.now ++ row (codes "  experiment: ") r.experiment.now ++ row (codes "  means: ") r.meaning.text.now ++ row (codes "  hint: ") r.meaning.hint.now

@@ -1,7 +1,7 @@
 //! What is printed of a fault and of a refused command.
 
-ghost use Rattle.std.specs.Prelude.{◌≡◌, ◌+◌, ◌≤◌, ◌++◌, length, map, take, replicate, OnOk};
-ghost use Rattle.explain.specs.Shown.{shown_byte, shown_line, row, marks, marked_line};
+ghost use Rattle.std.specs.Prelude.{◌≡◌, ◌≤◌, ◌++◌, length, map, take, replicate, decimal, option_map, OnOk, IfOk};
+ghost use Rattle.explain.specs.Shown.{shown_byte, row, marks, marked_line, earlier_row, before_row, line_rows, optional_row, finding_text, refused_text};
 
 use crate::finding::Finding;
 use crate::past::Earlier;
@@ -83,35 +83,59 @@ fn put_line(out: &mut Vec<u8>, line: &[u8], place: Option<Place>) -> Result<(), 
     }
 }
 
-fn put_optional(out: &mut Vec<u8>, label: &str, text: Option<&str>) -> Result<(), AllocError> {
+// The line, if there is one, and marks beneath it.
+fn put_lines(out: &mut Vec<u8>, line: Option<&[u8]>, place: Option<Place>) -> Result<(), AllocError>
+    ensures { OnOk result (out.new.items ≡ out.old.items ++ line_rows (option_map (λ l. l.now) line.entry) place) }
+{
+    match line {
+        None => Ok(()),
+        Some(line) => put_line(out, line, place),
+    }
+}
+
+fn put_optional(out: &mut Vec<u8>, label: &str, text: Option<&str>) -> Result<(), AllocError>
+    ensures { OnOk result (out.new.items ≡ out.old.items ++ optional_row label.now (option_map (λ t. t.now) text.entry)) }
+{
     match text {
         None => Ok(()),
         Some(text) => put_row(out, label, text.as_bytes()),
     }
 }
 
-fn put_number(out: &mut Vec<u8>, number: u64) -> Result<(), AllocError> {
+fn put_number(out: &mut Vec<u8>, number: u64) -> Result<(), AllocError>
+    ensures { OnOk result (out.new.items ≡ out.old.items ++ decimal number) }
+{
     let mut digits = Digits::new();
     out.extend_from_slice(digits.format(number).as_bytes())
 }
 
-fn put_before(out: &mut Vec<u8>, before: Option<Earlier>) -> Result<(), AllocError> {
-    let Some(earlier) = before else {
-        return Ok(());
-    };
+// A line before, and its number.
+fn put_earlier(out: &mut Vec<u8>, earlier: Earlier) -> Result<(), AllocError>
+    ensures { OnOk result (out.new.items ≡ out.old.items ++ earlier_row earlier.entry) }
+{
     out.extend_from_slice(b"  before: line ")?;
     put_number(out, earlier.number)?;
-    put_row(out, ": ", earlier.line)
+    put_row(out, ": ", earlier.line)?;
+    Ok(())
+}
+
+fn put_before(out: &mut Vec<u8>, before: Option<Earlier>) -> Result<(), AllocError>
+    ensures { OnOk result (out.new.items ≡ out.old.items ++ before_row before.entry) }
+{
+    match before {
+        None => Ok(()),
+        Some(earlier) => put_earlier(out, earlier),
+    }
 }
 
 /// What is printed of a fault behind its `line L: CAUSE`: the line, marks under the first word at fault, what was
 /// expected, an example, what to write instead, and the line before that it goes by. ASCII, each row with two spaces
 /// in front and a line feed behind. Own.
-pub fn show_finding(alloc: Global, finding: &Finding) -> Result<Vec<u8>, AllocError> {
+pub fn show_finding(alloc: Global, finding: &Finding) -> Result<Vec<u8>, AllocError>
+    ensures { IfOk result (λ out. out.items ≡ finding_text (option_map (λ l. l.now) finding.now.line) finding.now.inside.place finding.now.inside.expected.now (option_map (λ t. t.now) finding.now.inside.example) (option_map (λ t. t.now) finding.now.inside.hint) finding.now.before) }
+{
     let mut out = Vec::new(alloc);
-    if let Some(line) = finding.line {
-        put_line(&mut out, line, finding.inside.place)?;
-    }
+    put_lines(&mut out, finding.line, finding.inside.place)?;
     put_row(&mut out, "  expected: ", finding.inside.expected.as_bytes())?;
     put_optional(&mut out, "  example: ", finding.inside.example)?;
     put_optional(&mut out, "  hint: ", finding.inside.hint)?;
@@ -121,13 +145,15 @@ pub fn show_finding(alloc: Global, finding: &Finding) -> Result<Vec<u8>, AllocEr
 
 /// What is printed of a refused command: `line L: refused CODE`, the line, its experiment, what the code means and
 /// what to do. Own.
-pub fn show_refused(alloc: Global, refused: &Refused) -> Result<Vec<u8>, AllocError> {
+pub fn show_refused(alloc: Global, refused: &Refused) -> Result<Vec<u8>, AllocError>
+    ensures { IfOk result (λ out. out.items ≡ refused_text refused.now) }
+{
     let mut out = Vec::new(alloc);
     out.extend_from_slice(b"line ")?;
     put_number(&mut out, refused.number)?;
     out.extend_from_slice(b": refused ")?;
     put_number(&mut out, refused.code)?;
-    out.push(b'\n')?;
+    out.extend_from_slice(b"\n")?;
     put_row(&mut out, "  ", refused.line)?;
     put_row(&mut out, "  experiment: ", refused.experiment)?;
     put_row(&mut out, "  means: ", refused.meaning.text.as_bytes())?;

@@ -31,6 +31,8 @@ fn has_zero_in_front(word: &[u8]) -> bool {
 
 const ZERO: &str = "a number doesn't begin with 0: 007 is 7";
 
+const LOWER: &str = "words are in lower case";
+
 fn number_hint(word: &[u8]) -> Option<&'static str> {
     if word.first() == Some(&b'-') || word.first() == Some(&b'+') {
         Some("a number has no sign")
@@ -53,6 +55,13 @@ fn number_hint(word: &[u8]) -> Option<&'static str> {
     }
 }
 
+fn is_foreign_comment(word: &[u8]) -> bool {
+    match word.first() {
+        Some(b'/' | b';' | b'-' | b'%' | b'!') => true,
+        _ => false,
+    }
+}
+
 fn moment_hint(word: &[u8]) -> Option<&'static str> {
     match word {
         [b'@'] => Some("no space between @ and the moment: @0"),
@@ -66,6 +75,10 @@ fn moment_hint(word: &[u8]) -> Option<&'static str> {
         _ => {
             if begins_with_digit(word) {
                 Some("a moment has @ in front of it: @0")
+            } else if is_foreign_comment(word) {
+                Some("a comment begins with #")
+            } else if has_capital(word) {
+                Some(LOWER)
             } else {
                 Some("a command has its moment in front of it: @0 pipe 1 config bw 10Mbit/s")
             }
@@ -278,7 +291,7 @@ fn choice_hint(choice: Choice, word: &[u8]) -> Option<&'static str> {
         Choice::Field | Choice::End | Choice::Once => None,
     };
     if own.is_none() && has_capital(word) {
-        return Some("words are in lower case");
+        return Some(LOWER);
     }
     own
 }
@@ -287,7 +300,7 @@ fn choice_hint(choice: Choice, word: &[u8]) -> Option<&'static str> {
 fn form_hint(form: Form, word: &[u8]) -> Option<&'static str> {
     match form {
         Form::Choice(choice) => choice_hint(choice, word),
-        Form::Word(_) => has_capital(word).then_some("words are in lower case"),
+        Form::Word(_) => has_capital(word).then_some(LOWER),
         Form::Number(_, _) => number_hint(word),
         Form::Moment => moment_hint(word),
         Form::Name => name_hint(word),
