@@ -83,25 +83,6 @@ fn words(rt: HostRuntime) -> Result<(), Fail> {
         },
     )?;
     asks(&rt, &["check"], Task::Check { explain: false })?;
-    asks(&rt, &["check", "--explain"], Task::Check { explain: true })?;
-    asks(
-        &rt,
-        &["alone", "--explain"],
-        Task::Alone {
-            progress: false,
-            explain: true,
-        },
-    )?;
-    asks(
-        &rt,
-        &["run", "--explain", "--progress"],
-        Task::Run {
-            workers: 2,
-            moves: 64,
-            progress: true,
-            explain: true,
-        },
-    )?;
     says(&rt, &["--help"], ErrorKind::DisplayHelp, 0)?;
     says(&rt, &["--version"], ErrorKind::DisplayVersion, 0)?;
     says(&rt, &["runs"], ErrorKind::InvalidSubcommand, 2)?;
@@ -124,5 +105,28 @@ fn words(rt: HostRuntime) -> Result<(), Fail> {
         &[],
         ErrorKind::DisplayHelpOnMissingArgumentOrSubcommand,
         2,
+    )
+}
+
+#[test]
+fn explaining(rt: HostRuntime) -> Result<(), Fail> {
+    asks(&rt, &["check", "--explain"], Task::Check { explain: true })?;
+    asks(
+        &rt,
+        &["alone", "--explain"],
+        Task::Alone {
+            progress: false,
+            explain: true,
+        },
+    )?;
+    asks(
+        &rt,
+        &["run", "--explain", "--progress"],
+        Task::Run {
+            workers: 2,
+            moves: 64,
+            progress: true,
+            explain: true,
+        },
     )
 }

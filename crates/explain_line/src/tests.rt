@@ -20,6 +20,10 @@ fn words(rt: HostRuntime) {
     blames(&rt, "@0 add 1 skipto to ip from any to any", false, Some(4));
     blames(&rt, "@0 add 1 pipe 2 ip from any 5 any", false, Some(9));
     blames(&rt, "@0 add 1 deny ip from any to any 1 2", false, Some(10));
+}
+
+#[test]
+fn pipes_and_sources(rt: HostRuntime) {
     blames(&rt, "@0 pipe show now", false, Some(3));
     blames(&rt, "@0 pipe delete", false, Some(3));
     blames(
@@ -46,6 +50,10 @@ fn words(rt: HostRuntime) {
         false,
         Some(7),
     );
+}
+
+#[test]
+fn flows(rt: HostRuntime) {
     blames(
         &rt,
         "@0 flow 1 1.2.3.4 1 1.2.3.4 2 smss 99 segments 9 rto adaptive",
