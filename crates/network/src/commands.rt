@@ -3,7 +3,7 @@
 ghost use Rattle.std.specs.Prelude.{◌≡◌, ◌≢◌, ℕ, ◌+◌, ◌*◌, ◌^◌, ◌<◌, ◌≤◌, ◌++◌, ◌∷◌, [], Some, None, IsOk, IsSome, OnOk, OnErr, map, length};
 ghost use Rattle.emu_model.specs.declared.commands.Command.TheVariants.{Add, Delete, Config, PipeDelete, PipeShow, Show, Inject, Train, Flow, Stop, OnePass, End};
 ghost use Rattle.emu_model.specs.declared.records.Record.TheVariants.{CommandDone, CommandRefused, RuleLine};
-ghost use Rattle.emu_model.specs.Commands.{obey as obeyed, config_refusal, source_refusal};
+ghost use Rattle.emu_model.specs.Commands.{obey as obeyed, config_refusal, refusal_of as obey_refusal, source_refusal};
 ghost use Rattle.emu_model.specs.Rules.{add_refusal};
 ghost use Rattle.packet_store.specs.Pocket.{Pocket};
 ghost use Rattle.network.specs.Kept.{net_of, setting_of, Stands};
@@ -170,14 +170,21 @@ impl Network {
         number: u64,
         pipe: PipeNumber,
     ) -> Result<(), NoMemory>
-        requires { Stands at (S.pocket shelf.old owner) self.old }
+        requires stands { Stands at (S.pocket shelf.old owner) self.old }
+        requires log { 1 < self.old.log.spare }
         ensures ok { OnOk result (Becomes 1 (obeyed (setting_of at) number (PipeDelete pipe) (net_of (S.pocket shelf.old owner) self.old))
             (S.pocket shelf.old owner) (S.pocket shelf.new owner) self.old self.new) }
         ensures room { OnOk result (0 < self.new.log.spare) }
         ensures refused { OnErr result (IsStill self.old self.new) }
+        ensures succeeds { IsSome (obey_refusal (PipeDelete pipe) (net_of (S.pocket shelf.old owner) self.old)) → IsOk result }
         ensures refused_pocket { OnErr result (S.pocket shelf.new owner ≡ S.pocket shelf.old owner) }
         ensures others { (o : ℕ) → o ≢ owner → S.pocket shelf.new o ≡ S.pocket shelf.old o }
     {
+        // A pipe that isn't there drops nothing, and needs no room for it.
+        if !self.table.has(pipe) {
+            self.refuse(at.now, number, Refusal::NoSuchPipe);
+            return Ok(());
+        }
         self.reserve_besides(shelf.count(owner))?;
         match self.table.delete(shelf, owner, pipe) {
             Err(NoMemory) => return Err(NoMemory),

@@ -1,6 +1,6 @@
 -- What the definitions do with one pipe of an experiment, where the table holds it.
-use Rattle.std.proofs.Common.{◌≡◌, ℕ, true, sym, ap, ◌∙◌, List, ◌∷◌, ◌++◌, Option, Some, None}
-use Rattle.std.specs.Prelude.{option_map}
+use Rattle.std.proofs.Common.{◌≡◌, ℕ, true, refl, sym, ap, ◌∙◌, List, ◌∷◌, ◌++◌, Option, Some, None}
+use Rattle.std.specs.Prelude.{is_some, option_map}
 use Rattle.std.specs.Option.{option_map_or}
 use Rattle.emu_model.specs.declared.packets.Packet.{Packet}
 use Rattle.emu_model.specs.declared.records.DropCause.TheVariants.{NoPipe}
@@ -23,6 +23,14 @@ find-none p k ps n none = seen-find (packet_at p.find) k ps ∙ ap (option_map (
 
 pub find-some : (p : Pocket) (k : ℕ) (ps : List KeyedPipe) (x : KeyedPipe) (n : Net) → pipe_of k ps ≡ Some x → find_pipe k (net p ps n) ≡ Some (view p x)
 find-some p k ps x n some = seen-find (packet_at p.find) k ps ∙ ap (option_map (seen_pipe (packet_at p.find))) some
+
+-- there is a pipe of a number just where the net has one
+seen-is : (f : ℕ → Packet) (o : Option KeyedPipe) → is_some (option_map (seen_pipe f) o) ≡ is_some o
+seen-is f None = refl
+seen-is f (Some x) = refl
+
+pub has-is : (p : Pocket) (k : ℕ) (ps : List KeyedPipe) (n : Net) → is_some (pipe_of k ps) ≡ is_some (find_pipe k (net p ps n))
+has-is p k ps n = sym (ap is_some (seen-find (packet_at p.find) k ps) ∙ seen-is (packet_at p.find) (pipe_of k ps))
 
 pub arrive-nowhere : (at : Setting) (p : Pocket) (k : ℕ) (packet : Packet) (ps : List KeyedPipe) (n : Net) → pipe_of k ps ≡ None →
     to_pipe at k packet (net p ps n) ≡ drop_packet at.now NoPipe packet (net p ps n)

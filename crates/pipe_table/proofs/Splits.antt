@@ -1,6 +1,6 @@
 -- A list round the first item that passes a test.
 use Rattle.std.proofs.Common.{◌≡◌, ℕ, zero, suc, ◌<◌, Bool, true, false, cond, refl, sym, ap, ◌∙◌, List, [], ◌∷◌, ◌++◌, map, length, Some, None, take, drop, get_or, position, arith, ◌≤◌}
-use Rattle.std.specs.Prelude.{slice_get, option_map}
+use Rattle.std.specs.Prelude.{is_some, slice_get, option_map}
 use Rattle.std.specs.List.{find, position_or_len}
 use Rattle.std.proofs.lemmas.Grind.{common_steps}
 use Rattle.std.proofs.lemmas.List.Folds.{find_at}
@@ -67,6 +67,16 @@ module _ {A : Type 0} (p : A → Bool) where
   position-none xs h =
       let outside : length xs ≤ position_or_len p xs = grind (arith, common_steps) in
       find_at p xs ∙ beyond xs (position_or_len p xs) outside
+
+  inside-some : (xs : List A) (n : ℕ) → n < length xs → is_some (slice_get xs n) ≡ true
+  inside-some [] n lt = absurd (omega (arith, lt))
+  inside-some (x ∷ xs) zero lt = refl
+  inside-some (x ∷ xs) (suc n) lt = inside-some xs n (omega (arith, lt))
+
+  pub position-some : (xs : List A) (i : ℕ) → Some i ≡ position p xs → is_some (find p xs) ≡ true
+  position-some xs i h =
+      let within : position_or_len p xs < length xs = grind (arith, common_steps) in
+      ap is_some (find_at p xs) ∙ inside-some xs (position_or_len p xs) within
 
   pub position-len : (xs : List A) (i : ℕ) → Some i ≡ position p xs → i ≡ position_or_len p xs
   position-len xs i h = grind (arith, common_steps)

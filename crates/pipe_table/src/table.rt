@@ -71,6 +71,16 @@ impl PipeTable {
         self.pipes.iter().position(|pipe| pipe.number() == number)
     }
 
+    /// There is a pipe of this number.
+    pub fn has(&self, number: PipeNumber) -> bool
+        ensures { (p : Pocket) (n : Net) → result ≡ is_some (find_pipe number (with_pipes p self.now n)) }
+    {
+        let Some(_place) = self.place_of(number) else {
+            return false;
+        };
+        true
+    }
+
     /// Makes the growths that `arrive` of this packet at this pipe needs, or of one that differs in its
     /// load, number or place. Only room grows, also where one is refused.
     pub fn arrive_ready<S: Shelf>(
