@@ -1,4 +1,4 @@
-"""The program that the tools run."""
+"""The programs that the tools run."""
 import os
 import pathlib
 import shutil
@@ -21,3 +21,18 @@ def program(named=None):
     if status:
         sys.exit(status)
     return str(ROOT / "crates" / "dnlab" / "out" / "dnlab")
+
+
+def soak():
+    """The path of the program of crates/soak: the one of the environment variable SOAK, else this repository's, proved
+    and built first where it isn't there or a source is newer."""
+    named = os.environ.get("SOAK")
+    if named:
+        return named
+    folder = ROOT / "crates" / "soak"
+    done = subprocess.run(["rt", "run", "--", "1", "0", "0"], cwd=folder, stdin=subprocess.DEVNULL, capture_output=True,
+                          check=False)
+    if done.returncode:
+        sys.stderr.buffer.write(done.stderr + done.stdout)
+        sys.exit(3)
+    return str(folder / "out" / "soak")

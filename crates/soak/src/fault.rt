@@ -1,0 +1,29 @@
+//! Why there are no reports.
+
+use std::alloc::AllocError;
+use thiserror::Error;
+
+#[derive(Clone, Copy, Debug, Drop, Error, PartialEq)]
+pub enum Fault {
+    /// The words are none of those of the program.
+    #[error("words: LISTS STEPS SEED [on], of which LISTS is 1 or more")]
+    Words,
+    /// The text is no scenario.
+    #[error("the text is no scenario")]
+    Scenario,
+    /// Memory was refused.
+    #[error("memory")]
+    Memory,
+    /// An experiment was not brought to its end.
+    #[error("list {0}: not ended")]
+    Unfinished(u32),
+    /// A list left other reports than the first.
+    #[error("list {0}: other reports than those of list 0")]
+    Differs(u32),
+}
+
+impl From<AllocError> for Fault {
+    fn from(_error: AllocError) -> Fault {
+        Fault::Memory
+    }
+}

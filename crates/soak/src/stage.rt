@@ -1,0 +1,66 @@
+//! What is called of a world.
+
+use emu_model::Ending;
+use report::report_text;
+use std::alloc::{AllocError, Global};
+use timer_wheel::Agenda;
+use world::{Did, Place, Step, World};
+
+/// The report of what a name left, and whether it was halted for want of memory.
+#[derive(Drop)]
+pub struct Written {
+    pub text: Vec<u8>,
+    pub halted: bool,
+}
+
+/// A world. All else is written over any, so that its proofs needn't take a world apart wherever it is dropped.
+pub trait Stage: Drop {
+    fn built(alloc: Global, shards: usize) -> Result<Self, AllocError>;
+
+    fn makes(&mut self, step: Step) -> Did;
+
+    /// Makes steps. Answers how often memory was refused.
+    fn runs(&mut self, steps: &[Step]) -> u64;
+
+    fn place_of(&self, name: u32) -> Option<Place>;
+
+    /// Of a name that has ended, under a title.
+    fn written(
+        &self,
+        alloc: Global,
+        name: u32,
+        title: &[u8],
+    ) -> Result<Option<Written>, AllocError>;
+}
+
+impl<A: Agenda> Stage for World<A> {
+    fn built(alloc: Global, shards: usize) -> Result<World<A>, AllocError> {
+        World::new(alloc, shards)
+    }
+
+    fn makes(&mut self, step: Step) -> Did {
+        self.step(step)
+    }
+
+    fn runs(&mut self, steps: &[Step]) -> u64 {
+        self.run(steps)
+    }
+
+    fn place_of(&self, name: u32) -> Option<Place> {
+        self.place(name)
+    }
+
+    fn written(
+        &self,
+        alloc: Global,
+        name: u32,
+        title: &[u8],
+    ) -> Result<Option<Written>, AllocError> {
+        let Some(left) = self.ended(name) else {
+            return Ok(None);
+        };
+        let text = report_text(alloc, title, left.records(), &left.counters())?;
+        let halted = matches!(left.ending(), Ending::Halted);
+        Ok(Some(Written { text, halted }))
+    }
+}
