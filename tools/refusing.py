@@ -46,8 +46,8 @@ def library(room):
 
 
 def run(allocator, words, text, number, limit=20):
-    """Standard output, standard error and status of a run over the text whose allocation of this number is refused (0:
-    none), and how many it asked for; a status of 'no end' where it takes longer than the limit (s)."""
+    """Standard output, standard error and status of a run over the text whose allocation of this number is refused
+    (0: none), and how many it asked for; a status of 'no end' where it takes longer than the limit (s)."""
     reading, writing = os.pipe()
     how = {"LD_PRELOAD": allocator, "REFUSED": str(number), "COUNT": str(writing)}
     try:
