@@ -1,6 +1,6 @@
 //! The side of the tenants, in the calling thread: each posts the commands of its experiment, and settles in the end.
 
-ghost use Rattle.std.specs.Prelude.{◌≡◌, ◌<◌, length, map, Some, IsSome, IsTrue, IfOk, IfErr};
+ghost use Rattle.std.specs.Prelude.{◌≡◌, ◌<◌, length, map, Some, is_some, IsSome, IsTrue, IfOk, IfErr};
 ghost use Rattle.experiment.specs.Kept.{shown_ending};
 ghost use Rattle.bench.specs.Commands.{BeginsWith};
 ghost use Rattle.bench.specs.Tenants.{posted, SameTenant};
@@ -159,7 +159,8 @@ pub(crate) fn open_all(
 
 // Whether an experiment ended by itself, and wasn't halted.
 fn has_ended(ending: Ending) -> bool
-    ensures { IsTrue result → IsSome (shown_ending (Some ending)) }
+    ensures exact { result ≡ is_some (shown_ending (Some ending)) }
+    ensures ended { IsTrue result → IsSome (shown_ending (Some ending)) }
 {
     match ending {
         Ending::Halted => return false,

@@ -1,6 +1,7 @@
 //! All experiments of a scenario by many workers, each of which has a thread.
 
-ghost use Rattle.std.specs.Prelude.{◌≡◌, ◌≤◌, ◌⊎◌, None, Some, vec_len, map, IfOk, IfErr, IfSome};
+ghost use Rattle.std.specs.Prelude.{◌≡◌, ◌≢◌, ℕ, ◌≤◌, ◌⊎◌, None, Some, IsSome, option_and_then, slice_get, length, vec_len, map, IfOk, OnOk, IfErr, IfSome};
+ghost use Rattle.bench.specs.Audits.{Accounted};
 ghost use Rattle.lab.specs.Plans.{IsWorkFault, IsTogetherFault, IsMemory, gravity};
 ghost use Rattle.lab.specs.Reports.{trace_alone};
 ghost use Rattle.lab.specs.Serving.{IsServed};
@@ -123,7 +124,8 @@ impl Joined {
 
     // Keeps the graver of its fault and another.
     fn note(&mut self, fault: RunFault)
-        ensures { IfSome self.new.fault (λ f. (f ≡ fault) ⊎ (self.old.fault ≡ Some f)) }
+        ensures either { IfSome self.new.fault (λ f. (f ≡ fault) ⊎ (self.old.fault ≡ Some f)) }
+        ensures some { IsSome self.new.fault }
     {
         self.fault = Some(graver(self.fault, fault));
     }
@@ -131,7 +133,9 @@ impl Joined {
     // Puts a dossier at its name. A second one for a name, or one for no tenant, is strange.
     fn put<G: Gate>(&mut self, dossier: Dossier<RingMail>)
         requires { IfSome self.old.fault (IsTogetherFault G.may_refuse) }
-        ensures { IfSome self.new.fault (IsTogetherFault G.may_refuse) }
+        ensures fault { IfSome self.new.fault (IsTogetherFault G.may_refuse) }
+        ensures strange { option_and_then (λ d. d) (slice_get self.old.dossiers.items dossier.name) ≢ None → IsSome self.new.fault }
+        ensures nobody { length self.old.dossiers.items ≤ dossier.name → IsSome self.new.fault }
     {
         let place = dossier.name() as usize;
         if place >= self.dossiers.len() || self.dossiers[place].is_some() {
@@ -253,6 +257,7 @@ fn finish<G: Gate>(
     requires fault { IfSome joined.fault (IsTogetherFault G.may_refuse) }
     ensures ok { IfOk result (λ os. os.items ≡ map trace_alone scenario.now) }
     ensures err { IfErr result (IsTogetherFault G.may_refuse) }
+    ensures audited { OnOk result ((x : ℕ) → Accounted joined.closings.items x) }
 {
     let Joined {
         dossiers,

@@ -103,10 +103,11 @@ impl PipeTable {
     }
 
     /// Appends the dues of all pipes, pipe by pipe and instance by instance, or leaves `dues` as it
-    /// was.
+    /// was: that only where it has no room for two of each instance.
     pub fn add_dues(&self, dues: &mut Vec<Due>) -> Result<(), AllocError>
         ensures ok { OnOk result ((p : Pocket) (n : Net) → dues.new.items ≡ dues.old.items ++ flat_map pipe_dues (with_pipes p self.now n).pipes) }
         ensures err { OnErr result (dues.new.items ≡ dues.old.items) }
+        ensures full { OnErr result (vec_capacity dues.old < vec_len dues.old + 2 * sum_by (λ p. length p.slots) self.now.pipes) }
     {
         dues.reserve(2 * self.instances())?;
         for pipe in &self.pipes {

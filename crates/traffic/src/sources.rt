@@ -1,6 +1,6 @@
 //! All flows and trains.
 
-ghost use Rattle.std.specs.Prelude.{◌≡◌, ℕ, ◌+◌, ◌*◌, ◌^◌, ◌<◌, ◌≤◌, ◌++◌, [], is_some, option_map, position, ◌==◌, IfNone, IsOk, OnOk, OnErr};
+ghost use Rattle.std.specs.Prelude.{◌≡◌, ℕ, ◌+◌, ◌*◌, ◌^◌, ◌<◌, ◌≤◌, ◌++◌, [], is_some, option_map, position, ◌==◌, length, vec_len, vec_capacity, IfNone, IsOk, OnOk, OnErr};
 ghost use Rattle.std.specs.Option.{option_map_or};
 ghost use Rattle.std.specs.List.{best_of};
 ghost use Rattle.emu_model.specs.declared.records.Record.TheVariants.{AckTaken, TimerExpired};
@@ -252,10 +252,12 @@ impl Traffic {
         self.index.earliest(clock, best)
     }
 
-    /// Appends the dues of all flows and trains, or leaves `dues` as it was.
+    /// Appends the dues of all flows and trains, or leaves `dues` as it was: that only where it has no room for two of
+    /// each flow and one of each train.
     pub fn add_dues(&self, clock: u64, dues: &mut Vec<Due>) -> Result<(), AllocError>
         ensures ok { OnOk result ((n : Net) → dues.new.items ≡ dues.old.items ++ source_dues clock (with_traffic self.now n)) }
         ensures err { OnErr result (dues.new.items ≡ dues.old.items) }
+        ensures full { OnErr result (vec_capacity dues.old < vec_len dues.old + (2 * length self.now.flows + length self.now.trains)) }
     {
         dues.reserve(2 * self.flows.len() + self.trains.len())?;
         for flow in &self.flows {
