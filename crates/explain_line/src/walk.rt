@@ -1,5 +1,7 @@
 //! The walk over a line's words to the first one at fault.
 
+ghost use Rattle.std.specs.Prelude.{◌≡◌, ◌-◌, IfErr};
+
 use crate::tables;
 use crate::wanted::{Verdict, Wanted, judge};
 use control_words::{Words, is};
@@ -45,7 +47,9 @@ impl<'a> Walk<'a> {
     }
 
     /// The word that was taken last is at fault.
-    pub fn blame(&self, wanted: Wanted) -> Trouble {
+    pub fn blame(&self, wanted: Wanted) -> Trouble
+        ensures { result ≡ record { index = self.now.taken - 1; wanted = wanted } }
+    {
         Trouble {
             index: self.taken.saturating_sub(1),
             wanted,
@@ -53,7 +57,9 @@ impl<'a> Walk<'a> {
     }
 
     /// Takes the next word, whatever it is. It is at fault where it is missing.
-    pub fn take(&mut self, wanted: Wanted) -> Result<&'a [u8], Trouble> {
+    pub fn take(&mut self, wanted: Wanted) -> Result<&'a [u8], Trouble>
+        ensures missing { IfErr result (λ t. t ≡ record { index = self.new.taken; wanted = wanted }) }
+    {
         match self.optional() {
             Some(word) => Ok(word),
             None => Err(Trouble {
@@ -64,7 +70,9 @@ impl<'a> Walk<'a> {
     }
 
     /// Whether the word that was taken last is what was wanted.
-    pub fn judge(&self, word: &[u8], wanted: Wanted) -> Result<(), Trouble> {
+    pub fn judge(&self, word: &[u8], wanted: Wanted) -> Result<(), Trouble>
+        ensures blamed { IfErr result (λ t. t ≡ record { index = self.now.taken - 1; wanted = wanted }) }
+    {
         match judge(wanted.form, word) {
             Verdict::Fine => Ok(()),
             Verdict::OutOfRange if !self.ranges => Ok(()),

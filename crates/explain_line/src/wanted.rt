@@ -1,5 +1,7 @@
 //! What may stand at a place of a line, and what a word is there.
 
+ghost use Rattle.std.specs.Prelude.{◌≡◌, ◌≢◌, ◌≤◌, ◌↔◌, IfSome, IfNone, IsTrue};
+
 use control_words::{RawAddress, RawQueue, RawTiming, addresses, is, numbers};
 
 /// One of several words, or none: who walks over the line judges it.
@@ -68,11 +70,18 @@ fn formed(is_formed: bool) -> Verdict {
     }
 }
 
-fn is_within(number: u128, least: u64, most: u64) -> bool {
+fn is_within(number: u128, least: u64, most: u64) -> bool
+    ensures { IsTrue result ↔ ((least ≤ number) × (number ≤ most)) }
+{
     u128::from(least) <= number && number <= u128::from(most)
 }
 
-fn within(number: Option<u128>, least: u64, most: u64) -> Verdict {
+// A number without the form, one of the range with its ends, or one outside it.
+fn within(number: Option<u128>, least: u64, most: u64) -> Verdict
+    ensures form { IfNone number (result ≡ Verdict.NoForm) }
+    ensures fine { IfSome number (λ n. result ≡ Verdict.Fine ↔ ((least ≤ n) × (n ≤ most))) }
+    ensures outside { IfSome number (λ n. result ≢ Verdict.NoForm) }
+{
     match number {
         None => Verdict::NoForm,
         Some(n) if is_within(n, least, most) => Verdict::Fine,
