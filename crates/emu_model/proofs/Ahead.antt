@@ -5,7 +5,7 @@ use Rattle.std.specs.List.{AllByRecursion}
 use Rattle.std.proofs.Math.Nat.{div-eq_of_lt, div-mul-le_self}
 use Rattle.std.proofs.lemmas.Nat.{le-div}
 use Rattle.std.proofs.lemmas.Bool.{ltb-true, lt-ltb}
-use Rattle.emu_model.specs.Types.{Spec, Timed, Packet, Class, NextCommand, Exit, Finish, Expiry, Emission, PipeConfig, FlowSpec, Lost, Full, Command, Add, Delete, Config, PipeDelete, PipeShow, Show, Inject, Train, Flow, Stop, OnePass, End}
+use Rattle.emu_model.specs.Types.{Spec, Timed, Packet, Class, NextCommand, Exit, Finish, Expiry, Emission, PipeConfig, FlowSpec, Lost, Full, Command, Add, Delete, Config, PipeDelete, PipeShow, Show, Inject, Train, Flow, Stop, OnePass, Trace, End}
 use Rattle.emu_model.specs.declared.sources.Due.{Due}
 use Rattle.emu_model.specs.Lists.{tail}
 use Rattle.emu_model.specs.Rate.{quotient_up, finish_at, Period, follow, begin, cut_period}
@@ -285,6 +285,7 @@ fits-ahead now (Train k t) = λ e. omega arith
 fits-ahead now (Flow k f) = λ e. tt
 fits-ahead now (Stop k) = tt
 fits-ahead now (OnePass b) = tt
+fits-ahead now (Trace b) = tt
 fits-ahead now End = tt
 
 -- an instance whose dues are no earlier than m

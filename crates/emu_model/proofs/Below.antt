@@ -3,7 +3,7 @@ use Rattle.std.proofs.Common.{◌≡◌, ℕ, zero, suc, ◌+◌, ◌*◌, ◌/�
 use Rattle.std.specs.Prelude.{if◌then◌else◌, ◌==◌, nat_lt, min, max, is_none, is_some, slice_get}
 use Rattle.std.specs.List.{AllByRecursion}
 use Rattle.std.proofs.lemmas.Bool.{ltb-true, lt-ltb}
-use Rattle.emu_model.specs.Types.{Packet, Spec, Timed, Class, NextCommand, Exit, Finish, Expiry, Emission, FlowSpec, Timing, Fixed, Adaptive, Command, Add, Delete, Config, PipeDelete, PipeShow, Show, Inject, Train, Flow, Stop, OnePass, End}
+use Rattle.emu_model.specs.Types.{Packet, Spec, Timed, Class, NextCommand, Exit, Finish, Expiry, Emission, FlowSpec, Timing, Fixed, Adaptive, Command, Add, Delete, Config, PipeDelete, PipeShow, Show, Inject, Train, Flow, Stop, OnePass, Trace, End}
 use Rattle.emu_model.specs.declared.sources.Due.{Due}
 use Rattle.emu_model.specs.Delay.{Leaving, Line}
 use Rattle.emu_model.specs.Reno.{Sender, Estimate, timeout_at, longest, ack, ack_new, ack_duplicate, is_new, is_duplicate, enter_recovery, emit, expire, started_timer, round_trip, timeout_after, estimated_timeout, new_estimate, bounded}
@@ -166,6 +166,7 @@ fits-near now (Flow k f) w =
     record { segment = w.0; timing = w.1; sender = record { time = first-time f.timing w.1; timer = tt } }
 fits-near now (Stop k) w = tt
 fits-near now (OnePass b) w = tt
+fits-near now (Trace b) w = tt
 fits-near now End w = tt
 
 flow-later : (low m : ℕ) (f : FlowState) → low ≤ m → FlowNear low f → FlowNear m f
@@ -290,6 +291,7 @@ configures (Train k t) w = tt
 configures (Flow k f) w = tt
 configures (Stop k) w = tt
 configures (OnePass b) w = tt
+configures (Trace b) w = tt
 configures End w = tt
 
 alone-near : (spec : Spec) (c : List Timed) (n : ℕ) → AreRising 0 c → AllByRecursion IsEarly c → Near (alone spec c n)

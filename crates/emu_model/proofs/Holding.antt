@@ -3,12 +3,12 @@ use Rattle.std.proofs.Common.{◌≡◌, true, false, ℕ, zero, suc, ◌+◌, �
 use Rattle.std.specs.Prelude.{nat_lt, ◌==◌}
 use Rattle.std.specs.Option.{option_map_or}
 use Rattle.std.specs.List.{AllByRecursion}
-use Rattle.emu_model.specs.Types.{Class, NextCommand, Exit, Finish, Expiry, Emission, Place, Packet, Load, Plain, Seg, Ack, Verdict, Allow, Deny, Pipe, SendSpec, PipeConfig, NoPipe, Budget, Command, Add, Delete, Config, PipeDelete, PipeShow, Show, Inject, Train, Flow, Stop, OnePass, End, CommandDone, CommandRefused, PacketDelivered, PacketPassed}
+use Rattle.emu_model.specs.Types.{Class, NextCommand, Exit, Finish, Expiry, Emission, Place, Packet, Load, Plain, Seg, Ack, Verdict, Allow, Deny, Pipe, SendSpec, PipeConfig, NoPipe, Budget, Command, Add, Delete, Config, PipeDelete, PipeShow, Show, Inject, Train, Flow, Stop, OnePass, Trace, End, CommandDone, CommandRefused, PacketDelivered, PacketPassed}
 use Rattle.emu_model.specs.Rules.{verdict, start_behind, counted_book}
 use Rattle.emu_model.specs.Delay.{Line, first_item, enter, leave}
 use Rattle.emu_model.specs.Reno.{ack, expire, with_segment, missing, emitted, emit, opening_sender}
 use Rattle.emu_model.specs.Pipes.{InService, PipeState, After, pipe_arrive, pipe_finish, pipe_exit, pipe_configure}
-use Rattle.emu_model.specs.Net.{Net, Setting, FlowState, TrainState, note, held, drop_packet, find_pipe, put_pipe, put_after, to_pipe, by_verdict, pass_rules_from, pass_rules, go_on, packet_of, make, data_send, ack_send, put_flow, put_train, find_flow, find_train, note_ack, take_segment, take_ack, take_load, deliver}
+use Rattle.emu_model.specs.Net.{Net, Setting, FlowState, TrainState, note, note_traced, arrivals, make_record, held, drop_packet, find_pipe, put_pipe, put_after, to_pipe, by_verdict, pass_rules_from, pass_rules, go_on, packet_of, make, data_send, ack_send, put_flow, put_train, find_flow, find_train, note_ack, take_segment, take_ack, take_load, deliver}
 use Rattle.emu_model.specs.Commands.{with_pipe, new_pipe, delete_pipe, stop_flow, refusal_of, effect_of, obey}
 use Rattle.emu_model.specs.Events.{direct_exit, flying_in, leave_pipe, pipe_exits, served_in, note_finish, pipe_finishes, expire_flow, emit_segment, emit_packet, event_of}
 use Rattle.emu_model.proofs.AllFacts.{either, some_or, each_both, each_joined, each_found, each_replaced, each_removed}
@@ -123,10 +123,13 @@ module _ (h : Facts) where
 module _ (h : Facts) (at : Setting) (keeps : Keeps h at) where
   to_pipe-holds : (k : ℕ) (p : Packet) (n : Net) → h.packet p → Holds h n → Holds h (to_pipe at k p n)
   to_pipe-holds k p n fits s =
-      some_or (Holds h) (λ q. put_after at.now k (pipe_arrive at.seed at.now p q) n) (find_pipe k n)
+      some_or (Holds h) (λ q. put_after at.now k (pipe_arrive at.seed at.now p q)
+      (note_traced (arrivals at.now p q) n)) (find_pipe k n)
       (drop_packet at.now NoPipe p n)
-      (λ q e. after-put h at.now k (pipe_arrive at.seed at.now p q) n
-      (keeps.arrived p q fits (pipe-found h k q n e s)) s)
+      (λ q e.
+      let m : Net = note_traced (arrivals at.now p q) n in
+      after-put h at.now k (pipe_arrive at.seed at.now p q) m
+      (keeps.arrived p q fits (pipe-found h k q n e s)) (same_parts h n m refl refl refl refl s))
       (same_parts h n (drop_packet at.now NoPipe p n) refl refl refl refl s)
 
   by_verdict-holds : (v : Verdict) (p : Packet) (n : Net) → h.packet p → Holds h n → Holds h (by_verdict at v p n)
@@ -145,7 +148,7 @@ module _ (h : Facts) (at : Setting) (keeps : Keeps h at) where
       Holds h (make at l send n)
   make-holds l send n fits s =
       let p : Packet = packet_of l send n.made in
-      let m : Net = record n { made = n.made + 1 } in
+      let m : Net = note_traced (make_record at.now p ∷ []) (record n { made = n.made + 1 }) in
       either (Holds h) (nat_lt (held n) at.room) (pass_rules at p m) (drop_packet at.now Budget p m)
       (pass_rules_from-holds 0 p m fits (same_parts h n m refl refl refl refl s))
       (same_parts h n (drop_packet at.now Budget p m) refl refl refl refl s)
@@ -306,6 +309,7 @@ module _ (h : Facts) (at : Setting) (keeps : Keeps h at) where
       some_or (Holds h) (stop_flow n) (find_flow k n) n
       (λ f e. flow-put h (record f { stopped = true }) n (keeps.stopped f (flow-found h k f n e s)) s) s
   effect-holds (OnePass b) n fits s = same_parts h n (effect_of at (OnePass b) n) refl refl refl refl s
+  effect-holds (Trace b) n fits s = same_parts h n (effect_of at (Trace b) n) refl refl refl refl s
   effect-holds End n fits s = s
 
   pub obey-holds : (k : ℕ) (c : Command) (n : Net) → Fits h at.now c → Holds h n → Holds h (obey at k c n)

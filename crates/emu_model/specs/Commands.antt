@@ -3,7 +3,7 @@ use Rattle.std.specs.Prelude.{ℕ, ◌+◌, ◌-◌, ◌^◌, min, Bool, true, f
 use Rattle.std.specs.List.{list_any}
 use Rattle.std.specs.Option.{option_map_or}
 use Rattle.emu_model.specs.Lists.{remove_first}
-use Rattle.emu_model.specs.Types.{Plain, PipeConfig, Command, Add, Delete, Config, PipeDelete, PipeShow, Show, Inject, Train, Flow, Stop, OnePass, End, TrainSpec, FlowSpec, Deleted, Refusal, NoSuchPipe, MaskFixed, FlowThere, NoFlow, TooManyPipes, TooManyFlows, Record, CommandDone, CommandRefused, RuleLine, PipeLine, InstanceLine}
+use Rattle.emu_model.specs.Types.{Plain, PipeConfig, Command, Add, Delete, Config, PipeDelete, PipeShow, Show, Inject, Train, Flow, Stop, OnePass, Trace, End, TrainSpec, FlowSpec, Deleted, Refusal, NoSuchPipe, MaskFixed, FlowThere, NoFlow, TooManyPipes, TooManyFlows, Record, CommandDone, CommandRefused, RuleLine, PipeLine, InstanceLine}
 use Rattle.emu_model.specs.Rules.{add_refusal, delete_refusal, book_with, book_without}
 use Rattle.emu_model.specs.DropTail.{bytes_of}
 use Rattle.emu_model.specs.Reno.{opening_sender}
@@ -114,6 +114,7 @@ effect_of at (Train k t) n = start_train at.now k t n
 effect_of at (Flow k f) n = start_flow k f n
 effect_of at (Stop k) n = option_map_or (stop_flow n) (find_flow k n) n
 effect_of at (OnePass b) n = record n { one_pass = b }
+effect_of at (Trace b) n = record n { trace = b }
 effect_of at End n = n
 
 -- the command numbered k is done, or refused

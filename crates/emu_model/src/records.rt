@@ -1,8 +1,8 @@
 //! What a report records (own).
 
-use crate::packets::Load;
+use crate::packets::{Load, Protocol};
 use crate::pipes::PipeConfig;
-use crate::ranged::{FlowNumber, PipeNumber};
+use crate::ranged::{FlowNumber, PipeNumber, Size};
 use crate::rules::Rule;
 
 /// Why a packet was dropped.
@@ -44,6 +44,33 @@ pub enum Record {
         moment: u64,
         command: u64,
         refusal: Refusal,
+    },
+    PacketMade {
+        moment: u64,
+        packet: u64,
+        load: Load,
+        proto: Protocol,
+        src: u32,
+        sport: u16,
+        dst: u32,
+        dport: u16,
+        size: Size,
+    },
+    PacketArrived {
+        moment: u64,
+        packet: u64,
+        pipe: PipeNumber,
+        instance: u8,
+    },
+    InstanceIdentified {
+        moment: u64,
+        pipe: PipeNumber,
+        instance: u8,
+        proto: u8,
+        src: u32,
+        dst: u32,
+        sport: u16,
+        dport: u16,
     },
     PacketFinished {
         moment: u64,
