@@ -8,7 +8,7 @@ use Rattle.emu_model.specs.Rules.{verdict, start_behind, counted_book}
 use Rattle.emu_model.specs.Delay.{Line, first_item, enter, leave}
 use Rattle.emu_model.specs.Reno.{ack, expire, with_segment, missing, emitted, emit, opening_sender}
 use Rattle.emu_model.specs.Pipes.{InService, PipeState, After, pipe_arrive, pipe_finish, pipe_exit, pipe_configure}
-use Rattle.emu_model.specs.Net.{Net, Setting, FlowState, TrainState, note, note_traced, arrivals, make_record, held, drop_packet, find_pipe, put_pipe, put_after, to_pipe, by_verdict, pass_rules_from, pass_rules, go_on, packet_of, make, data_send, ack_send, put_flow, put_train, find_flow, find_train, note_ack, take_segment, take_ack, take_load, deliver}
+use Rattle.emu_model.specs.Net.{Net, Setting, FlowState, TrainState, note, note_traced, note_arrival, enter_pipe, make_record, held, drop_packet, find_pipe, put_pipe, put_after, to_pipe, by_verdict, pass_rules_from, pass_rules, go_on, packet_of, make, data_send, ack_send, put_flow, put_train, find_flow, find_train, note_ack, take_segment, take_ack, take_load, deliver}
 use Rattle.emu_model.specs.Commands.{with_pipe, new_pipe, delete_pipe, stop_flow, refusal_of, effect_of, obey}
 use Rattle.emu_model.specs.Events.{direct_exit, flying_in, leave_pipe, pipe_exits, served_in, note_finish, pipe_finishes, expire_flow, emit_segment, emit_packet, event_of}
 use Rattle.emu_model.proofs.AllFacts.{either, some_or, each_both, each_joined, each_found, each_replaced, each_removed}
@@ -121,16 +121,18 @@ module _ (h : Facts) where
       same_parts (put_pipe k a.state n) (put_after now k a n) refl refl refl refl (pipe-put k a.state n p s)
 
 module _ (h : Facts) (at : Setting) (keeps : Keeps h at) where
+  enter_pipe-holds : (k : ℕ) (p : Packet) (n : Net) → h.packet p → Holds h n → Holds h (enter_pipe at k p n)
+  enter_pipe-holds k p n fits s =
+      some_or (Holds h) (λ q. put_after at.now k (pipe_arrive at.seed at.now p q) n) (find_pipe k n)
+      (drop_packet at.now NoPipe p n)
+      (λ q e. after-put h at.now k (pipe_arrive at.seed at.now p q) n
+      (keeps.arrived p q fits (pipe-found h k q n e s)) s)
+      (same_parts h n (drop_packet at.now NoPipe p n) refl refl refl refl s)
+
   to_pipe-holds : (k : ℕ) (p : Packet) (n : Net) → h.packet p → Holds h n → Holds h (to_pipe at k p n)
   to_pipe-holds k p n fits s =
-      some_or (Holds h) (λ q. put_after at.now k (pipe_arrive at.seed at.now p q)
-      (note_traced (arrivals at.now p q) n)) (find_pipe k n)
-      (drop_packet at.now NoPipe p n)
-      (λ q e.
-      let m : Net = note_traced (arrivals at.now p q) n in
-      after-put h at.now k (pipe_arrive at.seed at.now p q) m
-      (keeps.arrived p q fits (pipe-found h k q n e s)) (same_parts h n m refl refl refl refl s))
-      (same_parts h n (drop_packet at.now NoPipe p n) refl refl refl refl s)
+      let m : Net = note_arrival at.now k p n in
+      enter_pipe-holds k p m fits (same_parts h n m refl refl refl refl s)
 
   by_verdict-holds : (v : Verdict) (p : Packet) (n : Net) → h.packet p → Holds h n → Holds h (by_verdict at v p n)
   by_verdict-holds Allow p n fits s = direct-put h (enter p at.now 0 n.direct) n (keeps.entered p n.direct fits s.direct) s
