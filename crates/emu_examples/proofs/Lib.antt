@@ -52,5 +52,11 @@ mod SpentEarly
 mod StepBudget
 mod StopWithoutFlow
 mod StoppedFlow
+mod TraceOnAndOff
+mod TracedBudget
+mod TracedBurst
+mod TracedFlow
+mod TracedMasked
+mod TracedTwoPipes
 mod TwoPipesInTurn
 mod TwoPipesThenDenied

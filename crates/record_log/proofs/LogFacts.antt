@@ -6,7 +6,7 @@ use Rattle.emu_model.specs.declared.packets.Load.{Load}
 use Rattle.emu_model.specs.declared.records.DropCause.{DropCause}
 use Rattle.emu_model.specs.declared.records.DropCause.TheVariants.{Denied, NoPipe, NoInstance, Lost, Full, Codel, Deleted, Budget}
 use Rattle.emu_model.specs.declared.records.Record.{Record}
-use Rattle.emu_model.specs.declared.records.Record.TheVariants.{CommandDone, CommandRefused, PacketFinished, PacketDelivered, PacketPassed, PacketDropped, AckTaken, TimerExpired, StepsSpent, RuleLine, PipeLine, InstanceLine}
+use Rattle.emu_model.specs.declared.records.Record.TheVariants.{CommandDone, CommandRefused, PacketMade, PacketArrived, InstanceIdentified, PacketFinished, PacketDelivered, PacketPassed, PacketDropped, AckTaken, TimerExpired, StepsSpent, RuleLine, PipeLine, InstanceLine}
 use Rattle.emu_model.specs.Net.{is_delivery, is_drop_of, drops_of, cause_number}
 use Rattle.record_log.specs.Log.{delivered_of, all_drops_of, with_drop}
 
@@ -63,6 +63,9 @@ no-delivery (PacketDelivered a b l) h = absurd (h a b l refl)
 no-delivery (PacketDropped a b l d) h = refl
 no-delivery (CommandDone a b) h = refl
 no-delivery (CommandRefused a b c) h = refl
+no-delivery (PacketMade a b c d e f g i j) h = refl
+no-delivery (PacketArrived a b c d) h = refl
+no-delivery (InstanceIdentified a b c d e f g i) h = refl
 no-delivery (PacketFinished a b c d) h = refl
 no-delivery (PacketPassed a b c d) h = refl
 no-delivery (AckTaken a b c d) h = refl
@@ -77,6 +80,9 @@ no-drop_of (PacketDropped a b l d) k h = absurd (h a b l d refl)
 no-drop_of (PacketDelivered a b l) k h = refl
 no-drop_of (CommandDone a b) k h = refl
 no-drop_of (CommandRefused a b c) k h = refl
+no-drop_of (PacketMade a b c d e f g i j) k h = refl
+no-drop_of (PacketArrived a b c d) k h = refl
+no-drop_of (InstanceIdentified a b c d e f g i) k h = refl
 no-drop_of (PacketFinished a b c d) k h = refl
 no-drop_of (PacketPassed a b c d) k h = refl
 no-drop_of (AckTaken a b c d) k h = refl
