@@ -1,6 +1,7 @@
 -- Lines of worked reports, computed by the definitions.
 use Rattle.std.specs.Prelude.{◌≡◌, refl, [], ◌∷◌, None, Some, true, codes}
 use Rattle.std.specs.Fmt.{digits}
+use Rattle.emu_model.specs.declared.packets.Protocol.TheVariants.{Udp}
 use Rattle.emu_model.specs.declared.packets.Load.TheVariants.{Plain, Seg, Ack}
 use Rattle.emu_model.specs.declared.rules.Action.TheVariants.{SkipTo, SendTo}
 use Rattle.emu_model.specs.declared.rules.ProtocolMatch.TheVariants.{AnyProtocol, OnlyUdp}
@@ -8,7 +9,7 @@ use Rattle.emu_model.specs.declared.pipes.QueueLimit.TheVariants.{Slots, KBytes}
 use Rattle.emu_model.specs.declared.pipes.Discipline.TheVariants.{TailDrop, ControlledDelay}
 use Rattle.emu_model.specs.declared.records.DropCause.TheVariants.{Full, NoPipe}
 use Rattle.emu_model.specs.declared.records.Refusal.TheVariants.{NoSuchPipe}
-use Rattle.emu_model.specs.declared.records.Record.TheVariants.{CommandDone, CommandRefused, PacketFinished, PacketDelivered, PacketPassed, PacketDropped, AckTaken, StepsSpent, RuleLine, PipeLine, InstanceLine}
+use Rattle.emu_model.specs.declared.records.Record.TheVariants.{CommandDone, CommandRefused, PacketMade, PacketArrived, InstanceIdentified, PacketFinished, PacketDelivered, PacketPassed, PacketDropped, AckTaken, StepsSpent, RuleLine, PipeLine, InstanceLine}
 use Rattle.report.specs.Words.{places}
 use Rattle.report.specs.Lines.{line_of, report_of}
 
@@ -58,6 +59,22 @@ ack_dropped = refl
 passed : line_of (PacketPassed 15000000 0 2 0) ≡ codes "15000000 pass 0 2.0\n"
 unfolding digits
 passed = refl
+
+-- from 10.0.0.1 to 10.0.0.2
+made : line_of (PacketMade 5 0 Plain Udp 167772161 1000 167772162 2000 1000)
+    ≡ codes "5 make 0 plain udp 10.0.0.1 1000 10.0.0.2 2000 1000\n"
+unfolding digits
+made = refl
+
+arrived : line_of (PacketArrived 5 0 2 7) ≡ codes "5 arrive 0 2.7\n"
+unfolding digits
+arrived = refl
+
+-- 10.0.0.1 alone, and UDP
+identified : line_of (InstanceIdentified 5 2 7 17 167772161 0 0 0)
+    ≡ codes "5 identify 2.7 11/0a000001/00000000/0000/0000\n"
+unfolding digits places
+identified = refl
 
 refused : line_of (CommandRefused 9 3 NoSuchPipe) ≡ codes "9 refused 3 20\n"
 unfolding digits

@@ -3,14 +3,29 @@
 use Rattle.std.specs.Prelude.{ℕ, Bool, true, false, List, [], ◌∷◌, ◌++◌, if◌then◌else◌, codes, decimal, filter}
 use Rattle.std.specs.List.{join_with_byte, flat_map}
 use Rattle.emu_model.specs.declared.records.Record.{Record}
-use Rattle.emu_model.specs.declared.records.Record.TheVariants.{CommandDone, CommandRefused, PacketFinished, PacketDelivered, PacketPassed, PacketDropped, AckTaken, TimerExpired, StepsSpent, RuleLine, PipeLine, InstanceLine}
+use Rattle.emu_model.specs.declared.records.Record.TheVariants.{CommandDone, CommandRefused, PacketMade, PacketArrived, InstanceIdentified, PacketFinished, PacketDelivered, PacketPassed, PacketDropped, AckTaken, TimerExpired, StepsSpent, RuleLine, PipeLine, InstanceLine}
 use Rattle.emu_model.specs.declared.records.Counters.{Counters}
-use Rattle.report.specs.Words.{places, instance_name, load_of, cause_of, code_of, action_of, protocol_of, end_of, queue_of, mask_of, discipline_of}
+use Rattle.report.specs.Words.{places, instance_name, load_of, header_of, cause_of, code_of, action_of, protocol_of, end_of, queue_of, mask_of, discipline_of}
 
 abbrev pub fields_of : Record → List (List ℕ)
 fields_of (CommandDone moment command) = decimal moment ∷ codes "ok" ∷ decimal command ∷ []
 fields_of (CommandRefused moment command refusal) =
     decimal moment ∷ codes "refused" ∷ decimal command ∷ decimal (code_of refusal) ∷ []
+fields_of (PacketMade moment packet load proto src sport dst dport size) =
+    decimal moment
+    ∷ codes "make"
+    ∷ decimal packet
+    ∷ load_of load
+    ∷ header_of proto src sport dst dport size
+    ∷ []
+fields_of (PacketArrived moment packet pipe instance) =
+    decimal moment ∷ codes "arrive" ∷ decimal packet ∷ instance_name pipe instance ∷ []
+fields_of (InstanceIdentified moment pipe instance proto src dst sport dport) =
+    decimal moment
+    ∷ codes "identify"
+    ∷ instance_name pipe instance
+    ∷ mask_of (record { proto = proto; src = src; dst = dst; sport = sport; dport = dport })
+    ∷ []
 fields_of (PacketFinished moment packet pipe instance) =
     decimal moment ∷ codes "finish" ∷ decimal packet ∷ instance_name pipe instance ∷ []
 fields_of (PacketDelivered moment packet load) =

@@ -3,6 +3,8 @@
 use Rattle.std.specs.Prelude.{ℕ, ◌/◌, ◌%◌, ◌^◌, ◌==◌, zero, suc, List, [], ◌∷◌, ◌++◌, Option, None, Some, if◌then◌else◌, codes, decimal, slice_index}
 use Rattle.std.specs.List.{join_with_byte}
 use Rattle.emu_model.specs.Spans.{AddressSpan, PortSpan}
+use Rattle.emu_model.specs.declared.packets.Protocol.{Protocol}
+use Rattle.emu_model.specs.declared.packets.Protocol.TheVariants.{Tcp, Udp}
 use Rattle.emu_model.specs.declared.packets.Load.{Load}
 use Rattle.emu_model.specs.declared.packets.Load.TheVariants.{Plain, Seg, Ack}
 use Rattle.emu_model.specs.declared.rules.Action.{Action}
@@ -68,6 +70,11 @@ protocol_of AnyProtocol = codes "ip"
 protocol_of OnlyTcp = codes "tcp"
 protocol_of OnlyUdp = codes "udp"
 
+-- the protocol of a packet
+abbrev pub transport_of : Protocol → List ℕ
+transport_of Tcp = codes "tcp"
+transport_of Udp = codes "udp"
+
 -- the four bytes of an address, with points between
 abbrev pub dotted : ℕ → List ℕ
 dotted address =
@@ -78,6 +85,16 @@ dotted address =
     ∷ decimal (address / 2 ^ 8 % 256)
     ∷ decimal (address % 256)
     ∷ [])
+
+-- an address and a port
+abbrev pub address_and_port : ℕ → ℕ → List ℕ
+address_and_port address port = dotted address ++ codes " " ++ decimal port
+
+-- what stands in a packet's header: protocol, where it comes from, where it goes to, and its size
+abbrev pub header_of : Protocol → ℕ → ℕ → ℕ → ℕ → ℕ → List ℕ
+header_of proto src sport dst dport size =
+    transport_of proto ++ codes " " ++ address_and_port src sport ++ codes " " ++ address_and_port dst dport
+    ++ codes " " ++ decimal size
 
 -- `any`, one address, or an address with its length
 abbrev pub prefix_of : AddressSpan → List ℕ

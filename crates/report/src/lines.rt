@@ -9,10 +9,10 @@ ghost use Rattle.emu_model.specs.declared.records.Record.TheVariants.{RuleLine, 
 
 use crate::pieces::{append, append_labelled, append_number, append_places};
 use crate::words::{
-    append_action, append_cause, append_discipline, append_end, append_instance, append_load,
-    append_mask, append_protocol, append_queue, refusal_code,
+    append_action, append_cause, append_discipline, append_end, append_header, append_instance,
+    append_load, append_mask, append_protocol, append_queue, refusal_code,
 };
-use emu_model::{Counters, PipeConfig, PipeNumber, Record, Rule};
+use emu_model::{Counters, Mask, PipeConfig, PipeNumber, Record, Rule, SendSpec};
 use std::alloc::AllocError;
 
 // No line is longer, nor a heading without its name.
@@ -82,6 +82,64 @@ fn append_fields(out: &mut Vec<u8>, line: &Record)
         } => {
             append_event(out, moment, b" refused ", command);
             append_labelled(out, b" ", refusal_code(refusal));
+        }
+        Record::PacketMade {
+            moment,
+            packet,
+            load,
+            proto,
+            src,
+            sport,
+            dst,
+            dport,
+            size,
+        } => {
+            let send = SendSpec {
+                proto,
+                src,
+                sport,
+                dst,
+                dport,
+                size,
+            };
+            append_event(out, moment, b" make ", packet);
+            append(out, b" ");
+            append_load(out, load);
+            append(out, b" ");
+            append_header(out, &send);
+        }
+        Record::PacketArrived {
+            moment,
+            packet,
+            pipe,
+            instance,
+        } => {
+            append_event(out, moment, b" arrive ", packet);
+            append(out, b" ");
+            append_instance(out, pipe, instance);
+        }
+        Record::InstanceIdentified {
+            moment,
+            pipe,
+            instance,
+            proto,
+            src,
+            dst,
+            sport,
+            dport,
+        } => {
+            append_number(out, moment);
+            append(out, b" identify ");
+            append_instance(out, pipe, instance);
+            append(out, b" ");
+            let id = Mask {
+                proto,
+                src,
+                dst,
+                sport,
+                dport,
+            };
+            append_mask(out, id);
         }
         Record::PacketFinished {
             moment,

@@ -2,12 +2,12 @@
 
 ghost use Rattle.std.specs.Prelude.{◌≡◌, ◌+◌, ◌≤◌, ◌++◌, vec_capacity};
 ghost use Rattle.report.specs.Room.{spare};
-ghost use Rattle.report.specs.Words.{instance_name, load_of, cause_of, code_of, action_of, protocol_of, dotted, prefix_of, ports_of, end_of, queue_of, mask_of, discipline_of};
+ghost use Rattle.report.specs.Words.{instance_name, load_of, cause_of, code_of, action_of, protocol_of, transport_of, dotted, address_and_port, header_of, prefix_of, ports_of, end_of, queue_of, mask_of, discipline_of};
 
 use crate::pieces::{append, append_labelled, append_number, append_places};
 use emu_model::{
-    Action, Discipline, DropCause, Load, Mask, PipeNumber, PortRange, Prefix, ProtocolMatch,
-    QueueLimit, Refusal,
+    Action, Discipline, DropCause, Load, Mask, PipeNumber, PortRange, Prefix, Protocol,
+    ProtocolMatch, QueueLimit, Refusal, SendSpec,
 };
 
 #[inline]
@@ -93,6 +93,18 @@ pub fn append_protocol(out: &mut Vec<u8>, proto: ProtocolMatch)
     }
 }
 
+fn append_transport(out: &mut Vec<u8>, proto: Protocol)
+    requires { 3 ≤ spare out.old }
+    ensures items { out.new.items ≡ out.old.items ++ transport_of proto }
+    ensures room { spare out.old ≤ spare out.new + 3 }
+    ensures capacity { vec_capacity out.old ≤ vec_capacity out.new }
+{
+    match proto {
+        Protocol::Tcp => append(out, b"tcp"),
+        Protocol::Udp => append(out, b"udp"),
+    }
+}
+
 fn append_dotted(out: &mut Vec<u8>, address: u32)
     requires { 83 ≤ spare out.old }
     ensures items { out.new.items ≡ out.old.items ++ dotted address }
@@ -103,6 +115,32 @@ fn append_dotted(out: &mut Vec<u8>, address: u32)
     append_labelled(out, b".", u64::from((address >> 16) % 256));
     append_labelled(out, b".", u64::from((address >> 8) % 256));
     append_labelled(out, b".", u64::from(address % 256));
+}
+
+fn append_address_and_port(out: &mut Vec<u8>, address: u32, port: u16)
+    requires { 104 ≤ spare out.old }
+    ensures items { out.new.items ≡ out.old.items ++ address_and_port address port }
+    ensures room { spare out.old ≤ spare out.new + 104 }
+    ensures capacity { vec_capacity out.old ≤ vec_capacity out.new }
+{
+    append_dotted(out, address);
+    append_labelled(out, b" ", u64::from(port));
+}
+
+/// What stands in a packet's header.
+pub fn append_header(out: &mut Vec<u8>, send: &SendSpec)
+    requires { 234 ≤ spare out.old }
+    ensures items { let s = send.now in
+        out.new.items ≡ out.old.items ++ header_of s.proto s.src s.sport s.dst s.dport s.size }
+    ensures room { spare out.old ≤ spare out.new + 234 }
+    ensures capacity { vec_capacity out.old ≤ vec_capacity out.new }
+{
+    append_transport(out, send.proto);
+    append(out, b" ");
+    append_address_and_port(out, send.src, send.sport);
+    append(out, b" ");
+    append_address_and_port(out, send.dst, send.dport);
+    append_labelled(out, b" ", u64::from(send.size.get()));
 }
 
 fn append_prefix(out: &mut Vec<u8>, prefix: Prefix)
