@@ -278,9 +278,12 @@ command_found laws (verb ∷ ws) c e =
             | inl p ↦ behind verb (codes "show") ws c p.0 (alone_found (codes "show") commands.Show ws c refl p.1)
             | inr f ↦ elim (chosen (bytes_eq verb (codes "one_pass")) _ _ (Some c) f.1) [
               | inl p ↦ behind verb (codes "one_pass") ws c p.0 (numbered_found (codes "one_pass") commands.OnePass ws c (λ v n h. (v, refl, h)) p.1)
-              | inr g ↦ elim (chosen (bytes_eq verb (codes "end")) _ _ (Some c) g.1) [
-                | inl p ↦ behind verb (codes "end") ws c p.0 (alone_found (codes "end") commands.End ws c refl p.1)
-                | inr p ↦ source_found laws verb ws c p.1
+              | inr g ↦ elim (chosen (bytes_eq verb (codes "trace")) _ _ (Some c) g.1) [
+                | inl p ↦ behind verb (codes "trace") ws c p.0 (numbered_found (codes "trace") commands.Trace ws c (λ v n h. (v, refl, h)) p.1)
+                | inr k ↦ elim (chosen (bytes_eq verb (codes "end")) _ _ (Some c) k.1) [
+                  | inl p ↦ behind verb (codes "end") ws c p.0 (alone_found (codes "end") commands.End ws c refl p.1)
+                  | inr p ↦ source_found laws verb ws c p.1
+                ]
               ]
             ]
           ]
@@ -449,6 +452,7 @@ command_again laws ws (commands.Train t) h = let train = train_again h.0 t h.2 i
 command_again laws ws (commands.Flow f) h = let flow = flow_again laws h.0 f h.2 in ap command_of h.1 ∙ rw flow refl
 command_again laws ws (commands.Stop n) h = ap command_of h.1 ∙ rw h.2 refl
 command_again laws ws (commands.OnePass n) h = ap command_of h.1 ∙ rw h.2 refl
+command_again laws ws (commands.Trace n) h = ap command_of h.1 ∙ rw h.2 refl
 command_again laws ws commands.End h = ap command_of h
 
 steps_again : (ws : Words) (o : Option ℕ) → AreSteps ws o → steps_of ws ≡ Some o

@@ -67,6 +67,7 @@ IsCommand ws (commands.Train train) = (rest : Words) × (ws ≡ codes "train" �
 IsCommand ws (commands.Flow flow) = (rest : Words) × (ws ≡ codes "flow" ∷ rest) × IsFlow rest flow
 IsCommand ws (commands.Stop n) = IsPair (codes "stop") number_of ws n
 IsCommand ws (commands.OnePass n) = IsPair (codes "one_pass") number_of ws n
+IsCommand ws (commands.Trace n) = IsPair (codes "trace") number_of ws n
 IsCommand ws commands.End = ws ≡ codes "end" ∷ []
 
 abbrev pub AreSteps : Words → Option ℕ → Type 0

@@ -217,6 +217,9 @@ command_within (raw.Stop flow) = do
 command_within (raw.OnePass setting) = do
   n ← within setting 0 1
   Some (commands.OnePass (n == 1))
+command_within (raw.Trace setting) = do
+  n ← within setting 0 1
+  Some (commands.Trace (n == 1))
 command_within raw.End = Some commands.End
 
 unfoldable pub timed_within : RawTimed → Option Timed

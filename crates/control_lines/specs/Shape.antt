@@ -176,6 +176,7 @@ command_of ws = do
       else if bytes_eq verb.0 (codes "pipe") then pipe_of verb.1
       else if bytes_eq verb.0 (codes "show") then alone commands.Show verb.1
       else if bytes_eq verb.0 (codes "one_pass") then numbered commands.OnePass verb.1
+      else if bytes_eq verb.0 (codes "trace") then numbered commands.Trace verb.1
       else if bytes_eq verb.0 (codes "end") then alone commands.End verb.1
       else source_of verb.0 verb.1
 

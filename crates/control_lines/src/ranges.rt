@@ -346,6 +346,7 @@ fn command(raw: RawCommand) -> Option<Command>
         RawCommand::Flow(written) => flow(written),
         RawCommand::Stop(number) => Some(Command::Stop(in_u16::<1, 65535>(number)?)),
         RawCommand::OnePass(number) => Some(Command::OnePass(in_range(number, 0, 1)? == 1)),
+        RawCommand::Trace(number) => Some(Command::Trace(in_range(number, 0, 1)? == 1)),
         RawCommand::End => Some(Command::End),
     }
 }

@@ -70,6 +70,7 @@ pub enum RawCommand {
     Flow(RawFlow),
     Stop(u128),
     OnePass(u128),
+    Trace(u128),
     End,
 }
 

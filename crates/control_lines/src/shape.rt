@@ -233,6 +233,8 @@ fn command(words: &mut Words) -> Option<RawCommand>
         Some(RawCommand::Show)
     } else if is(verb, "one_pass") {
         Some(RawCommand::OnePass(last_number(words)?))
+    } else if is(verb, "trace") {
+        Some(RawCommand::Trace(last_number(words)?))
     } else if is(verb, "end") {
         words.finished()?;
         Some(RawCommand::End)

@@ -52,7 +52,7 @@ pub const STEPS: Wanted = Wanted {
 
 pub const VERB: Wanted = Wanted {
     form: Form::Choice(Choice::Verb),
-    expected: "a command: add, delete, pipe, show, inject, train, flow, stop, one_pass or end",
+    expected: "a command: add, delete, pipe, show, inject, train, flow, stop, one_pass, trace or end",
     example: "@0 add 100 pipe 1 ip from any to any",
 };
 
@@ -324,4 +324,10 @@ pub const ONE_PASS: Wanted = Wanted {
     form: Form::Number(0, 1),
     expected: "0 or 1",
     example: "@0 one_pass 0",
+};
+
+pub const TRACE: Wanted = Wanted {
+    form: Form::Number(0, 1),
+    expected: "0 or 1",
+    example: "@0 trace 1",
 };

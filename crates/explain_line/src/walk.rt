@@ -223,6 +223,8 @@ impl<'a> Walk<'a> {
             self.end()
         } else if is(verb, "one_pass") {
             self.last(tables::ONE_PASS)
+        } else if is(verb, "trace") {
+            self.last(tables::TRACE)
         } else {
             self.source(verb)
         }
