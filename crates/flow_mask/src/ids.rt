@@ -26,6 +26,22 @@ impl Model for FlowId {
     ghost inverse = { λ i. record { proto = i.proto; src = i.src; dst = i.dst; sport = i.sport; dport = i.dport } };
 }
 
+impl FlowId {
+    /// Its five fields, in the form of a mask.
+    pub fn fields(&self) -> Mask
+        ensures { let i = self.now in
+            result ≡ record { proto = i.proto; src = i.src; dst = i.dst; sport = i.sport; dport = i.dport } }
+    {
+        Mask {
+            proto: self.proto,
+            src: self.src,
+            dst: self.dst,
+            sport: self.sport,
+            dport: self.dport,
+        }
+    }
+}
+
 /// What tells one flow from another.
 pub trait ApplyMask {
     /// The identifier that each packet gets.

@@ -71,6 +71,21 @@ impl Instances {
         Some(index as u8)
     }
 
+    /// The number of the identifier's instance, also where it is still to be made. None where the pipe
+    /// has 256 others.
+    pub fn number_for(&self, id: FlowId) -> Option<u8>
+        ensures { result ≡ instance_of self.now.ids id }
+    {
+        if let Some(index) = self.find(id) {
+            return Some(index);
+        }
+        let next = self.len();
+        if next == Self::MOST {
+            return None;
+        }
+        Some(next as u8)
+    }
+
     /// Makes the growth that `find_or_make` of this identifier needs, and changes nothing else.
     pub fn find_or_make_ready(&mut self, id: FlowId) -> Result<(), AllocError>
         ensures ready { OnOk result (list_any (same_flow id) self.old.ids ≡ false → length self.old.ids < 256 → 0 < self.new.spare) }

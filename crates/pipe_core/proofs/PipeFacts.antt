@@ -179,7 +179,7 @@ changed f pipe k before behind x y turn drops was place did =
     ∙ ap (put_instance (length before) shown) did
     ∙ (λ i. record { state = record shown { instances = change_at-at (seen_slot f) before x y behind i }; dropped = drops })
 
-ids-seen : (f : ℕ → Packet) (slots : List Slot) → map (λ i. i.id) (map (seen_slot f) slots) ≡ ids_of slots
+pub ids-seen : (f : ℕ → Packet) (slots : List Slot) → map (λ i. i.id) (map (seen_slot f) slots) ≡ ids_of slots
 ids-seen f [] = refl
 ids-seen f (s ∷ ss) = ap (λ l. s.id ∷ l) (ids-seen f ss)
 

@@ -3,9 +3,9 @@
 ghost use Rattle.std.specs.Prelude.{◌≡◌, ◌≢◌, ℕ, ◌+◌, ◌-◌, ◌*◌, ◌^◌, ◌<◌, ◌≤◌, false, [], map, length, slice_get, Some, None, option_map, option_and_then, IfSome, OnSome, IfNone, IfOk, OnOk, OnErr, IsOk, vec_capacity};
 ghost use Rattle.std.specs.List.{list_any, All};
 ghost use Rattle.emu_model.specs.declared.packets.Packet.{Packet as Letter};
-ghost use Rattle.emu_model.specs.FlowIds.{same_flow, instance_of};
+ghost use Rattle.emu_model.specs.FlowIds.{same_flow, flow_id, instance_of};
 ghost use Rattle.emu_model.specs.Delay.{first_exit};
-ghost use Rattle.emu_model.specs.Pipes.{pipe_arrive, pipe_finish, pipe_exit, pipe_configure, pipe_packets, with_instance};
+ghost use Rattle.emu_model.specs.Pipes.{instance_for, pipe_arrive, pipe_finish, pipe_exit, pipe_configure, pipe_packets, with_instance};
 ghost use Rattle.emu_model.specs.Events.{flying_in, served_in};
 ghost use Rattle.emu_model.specs.Commands.{mask_refusal};
 ghost use Rattle.pipe_instance.specs.Keyed.{IsTuned};
@@ -20,7 +20,7 @@ use crate::rehouse::rehouse_all;
 use crate::slot::Slot;
 use crate::takes::take_all;
 use due_index::DueIndex;
-use emu_model::{DropCause, Due, Packet, PipeConfig, PipeNumber, Refusal, Size};
+use emu_model::{DropCause, Due, Mask, Packet, PipeConfig, PipeNumber, Refusal, Size};
 use flow_mask::{ApplyMask, FlowId, InstanceError, Instances};
 use packet_store::{Owner, Shelf};
 use pipe_instance::{Instance, InstanceDues, Shown};
@@ -130,6 +130,23 @@ impl Pipe {
     {
         let slot = self.slots.get(index)?;
         Some(slot.instance.shown())
+    }
+
+    /// The number of a packet's instance, also where it is still to be made. None where there are 256
+    /// others.
+    pub fn instance_for(&self, packet: &Packet) -> Option<u8>
+        ensures { (f : ℕ → Letter) → result ≡ instance_for packet.now (seen_pipe f self.now) }
+    {
+        let id = self.config.mask.apply(packet);
+        self.ids.number_for(id)
+    }
+
+    /// A packet's flow identifier, in the form of a mask.
+    pub fn identifier(&self, packet: &Packet) -> Mask
+        ensures { let i = flow_id self.now.config.mask packet.now in
+            result ≡ record { proto = i.proto; src = i.src; dst = i.dst; sport = i.sport; dport = i.dport } }
+    {
+        self.config.mask.apply(packet).fields()
     }
 
     /// Makes the growths that `arrive` of this packet needs, or of one that differs in its load, number

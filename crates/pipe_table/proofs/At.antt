@@ -9,7 +9,7 @@ use Rattle.emu_model.specs.Delay.{first_item, leave}
 use Rattle.emu_model.specs.declared.packets.Packet.{Packet}
 use Rattle.emu_model.specs.Pipes.{PipeState, Instance, InService, Drop, pipe_arrive, pipe_finish, pipe_exit, pipe_configure, pipe_packets}
 use Rattle.emu_model.specs.declared.records.Record.TheVariants.{PacketFinished}
-use Rattle.emu_model.specs.Net.{Net, Setting, find_pipe, put_pipe, note, note_drops, to_pipe}
+use Rattle.emu_model.specs.Net.{Net, Setting, find_pipe, put_pipe, note, note_drops, enter_pipe}
 use Rattle.emu_model.specs.Commands.{configure, config_refusal, mask_refusal, new_pipe, new_pipe_refusal, delete_pipe}
 use Rattle.emu_model.specs.declared.pipes.PipeConfig.{PipeConfig}
 use Rattle.emu_model.specs.declared.records.DropCause.TheVariants.{Deleted}
@@ -222,10 +222,10 @@ module _ (k i : ℕ) (ps : List KeyedPipe) (x : KeyedPipe) (at : Some i ≡ posi
 
     pub arrive-at : (at : Setting) (packet : Packet) (ds : List Drop) (n : Net) (seed : ℕ) →
         pipe_arrive at.seed at.now packet (view p x) ≡ record { state = view q y; dropped = ds } →
-        to_pipe at k packet (with_pipes p (record { seed = seed; pipes = ps }) n)
+        enter_pipe at k packet (with_pipes p (record { seed = seed; pipes = ps }) n)
         ≡ note_drops at.now ds (with_pipes q (record { seed = seed; pipes = set ps i y }) n)
     arrive-at at packet ds n seed came =
-        (λ i. to_pipe at k packet (with_pipes p (record { seed = seed; pipes = whole i }) n))
+        (λ i. enter_pipe at k packet (with_pipes p (record { seed = seed; pipes = whole i }) n))
         ∙ arrive-is agree p q before behind x y named_too keeps k first passes at packet ds n came
         ∙ (λ i. note_drops at.now ds (with_pipes q (record { seed = seed; pipes = sym (changed y) i }) n))
 

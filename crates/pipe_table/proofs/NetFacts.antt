@@ -6,7 +6,7 @@ use Rattle.emu_model.specs.declared.packets.Packet.{Packet}
 use Rattle.emu_model.specs.declared.records.DropCause.TheVariants.{NoPipe}
 use Rattle.emu_model.specs.declared.records.Record.TheVariants.{PacketFinished}
 use Rattle.emu_model.specs.Pipes.{PipeState, InService, Drop, After, pipe_arrive, pipe_finish, pipe_exit}
-use Rattle.emu_model.specs.Net.{Net, Setting, find_pipe, put_pipe, put_after, note, note_drops, drop_packet, to_pipe}
+use Rattle.emu_model.specs.Net.{Net, Setting, find_pipe, put_pipe, put_after, note, note_drops, drop_packet, enter_pipe}
 use Rattle.emu_model.specs.Events.{flying_in, served_in, leave_pipe_some, pipe_exits, pipe_finishes}
 use Rattle.packet_store.specs.Pocket.{Pocket}
 use Rattle.pipe_core.specs.Moves.{packet_at, AreNamed, Keeps}
@@ -33,7 +33,7 @@ pub has-is : (p : Pocket) (k : ℕ) (ps : List KeyedPipe) (n : Net) → is_some 
 has-is p k ps n = sym (ap is_some (seen-find (packet_at p.find) k ps) ∙ seen-is (packet_at p.find) (pipe_of k ps))
 
 pub arrive-nowhere : (at : Setting) (p : Pocket) (k : ℕ) (packet : Packet) (ps : List KeyedPipe) (n : Net) → pipe_of k ps ≡ None →
-    to_pipe at k packet (net p ps n) ≡ drop_packet at.now NoPipe packet (net p ps n)
+    enter_pipe at k packet (net p ps n) ≡ drop_packet at.now NoPipe packet (net p ps n)
 arrive-nowhere at p k packet ps n none =
     ap (λ o. option_map_or (λ pipe. put_after at.now k (pipe_arrive at.seed at.now packet pipe) (net p ps n)) o
     (drop_packet at.now NoPipe packet (net p ps n))) (find-none p k ps n none)
@@ -50,7 +50,7 @@ module _ (agree : ViewsAgree) (p q : Pocket) (before behind : List KeyedPipe) (x
 
   pub arrive-is : (at : Setting) (packet : Packet) (ds : List Drop) (n : Net) →
       pipe_arrive at.seed at.now packet (view p x) ≡ record { state = view q y; dropped = ds } →
-      to_pipe at k packet (net p (before ++ x ∷ behind) n) ≡ note_drops at.now ds (net q (before ++ y ∷ behind) n)
+      enter_pipe at k packet (net p (before ++ x ∷ behind) n) ≡ note_drops at.now ds (net q (before ++ y ∷ behind) n)
   arrive-is at packet ds n came =
       ap (λ o. option_map_or (λ pipe. put_after at.now k (pipe_arrive at.seed at.now packet pipe) (net p (before ++ x ∷ behind) n)) o
       (drop_packet at.now NoPipe packet (net p (before ++ x ∷ behind) n))) (find-is n)

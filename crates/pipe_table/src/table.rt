@@ -4,7 +4,7 @@ ghost use Rattle.std.specs.Prelude.{◌≡◌, ◌≢◌, ℕ, ◌+◌, ◌*◌,
 ghost use Rattle.std.specs.List.{position_or_len};
 ghost use Rattle.std.specs.Option.{option_map_or};
 ghost use Rattle.emu_model.specs.declared.packets.Packet.{Packet as Letter};
-ghost use Rattle.emu_model.specs.Net.{Net, Setting, find_pipe, note, note_drops, to_pipe};
+ghost use Rattle.emu_model.specs.Net.{Net, Setting, find_pipe, note, note_drops, enter_pipe};
 ghost use Rattle.emu_model.specs.declared.records.Record.TheVariants.{PacketFinished};
 ghost use Rattle.emu_model.specs.Commands.{config_refusal, configure as configured, new_pipe, new_pipe_refusal, delete_pipe};
 ghost use Rattle.emu_model.specs.Events.{flying_in, leave_pipe_some, pipe_exits, pipe_finishes};
@@ -65,7 +65,7 @@ impl PipeTable {
     }
 
     // The place of a pipe in the list.
-    fn place_of(&self, number: PipeNumber) -> Option<usize>
+    pub(crate) fn place_of(&self, number: PipeNumber) -> Option<usize>
         ensures { result ≡ position (has_number number) self.now.pipes }
     {
         self.pipes.iter().position(|pipe| pipe.number() == number)
@@ -122,7 +122,7 @@ impl PipeTable {
         requires ready { HasRoomIn number packet.now self.old.pipes }
         ensures seed { self.new.seed ≡ self.old.seed }
         ensures arrived { (at : Setting) (n : Net) → at.seed ≡ self.old.seed → at.now ≡ now →
-            to_pipe at number packet.now (with_pipes (S.pocket shelf.old owner) self.old n)
+            enter_pipe at number packet.now (with_pipes (S.pocket shelf.old owner) self.old n)
             ≡ note_drops now (drops_of packet.now result) (with_pipes (S.pocket shelf.new owner) self.new n) }
         ensures keys { Keeps (S.pocket shelf.old owner) (S.pocket shelf.new owner) (pipe_keys self.old.pipes) (pipe_keys self.new.pipes) }
         ensures others { (o : ℕ) → o ≢ owner → S.pocket shelf.new o ≡ S.pocket shelf.old o }

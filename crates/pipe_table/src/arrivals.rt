@@ -1,0 +1,78 @@
+//! What a trace says of a packet that comes to a pipe.
+
+ghost use Rattle.std.specs.Prelude.{◌≡◌, ℕ, ◌+◌, ◌≤◌, ◌++◌, [], length};
+ghost use Rattle.std.specs.Option.{option_map_or};
+ghost use Rattle.emu_model.specs.declared.packets.Packet.{Packet as Letter};
+ghost use Rattle.emu_model.specs.FlowIds.{flow_id};
+ghost use Rattle.emu_model.specs.Net.{Net, arrivals, find_pipe, identify_record};
+ghost use Rattle.packet_store.specs.Pocket.{Pocket};
+ghost use Rattle.pipe_core.specs.Keyed.{seen_pipe};
+ghost use Rattle.pipe_table.specs.Table.{with_pipes};
+
+use crate::PipeTable;
+use emu_model::{Mask, Packet, PipeNumber, Record};
+use pipe_core::Pipe;
+use record_log::RecordLog;
+
+// The line of the instance that a packet makes.
+fn identified(pipe: &Pipe, now: u64, instance: u8, packet: &Packet) -> Record
+    ensures { result ≡ identify_record now pipe.now.number instance (flow_id pipe.now.config.mask packet.now) }
+{
+    let Mask {
+        proto,
+        src,
+        dst,
+        sport,
+        dport,
+    } = pipe.identifier(packet);
+    Record::InstanceIdentified {
+        moment: now,
+        pipe: pipe.number(),
+        instance,
+        proto,
+        src,
+        dst,
+        sport,
+        dport,
+    }
+}
+
+// Records that a packet comes to an instance of a pipe, if there is one for it.
+fn note_at(pipe: &Pipe, log: &mut RecordLog, now: u64, packet: &Packet)
+    requires { 2 ≤ log.old.spare }
+    ensures records { (f : ℕ → Letter) → log.new.records ≡ log.old.records ++ arrivals now packet.now (seen_pipe f pipe.now) }
+    ensures room { log.old.spare ≤ log.new.spare + 2 }
+{
+    let Some(instance) = pipe.instance_for(packet) else {
+        return;
+    };
+    let arrived = Record::PacketArrived {
+        moment: now,
+        packet: packet.number,
+        pipe: pipe.number(),
+        instance,
+    };
+    if (instance as usize) < pipe.instances() {
+        log.note(&arrived);
+        return;
+    }
+    log.note(&identified(pipe, now, instance, packet));
+    log.note(&arrived);
+}
+
+impl PipeTable {
+    /// Records that a packet comes to an instance of a pipe at the moment `now` (ns), and before that
+    /// whose the instance is, where the packet is what makes it. Nothing where there is no such pipe, or
+    /// no instance for it.
+    pub fn note_arrival(&self, log: &mut RecordLog, now: u64, number: PipeNumber, packet: &Packet)
+        requires { 2 ≤ log.old.spare }
+        ensures records { (p : Pocket) (n : Net) → log.new.records
+            ≡ log.old.records ++ option_map_or (arrivals now packet.now) (find_pipe number (with_pipes p self.now n)) [] }
+        ensures room { log.old.spare ≤ log.new.spare + 2 }
+    {
+        let Some(place) = self.place_of(number) else {
+            return;
+        };
+        note_at(&self.pipes[place], log, now, packet);
+    }
+}
