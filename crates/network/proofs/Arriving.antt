@@ -1,7 +1,9 @@
 -- A packet that is made, and arrives.
-use Rattle.std.proofs.Common.{◌≡◌, ℕ, zero, suc, ◌+◌, ◌<◌, ◌≤◌, Bool, true, false, nat_lt, cond, refl, sym, ap, ◌∙◌, subst, List, [], ◌∷◌, length, Option, Some, None, arith}
-use Rattle.std.specs.Prelude.{sum_by, option_and_then, slice_get}
+use Rattle.std.proofs.Common.{◌≡◌, ℕ, zero, suc, ◌+◌, ◌<◌, ◌≤◌, Bool, true, false, nat_lt, cond, refl, sym, ap, ◌∙◌, subst, List, [], ◌∷◌, ◌++◌, length, Option, Some, None, arith}
+use Rattle.std.specs.Prelude.{if◌then◌else◌, sum_by, option_and_then, slice_get}
 use Rattle.std.specs.List.{last_or}
+use Rattle.std.specs.Option.{option_map_or}
+use Rattle.emu_model.specs.declared.records.Record.{Record}
 use Rattle.std.proofs.lemmas.Bool.{lt-ltb, le-ltb}
 use Rattle.std.proofs.lemmas.List.{length-append, length-map}
 use Rattle.std.proofs.lemmas.List.Sums.{sum_by-cons}
@@ -18,7 +20,7 @@ use Rattle.emu_model.specs.declared.sources.SendSpec.{SendSpec}
 use Rattle.emu_model.specs.Rules.{Counted, verdict, verdict_of_match, matches_from, next_match, the_rules, least_match}
 use Rattle.emu_model.specs.Delay.{Line, Leaving, enter, delay_ns}
 use Rattle.emu_model.specs.Pipes.{PipeState, pipe_packets}
-use Rattle.emu_model.specs.Net.{Net, Setting, held, note_all, note_drops, drop_record, to_direct, to_pipe, packet_of, make, pass_rules}
+use Rattle.emu_model.specs.Net.{Net, Setting, held, note_all, note_drops, note_traced, note_arrival, arrivals, find_pipe, make_record, drop_record, to_direct, enter_pipe, to_pipe, packet_of, make, pass_rules}
 use Rattle.link_core.specs.Lane.{Lane}
 use Rattle.packet_store.specs.Pocket.{Pocket, with_packet}
 use Rattle.pipe_instance.specs.Keyed.{seen_leaving, seen_line}
@@ -60,20 +62,41 @@ enters agree p q n key now delay packet l h none put nought line =
 -- a packet comes to a pipe, and is taken in, or dropped
 module _ (at : Setting) (p q : Pocket) (n : KeptNet) (t : Table) (k now : ℕ) (packet : Packet) (h : IsHoused p n)
     (keeps : Keeps p q (pipe_keys n.table.pipes) (pipe_keys t.pipes)) (seed : t.seed ≡ n.table.seed) where
-  pub taken-in : to_pipe at k packet (net_of p n) ≡ note_drops now (drops_of packet None) (with_pipes q t (net_of p n)) →
-      Becomes 0 (to_pipe at k packet (net_of p n)) p q n (record n { table = t })
-  taken-in e = shown-as 0 (with_pipes q t (net_of p n)) (to_pipe at k packet (net_of p n)) p q n (record n { table = t })
+  pub taken-in : enter_pipe at k packet (net_of p n) ≡ note_drops now (drops_of packet None) (with_pipes q t (net_of p n)) →
+      Becomes 0 (enter_pipe at k packet (net_of p n)) p q n (record n { table = t })
+  taken-in e = shown-as 0 (with_pipes q t (net_of p n)) (enter_pipe at k packet (net_of p n)) p q n (record n { table = t })
       (sym (e ∙ noted-none (with_pipes q t (net_of p n)))) (pipes-become p q n t h keeps seed)
 
   pub turned-away : (cause : DropCause) (new : KeptNet) →
-      to_pipe at k packet (net_of p n) ≡ note_drops now (drops_of packet (Some cause)) (with_pipes q t (net_of p n)) →
+      enter_pipe at k packet (net_of p n) ≡ note_drops now (drops_of packet (Some cause)) (with_pipes q t (net_of p n)) →
       Notes (drop_record now (record { packet = packet; cause = cause }) ∷ []) (record n { table = t }) new →
-      Becomes 0 (to_pipe at k packet (net_of p n)) p q n new
+      Becomes 0 (enter_pipe at k packet (net_of p n)) p q n new
   turned-away cause new e noted =
       let b : Becomes 0 (with_pipes q t (net_of p n)) p q n (record n { table = t }) = pipes-become p q n t h keeps seed in
-      shown-as 0 (note_all (drop_record now (record { packet = packet; cause = cause }) ∷ []) (with_pipes q t (net_of p n))) (to_pipe at k packet (net_of p n)) p q n new (sym e)
+      shown-as 0 (note_all (drop_record now (record { packet = packet; cause = cause }) ∷ []) (with_pipes q t (net_of p n))) (enter_pipe at k packet (net_of p n)) p q n new (sym e)
       (follow (note_all (drop_record now (record { packet = packet; cause = cause }) ∷ [])) 0 0 0 (with_pipes q t (net_of p n)) p q q n (record n { table = t }) new (omega arith) b
       (notes-becomes q (drop_record now (record { packet = packet; cause = cause }) ∷ []) (record n { table = t }) new b.housed noted))
+
+-- records came that the pockets decide
+logged-becomes : (p : Pocket) (rs : List Record) (old new : KeptNet) → IsHoused p old → new ≡ record old { log = new.log } →
+    new.log.records ≡ old.log.records ++ rs → Becomes 0 (note_all rs (net_of p old)) p p old new
+logged-becomes p rs old new h rest records = record {
+  shown = ap (net_of p) rest ∙ (λ i. record (net_of p old) { records = records i });
+  housed = subst (λ m. IsHoused p m) (sym rest) (record { each = h.each; count = h.count });
+  budget = refl;
+  seed = ap (λ (m : KeptNet). m.table.seed) rest;
+  made = omega (arith, ap (λ (m : KeptNet). m.made) rest);
+}
+
+-- what a trace says of an arrival, and the arrival
+pub arrives : (at : Setting) (p q : Pocket) (n x new : KeptNet) (k : ℕ) (packet : Packet) → IsHoused p n →
+    x ≡ record n { log = x.log } →
+    x.log.records ≡ n.log.records ++ (if n.trace then option_map_or (arrivals at.now packet) (find_pipe k (net_of p n)) [] else []) →
+    Becomes 0 (enter_pipe at k packet (net_of p x)) p q x new →
+    Becomes 0 (to_pipe at k packet (net_of p n)) p q n new
+arrives at p q n x new k packet h rest records b =
+    follow (enter_pipe at k packet) 0 0 0 (note_arrival at.now k packet (net_of p n)) p p q n x new (omega arith)
+    (logged-becomes p (if n.trace then option_map_or (arrivals at.now packet) (find_pipe k (net_of p n)) [] else []) n x h rest records) b
 
 -- a packet in another place is as ready
 pub ready-placed : (k : ℕ) (packet : Packet) (place : Place) (ps : List KeyedPipe) → HasRoomIn k packet ps → HasRoomIn k (record packet { place = place }) ps
@@ -141,13 +164,23 @@ module _ (named : PacketsAreNamed) (at : Setting) (p : Pocket) (n : KeptNet) (lo
   more-housed : IsHoused p one-more
   more-housed = record { each = h.each; count = h.count }
 
-  abbrev made-by : Bool → Packet → Net
-  made-by fits y = cond fits (pass_rules at y (net_of p one-more)) (note_drops at.now (record { packet = y; cause = Budget } ∷ []) (net_of p one-more))
+  abbrev traced-one : Packet → Net
+  traced-one y = note_traced (make_record at.now y ∷ []) (net_of p one-more)
 
-  pub made-passes : (q : Pocket) (new : KeptNet) → p.count < at.room → Becomes 0 (pass_rules at x (net_of p one-more)) p q one-more new →
+  abbrev made-by : Bool → Packet → Net
+  made-by fits y = cond fits (pass_rules at y (traced-one y)) (note_drops at.now (record { packet = y; cause = Budget } ∷ []) (traced-one y))
+
+  traced : (mid : KeptNet) → Notes (if n.trace then make_record at.now x ∷ [] else []) one-more mid →
+      Becomes 0 (traced-one x) p p one-more mid
+  traced mid noted = notes-becomes p (if n.trace then make_record at.now x ∷ [] else []) one-more mid more-housed noted
+
+  pub made-passes : (q : Pocket) (mid new : KeptNet) → Notes (if n.trace then make_record at.now x ∷ [] else []) one-more mid →
+      p.count < at.room → Becomes 0 (pass_rules at x (net_of p mid)) p q mid new →
       Becomes 1 (make at load send (net_of p n)) p q n new
-  made-passes q new fits b =
+  made-passes q mid new noted fits passed =
       let test : nat_lt (held (net_of p n)) at.room ≡ true = lt-ltb (held (net_of p n)) at.room (omega (arith, fits, held-is named p n h)) in
+      let b : Becomes 0 (pass_rules at x (traced-one x)) p q one-more new =
+      follow (pass_rules at x) 0 0 0 (traced-one x) p p q one-more mid new (omega arith) (traced mid noted) passed in
       record {
         shown = b.shown ∙ (λ i. made-by (sym test i) (is i));
         housed = b.housed;
@@ -156,11 +189,15 @@ module _ (named : PacketsAreNamed) (at : Setting) (p : Pocket) (n : KeptNet) (lo
         made = omega (arith, b.made);
       }
 
-  pub made-dropped : (new : KeptNet) → at.room ≤ p.count → Notes (drop_record at.now (record { packet = x; cause = Budget }) ∷ []) one-more new →
+  pub made-dropped : (mid new : KeptNet) → Notes (if n.trace then make_record at.now x ∷ [] else []) one-more mid →
+      at.room ≤ p.count → Notes (drop_record at.now (record { packet = x; cause = Budget }) ∷ []) mid new →
       Becomes 1 (make at load send (net_of p n)) p p n new
-  made-dropped new full noted =
+  made-dropped mid new noted full dropped =
       let test : nat_lt (held (net_of p n)) at.room ≡ false = le-ltb (held (net_of p n)) at.room (omega (arith, full, held-is named p n h)) in
-      let b = notes-becomes p (drop_record at.now (record { packet = x; cause = Budget }) ∷ []) one-more new more-housed noted in
+      let ds : List Record = drop_record at.now (record { packet = x; cause = Budget }) ∷ [] in
+      let m : Becomes 0 (traced-one x) p p one-more mid = traced mid noted in
+      let b : Becomes 0 (note_all ds (traced-one x)) p p one-more new =
+      follow (note_all ds) 0 0 0 (traced-one x) p p p one-more mid new (omega arith) m (notes-becomes p ds mid new m.housed dropped) in
       record {
         shown = b.shown ∙ (λ i. made-by (sym test i) (is i));
         housed = b.housed;

@@ -3,7 +3,7 @@ use Rattle.std.proofs.Common.{◌≡◌, ℕ, zero, suc, ◌/◌, ◌%◌, Bool,
 use Rattle.std.specs.Prelude.{is_some}
 use Rattle.std.specs.Option.{option_map_or}
 use Rattle.emu_model.specs.declared.commands.Command.{Command}
-use Rattle.emu_model.specs.declared.commands.Command.TheVariants.{Add, Delete, Config, PipeDelete, Inject, OnePass, End}
+use Rattle.emu_model.specs.declared.commands.Command.TheVariants.{Add, Delete, Config, PipeDelete, Inject, OnePass, Trace, End}
 use Rattle.emu_model.specs.declared.packets.Load.TheVariants.{Plain}
 use Rattle.emu_model.specs.declared.packets.Packet.{Packet}
 use Rattle.emu_model.specs.declared.pipes.PipeConfig.{PipeConfig}
@@ -110,6 +110,10 @@ module _ (at : Setting) (k : ℕ) (n new : KeptNet) where
 
   pub pass-done : (b : Bool) → Notes (CommandDone at.now k ∷ []) (record n { one_pass = b }) new → Obeys at k (OnePass b) n new
   pass-done b notes = done-obeys at k (OnePass b) n (record n { one_pass = b }) new (λ p. refl)
+      (record { moved = λ p. refl; line = refl; keys = refl; seed = refl; made = refl }) notes
+
+  pub trace-done : (b : Bool) → Notes (CommandDone at.now k ∷ []) (record n { trace = b }) new → Obeys at k (Trace b) n new
+  trace-done b notes = done-obeys at k (Trace b) n (record n { trace = b }) new (λ p. refl)
       (record { moved = λ p. refl; line = refl; keys = refl; seed = refl; made = refl }) notes
 
   pub end-done : Notes (CommandDone at.now k ∷ []) n new → Obeys at k End n new

@@ -14,7 +14,8 @@ use Rattle.traffic.specs.Kept.{KeptTraffic, states_of}
 use Rattle.network.specs.declared.state.Moment.{Moment}
 
 -- the rules, the pipes, the link of `allow` with its packets' keys, the flows and trains, how many
--- packets were made, whether one that leaves a pipe is delivered at once, and what was recorded
+-- packets were made, whether one that leaves a pipe is delivered at once, whether packets are traced,
+-- and what was recorded
 pub record KeptNet : Type 0 where
   pub book : RuleBook
   pub table : Table
@@ -22,6 +23,7 @@ pub record KeptNet : Type 0 where
   pub traffic : KeptTraffic
   pub made : ℕ
   pub one_pass : Bool
+  pub trace : Bool
   pub log : Log
 
 -- the net that is shown over an owner's packets
@@ -34,6 +36,7 @@ net_of p n = record {
   trains = n.traffic.trains;
   made = n.made;
   one_pass = n.one_pass;
+  trace = n.trace;
   records = n.log.records;
 }
 

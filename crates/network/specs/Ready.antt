@@ -1,7 +1,7 @@
 -- What needs no memory, where the shelf has room for a packet.
 use Rattle.std.specs.Prelude.{◌≡◌, ◌<◌, true, false, Some, IsSome}
 use Rattle.emu_model.specs.declared.commands.Command.{Command}
-use Rattle.emu_model.specs.declared.commands.Command.TheVariants.{Delete, Stop, OnePass, End}
+use Rattle.emu_model.specs.declared.commands.Command.TheVariants.{Delete, Stop, OnePass, Trace, End}
 use Rattle.emu_model.specs.declared.packets.Load.{Load}
 use Rattle.emu_model.specs.declared.packets.Load.TheVariants.{Plain, Seg, Ack}
 use Rattle.emu_model.specs.declared.packets.Packet.{Packet}
@@ -54,5 +54,6 @@ abbrev pub TakesNoMemory : Command → Net → Type 0
 TakesNoMemory (Delete k) n = Unit {0}
 TakesNoMemory (Stop k) n = Unit {0}
 TakesNoMemory (OnePass on) n = Unit {0}
+TakesNoMemory (Trace on) n = Unit {0}
 TakesNoMemory End n = Unit {0}
 TakesNoMemory c n = IsSome (refusal_of c n)

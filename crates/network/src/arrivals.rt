@@ -1,7 +1,9 @@
 //! How a packet is made, passes the rules, and comes to a pipe or to the link of `allow`.
 
-ghost use Rattle.std.specs.Prelude.{◌≡◌, ◌≢◌, ℕ, ◌+◌, ◌*◌, ◌^◌, ◌<◌, ◌≤◌, ◌∷◌, [], OnOk};
-ghost use Rattle.emu_model.specs.Net.{by_verdict, drop_record, go_on as goes_on, make as made_of, packet_of, pass_rules as passes_rules, to_direct as comes_to_direct, to_pipe as comes_to_pipe};
+ghost use Rattle.std.specs.Prelude.{◌≡◌, ◌≢◌, ℕ, ◌+◌, ◌*◌, ◌^◌, ◌<◌, ◌≤◌, ◌∷◌, ◌++◌, [], if◌then◌else◌, OnOk};
+ghost use Rattle.std.specs.Option.{option_map_or};
+ghost use Rattle.packet_store.specs.Pocket.{Pocket};
+ghost use Rattle.emu_model.specs.Net.{arrivals, by_verdict, drop_record, enter_pipe as enters_pipe, find_pipe, go_on as goes_on, make as made_of, make_record, packet_of, pass_rules as passes_rules, to_direct as comes_to_direct, to_pipe as comes_to_pipe};
 ghost use Rattle.network.specs.Kept.{net_of, setting_of, IsHoused, Stands};
 ghost use Rattle.network.specs.Changes.{Becomes, IsStill, Notes};
 ghost use Rattle.network.specs.Ready.{IsReady, verdict_on, verdict_behind, CanMake};
@@ -105,6 +107,41 @@ impl Network {
         });
     }
 
+    // Records that a packet is made, where packets are traced.
+    fn note_made(&mut self, now: u64, packet: &Packet)
+        requires { 0 < self.old.log.spare }
+        ensures { Notes (if self.old.trace then make_record now packet.now ∷ [] else []) self.old self.new }
+    {
+        if !self.trace {
+            return;
+        }
+        self.note(&Record::PacketMade {
+            moment: now,
+            packet: packet.number,
+            load: packet.load,
+            proto: packet.proto,
+            src: packet.src,
+            sport: packet.sport,
+            dst: packet.dst,
+            dport: packet.dport,
+            size: packet.size,
+        });
+    }
+
+    // Records that a packet comes to a pipe, where packets are traced.
+    fn note_arrival(&mut self, now: u64, number: PipeNumber, packet: &Packet)
+        requires { 1 < self.old.log.spare }
+        ensures rest { self.new ≡ record self.old { log = self.new.log } }
+        ensures records { (p : Pocket) → self.new.log.records ≡ self.old.log.records
+            ++ (if self.old.trace then option_map_or (arrivals now packet.now) (find_pipe number (net_of p self.old)) [] else []) }
+        ensures room { self.old.log.spare ≤ self.new.log.spare + 2 }
+    {
+        if !self.trace {
+            return;
+        }
+        self.table.note_arrival(&mut self.log, now, number, packet);
+    }
+
     // A packet enters the link of `allow`.
     fn to_direct<S: Shelf>(&mut self, shelf: &mut S, owner: Owner, now: u64, packet: &Packet)
         requires early { now < 2 * 10 ^ 15 }
@@ -126,8 +163,8 @@ impl Network {
         };
     }
 
-    // A packet comes to a pipe.
-    fn to_pipe<S: Shelf>(
+    // A packet comes into a pipe.
+    fn enter_pipe<S: Shelf>(
         &mut self,
         shelf: &mut S,
         owner: Owner,
@@ -140,7 +177,7 @@ impl Network {
         requires room { 0 < S.room shelf.old owner }
         requires log { 0 < self.old.log.spare }
         requires ready { HasRoomIn number packet.now self.old.table.pipes }
-        ensures becomes { Becomes 0 (comes_to_pipe (setting_of at) number packet.now (net_of (S.pocket shelf.old owner) self.old))
+        ensures becomes { Becomes 0 (enters_pipe (setting_of at) number packet.now (net_of (S.pocket shelf.old owner) self.old))
             (S.pocket shelf.old owner) (S.pocket shelf.new owner) self.old self.new }
         ensures log { self.old.log.spare ≤ self.new.log.spare + 1 }
         ensures others { (o : ℕ) → o ≢ owner → S.pocket shelf.new o ≡ S.pocket shelf.old o }
@@ -155,6 +192,29 @@ impl Network {
         }
     }
 
+    // A packet comes to a pipe.
+    fn to_pipe<S: Shelf>(
+        &mut self,
+        shelf: &mut S,
+        owner: Owner,
+        at: Moment,
+        number: PipeNumber,
+        packet: &Packet,
+    )
+        requires stands { Stands at (S.pocket shelf.old owner) self.old }
+        requires budget { (S.pocket shelf.old owner).count < (S.pocket shelf.old owner).budget }
+        requires room { 0 < S.room shelf.old owner }
+        requires log { 2 < self.old.log.spare }
+        requires ready { HasRoomIn number packet.now self.old.table.pipes }
+        ensures becomes { Becomes 0 (comes_to_pipe (setting_of at) number packet.now (net_of (S.pocket shelf.old owner) self.old))
+            (S.pocket shelf.old owner) (S.pocket shelf.new owner) self.old self.new }
+        ensures log { self.old.log.spare ≤ self.new.log.spare + 3 }
+        ensures others { (o : ℕ) → o ≢ owner → S.pocket shelf.new o ≡ S.pocket shelf.old o }
+    {
+        self.note_arrival(at.now, number, packet);
+        self.enter_pipe(shelf, owner, at, number, packet);
+    }
+
     // A packet is handed on by a verdict.
     fn hand_on<S: Shelf>(
         &mut self,
@@ -167,11 +227,11 @@ impl Network {
         requires stands { Stands at (S.pocket shelf.old owner) self.old }
         requires budget { (S.pocket shelf.old owner).count < (S.pocket shelf.old owner).budget }
         requires room { 0 < S.room shelf.old owner }
-        requires log { 0 < self.old.log.spare }
+        requires log { 2 < self.old.log.spare }
         requires ready { IsReady verdict packet.now self.old }
         ensures becomes { Becomes 0 (by_verdict (setting_of at) verdict packet.now (net_of (S.pocket shelf.old owner) self.old))
             (S.pocket shelf.old owner) (S.pocket shelf.new owner) self.old self.new }
-        ensures log { self.old.log.spare ≤ self.new.log.spare + 1 }
+        ensures log { self.old.log.spare ≤ self.new.log.spare + 3 }
         ensures others { (o : ℕ) → o ≢ owner → S.pocket shelf.new o ≡ S.pocket shelf.old o }
     {
         match verdict {
@@ -196,11 +256,11 @@ impl Network {
         requires stands { Stands at (S.pocket shelf.old owner) self.old }
         requires budget { (S.pocket shelf.old owner).count < (S.pocket shelf.old owner).budget }
         requires room { 0 < S.room shelf.old owner }
-        requires log { 0 < self.old.log.spare }
+        requires log { 2 < self.old.log.spare }
         requires ready { IsReady (verdict_on packet.now self.old) packet.now self.old }
         ensures becomes { Becomes 0 (passes_rules (setting_of at) packet.now (net_of (S.pocket shelf.old owner) self.old))
             (S.pocket shelf.old owner) (S.pocket shelf.new owner) self.old self.new }
-        ensures log { self.old.log.spare ≤ self.new.log.spare + 1 }
+        ensures log { self.old.log.spare ≤ self.new.log.spare + 3 }
         ensures others { (o : ℕ) → o ≢ owner → S.pocket shelf.new o ≡ S.pocket shelf.old o }
     {
         let verdict = self.book.verdict(packet);
@@ -218,11 +278,11 @@ impl Network {
         requires stands { Stands at (S.pocket shelf.old owner) self.old }
         requires budget { (S.pocket shelf.old owner).count < (S.pocket shelf.old owner).budget }
         requires room { 0 < S.room shelf.old owner }
-        requires log { 0 < self.old.log.spare }
+        requires log { 2 < self.old.log.spare }
         requires ready { IsReady (verdict_behind packet.now self.old) packet.now self.old }
         ensures becomes { Becomes 0 (goes_on (setting_of at) packet.now (net_of (S.pocket shelf.old owner) self.old))
             (S.pocket shelf.old owner) (S.pocket shelf.new owner) self.old self.new }
-        ensures log { self.old.log.spare ≤ self.new.log.spare + 1 }
+        ensures log { self.old.log.spare ≤ self.new.log.spare + 3 }
         ensures others { (o : ℕ) → o ≢ owner → S.pocket shelf.new o ≡ S.pocket shelf.old o }
     {
         let verdict = self.book.verdict_after(packet.place, packet);
@@ -240,16 +300,17 @@ impl Network {
         requires stands { Stands at (S.pocket shelf.old owner) self.old }
         requires made { self.old.made < 2 ^ 63 }
         requires room { (S.pocket shelf.old owner).count < (S.pocket shelf.old owner).budget → 0 < S.room shelf.old owner }
-        requires log { 0 < self.old.log.spare }
+        requires log { 3 < self.old.log.spare }
         requires ready { CanMake sending.now.send self.old }
         ensures becomes { Becomes 1 (made_of (setting_of at) sending.now.load sending.now.send (net_of (S.pocket shelf.old owner) self.old))
             (S.pocket shelf.old owner) (S.pocket shelf.new owner) self.old self.new }
-        ensures log { self.old.log.spare ≤ self.new.log.spare + 1 }
+        ensures log { self.old.log.spare ≤ self.new.log.spare + 4 }
         ensures others { (o : ℕ) → o ≢ owner → S.pocket shelf.new o ≡ S.pocket shelf.old o }
     {
         keys_say_all();
         let packet = packet_of(sending.load, &sending.send, self.made);
         self.made += 1;
+        self.note_made(at.now, &packet);
         if shelf.count(owner) < at.room.get() as usize {
             self.pass_rules(shelf, owner, at, &packet);
             return;

@@ -1,7 +1,7 @@
 //! What commands do.
 
 ghost use Rattle.std.specs.Prelude.{◌≡◌, ◌≢◌, ℕ, ◌+◌, ◌*◌, ◌^◌, ◌<◌, ◌≤◌, ◌++◌, ◌∷◌, [], Some, None, IsOk, IsSome, OnOk, OnErr, map, length};
-ghost use Rattle.emu_model.specs.declared.commands.Command.TheVariants.{Add, Delete, Config, PipeDelete, PipeShow, Show, Inject, Train, Flow, Stop, OnePass, End};
+ghost use Rattle.emu_model.specs.declared.commands.Command.TheVariants.{Add, Delete, Config, PipeDelete, PipeShow, Show, Inject, Train, Flow, Stop, OnePass, Trace, End};
 ghost use Rattle.emu_model.specs.declared.records.Record.TheVariants.{CommandDone, CommandRefused, RuleLine};
 ghost use Rattle.emu_model.specs.Commands.{obey as obeyed, config_refusal, refusal_of as obey_refusal, source_refusal};
 ghost use Rattle.emu_model.specs.Rules.{add_refusal};
@@ -41,7 +41,7 @@ impl Network {
             (S.pocket shelf.old owner) (S.pocket shelf.new owner) self.old self.new) }
         ensures room { OnOk result (0 < self.new.log.spare) }
         ensures refused { OnErr result (IsStill self.old self.new) }
-        ensures succeeds { TakesNoMemory command.now (net_of (S.pocket shelf.old owner) self.old) → 3 ≤ self.old.log.spare → IsOk result }
+        ensures succeeds { TakesNoMemory command.now (net_of (S.pocket shelf.old owner) self.old) → 6 ≤ self.old.log.spare → IsOk result }
         ensures refused_pocket { OnErr result (S.pocket shelf.new owner ≡ S.pocket shelf.old owner) }
         ensures others { (o : ℕ) → o ≢ owner → S.pocket shelf.new o ≡ S.pocket shelf.old o }
     {
@@ -66,6 +66,7 @@ impl Network {
             } => return self.start_flow(at, number, source, &flow),
             Command::Stop(flow) => return self.stop(at, number, flow),
             Command::OnePass(one_pass) => return self.set_one_pass(at, number, one_pass),
+            Command::Trace(trace) => return self.set_trace(at, number, trace),
             Command::End => return self.end(at, number),
         }
     }
@@ -237,7 +238,7 @@ impl Network {
     ) -> Result<(), NoMemory>
         requires stands { Stands at (S.pocket shelf.old owner) self.old }
         requires made { self.old.made < 2 ^ 63 }
-        requires log { 2 < self.old.log.spare }
+        requires log { 5 < self.old.log.spare }
         ensures ok { OnOk result (Becomes 1 (obeyed (setting_of at) number (Inject send.now) (net_of (S.pocket shelf.old owner) self.old))
             (S.pocket shelf.old owner) (S.pocket shelf.new owner) self.old self.new) }
         ensures room { OnOk result (0 < self.new.log.spare) }
@@ -332,6 +333,19 @@ impl Network {
         ensures succeeds { IsOk result }
     {
         self.one_pass = one_pass;
+        self.done(at.now, number);
+        Ok(())
+    }
+
+    // Whether packets are traced is set.
+    fn set_trace(&mut self, at: Moment, number: u64, trace: bool) -> Result<(), NoMemory>
+        requires { 1 < self.old.log.spare }
+        ensures ok { OnOk result (Obeys (setting_of at) number (Trace trace) self.old self.new) }
+        ensures room { OnOk result (0 < self.new.log.spare) }
+        ensures refused { OnErr result (IsStill self.old self.new) }
+        ensures succeeds { IsOk result }
+    {
+        self.trace = trace;
         self.done(at.now, number);
         Ok(())
     }

@@ -72,11 +72,11 @@ impl Network {
         requires stands { Stands at (S.pocket shelf.old owner) self.old }
         requires made { self.old.made < 2 ^ 63 }
         requires room { 0 < S.room shelf.old owner }
-        requires log { 1 < self.old.log.spare }
+        requires log { 4 < self.old.log.spare }
         requires ready { CanDeliver packet.now.load self.old }
         ensures becomes { Becomes 1 (delivered (setting_of at) packet.now (net_of (S.pocket shelf.old owner) self.old))
             (S.pocket shelf.old owner) (S.pocket shelf.new owner) self.old self.new }
-        ensures log { self.old.log.spare ≤ self.new.log.spare + 2 }
+        ensures log { self.old.log.spare ≤ self.new.log.spare + 5 }
         ensures others { (o : ℕ) → o ≢ owner → S.pocket shelf.new o ≡ S.pocket shelf.old o }
     {
         self.note(&Record::PacketDelivered {
@@ -92,11 +92,11 @@ impl Network {
         requires stands { Stands at (S.pocket shelf.old owner) self.old }
         requires made { self.old.made < 2 ^ 63 }
         requires room { 0 < S.room shelf.old owner }
-        requires log { 0 < self.old.log.spare }
+        requires log { 3 < self.old.log.spare }
         requires ready { CanDeliver load self.old }
         ensures becomes { Becomes 1 (take_load (setting_of at) load (net_of (S.pocket shelf.old owner) self.old))
             (S.pocket shelf.old owner) (S.pocket shelf.new owner) self.old self.new }
-        ensures log { self.old.log.spare ≤ self.new.log.spare + 1 }
+        ensures log { self.old.log.spare ≤ self.new.log.spare + 4 }
         ensures others { (o : ℕ) → o ≢ owner → S.pocket shelf.new o ≡ S.pocket shelf.old o }
     {
         match load {
@@ -124,11 +124,11 @@ impl Network {
         requires stands { Stands at (S.pocket shelf.old owner) self.old }
         requires made { self.old.made < 2 ^ 63 }
         requires room { 0 < S.room shelf.old owner }
-        requires log { 0 < self.old.log.spare }
+        requires log { 3 < self.old.log.spare }
         requires ready { CanDeliver (Seg flow first) self.old }
         ensures becomes { Becomes 1 (take_load (setting_of at) (Seg flow first) (net_of (S.pocket shelf.old owner) self.old))
             (S.pocket shelf.old owner) (S.pocket shelf.new owner) self.old self.new }
-        ensures log { self.old.log.spare ≤ self.new.log.spare + 1 }
+        ensures log { self.old.log.spare ≤ self.new.log.spare + 4 }
         ensures others { (o : ℕ) → o ≢ owner → S.pocket shelf.new o ≡ S.pocket shelf.old o }
     {
         let answer = self.traffic.take(flow, first);

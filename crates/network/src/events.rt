@@ -25,7 +25,7 @@ use std::mem;
 
 /// How many records an event makes at most, besides a line for each thing that is listed or dropped
 /// with others, and one that tells of the last step.
-pub(crate) const MOST_RECORDS: usize = 3;
+pub(crate) const MOST_RECORDS: usize = 6;
 
 impl Network {
     /// The event of something that is due now, as `earliest` told. Each growth comes first: refused,
@@ -45,7 +45,7 @@ impl Network {
             (S.pocket shelf.old owner) (S.pocket shelf.new owner) self.old self.new) }
         ensures room { OnOk result (0 < self.new.log.spare) }
         ensures refused { OnErr result (IsStill self.old self.new) }
-        ensures succeeds { due.source.class ≡ Expiry → 3 ≤ self.old.log.spare → IsOk result }
+        ensures succeeds { due.source.class ≡ Expiry → 6 ≤ self.old.log.spare → IsOk result }
         ensures refused_pocket { OnErr result (S.pocket shelf.new owner ≡ S.pocket shelf.old owner) }
         ensures others { (o : ℕ) → o ≢ owner → S.pocket shelf.new o ≡ S.pocket shelf.old o }
     {
@@ -137,7 +137,7 @@ impl Network {
     ) -> Result<(), NoMemory>
         requires stands { Stands at (S.pocket shelf.old owner) self.old }
         requires made { self.old.made < 2 ^ 63 }
-        requires log { 2 < self.old.log.spare }
+        requires log { 5 < self.old.log.spare }
         ensures ok { OnOk result (Becomes 1 (exits_direct (setting_of at) (net_of (S.pocket shelf.old owner) self.old))
             (S.pocket shelf.old owner) (S.pocket shelf.new owner) self.old self.new) }
         ensures room { OnOk result (0 < self.new.log.spare) }
@@ -208,11 +208,11 @@ impl Network {
         requires made { self.old.made < 2 ^ 63 }
         requires budget { (S.pocket shelf.old owner).count < (S.pocket shelf.old owner).budget }
         requires room { 0 < S.room shelf.old owner }
-        requires log { 1 < self.old.log.spare }
+        requires log { 4 < self.old.log.spare }
         requires ready { CanLeave packet.now self.old }
         ensures becomes { Becomes 1 (leaves_pipe (setting_of at) pipe instance packet.now (net_of (S.pocket shelf.old owner) self.old))
             (S.pocket shelf.old owner) (S.pocket shelf.new owner) self.old self.new }
-        ensures log { self.old.log.spare ≤ self.new.log.spare + 2 }
+        ensures log { self.old.log.spare ≤ self.new.log.spare + 5 }
         ensures others { (o : ℕ) → o ≢ owner → S.pocket shelf.new o ≡ S.pocket shelf.old o }
     {
         if self.one_pass {
@@ -239,7 +239,7 @@ impl Network {
     ) -> Result<(), NoMemory>
         requires stands { Stands at (S.pocket shelf.old owner) self.old }
         requires made { self.old.made < 2 ^ 63 }
-        requires log { 2 < self.old.log.spare }
+        requires log { 5 < self.old.log.spare }
         ensures ok { let n = net_of (S.pocket shelf.old owner) self.old in
             OnOk result (Becomes 1 (option_map_or (pipe_exits (setting_of at) pipe instance n) (find_pipe pipe n) n)
             (S.pocket shelf.old owner) (S.pocket shelf.new owner) self.old self.new) }
@@ -384,7 +384,7 @@ impl Network {
     ) -> Result<(), NoMemory>
         requires stands { Stands at (S.pocket shelf.old owner) self.old }
         requires made { self.old.made < 2 ^ 63 }
-        requires log { 2 < self.old.log.spare }
+        requires log { 5 < self.old.log.spare }
         requires may { IsEmitting source self.old.traffic }
         ensures ok { OnOk result (Becomes 1 (emitted (setting_of at) source (net_of (S.pocket shelf.old owner) self.old))
             (S.pocket shelf.old owner) (S.pocket shelf.new owner) self.old self.new) }

@@ -37,6 +37,7 @@ pub struct Network {
     pub(crate) traffic: Traffic,
     pub(crate) made: u64,
     pub(crate) one_pass: bool,
+    pub(crate) trace: bool,
     pub(crate) log: RecordLog,
     // Room for what CoDel drops at a finish.
     pub(crate) drops: Vec<Packet>,
@@ -54,6 +55,7 @@ impl Model for Network {
       traffic = n.traffic;
       made = n.made;
       one_pass = n.one_pass;
+      trace = n.trace;
       log = n.log;
     } };
 }
@@ -78,6 +80,7 @@ impl Network {
             traffic: Traffic::new(alloc),
             made: 0,
             one_pass: true,
+            trace: false,
             log: RecordLog::new(alloc),
             drops: Vec::new(alloc),
         })

@@ -1,18 +1,19 @@
-use Rattle.std.proofs.Common.{◌+◌}
 use Rattle.emu_model.specs.Net.{make as made_of}
-use Rattle.network.specs.Kept.{net_of, setting_of, Stands}
+use Rattle.network.specs.Kept.{KeptNet, net_of, setting_of, Stands}
 use Rattle.network.specs.Ready.{CanMake}
-use Rattle.std.proofs.Common.{refl}
+use Rattle.std.proofs.Common.{◌+◌, refl, sym, subst}
 use Rattle.network.specs.contracts.state.Network.{the_view}
 use Rattle.network.proofs.Steps.{at_view, from_view}
 use Rattle.std.proofs.Common.{arith}
+use Rattle.network.proofs.AsReady.{IsRoomy}
 use Rattle.network.proofs.Arriving.{packet-ready, made-passes, made-dropped}
 use Rattle.network.proofs.state.Network.make.Goals as goal
 
 pub pass_rules-requires-clause-ready : goal.pass_rules-requires-clause-ready
 pass_rules-requires-clause-ready g c =
-    packet-ready c.args.sending.now.load c.args.sending.now.send c.self.inside.made c.packet_of-packet.result (the_view c.self.inside) (record (the_view c.self.inside) { made = c.self.inside.made + 1 })
-    (record { rooms = λ k x h. h; spare = omega arith; book = refl }) c.packet_of-packet.ensures
+    packet-ready c.args.sending.now.load c.args.sending.now.send c.self.inside.made c.packet_of-packet.result (the_view c.self.inside) c.note_made.new.self
+    (subst (λ (m : KeptNet). IsRoomy (the_view c.self.inside) m) (sym c.note_made.ensures.rest)
+    (record { rooms = λ k x h. h; spare = omega arith; book = refl })) c.packet_of-packet.ensures
     (at_view (CanMake c.args.sending.now.send) _ _ c.self.view_is c.requires.ready)
 
 pub returns-then-count-get-clause-becomes : goal.returns-then-count-get-clause-becomes
@@ -22,7 +23,7 @@ returns-then-count-get-clause-becomes g c =
     let stands : Stands c.args.at p n = at_view (Stands c.args.at p) _ _ c.self.view_is c.requires.stands in
     from_view 1 (λ m. made_of (setting_of c.args.at) c.args.sending.now.load c.args.sending.now.send (net_of p m)) p _ _ _ _ c.self.view_is
     (made-passes c.keys_say_all.ensures.packets (setting_of c.args.at) p n c.args.sending.now.load c.args.sending.now.send c.packet_of-packet.result
-    stands.housed c.packet_of-packet.ensures _ _
+    stands.housed c.packet_of-packet.ensures _ _ _ c.note_made.ensures
     (omega (arith, c.if-count-get.true, c.count.ensures.value, c.get.ensures.value)) c.pass_rules.ensures.becomes)
 
 pub returns-clause-becomes : goal.returns-clause-becomes
@@ -32,5 +33,5 @@ returns-clause-becomes g c =
     let stands : Stands c.args.at p n = at_view (Stands c.args.at p) _ _ c.self.view_is c.requires.stands in
     from_view 1 (λ m. made_of (setting_of c.args.at) c.args.sending.now.load c.args.sending.now.send (net_of p m)) p _ _ _ _ c.self.view_is
     (made-dropped c.keys_say_all.ensures.packets (setting_of c.args.at) p n c.args.sending.now.load c.args.sending.now.send c.packet_of-packet.result
-    stands.housed c.packet_of-packet.ensures _
+    stands.housed c.packet_of-packet.ensures _ _ c.note_made.ensures
     (omega (arith, c.if-count-get.false, c.count.ensures.value, c.get.ensures.value)) c.drop_packet.ensures)

@@ -1,5 +1,5 @@
 use Rattle.std.proofs.Common.{IsSome, sym, subst}
-use Rattle.emu_model.specs.declared.commands.Command.TheVariants.{Add, Delete, Config, PipeDelete, PipeShow, Show, Inject, Train, Flow, Stop, OnePass, End}
+use Rattle.emu_model.specs.declared.commands.Command.TheVariants.{Add, Delete, Config, PipeDelete, PipeShow, Show, Inject, Train, Flow, Stop, OnePass, Trace, End}
 use Rattle.emu_model.specs.Commands.{obey, source_refusal}
 use Rattle.network.specs.Kept.{net_of, setting_of}
 use Rattle.network.specs.Changes.{Becomes, Obeys}
@@ -119,6 +119,16 @@ returns-in-OnePass-clause-ok g c =
     on_ok (Obeys at c.args.number (OnePass c.in-OnePass.one_pass) n c.set_one_pass.new.self) (Becomes 1 (obey at c.args.number c.args.command.now (net_of p old)) p p old c.set_one_pass.new.self) c.set_one_pass.result
     (λ b. subst (λ (cm : Command). Becomes 1 (obey at c.args.number cm (net_of p old)) p p old c.set_one_pass.new.self) (sym c.in-OnePass.is)
     (from_still (obey at c.args.number (OnePass c.in-OnePass.one_pass)) 1 p p old n c.set_one_pass.new.self c.requires.stands.housed c.reserve.ensures.still (b p (still-housed p old n c.requires.stands.housed c.reserve.ensures.still)))) c.set_one_pass.ensures.ok
+
+pub returns-in-Trace-clause-ok : goal.returns-in-Trace-clause-ok
+returns-in-Trace-clause-ok g c =
+    let p = g.S.Shelf.pocket c.args.shelf.now c.args.owner in
+    let at = setting_of c.args.at in
+    let old = c.args.self.now in
+    let n = c.reserve.new.self in
+    on_ok (Obeys at c.args.number (Trace c.in-Trace.trace) n c.set_trace.new.self) (Becomes 1 (obey at c.args.number c.args.command.now (net_of p old)) p p old c.set_trace.new.self) c.set_trace.result
+    (λ b. subst (λ (cm : Command). Becomes 1 (obey at c.args.number cm (net_of p old)) p p old c.set_trace.new.self) (sym c.in-Trace.is)
+    (from_still (obey at c.args.number (Trace c.in-Trace.trace)) 1 p p old n c.set_trace.new.self c.requires.stands.housed c.reserve.ensures.still (b p (still-housed p old n c.requires.stands.housed c.reserve.ensures.still)))) c.set_trace.ensures.ok
 
 pub returns-in-End-clause-ok : goal.returns-in-End-clause-ok
 returns-in-End-clause-ok g c =

@@ -13,6 +13,7 @@ rehouse_line-requires-clause-named g c =
       traffic = s.traffic;
       made = s.made;
       one_pass = s.one_pass;
+      trace = s.trace;
       log = s.log;
     } in
     let p = g.S.Shelf.pocket c.args.from.now c.args.owner in
@@ -31,6 +32,7 @@ rehouse-requires-clause-named g c =
       traffic = s.traffic;
       made = s.made;
       one_pass = s.one_pass;
+      trace = s.trace;
       log = s.log;
     } in
     let p = g.S.Shelf.pocket c.args.from.now c.args.owner in
@@ -51,6 +53,7 @@ returns-clause-shown g c =
       traffic = s.traffic;
       made = s.made;
       one_pass = s.one_pass;
+      trace = s.trace;
       log = s.log;
     } in
     let p = g.S.Shelf.pocket c.args.from.now c.args.owner in
@@ -74,6 +77,7 @@ returns-clause-housed g c =
       traffic = s.traffic;
       made = s.made;
       one_pass = s.one_pass;
+      trace = s.trace;
       log = s.log;
     } in
     let p = g.S.Shelf.pocket c.args.from.now c.args.owner in
@@ -96,6 +100,7 @@ returns-clause-count g c =
       traffic = s.traffic;
       made = s.made;
       one_pass = s.one_pass;
+      trace = s.trace;
       log = s.log;
     } in
     let p = g.S.Shelf.pocket c.args.from.now c.args.owner in
@@ -118,6 +123,7 @@ returns-clause-gone g c =
       traffic = s.traffic;
       made = s.made;
       one_pass = s.one_pass;
+      trace = s.trace;
       log = s.log;
     } in
     let p = g.S.Shelf.pocket c.args.from.now c.args.owner in

@@ -1,33 +1,25 @@
-use Rattle.emu_model.specs.Net.{to_pipe as comes_to_pipe}
-use Rattle.network.specs.Kept.{net_of, setting_of, IsHoused, Stands}
-use Rattle.std.proofs.Common.{refl}
-use Rattle.network.specs.contracts.state.Network.{the_view}
-use Rattle.network.proofs.Steps.{at_view, from_view}
-use Rattle.network.proofs.Frame.{pipes-named}
-use Rattle.network.proofs.Arriving.{taken-in, turned-away}
+use Rattle.std.proofs.Common.{sym, subst}
+use Rattle.network.specs.Kept.{KeptNet, setting_of, Stands}
+use Rattle.pipe_table.specs.Table.{HasRoomIn}
+use Rattle.network.proofs.Arriving.{arrives}
 use Rattle.network.proofs.state.Network.to_pipe.Goals as goal
 
-pub arrive-answer-requires-clause-named : goal.arrive-answer-requires-clause-named
-arrive-answer-requires-clause-named g c =
+pub enter_pipe-requires-clause-stands : goal.enter_pipe-requires-clause-stands
+enter_pipe-requires-clause-stands g c =
     let p = g.S.Shelf.pocket c.args.shelf.now c.args.owner in
-    pipes-named p (the_view c.self.inside) (at_view (IsHoused p) _ _ c.self.view_is c.requires.stands.housed)
+    subst (λ (m : KeptNet). Stands c.args.at p m) (sym c.note_arrival.ensures.rest) (record {
+      early = c.requires.stands.early;
+      seed = c.requires.stands.seed;
+      room = c.requires.stands.room;
+      housed = record { each = c.requires.stands.housed.each; count = c.requires.stands.housed.count };
+    })
 
-pub returns-in-Some-clause-becomes : goal.returns-in-Some-clause-becomes
-returns-in-Some-clause-becomes g c =
-    let p = g.S.Shelf.pocket c.args.shelf.now c.args.owner in
-    let n = the_view c.self.inside in
-    let stands : Stands c.args.at p n = at_view (Stands c.args.at p) _ _ c.self.view_is c.requires.stands in
-    from_view 0 (λ m. comes_to_pipe (setting_of c.args.at) c.args.number c.args.packet.now (net_of p m)) p _ _ _ _ c.self.view_is
-    (turned-away (setting_of c.args.at) p _ n c.arrive-answer.new.self c.args.number c.args.at.now c.args.packet.now
-    stands.housed c.arrive-answer.ensures.keys c.arrive-answer.ensures.seed c.in-Some.cause _
-    (c.in-Some.ensures.arrived (setting_of c.args.at) (net_of p n) stands.seed refl) c.drop_packet.ensures)
+pub enter_pipe-requires-clause-ready : goal.enter_pipe-requires-clause-ready
+enter_pipe-requires-clause-ready g c =
+    subst (λ (m : KeptNet). HasRoomIn c.args.number c.args.packet.now m.table.pipes) (sym c.note_arrival.ensures.rest) c.requires.ready
 
-pub returns-in-None-clause-becomes : goal.returns-in-None-clause-becomes
-returns-in-None-clause-becomes g c =
+pub returns-clause-becomes : goal.returns-clause-becomes
+returns-clause-becomes g c =
     let p = g.S.Shelf.pocket c.args.shelf.now c.args.owner in
-    let n = the_view c.self.inside in
-    let stands : Stands c.args.at p n = at_view (Stands c.args.at p) _ _ c.self.view_is c.requires.stands in
-    from_view 0 (λ m. comes_to_pipe (setting_of c.args.at) c.args.number c.args.packet.now (net_of p m)) p _ _ _ _ c.self.view_is
-    (taken-in (setting_of c.args.at) p _ n c.arrive-answer.new.self c.args.number c.args.at.now c.args.packet.now
-    stands.housed c.arrive-answer.ensures.keys c.arrive-answer.ensures.seed
-    (c.in-None.ensures.arrived (setting_of c.args.at) (net_of p n) stands.seed refl))
+    arrives (setting_of c.args.at) p _ c.args.self.now c.note_arrival.new.self _ c.args.number c.args.packet.now
+    c.requires.stands.housed c.note_arrival.ensures.rest (c.note_arrival.ensures.records p) c.enter_pipe.ensures.becomes

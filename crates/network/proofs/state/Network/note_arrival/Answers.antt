@@ -1,0 +1,14 @@
+use Rattle.std.proofs.Common.{Bool, [], ◌++◌, sym, ap, ◌∙◌}
+use Rattle.std.specs.Prelude.{if◌then◌else◌}
+use Rattle.std.specs.Option.{option_map_or}
+use Rattle.emu_model.specs.Net.{arrivals, find_pipe}
+use Rattle.network.specs.Kept.{net_of}
+use Rattle.network.specs.contracts.state.Network.{the_view}
+use Rattle.network.proofs.state.Network.note_arrival.Goals as goal
+
+pub returns-clause-records : goal.returns-clause-records
+returns-clause-records c = λ p.
+    let n = the_view c.self.inside in
+    rw (← c.self.view_is)
+    (c.note_arrival.ensures.records p (net_of p n)
+    ∙ ap (λ (b : Bool). n.log.records ++ (if b then option_map_or (arrivals c.args.now c.args.packet.now) (find_pipe c.args.number (net_of p n)) [] else [])) (sym c.if-not-self.false))
