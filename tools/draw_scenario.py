@@ -119,7 +119,8 @@ def later(draw, masks):
         return source(draw)
     return draw.choice((rule(draw), rule(draw), f"delete {draw.choice((*NUMBERS, 7, 65535))}",
                         f"pipe delete {draw.choice(PIPES[:4])}", "show", "pipe show",
-                        f"stop {draw.choice((1, 2, 3, 4, 5, 300))}", f"one_pass {draw.choice((0, 0, 1))}"))
+                        f"stop {draw.choice((1, 2, 3, 4, 5, 300))}", f"one_pass {draw.choice((0, 0, 1))}",
+                        f"trace {draw.choice((0, 1))}"))
 
 
 def moments(draw):

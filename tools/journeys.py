@@ -1,12 +1,12 @@
 """What became of each packet of an experiment, and when each was made.
 
-A report has no line for when a packet was made. With the scenario it can be worked out by the rules of
+A report has a line for when a packet was made under `trace 1` alone. With the scenario it can be worked out by the rules of
 docs/ORDER.md and docs/RENO.md, since serial numbers count the packets as they are made: an injected packet
 at its command, an acknowledgement where its data packet is delivered, a train's packets by their gap, and a
 flow's segments at the moment of the `flow` command, `ack` or `expire` line that allowed them, behind all
 else of that moment, by number. Windows are the report's; what is worked out is compared with each line that
 names a packet's load, and with the counters, and refused where anything differs.
-Without the scenario no packet has a maker, a size or a moment of being made.
+Without the scenario a packet that wasn't traced has no maker, no size and no moment of being made.
 """
 from typing import NamedTuple, Optional
 
@@ -239,6 +239,9 @@ def compare(experiment, makings):
         if record.load is not None and record.load != making.load:
             raise Refused(record.line, f"packet {record.packet} is {shown(record.load)}, where the scenario makes"
                           f" it {shown(making.load)}: the report isn't this scenario's")
+        if record.word == "make" and (record.moment, record.size) != (making.moment, making.size):
+            raise Refused(record.line, f"packet {record.packet} is made otherwise than by the scenario, at"
+                          f" {making.moment} with {making.size} bytes")
         if record.moment < making.moment:
             raise Refused(record.line, f"packet {record.packet} before it is made, at {making.moment}")
 
@@ -272,6 +275,17 @@ def journeys_of(experiment, plan=None):
 def follow(journey, record, server):
     """Adds what a record says; `server` is the last finish and where it was, of which CoDel's drops are."""
     leg = journey.legs[-1] if journey.legs else None
+    if record.word == "make":
+        journey.made, journey.size, journey.load = record.moment, record.size, record.load
+        journey.who = journey.who or (record.header if record.load.kind == "plain" else plain_name(record.load))
+        return
+    if record.word == "arrive":
+        journey.legs.append(Leg(record.pipe, record.moment, None, None))
+        return
+    is_waiting = leg is not None and leg.finish is None and leg.exit is None
+    if record.word == "finish" and is_waiting:
+        journey.legs[-1] = leg._replace(finish=record.moment)
+        return
     if record.word == "finish":
         journey.legs.append(Leg(record.pipe, leg.exit if leg else journey.made, record.moment, None))
         return
@@ -284,6 +298,8 @@ def follow(journey, record, server):
     journey.cause = record.cause
     journey.load = record.load
     journey.who = journey.who or plain_name(record.load)
-    if record.cause == "codel":
+    if is_waiting:
+        journey.legs[-1] = leg._replace(exit=record.moment)
+    elif record.cause == "codel":
         at = leg.exit if leg else journey.made
         journey.legs.append(Leg(server[1], at, None, record.moment))

@@ -14,6 +14,8 @@ N = r"(?:0|[1-9][0-9]*)"
 LOAD = rf"(plain|(?:data|ack) {N} {N})"
 PIPE = rf"({N}\.{N})"
 MOMENT = rf"({N}) "
+HEADER = rf"((?:tcp|udp) {N}\.{N}\.{N}\.{N} {N} {N}\.{N}\.{N}\.{N} {N})"
+IDENTIFIER = r"([0-9a-f]{2}/[0-9a-f]{8}/[0-9a-f]{8}/[0-9a-f]{4}/[0-9a-f]{4})"
 PORTS = rf"(?: {N}(?:-{N})?)?"
 ADDRESS = rf"(?:any|{N}\.{N}\.{N}\.{N}(?:/{N})?)"
 
@@ -21,6 +23,9 @@ ADDRESS = rf"(?:any|{N}\.{N}\.{N}\.{N}(?:/{N})?)"
 FORMS = {
     "ok": rf"{MOMENT}ok ({N})",
     "refused": rf"{MOMENT}refused ({N}) ({'|'.join(map(str, CODES))})",
+    "make": rf"{MOMENT}make ({N}) {LOAD} {HEADER} ({N})",
+    "arrive": rf"{MOMENT}arrive ({N}) {PIPE}",
+    "identify": rf"{MOMENT}identify {PIPE} {IDENTIFIER}",
     "finish": rf"{MOMENT}finish ({N}) {PIPE}",
     "pass": rf"{MOMENT}pass ({N}) {PIPE}",
     "deliver": rf"{MOMENT}deliver ({N}) {LOAD}",
@@ -32,6 +37,9 @@ FORMS = {
 FIELDS = {
     "ok": ("moment", "command"),
     "refused": ("moment", "command", "code"),
+    "make": ("moment", "packet", "load", "header", "size"),
+    "arrive": ("moment", "packet", "pipe"),
+    "identify": ("moment", "pipe", "identifier"),
     "finish": ("moment", "packet", "pipe"),
     "pass": ("moment", "packet", "pipe"),
     "deliver": ("moment", "packet", "load"),
@@ -53,7 +61,7 @@ LISTINGS = {word: re.compile(form) for word, form in LISTINGS.items()}
 HEADING = re.compile(r"experiment ([a-z0-9_-]{1,32})")
 COUNTERS = re.compile(rf"counters ({N}(?: {N}){{10}})")
 # The words that are kept as they stand; all other fields are numbers.
-TEXTS = ("pipe", "cause")
+TEXTS = ("pipe", "cause", "header", "identifier")
 
 
 class Refused(Exception):
@@ -86,6 +94,9 @@ class Record(NamedTuple):
     ssthresh: Optional[int] = None
     command: Optional[int] = None
     code: Optional[int] = None
+    header: Optional[str] = None
+    size: Optional[int] = None
+    identifier: Optional[str] = None
     text: Optional[str] = None
 
 
@@ -167,6 +178,8 @@ class Tally:
     def take_packet(self, record):
         if record.packet in self.ended:
             raise Refused(record.line, f"packet {record.packet} was delivered or dropped before")
+        if record.word == "make" and record.packet in self.seen:
+            raise Refused(record.line, f"packet {record.packet} is made behind line {self.seen[record.packet]}, which names it")
         self.seen.setdefault(record.packet, record.line)
         if record.word == "deliver":
             self.delivered += 1

@@ -205,6 +205,7 @@ def inject(words):
 COMMANDS = {"add": add, "delete": lambda words: words.number(0, 99999), "pipe": pipe,
             "show": lambda words: None, "inject": inject, "train": train, "flow": flow,
             "stop": lambda words: words.number(1, 65535), "one_pass": lambda words: words.number(0, 1),
+            "trace": lambda words: words.number(0, 1),
             "end": lambda words: None}
 
 

@@ -18,7 +18,7 @@ FORMS = {
 OPTION = re.compile(rf" (ssthresh|window) {N}| rto (?:{N}|adaptive)")
 HEADING = re.compile(rf"experiment (\S+) seed {N} budget {N}(?: steps {N})?")
 MOMENT = re.compile(rf"@{N}")
-OTHERS = ("add", "delete", "pipe", "show", "one_pass", "end")
+OTHERS = ("add", "delete", "pipe", "show", "one_pass", "trace", "end")
 
 # What a flow has where its line doesn't say.
 WINDOW = 65535

@@ -4,9 +4,10 @@ from collections import deque
 from types import SimpleNamespace
 
 from second_parts import MOST_INSTANCES, Codel, Instance
-from second_text import FIELDS, Rule
+from second_text import FIELDS, Rule, dotted
 
 CAUSES = ("denied", "nopipe", "noinstance", "lost", "full", "codel", "deleted", "budget")
+TRANSPORTS = {6: "tcp", 17: "udp"}
 DEFAULT = "add 65535 deny ip from any to any".split()
 
 
@@ -16,10 +17,13 @@ class Pipe:
         self.places = {}
         self.instances = []
 
+    def name_of(self, packet):
+        """Its masked fields."""
+        return tuple(getattr(packet, field) & self.config.mask[word] for word, (field, _) in FIELDS.items())
+
     def find(self, packet):
         """The place of the packet's instance; None where there may be no more."""
-        mask = self.config.mask
-        name = tuple(getattr(packet, field) & mask[word] for word, (field, _) in FIELDS.items())
+        name = self.name_of(packet)
         if name not in self.places:
             if len(self.instances) == MOST_INSTANCES:
                 return None
@@ -39,6 +43,10 @@ def load_text(load):
     return " ".join(str(word) for word in load)
 
 
+def identifier_text(name):
+    return "/".join(f"{value:0{digits}x}" for value, (_, digits) in zip(name, FIELDS.values()))
+
+
 class Net:
     """One experiment: what is there, and the lines of its report."""
 
@@ -49,7 +57,7 @@ class Net:
         # What was due in pipes when an instance last changed; some of it may have gone since.
         self.noted = []
         self.link = deque()
-        self.one_pass, self.now, self.is_over = 1, 0, False
+        self.one_pass, self.trace, self.now, self.is_over = 1, 0, 0, False
         self.made = self.held = self.delivered = 0
         self.drops = [0] * 8
         self.lines = []
@@ -62,6 +70,9 @@ class Net:
                                  serial=self.made, place=(0, 0))
         self.made += 1
         self.held += 1
+        if self.trace:
+            self.say("make", packet.serial, load_text(load), TRANSPORTS[proto], dotted(src), sport, dotted(dst), dport,
+                     size)
         if self.held > self.budget:
             self.drop(packet, "budget")
         else:
@@ -96,9 +107,14 @@ class Net:
         pipe = self.pipes.get(number)
         if not pipe:
             return self.drop(packet, "nopipe")
+        there = len(pipe.instances)
         place = pipe.find(packet)
         if place is None:
             return self.drop(packet, "noinstance")
+        if self.trace:
+            if place == there:
+                self.say("identify", f"{number}.{place}", identifier_text(pipe.name_of(packet)))
+            self.say("arrive", packet.serial, f"{number}.{place}")
         instance = pipe.instances[place]
         if instance.is_lost(self.seed, (number - 1) * 65536 + place, pipe.config.plr):
             return self.drop(packet, "lost")

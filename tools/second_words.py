@@ -113,6 +113,9 @@ class Experiment(Net):
     def do_one_pass(self, words):
         self.one_pass = int(words[1])
 
+    def do_trace(self, words):
+        self.trace = int(words[1])
+
     def do_end(self, _):
         self.is_over = True
 

@@ -110,7 +110,7 @@ def flow_windows(view, flow):
 
 def beginning(view, flow):
     """Moment, window and threshold of a flow's beginning, which only the scenario tells."""
-    if view.plan is None:
+    if not view.is_told:
         return None
     for record in view.experiment.records:
         sends = view.plan.commands[record.command].sends if record.word == "ok" else None
@@ -127,7 +127,7 @@ def value_at(moments, values, moment):
 
 def queues(view):
     """Packets that wait or are in service, by pipe, and all that are under way."""
-    if view.plan is None:
+    if not view.is_told:
         flights = [steps(view, f"in the delay line of {pipe}", in_flight(view, pipe)) for pipe in view.pipes()]
         return Panel("Packets in delay lines (how many wait needs the scenario)", "packets",
                      most(view, "queue", flights), "" if flights else "no packet finished in a pipe")
@@ -142,7 +142,8 @@ def queues(view):
 def waiting(view, pipe):
     changes = []
     for _, leg in view.legs(pipe):
-        changes += [(leg.arrival, 1), (leg.finish if leg.finish is not None else leg.exit, -1)]
+        left = leg.finish if leg.finish is not None else leg.exit
+        changes += [(leg.arrival, 1)] + ([(left, -1)] if left is not None else [])
     return changes
 
 
@@ -158,7 +159,7 @@ def in_flight(view, pipe):
 
 def sojourns(view):
     """Of each delivered packet the time from being made, at the moment of its delivery."""
-    if view.plan is None:
+    if not view.is_told:
         return Panel("Time from being made to delivery", "ms", [],
                      "When packets were made can't be told\nwithout the scenario.")
     series = []
@@ -172,7 +173,7 @@ def sojourns(view):
 
 def rates(view):
     """What was delivered, by who sent it, and what went through each pipe, added up over time."""
-    known = view.plan is not None
+    known = view.is_told
     unit, amount = ("bytes", lambda journey: journey.size) if known else ("packets", lambda journey: 1)
     series = []
     for who in view.names():

@@ -51,7 +51,8 @@ def row_of(view, of, journeys):
 def pipe_row(view, pipe):
     """A row of an instance: packets that it served, of which `delivered` have left it.
 
-    Which pipe dropped a packet is told only of CoDel's drops, by the finish before them."""
+    Which pipe dropped a packet is told by its arrival there, under `trace 1`; else only of CoDel's drops, by the
+    finish before them."""
     legs = view.legs(pipe)
     served = [(journey, leg) for journey, leg in legs if leg.finish is not None]
     left = [leg for _, leg in served if leg.exit is not None]
@@ -60,7 +61,14 @@ def pipe_row(view, pipe):
     return {"experiment": view.name, "of": f"pipe {pipe}", "packets": len(served), "delivered": len(left),
             "held": sum(leg.exit is None and journey.end == "held" for journey, leg in served), "bytes": size,
             **span([leg.arrival for _, leg in served], [leg.finish for _, leg in served], size),
-            **dict.fromkeys(CAUSES), "codel": len(legs) - len(served), **spread(times)}
+            **dropped_in(view, legs), **spread(times)}
+
+
+def dropped_in(view, legs):
+    """Drops by cause of packets that had come to an instance."""
+    causes = [journey.cause for journey, leg in legs if leg.finish is None and leg.exit is not None]
+    known = CAUSES if view.is_traced else ("codel",)
+    return {cause: causes.count(cause) if cause in known else None for cause in CAUSES}
 
 
 def rows_of(view):

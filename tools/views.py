@@ -10,7 +10,7 @@ import journeys
 import reports
 import scenarios
 
-NO_SCENARIO = ("sizes and the moments at which packets were made stand in no line of a report:"
+NO_SCENARIO = ("sizes and the moments at which packets were made stand in a report under `trace 1` alone:"
                " give the scenario as the second argument")
 SYSTEM = "/usr/bin/python3"
 
@@ -27,7 +27,11 @@ class View:
         self.name = experiment.name
         self.plan = plan
         self.journeys = journeys.journeys_of(experiment, plan)
-        self.notes = [] if plan is not None else [NO_SCENARIO]
+        # Whether it is known of each packet when it was made, how long it is and who sent it.
+        self.is_told = plan is not None or all(journey.made is not None for journey in self.journeys)
+        records = experiment.records
+        self.is_traced = sum(record.word == "make" for record in records) == experiment.made > 0
+        self.notes = [] if self.is_told else [NO_SCENARIO]
         lost = sum(1 for journey in self.journeys if is_nowhere(journey))
         if lost:
             self.notes.append(f"{lost} packets have no line that names their pipe"

@@ -64,6 +64,8 @@ fn faulty_lines(rt: HostRuntime) -> Result<(), Fail> {
         "@0 train 1 udp 10.0.0.1 1 10.0.0.2 2 40 count 1",
         "@0 flow 1 10.0.0.1 1 10.0.0.2 2 smss 1 segments 1 rto 1 rto adaptive",
         "@0 one_pass",
+        "@0 trace",
+        "@0 trace on",
         "@0 end now",
         "@1000000000000001 shw",
         "0 show",
@@ -90,6 +92,7 @@ fn faulty_lines(rt: HostRuntime) -> Result<(), Fail> {
         "@0 flow 1 10.0.0.1 1 10.0.0.2 2 smss 63 segments 1",
         "@0 flow 1 10.0.0.1 1 10.0.0.2 2 smss 64 segments 1 rto 60001",
         "@0 one_pass 2",
+        "@0 trace 2",
         "@0 stop 0",
         "experiment b seed 18446744073709551616 budget 1",
     ] {

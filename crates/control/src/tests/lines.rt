@@ -3,7 +3,7 @@
 use super::*;
 
 /// Each kind of command, in its shortest form.
-const COMMANDS: [&str; 12] = [
+const COMMANDS: [&str; 13] = [
     "add 1 deny ip from any to any",
     "delete 1",
     "pipe 1 config bw 1",
@@ -15,6 +15,7 @@ const COMMANDS: [&str; 12] = [
     "flow 3 1.2.3.4 5 6.7.8.9 10 smss 64 segments 1",
     "stop 3",
     "one_pass 1",
+    "trace 1",
     "end",
 ];
 
@@ -67,6 +68,7 @@ fn bad_words_at_each_command(rt: HostRuntime) -> Result<(), Fail> {
         "@0 flow 3 1.2.3.4 5 6.7.8.9 10 smss 64 segments\n",
         "@0 stop\n",
         "@0 one_pass\n",
+        "@0 trace\n",
         "@0 END\n",
     ] {
         wants_after_head(&rt, line, Cause::BadWord)?;
