@@ -6,11 +6,14 @@ use Rattle.emu_model.specs.declared.pipes.QueueLimit.TheVariants.{Slots, KBytes}
 use Rattle.emu_model.specs.declared.sources.FlowSpec.{FlowSpec}
 use Rattle.emu_model.specs.declared.sources.Timing.TheVariants.{Fixed}
 use Rattle.emu_model.specs.Rules.{port_matches, counted_up, is_behind, default_rule}
-use Rattle.emu_model.specs.FlowIds.{FlowId, new_instance}
+use Rattle.emu_model.specs.FlowIds.{FlowId, new_instance, same_flow, same_mask, protocol_number}
+use Rattle.emu_model.specs.declared.packets.Protocol.TheVariants.{Tcp}
+use Rattle.emu_model.specs.declared.pipes.Discipline.TheVariants.{ControlledDelay}
+use Rattle.emu_model.specs.Pipes.{same_discipline}
 use Rattle.emu_model.specs.Loss.{is_below_rate, stream_of}
 use Rattle.emu_model.specs.DropTail.{Waiting, accepts}
-use Rattle.emu_model.specs.Codel.{Times, Control, opening_control, is_short, is_droppable, opening_count, count_up}
-use Rattle.emu_model.specs.Reno.{Sender, opening_sender, opening_window, bounded, expire, is_new, round_trip, new_estimate, estimated_timeout}
+use Rattle.emu_model.specs.Codel.{Times, Control, opening_control, is_short, is_droppable, opening_count, count_up, begin_dropping, drop_on, control_step, codel_dequeue, drop_first}
+use Rattle.emu_model.specs.Reno.{Sender, opening_sender, opening_window, bounded, expire, is_new, round_trip, new_estimate, estimated_timeout, ack, emit, grown_window, half_flight}
 
 -- 256 instances a pipe: the 256th has the number 255, and there is no 257th
 abbrev any_flow : FlowId
@@ -177,3 +180,66 @@ rounded_down = refl
 steady :
     estimated_timeout (record { srtt = 2000000000; rttvar = 0 }) ≡ 2000000001
 steady = refl
+
+-- new data clears what a loss left: RFC 5681, section 3.2, step 6, and the count of duplicates
+abbrev troubled : Sender
+troubled = record two_sent { duplicates = 2; timed = true; recovery = true; resend = true; timer = Some 500; cwnd = 4; ssthresh = 1 }
+
+new_clears_duplicates : (ack flow 0 1000 troubled).duplicates ≡ 0
+new_clears_duplicates = refl
+
+new_clears_timed : (ack flow 0 1000 troubled).timed ≡ false
+new_clears_timed = refl
+
+-- an expiry ends recovery, and begins to count duplicates anew
+expiry_clears_duplicates : (expire flow 0 troubled).duplicates ≡ 0
+expiry_clears_duplicates = refl
+
+expiry_clears_recovery : (expire flow 0 troubled).recovery ≡ false
+expiry_clears_recovery = refl
+
+-- a segment that is sent again leaves the timer that runs (RFC 6298, section 5.1)
+resend_keeps_timer : (emit flow 7 troubled).timer ≡ Some 500
+resend_keeps_timer = refl
+
+-- congestion avoidance: 1 * 1 / 4 = 0, and a byte at least
+one_byte_at_least : grown_window (record flow { smss = 1 }) 1 (record two_sent { cwnd = 4; ssthresh = 1 }) ≡ 5
+one_byte_at_least = refl
+
+-- all that was sent is under way, also what is to be sent again: 8000 / 2
+flight_to_top : half_flight flow (record two_sent { nxt = 0; top = 8000 }) ≡ 4000
+flight_to_top = refl
+
+-- lastcount is the count that dropping begins with, 5 - 2
+last_count_is_new : (begin_dropping times 1599 (dropped_before 5 2)).last_count ≡ 3
+last_count_is_new = refl
+
+-- two drops at one dequeue: 200 + 100 / sqrt(2) = 270, 270 + 100 / sqrt(3) = 327
+abbrev dropping_on : Control
+dropping_on = record { first_above = 100; drop_next = 200; count = 1; last_count = 1; dropping = true }
+
+two_at_once : (drop_on times 310 dropping_on (packet 1500) (replicate 4 (packet 1500))).control.drop_next ≡ 327
+unfolding control_step
+two_at_once = refl
+
+-- another interval is another discipline
+other_interval : same_discipline (ControlledDelay 5 100) (ControlledDelay 5 200) ≡ false
+other_interval = refl
+
+-- flows differ by one port or by the protocol alone; TCP has the number 6
+other_port : same_flow any_flow (record any_flow { sport = 1 }) ≡ false
+other_port = refl
+
+other_protocol : same_flow any_flow (record any_flow { proto = 1 }) ≡ false
+other_protocol = refl
+
+tcp_number : protocol_number Tcp ≡ 6
+tcp_number = refl
+
+-- a head whose stay is short ends the dropping state
+dropping_ends : (codel_dequeue times 310 dropping_on (packet 40 ∷ [])).control.dropping ≡ false
+dropping_ends = refl
+
+-- as dropping begins, the packet behind the one dropped is looked at: nothing is behind it
+next_is_looked_at : (drop_first times 310 dropping_on (packet 1500) (packet 40 ∷ [])).control.first_above ≡ 0
+next_is_looked_at = refl
