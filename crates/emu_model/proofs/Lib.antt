@@ -20,3 +20,5 @@ mod DueParts
 mod SourceDues
 mod Near
 mod Below
+mod RenoFacts
+mod CodelFacts

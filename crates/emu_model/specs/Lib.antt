@@ -19,3 +19,5 @@ pub mod Alone
 pub mod Laws
 pub mod DueLaws
 pub mod ComponentLaws
+pub mod RenoLaws
+pub mod CodelLaws

@@ -2,6 +2,7 @@
 //! definitions, in `specs/`, of what an experiment does. Each type keeps its ranges in itself.
 #![tactic(auto)]
 
+mod codel_laws;
 mod commands;
 mod component_laws;
 mod due_laws;
@@ -10,9 +11,11 @@ mod packets;
 mod pipes;
 mod ranged;
 mod records;
+mod reno_laws;
 mod rules;
 mod sources;
 
+pub use codel_laws::{dropping_begins_with_one, drops_are_on_time, reentry_goes_on};
 pub use commands::{Budget, Command, Spec, Timed, command_in_range};
 pub use component_laws::{
     accepts_within_limit, codel_keeps_order, codel_spares_the_quick, control_step_is_greatest,
@@ -29,6 +32,10 @@ pub use ranged::{
     Size, SlotLimit, StepBudget, Threshold, Timeout, Window,
 };
 pub use records::{Counters, DropCause, Ending, Record, Refusal};
+pub use reno_laws::{
+    emission_keeps_timer, expiry_backs_off, expiry_clears, new_data_clears, new_data_sets_timer,
+    second_expiry_holds, slow_start_grows, third_duplicate_resends, window_grows_by_segments,
+};
 pub use rules::{Action, PortRange, Prefix, ProtocolMatch, Rule, Verdict};
 pub use sources::{Class, Due, FlowSpec, SendSpec, Source, Timing, TrainSpec};
 

@@ -1,0 +1,5 @@
+use Rattle.emu_model.proofs.RenoFacts as law
+use Rattle.emu_model.proofs.reno_laws.expiry_backs_off.Goals as goal
+
+pub returns : goal.returns
+returns c = law.expiry_backs_off

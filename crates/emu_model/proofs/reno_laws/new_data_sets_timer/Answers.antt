@@ -1,0 +1,5 @@
+use Rattle.emu_model.proofs.RenoFacts as law
+use Rattle.emu_model.proofs.reno_laws.new_data_sets_timer.Goals as goal
+
+pub returns : goal.returns
+returns c = law.new_data_sets_timer

@@ -1,0 +1,19 @@
+//! The laws of CoDel's dropping state, each the contract of a function that does nothing, so that the
+//! check proves it.
+
+ghost use Rattle.emu_model.specs.CodelLaws.{DropsAreOnTime, DroppingBeginsWithOne, ReentryGoesOn};
+
+/// While CoDel drops, each drop comes at the moment of the control law (RFC 8289, section 5).
+pub fn drops_are_on_time()
+    ensures { DropsAreOnTime }
+{}
+
+/// Dropping begins with one packet (RFC 8289, section 5).
+pub fn dropping_begins_with_one()
+    ensures { DroppingBeginsWithOne }
+{}
+
+/// Dropping that begins again soon goes on at the rate that was reached (RFC 8289, section 5).
+pub fn reentry_goes_on()
+    ensures { ReentryGoesOn }
+{}
