@@ -1,15 +1,13 @@
 -- Two lists of dues that are gone through side by side: what was named covers what differs so far.
-use Rattle.std.proofs.Common.{◌≡◌, ℕ, zero, suc, ◌+◌, ◌<◌, ◌≤◌, length, arith, Bool, true, false, cond, refl, sym, ap, ◌∙◌, List, [], ◌∷◌, ◌++◌, map, take}
+use Rattle.std.proofs.Common.{◌≡◌, ℕ, zero, suc, ◌+◌, ◌<◌, ◌≤◌, length, arith, Bool, true, false, cond, refl, sym, ap, ◌∙◌, List, [], ◌∷◌, ◌++◌, take}
 use Rattle.std.specs.Prelude.{◌||◌, slice_index_or}
-use Rattle.std.proofs.lemmas.Bool.Decides.{nat_tests}
-use Rattle.std.specs.List.{list_any}
 use Rattle.std.proofs.lemmas.List.Elements.{filter_more}
 use Rattle.std.proofs.lemmas.List.Folds.{list_any-append}
 use Rattle.emu_model.specs.declared.sources.Due.{Due}
 use Rattle.emu_model.specs.declared.sources.Source.{Source}
 use Rattle.emu_model.specs.declared.sources.Class.TheVariants.{NextCommand}
 use Rattle.emu_model.specs.Laws.{same_source}
-use Rattle.experiment.specs.Dues.{dues_at, names, Covers, NamesNoOther, NamesUpTo}
+use Rattle.experiment.specs.Dues.{dues_at, names, Covers, NamesUpTo}
 
 -- what is read past the end of a list
 abbrev pub nothing : Due

@@ -1,18 +1,26 @@
 -- What is due in a state.
-use Rattle.std.specs.Prelude.{◌≡◌, ℕ, Bool, false, List, [], ◌∷◌, ◌++◌, filter, take}
+use Rattle.std.specs.Prelude.{◌≡◌, ℕ, Bool, false, Option, Some, None, List, [], ◌∷◌, ◌++◌, filter, take}
 use Rattle.std.specs.List.{list_any}
 use Rattle.emu_model.specs.declared.commands.Timed.{Timed}
 use Rattle.emu_model.specs.declared.sources.Due.{Due}
 use Rattle.emu_model.specs.declared.sources.Source.{Source}
 use Rattle.emu_model.specs.declared.sources.Class.TheVariants.{NextCommand}
 use Rattle.emu_model.specs.Dues.{due, dues_of}
-use Rattle.emu_model.specs.Step.{State}
+use Rattle.emu_model.specs.Step.{State, next_event}
 use Rattle.emu_model.specs.Laws.{same_source}
 
 -- the first of the commands that are left is the next one
 abbrev pub command_dues : List Timed → List Due
 command_dues [] = []
 command_dues (c ∷ rest) = due NextCommand 0 c.moment ∷ []
+
+-- what comes next: the least of what is due, where a command is left
+abbrev pub first_due : List Timed → State → Option Due
+first_due [] s = None
+first_due (c ∷ rest) s = Some (next_event s c)
+
+abbrev pub next_due_in : State → Option Due
+next_due_in s = first_due s.left s
 
 -- the next command, and all events
 abbrev pub dues_in : State → List Due

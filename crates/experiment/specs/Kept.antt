@@ -1,5 +1,5 @@
 -- What is kept of an experiment, and the state that it shows.
-use Rattle.std.specs.Prelude.{◌≡◌, ℕ, ◌+◌, ◌^◌, ◌<◌, ◌≤◌, Bool, Option, Some, None, option_to_list, IfSome, List, [], ◌∷◌, length}
+use Rattle.std.specs.Prelude.{◌≡◌, ℕ, ◌+◌, ◌^◌, ◌<◌, ◌≤◌, Option, Some, None, option_to_list, IfSome, List, [], ◌∷◌, length}
 use Rattle.std.specs.List.{AllByRecursion}
 use Rattle.emu_model.specs.declared.commands.Spec.{Spec}
 use Rattle.emu_model.specs.declared.commands.Timed.{Timed}

@@ -225,7 +225,7 @@ impl Experiment {
         ensures budget { (S.pocket shelf.new owner).budget ≡ (S.pocket shelf.old owner).budget }
         ensures others { (o : ℕ) → o ≢ owner → S.pocket shelf.new o ≡ S.pocket shelf.old o }
     {
-        let due = self.next_due(command);
+        let due = self.least_due(command);
         if due.source.class == Class::NextCommand {
             self.take_command(shelf, owner, due, command)
         } else {
@@ -234,7 +234,7 @@ impl Experiment {
     }
 
     // The next event, where this is the next command.
-    fn next_due(&self, command: &Timed) -> Due
+    pub(crate) fn least_due(&self, command: &Timed) -> Due
         ensures least { (p : Pocket) → result ≡ next_event (view p self.now) command.now }
         ensures moment { result.moment ≤ command.now.moment }
         ensures due { IsDue result self.now.net }

@@ -1,13 +1,13 @@
 //! What is told of an experiment.
 
-ghost use Rattle.std.specs.Prelude.{◌≡◌, ◌*◌, ◌^◌, ◌<◌, ◌≤◌, ◌++◌, [], is_some, option_to_list, IfOk, OnOk, OnErr};
+ghost use Rattle.std.specs.Prelude.{◌≡◌, ◌*◌, ◌^◌, ◌<◌, ◌≤◌, ◌++◌, [], is_some, option_to_list, IfOk, IfSome, OnOk, OnErr};
 ghost use Rattle.std.specs.List.{AllByRecursion};
 ghost use Rattle.emu_model.specs.Net.{counters_of};
 ghost use Rattle.emu_model.specs.Dues.{dues_of};
 ghost use Rattle.packet_store.specs.Pocket.{Pocket};
 ghost use Rattle.network.specs.Kept.{net_of};
 ghost use Rattle.experiment.specs.Kept.{view, IsAlone, IsHousedIn};
-ghost use Rattle.experiment.specs.Dues.{command_dues, dues_in};
+ghost use Rattle.experiment.specs.Dues.{command_dues, dues_in, next_due_in};
 
 use crate::Experiment;
 use emu_model::{
@@ -98,6 +98,20 @@ impl Experiment {
         let mut dues = Vec::new(alloc);
         self.add_dues(&mut dues)?;
         Ok(dues)
+    }
+
+    /// What comes next, and when (ns): the least of what is due, the next command among it. None without a next
+    /// command.
+    pub fn next_due(&self) -> Option<Due>
+        ensures due { (p : Pocket) → result ≡ next_due_in (view p self.now) }
+        ensures early { IfSome result (λ d. d.moment ≤ 10 ^ 15) }
+        ensures ahead { (p : Pocket) → IsAlone p self.now → IfSome result (λ d. self.now.clock ≤ d.moment) }
+    {
+        self.dues_in_time();
+        match &self.next {
+            Some(command) => Some(self.least_due(command)),
+            None => None,
+        }
     }
 
     /// What is due lies not before the moment of the last event, and before 2 * 10^15 ns.
