@@ -1,14 +1,13 @@
 -- What is kept when records are published, when a command comes, and after a step.
-use Rattle.std.proofs.Common.{◌≡◌, ℕ, ◌<◌, ◌≤◌, true, false, cond, List, [], ◌∷◌, ◌++◌, length, take, Some, refl, sym, ap, ◌∙◌, subst, arith}
+use Rattle.std.proofs.Common.{◌≡◌, ℕ, ◌<◌, ◌≤◌, true, false, cond, List, [], ◌∷◌, ◌++◌, length, take, Some, refl, sym, ap, ◌∙◌, arith}
 use Rattle.std.specs.Prelude.{nat_lt}
 use Rattle.std.proofs.lemmas.Bool.Decides.{nat_tests}
 use Rattle.emu_model.specs.declared.commands.Timed.{Timed}
-use Rattle.emu_model.specs.declared.sources.Due.{Due}
 use Rattle.packet_store.specs.Pocket.{Pocket}
 use Rattle.experiment.specs.Kept.{KeptExperiment, IsAlone, IsHousedIn, last_moment}
 use Rattle.shard.specs.Seen.{Seen}
 use Rattle.shard.specs.Stand.{heard_from}
-use Rattle.shard.specs.Kept.{IsKept, IsGoing, dues_kept}
+use Rattle.shard.specs.Kept.{IsKept}
 
 -- one more command that is given is consumed, unless its moment is below the last
 heard_from-push : (consumed given : List Timed) (t : Timed) → heard_from consumed (given ++ t ∷ []) ≡ cond (nat_lt t.moment (last_moment 0 (heard_from consumed given))) (heard_from consumed given) (heard_from consumed given ++ t ∷ [])
@@ -57,27 +56,3 @@ module _ {M : Type 0} (seen : M → Seen) (p : Pocket) (e : KeptExperiment) (pub
         heard = ap (λ cs. cs ++ t ∷ []) k.heard ∙ sym (ap (heard_from []) g ∙ heard_from-push [] (seen mail).given t ∙ ap (λ b. cond b (heard_from [] (seen mail).given) (heard_from [] (seen mail).given ++ t ∷ [])) ge);
         few = k.few;
       }
-
-  -- what is due was noted
-  pub kept-noted : (noted : List Due) → IsKept seen p (record e { noted = noted }) published mail
-  kept-noted noted = record {
-    housed = record { housed = k.housed.housed; room = k.housed.room };
-    budget = k.budget;
-    some = k.some;
-    alone = k.alone;
-    told = k.told;
-    short = k.short;
-    heard = k.heard;
-    few = k.few;
-  }
-
--- one that goes on and noted what is due
-pub going_noted : {M : Type 0} (seen : M → Seen) (p : Pocket) (old new : KeptExperiment) (noted : List Due) (published : ℕ) (mail : M) →
-    new ≡ record old { noted = noted } → IsGoing seen p old published mail → IsGoing seen p new published mail
-going_noted {M} seen p old new noted published mail same g =
-    subst (λ (x : KeptExperiment). IsGoing seen p x published mail) (sym same)
-    (record { kept = kept-noted seen p old published mail g.kept noted; going = g.going })
-
--- what is due doesn't rest on what was noted
-pub dues_noted : (old new : KeptExperiment) (noted : List Due) → new ≡ record old { noted = noted } → dues_kept new ≡ dues_kept old
-dues_noted old new noted same = ap dues_kept same

@@ -31,7 +31,6 @@ module _ {M : Type 0} where
           going = s.going.going;
         };
         entries = s.entries;
-        noted = s.noted;
         ready = s.ready;
         late = s.late;
         below = s.below;

@@ -37,7 +37,6 @@ module _ {M : Type 0} where
   parked_fits seen pockets row later clock (Some r) e f = record {
     going = f.going;
     entries = λ s. ap (λ (w : Row). w s) e;
-    noted = λ h. absurd (cc);
     ready = λ h. absurd (cc);
     late = tt;
     below = λ x d e. tt;
@@ -81,11 +80,11 @@ module _ {M : Type 0} where
   offset-parked pockets slots k s h =
       parked_seat pockets (resident_at slots k) s (sym (seat_at-seats_of pockets (map parked slots) k ∙ ap (seat_of pockets) (parked_at slots k)) ∙ h)
 
-  -- a resident whose entries are set anew
+  -- a resident whose entry is set anew
   pub record Enters (seen : M → Seen) (rows later : ℕ → Row) (clock time : ℕ) (slots : List (Option (Resident M))) (k : ℕ) (r t : Resident M) : Type 0 where
     pub is : resident_at slots k ≡ Some r
     pub within : k < 256
-    pub same : t ≡ record r { experiment = record r.experiment { noted = t.experiment.noted }; offset = t.offset }
+    pub same : t ≡ record r { offset = t.offset }
     pub seated : (p : Pocket) → IsGoing seen p r.experiment r.published r.mail → IsSeated seen p (later k) clock t
     pub others : (o : ℕ) → o ≢ k → later o ≡ rows o
     pub stays : time ≡ clock

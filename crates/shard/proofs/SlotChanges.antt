@@ -7,33 +7,33 @@ use Rattle.emu_model.specs.declared.sources.Source.{Source}
 use Rattle.packet_store.specs.Pocket.{Pocket}
 use Rattle.timer_wheel.specs.Rows.{Row, no_dues}
 use Rattle.emu_model.specs.declared.sources.Due.{Due}
-use Rattle.emu_model.specs.declared.sources.Class.TheVariants.{NextCommand}
-use Rattle.emu_model.specs.Dues.{due}
-use Rattle.experiment.specs.Kept.{KeptExperiment}
+use Rattle.emu_model.specs.Step.{next_event}
+use Rattle.packet_store.specs.Pocket.{empty_pocket}
+use Rattle.experiment.specs.Kept.{KeptExperiment, view}
 use Rattle.shard.specs.Seen.{Seen}
 use Rattle.shard.specs.declared.resident.Resident.{Resident}
 use Rattle.shard.specs.Stand.{Seat, seat_at, IsTold}
-use Rattle.shard.specs.Kept.{dues_kept}
-use Rattle.shard.specs.Entries.{entries_of, row_of}
+use Rattle.shard.specs.Kept.{next_kept}
+use Rattle.shard.specs.Entries.{turn, entries_of, row_of}
 use Rattle.shard.specs.Seats.{resident_at, standing, seat, seat_of, seats_of, IsSeated, Fits, AreApart, IsShard}
 use Rattle.shard.proofs.Slots.{seats_of-set, seat_at-seats_of, IsShard-set, KeepsOwner, keeps_others, apart_as, within_of}
 
 -- who has an entry isn't parked
-pub runs : (o : Option ℕ) (ds : List Due) (s : Source) (due : ℕ) → entries_of o ds s ≡ Some due → IsSome o
-runs None ds s due is = absurd (cc)
-runs (Some x) ds s due is = refl
+pub runs : (o : Option ℕ) (next : Option Due) (s : Source) (due : ℕ) → entries_of o next s ≡ Some due → IsSome o
+runs None next s due is = absurd (cc)
+runs (Some x) next s due is = refl
 
 -- who has a next command and no entry is parked
-parked_without : (o : Option ℕ) (e : KeptExperiment) → (IsSome o → IsSome e.next) → ((s : Source) → entries_of o (dues_kept e) s ≡ None) → o ≡ None
+parked_without : (o : Option ℕ) (e : KeptExperiment) → (IsSome o → IsSome e.next) → ((s : Source) → entries_of o (next_kept e) s ≡ None) → o ≡ None
 parked_without None e ready none = refl
 parked_without (Some x) e ready none = by_next e.next refl (ready refl)
   where
     by_next : (n : Option Timed) → e.next ≡ n → IsSome n → Some x ≡ None
     by_next None is some = absurd (cc)
     by_next (Some c) is some =
-        let d : Due = due NextCommand 0 c.moment in
-        let k : row_of x (dues_kept e) d.source ≡ Some (c.moment + x) = rw is refl in
-        let n : row_of x (dues_kept e) d.source ≡ None = none d.source in
+        let d : Due = next_event (view (empty_pocket 0) e) c in
+        let k : row_of x (next_kept e) turn ≡ Some (d.moment + x) = rw is refl in
+        let n : row_of x (next_kept e) turn ≡ None = none turn in
         absurd (cc)
 
 -- how time goes on
@@ -137,7 +137,7 @@ module _ {M : Type 0} where
     is = e;
     within = within_of slots k r e;
     seated = f;
-    running = runs r.offset (dues_kept r.experiment) source at (sym (f.entries source) ∙ h);
+    running = runs r.offset (next_kept r.experiment) source at (sym (f.entries source) ∙ h);
   }
 
   pub due_at : (seen : M → Seen) (pockets : ℕ → Pocket) (rows : ℕ → Row) (clock : ℕ) (slots : List (Option (Resident M))) (k : ℕ) (source : Source) (at : ℕ) → IsShard seen pockets rows clock slots → rows k source ≡ Some at → HasDue seen pockets (rows k) clock slots k

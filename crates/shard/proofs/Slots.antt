@@ -61,7 +61,6 @@ module _ {M : Type 0} where
       subst (λ (p : Pocket). IsSeated seen p later time r) (sym k) (record {
         going = f.going;
         entries = λ s. ap (λ (w : Row). w s) e ∙ f.entries s;
-        noted = f.noted;
         ready = f.ready;
         late = late-later r.offset clock time c f.late;
         below = λ s d is. f.below s d (sym (ap (λ (w : Row). w s) e) ∙ is);

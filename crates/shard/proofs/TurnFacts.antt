@@ -1,14 +1,13 @@
 -- What a turn does to the resident whose entry is least.
-use Rattle.std.proofs.Common.{◌≡◌, ◌≢◌, ℕ, ◌+◌, ◌*◌, ◌^◌, ◌<◌, ◌≤◌, true, false, cond, List, set, Option, Some, None, IsSome, sym, ap, ◌∙◌, arith, subst}
+use Rattle.std.proofs.Common.{◌≡◌, ◌≢◌, ℕ, ◌+◌, ◌*◌, ◌^◌, ◌<◌, ◌≤◌, true, false, List, set, Option, Some, None, IsSome, sym, ap, ◌∙◌, arith, subst}
 use Rattle.std.specs.Prelude.{IfSome, unwrap_or}
 use denote.Enum.Bare.{sameb}
 use Rattle.emu_model.specs.declared.records.Ending.{Ending}
 use Rattle.emu_model.specs.declared.sources.Source.{Source}
-use Rattle.emu_model.specs.Laws.{same_source}
 use Rattle.emu_model.specs.Net.{counters_of}
 use Rattle.emu_model.specs.Step.{State}
 use Rattle.packet_store.specs.Pocket.{Pocket}
-use Rattle.timer_wheel.specs.Rows.{Row, no_dues, without_due}
+use Rattle.timer_wheel.specs.Rows.{Row, no_dues}
 use Rattle.experiment.specs.contracts.experiment.Event.{the_type}
 use Rattle.experiment.specs.declared.experiment.Event.{Event}
 use Rattle.experiment.specs.declared.experiment.Event.TheVariants.{Ran, Ended, Halted, Still}
@@ -16,8 +15,7 @@ use Rattle.experiment.specs.Kept.{view, shown_ending}
 use Rattle.shard.specs.Seen.{Seen, IsToldMore, IsPublished}
 use Rattle.shard.specs.declared.resident.Resident.{Resident}
 use Rattle.shard.specs.Stand.{Final}
-use Rattle.shard.specs.Entries.{entries_of}
-use Rattle.shard.specs.Kept.{dues_kept}
+use Rattle.shard.specs.Kept.{next_kept}
 use Rattle.shard.specs.Seats.{IsDossierOf, resident_at, standing, IsSeated, IsShard}
 use Rattle.shard.specs.Steps.{IsLeast, IsLeaving, Steps}
 use Rattle.shard.specs.Turns.{IsTurn, IsEnd, last_state}
@@ -35,11 +33,11 @@ module _ {M : Type 0} (seen : M → Seen) where
       IsLeast seen (pockets r.owner) row time r
   least pockets rows clock slots k r source due row time s is was same at on early =
       let f = seated_at seen pockets rows clock slots k r s is in
-      let running : IsSome r.offset = runs r.offset (dues_kept r.experiment) source due (sym (f.entries source) ∙ was) in
+      let running : IsSome r.offset = runs r.offset (next_kept r.experiment) source due (sym (f.entries source) ∙ was) in
       record {
         going = f.going;
         next = f.ready running;
-        entries = λ x. ap (λ (w : Row). w x) same ∙ f.entries x ∙ ap (λ ds. entries_of r.offset ds x) (sym (f.noted running));
+        entries = λ x. ap (λ (w : Row). w x) same ∙ f.entries x;
         ready = running;
         late = late-later r.offset clock time on f.late;
         early = subst (λ t. t < 2 ^ 62 + 2 * 10 ^ 15) (sym at) (within_limit r.offset clock due running f.late (f.below source due was) early);

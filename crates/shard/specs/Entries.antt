@@ -1,19 +1,24 @@
--- What stands on an agenda for an experiment's dues.
-use Rattle.std.specs.Prelude.{ℕ, ◌+◌, ◌≤◌, ◌<◌, ◌^◌, List, [], ◌∷◌, Option, Some, None}
-use Rattle.std.specs.List.{AllByRecursion}
+-- What stands on an agenda for a resident: when its next event is due.
+use Rattle.std.specs.Prelude.{ℕ, ◌+◌, Option, Some, None}
 use Rattle.emu_model.specs.declared.sources.Due.{Due}
+use Rattle.emu_model.specs.declared.sources.Source.{Source}
+use Rattle.emu_model.specs.declared.sources.Class.TheVariants.{NextCommand}
 use Rattle.timer_wheel.specs.Rows.{Row, no_dues, with_due}
 
--- each due, moved by an offset into the time of the agenda
-abbrev pub row_of : ℕ → List Due → Row
-row_of offset [] = no_dues
-row_of offset (d ∷ ds) = with_due (row_of offset ds) d.source (d.moment + offset)
+-- the source of its one entry, whatever comes next
+abbrev pub turn : Source
+turn = record { class = NextCommand; number = 0 }
 
--- who is parked has no entries
-abbrev pub entries_of : Option ℕ → List Due → Row
-entries_of None dues = no_dues
-entries_of (Some offset) dues = row_of offset dues
+-- one entry, at a moment of the agenda's time
+abbrev pub row_at : ℕ → Row
+row_at moment = with_due no_dues turn moment
 
--- with this offset no due comes before the agenda's clock, and all fit
-abbrev pub AreSettable : ℕ → ℕ → List Due → Type 0
-AreSettable clock offset dues = AllByRecursion (λ d. (clock ≤ d.moment + offset) × (d.moment + offset < 2 ^ 63)) dues
+-- what comes next, moved by an offset into the time of the agenda
+abbrev pub row_of : ℕ → Option Due → Row
+row_of offset None = no_dues
+row_of offset (Some d) = row_at (d.moment + offset)
+
+-- who is parked has no entry
+abbrev pub entries_of : Option ℕ → Option Due → Row
+entries_of None next = no_dues
+entries_of (Some offset) next = row_of offset next

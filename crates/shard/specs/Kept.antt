@@ -1,12 +1,12 @@
 -- What an experiment that stands somewhere keeps over its packets.
-use Rattle.std.specs.Prelude.{◌≡◌, ℕ, ◌≤◌, ◌<◌, true, None, List, [], length, take}
+use Rattle.std.specs.Prelude.{◌≡◌, ℕ, ◌≤◌, ◌<◌, Option, None, [], length, take}
 use Rattle.emu_model.specs.declared.commands.Spec.{Spec}
 use Rattle.emu_model.specs.Step.{opening}
 use Rattle.packet_store.specs.Pocket.{Pocket}
 use Rattle.packet_store.specs.Pocket.{empty_pocket}
 use Rattle.emu_model.specs.declared.sources.Due.{Due}
 use Rattle.experiment.specs.Kept.{KeptExperiment, view, IsHousedIn, IsAlone}
-use Rattle.experiment.specs.Dues.{dues_in}
+use Rattle.experiment.specs.Dues.{next_due_in}
 use Rattle.shard.specs.Seen.{Seen}
 use Rattle.shard.specs.Stand.{Stand, heard_from}
 
@@ -31,9 +31,9 @@ pub record IsKept {M : Type 0} (seen : M → Seen) (p : Pocket) (e : KeptExperim
   pub heard : e.consumed ≡ heard_from [] (seen mail).given
   pub few : e.steps ≤ e.spec.budget.steps
 
--- what is due doesn't rest on packets, so any pocket serves
-abbrev pub dues_kept : KeptExperiment → List Due
-dues_kept e = dues_in (view (empty_pocket 0) e)
+-- what comes next doesn't rest on packets, so any pocket serves
+abbrev pub next_kept : KeptExperiment → Option Due
+next_kept e = next_due_in (view (empty_pocket 0) e)
 
 -- one that goes on
 pub record IsGoing {M : Type 0} (seen : M → Seen) (p : Pocket) (e : KeptExperiment) (published : ℕ) (mail : M) : Type 0 where

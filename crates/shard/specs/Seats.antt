@@ -9,7 +9,7 @@ use Rattle.shard.specs.declared.resident.Resident.{Resident}
 use Rattle.experiment.specs.Kept.{view}
 use Rattle.shard.specs.Stand.{Stand, Seat, Final}
 use Rattle.shard.specs.Entries.{entries_of}
-use Rattle.shard.specs.Kept.{stand_of, IsGoing, dues_kept}
+use Rattle.shard.specs.Kept.{stand_of, IsGoing, next_kept}
 
 module _ {M : Type 0} where
   abbrev pub resident_at : List (Option (Resident M)) → ℕ → Option (Resident M)
@@ -50,8 +50,7 @@ module _ {M : Type 0} where
   -- a resident over its packets and its row of the agenda
   pub record IsSeated (seen : M → Seen) (p : Pocket) (row : Row) (clock : ℕ) (r : Resident M) : Type 0 where
     pub going : IsGoing seen p r.experiment r.published r.mail
-    pub entries : (s : Source) → row s ≡ entries_of r.offset (dues_kept r.experiment) s
-    pub noted : IsSome r.offset → r.experiment.noted ≡ dues_kept r.experiment
+    pub entries : (s : Source) → row s ≡ entries_of r.offset (next_kept r.experiment) s
     pub ready : IsSome r.offset → IsSome r.experiment.next
     pub late : IfSome r.offset (λ o. o ≤ clock)
     pub below : (s : Source) (d : ℕ) → row s ≡ Some d → IfSome r.offset (λ o. d < o + 2 * 10 ^ 15)

@@ -1,8 +1,7 @@
 -- What a step does to a resident.
-use Rattle.std.specs.Prelude.{◌≡◌, ℕ, ◌+◌, ◌*◌, ◌^◌, ◌<◌, ◌≤◌, if◌then◌else◌, Some, None, IsSome, IfSome}
+use Rattle.std.specs.Prelude.{◌≡◌, ℕ, ◌+◌, ◌*◌, ◌^◌, ◌<◌, ◌≤◌, Some, IsSome, IfSome}
 use Rattle.emu_model.specs.declared.records.Ending.{Ending}
 use Rattle.emu_model.specs.declared.sources.Source.{Source}
-use Rattle.emu_model.specs.Laws.{same_source}
 use Rattle.packet_store.specs.Pocket.{Pocket}
 use Rattle.timer_wheel.specs.Rows.{Row}
 use Rattle.experiment.specs.declared.experiment.Event.{Event}
@@ -10,25 +9,26 @@ use Rattle.experiment.specs.declared.experiment.Event.TheVariants.{Ran, Ended, H
 use Rattle.experiment.specs.Kept.{view}
 use Rattle.shard.specs.Seen.{Seen, IsToldMore, IsPublished}
 use Rattle.shard.specs.declared.resident.Resident.{Resident}
-use Rattle.shard.specs.Entries.{entries_of}
-use Rattle.shard.specs.Kept.{IsKept, IsGoing, dues_kept}
+use Rattle.shard.specs.Entries.{entries_of, row_at}
+use Rattle.shard.specs.Kept.{IsKept, IsGoing, next_kept}
 use Rattle.shard.specs.Seats.{standing, IsSeated}
 use Rattle.shard.specs.Turns.{IsTurn, last_state}
 
 module _ {M : Type 0} where
-  -- a resident, of whose entries one is the least of the agenda
+  -- a resident whose entry is the least of the agenda
   pub record IsLeast (seen : M → Seen) (p : Pocket) (row : Row) (clock : ℕ) (r : Resident M) : Type 0 where
     pub going : IsGoing seen p r.experiment r.published r.mail
     pub next : IsSome r.experiment.next
-    pub entries : (s : Source) → row s ≡ entries_of r.offset r.experiment.noted s
+    pub entries : (s : Source) → row s ≡ entries_of r.offset (next_kept r.experiment) s
     pub ready : IsSome r.offset
     pub late : IfSome r.offset (λ o. o ≤ clock)
     pub early : clock < 2 ^ 62 + 2 * 10 ^ 15
 
-  -- a resident that has made a step, and whose entries are still those from before it
+  -- a resident that has made a step, and whose entry is still that from before it
   pub record IsStale (seen : M → Seen) (p : Pocket) (row : Row) (clock : ℕ) (r : Resident M) : Type 0 where
     pub going : IsGoing seen p r.experiment r.published r.mail
-    pub entries : (s : Source) → row s ≡ entries_of r.offset r.experiment.noted s
+    pub was : ℕ
+    pub entries : (s : Source) → row s ≡ row_at was s
     pub ready : IsSome r.offset
     pub late : IfSome r.offset (λ o. o ≤ clock)
     pub early : clock < 2 ^ 62 + 2 * 10 ^ 15

@@ -3,7 +3,6 @@
 #![tactic(auto)]
 
 mod dossier;
-mod entries;
 mod list_mail;
 mod mail;
 mod parcel;

@@ -1,24 +1,22 @@
 //! One resident's part in a shard's calls.
 
-ghost use Rattle.std.specs.Prelude.{◌≡◌, ◌≢◌, ℕ, ◌+◌, ◌*◌, ◌^◌, ◌<◌, ◌≤◌, length, take, Some, None, IfSome};
-ghost use Rattle.std.specs.Prelude.{true, IsTrue, if◌then◌else◌};
-ghost use Rattle.emu_model.specs.declared.sources.Source.{Source as From};
-ghost use Rattle.emu_model.specs.Laws.{same_source};
-ghost use Rattle.packet_store.specs.Pocket.{Pocket};
-ghost use Rattle.experiment.specs.Kept.{IsAlone};
-ghost use Rattle.shard.specs.Entries.{row_of};
+ghost use Rattle.std.specs.Prelude.{◌≡◌, ◌≤◌, length, take};
 ghost use Rattle.shard.specs.Seen.{IsToldMore, IsPublished};
-ghost use Rattle.shard.specs.Kept.{dues_kept};
 
 use crate::dossier::Dossier;
-use crate::entries::{Scratch, enter, renew_all};
 use crate::mail::Mail;
 use crate::parcel::Parcel;
 use crate::shard::Polled;
-use emu_model::{Ending, Record, Source};
+use emu_model::{Class, Ending, Record, Source};
 use experiment::{ApplyError, Event, Experiment};
 use packet_store::{OwnShelf, Owner, Shelf, Store};
 use timer_wheel::Agenda;
+
+/// The source of a resident's entry: it has one, whatever it does next.
+const TURN: Source = Source {
+    class: Class::NextCommand,
+    number: 0,
+};
 
 /// One that lives in a shard.
 #[derive(Drop)]
@@ -28,7 +26,8 @@ pub(crate) struct Resident<M: Mail> {
     pub(crate) experiment: Experiment,
     pub(crate) mail: M,
     pub(crate) published: usize,
-    // What is added to its dues in the agenda (ns); None where it is parked, and has no entries there.
+    // What is added to the moment of its next event in the agenda (ns); None where it is parked, and has no entry
+    // there.
     pub(crate) offset: Option<u64>,
 }
 
@@ -63,32 +62,28 @@ impl<M: Mail> Resident<M> {
     ghost use Rattle.shard.specs.Turns.{Polls};
     ghost use Rattle.shard.specs.Steps.{IsLeast, IsStale, Steps};
 
-    // Sets its entries anew, from the agenda's clock on. Parked where it has no next command, or where memory
-    // is refused.
-    pub(crate) fn enter<A: Agenda>(&mut self, agenda: &mut A, slot: usize, scratch: &mut Scratch)
+    // Sets its entry anew, from the agenda's clock on. Parked where it has no next command, or where memory is
+    // refused.
+    pub(crate) fn enter<A: Agenda>(&mut self, agenda: &mut A, slot: usize)
         requires alone { (p : Pocket) × IsAlone p self.old.experiment }
         requires early { A.time agenda.old < 2 ^ 62 + 2 * 10 ^ 15 }
         ensures seated { (p : Pocket) → IsGoing M.seen p self.old.experiment self.old.published self.old.mail
             → IsSeated M.seen p (A.entries agenda.new slot) (A.time agenda.old) self.new }
-        ensures same { self.new ≡ record self.old { experiment = record self.old.experiment { noted = self.new.experiment.noted }; offset = self.new.offset } }
+        ensures same { self.new ≡ record self.old { offset = self.new.offset } }
         ensures offset { IfSome self.new.offset (λ o. o ≡ A.time agenda.old - self.old.experiment.clock) }
         ensures others { (o : ℕ) → o ≢ slot → A.entries agenda.new o ≡ A.entries agenda.old o }
         ensures time { A.time agenda.new ≡ A.time agenda.old }
     {
         self.offset = None;
-        if !self.experiment.has_next() {
-            agenda.clear_owner(slot);
-            return;
-        }
-        self.experiment.dues_in_time();
-        let Ok(()) = self.experiment.touched(&mut scratch.sources) else {
-            agenda.clear_owner(slot);
+        agenda.clear_owner(slot);
+        let Some(due) = self.experiment.next_due() else {
             return;
         };
         let offset = agenda.clock().saturating_sub(self.experiment.clock());
-        if enter(agenda, slot, self.experiment.noted(), offset) {
-            self.offset = Some(offset);
-        }
+        let Ok(()) = agenda.set(slot, TURN, due.moment + offset) else {
+            return;
+        };
+        self.offset = Some(offset);
     }
 
     // Makes one step, whose entry is the agenda's least.
@@ -97,7 +92,6 @@ impl<M: Mail> Resident<M> {
         store: &mut Store,
         agenda: &mut A,
         slot: usize,
-        scratch: &mut Scratch,
     ) -> Event
         requires least { IsLeast M.seen (pocket_of store.old self.old.owner) (A.entries agenda.old slot) (A.time agenda.old) self.old }
         ensures steps { Steps M.seen result (pocket_of store.old self.old.owner) self.old (pocket_of store.new self.old.owner) (A.entries agenda.new slot) (A.time agenda.old) self.new }
@@ -108,18 +102,13 @@ impl<M: Mail> Resident<M> {
         let event = self.experiment.event(store, self.owner);
         self.published = publish(&mut self.mail, self.experiment.records(), self.published);
         if event == Event::Ran {
-            self.set_again(agenda, slot, scratch);
+            self.set_again(agenda, slot);
         }
         event
     }
 
-    // Takes a command, or sets the entries of a parked one again.
-    pub(crate) fn poll<A: Agenda>(
-        &mut self,
-        agenda: &mut A,
-        slot: usize,
-        scratch: &mut Scratch,
-    ) -> Polled
+    // Takes a command, or sets the entry of a parked one again.
+    pub(crate) fn poll<A: Agenda>(&mut self, agenda: &mut A, slot: usize) -> Polled
         requires seated { (p : Pocket) × IsSeated M.seen p (A.entries agenda.old slot) (A.time agenda.old) self.old }
         requires early { A.time agenda.old < 2 ^ 62 + 2 * 10 ^ 15 }
         ensures seated { (p : Pocket) → IsSeated M.seen p (A.entries agenda.old slot) (A.time agenda.old) self.old
@@ -136,7 +125,7 @@ impl<M: Mail> Resident<M> {
             if self.offset.is_some() {
                 return Polled::Held(name);
             }
-            self.enter(agenda, slot, scratch);
+            self.enter(agenda, slot);
             if self.offset.is_some() {
                 return Polled::Resumed(name);
             }
@@ -150,7 +139,7 @@ impl<M: Mail> Resident<M> {
         };
         match self.experiment.apply(&timed) {
             Ok(()) => {
-                self.enter(agenda, slot, scratch);
+                self.enter(agenda, slot);
                 return Polled::Took(name);
             }
             Err(ApplyError::Backward) => return Polled::Empty(name),
@@ -158,7 +147,7 @@ impl<M: Mail> Resident<M> {
         }
     }
 
-    // Makes a resident of a parcel, whose owner is admitted. It has no entries yet.
+    // Makes a resident of a parcel, whose owner is admitted. It has no entry yet.
     pub(crate) fn settle(parcel: Parcel<M>, store: &mut Store, owner: Owner) -> Resident<M>
         requires admitted { pocket_of store.old owner ≡ empty_pocket parcel.spec.budget.packets }
         ensures going { IsGoing M.seen (pocket_of store.new owner) result.experiment result.published result.mail }
@@ -252,63 +241,30 @@ impl<M: Mail> Resident<M> {
         }
     }
 
-    // After a step: sets again what it touched. Parked where there is no next command, or where memory is refused.
-    fn set_again<A: Agenda>(&mut self, agenda: &mut A, slot: usize, scratch: &mut Scratch)
+    // After a step: sets its entry to what comes next. Parked where there is no next command.
+    fn set_again<A: Agenda>(&mut self, agenda: &mut A, slot: usize)
         requires stale { (p : Pocket) × IsStale M.seen p (A.entries agenda.old slot) (A.time agenda.old) self.old }
         ensures seated { (p : Pocket) → IsGoing M.seen p self.old.experiment self.old.published self.old.mail
             → IsSeated M.seen p (A.entries agenda.new slot) (A.time agenda.old) self.new }
-        ensures same { self.new ≡ record self.old { experiment = record self.old.experiment { noted = self.new.experiment.noted }; offset = self.new.offset } }
+        ensures same { self.new ≡ record self.old { offset = self.new.offset } }
         ensures others { (o : ℕ) → o ≢ slot → A.entries agenda.new o ≡ A.entries agenda.old o }
         ensures time { A.time agenda.new ≡ A.time agenda.old }
     {
         let Some(offset) = self.offset else {
             unreachable!();
         };
-        // No due lies below the experiment's clock; where that were below the agenda's, all is set anew.
-        if offset < agenda.clock().saturating_sub(self.experiment.clock()) {
-            self.enter(agenda, slot, scratch);
+        let Some(due) = self.experiment.next_due() else {
+            self.offset = None;
+            agenda.clear_owner(slot);
+            return;
+        };
+        // No due lies below the experiment's clock; where that were below the agenda's, its time is set anew.
+        if due.moment + offset < agenda.clock() {
+            self.enter(agenda, slot);
             return;
         }
-        self.offset = None;
-        if self.experiment.has_next()
-            && set_touched(&mut self.experiment, agenda, slot, offset, scratch)
-        {
-            self.offset = Some(offset);
-            return;
-        }
-        agenda.clear_owner(slot);
+        let Ok(()) = agenda.set(slot, TURN, due.moment + offset) else {
+            unreachable!();
+        };
     }
-}
-
-// Sets again the entries of what the last step touched. False where memory is refused.
-fn set_touched<A: Agenda>(
-    experiment: &mut Experiment,
-    agenda: &mut A,
-    slot: usize,
-    offset: u64,
-    scratch: &mut Scratch,
-) -> bool
-    requires alone { (p : Pocket) × IsAlone p experiment.old }
-    requires late { offset ≤ A.time agenda.old }
-    requires early { A.time agenda.old < 2 ^ 62 + 2 * 10 ^ 15 }
-    requires ahead { A.time agenda.old ≤ experiment.old.clock + offset }
-    requires stale { (s : From) → A.entries agenda.old slot s ≡ row_of offset experiment.old.noted s }
-    ensures set { IsTrue result → (s : From) → A.entries agenda.new slot s ≡ row_of offset (dues_kept experiment.old) s }
-    ensures noted { IsTrue result → experiment.new.noted ≡ dues_kept experiment.old }
-    ensures same { experiment.new ≡ record experiment.old { noted = experiment.new.noted } }
-    ensures below { IsTrue result → (s : From) (d : ℕ) → A.entries agenda.new slot s ≡ Some d → d < offset + 2 * 10 ^ 15 }
-    ensures others { (o : ℕ) → o ≢ slot → A.entries agenda.new o ≡ A.entries agenda.old o }
-    ensures time { A.time agenda.new ≡ A.time agenda.old }
-{
-    experiment.dues_in_time();
-    let Ok(()) = experiment.touched(&mut scratch.sources) else {
-        return false;
-    };
-    renew_all(
-        agenda,
-        slot,
-        experiment.noted(),
-        offset,
-        scratch.sources.as_slice(),
-    )
 }

@@ -7,7 +7,6 @@ ghost use Rattle.shard.specs.Kept.{IsKept};
 ghost use Rattle.shard.specs.Seats.{parked, IsDossierOf};
 
 use crate::dossier::Dossier;
-use crate::entries::Scratch;
 use crate::mail::Mail;
 use crate::parcel::Parcel;
 use crate::resident::Resident;
@@ -42,7 +41,7 @@ pub enum TakeInError<M: Mail> {
     NoMemory(Parcel<M>),
 }
 
-/// What a poll was, with the resident's name: nobody is there; a command was taken; a parked one has entries
+/// What a poll was, with the resident's name: nobody is there; a command was taken; a parked one has its entry
 /// again; its next command waits still; no command came; or want of memory.
 #[derive(Clone, Copy, Debug, PartialEq, Eq)]
 pub enum Polled {
@@ -61,15 +60,14 @@ pub enum PackError {
     NoMemory = 99,
 }
 
-/// The residents of one worker: each has a slot, a reservation in the one store, and, unless it is parked, entries
-/// in the one agenda. A contract sees who stands in which slot, and the agenda's clock (ns).
+/// The residents of one worker: each has a slot, a reservation in the one store, and, unless it is parked, an entry
+/// in the one agenda: when its next event is due. A contract sees who stands in which slot, and the agenda's clock (ns).
 #[derive(Drop)]
 pub struct Shard<A: Agenda, M: Mail> {
     alloc: Global,
     store: Store,
     agenda: A,
     pub(crate) slots: Vec<Option<Resident<M>>>,
-    scratch: Scratch,
     // The slot of the last turn, where `slot_of` looks first.
     turned: usize,
 }
@@ -116,9 +114,6 @@ impl<A: Agenda, M: Mail> Shard<A, M> {
             store: Store::new(alloc),
             agenda: A::new(alloc, clock)?,
             slots,
-            scratch: Scratch {
-                sources: Vec::new(alloc),
-            },
             turned: 0,
         })
     }
@@ -149,7 +144,7 @@ impl<A: Agenda, M: Mail> Shard<A, M> {
         };
         self.turned = slot;
         let name = resident.name;
-        let event = resident.step(&mut self.store, &mut self.agenda, slot, &mut self.scratch);
+        let event = resident.step(&mut self.store, &mut self.agenda, slot);
         if event == Event::Ran {
             return Turned::Ran(name);
         }
@@ -157,7 +152,7 @@ impl<A: Agenda, M: Mail> Shard<A, M> {
         Turned::Ended(take_ended(&mut self.slots[slot], &mut self.store))
     }
 
-    /// Takes a command for a resident without a next one, or sets the entries of a parked one again. Room for a
+    /// Takes a command for a resident without a next one, or sets the entry of a parked one again. Room for a
     /// command is made before one is taken; one whose moment is below the last isn't consumed. Records are
     /// published while the mail takes them.
     pub fn poll(&mut self, slot: usize) -> Polled
@@ -169,11 +164,11 @@ impl<A: Agenda, M: Mail> Shard<A, M> {
         let Some(resident) = &mut self.slots[slot] else {
             return Polled::Vacant;
         };
-        resident.poll(&mut self.agenda, slot, &mut self.scratch)
+        resident.poll(&mut self.agenda, slot)
     }
 
-    /// Takes a parcel in, at the least vacant slot; its packets come into the store, and its entries onto the
-    /// agenda, or it is parked where memory is refused for these. Refused itself, it comes back as it was, and the
+    /// Takes a parcel in, at the least vacant slot; its packets come into the store, and its entry onto the
+    /// agenda, or it is parked where memory is refused for it. Refused itself, it comes back as it was, and the
     /// shard is as before: `Crowded` before `NoMemory`.
     pub fn take_in(&mut self, parcel: Parcel<M>) -> Result<usize, TakeInError<M>>
         ensures ok { IfOk result (λ slot. (s : Seat M) × TakenIn parcel self.old self.new slot s) }
@@ -187,7 +182,7 @@ impl<A: Agenda, M: Mail> Shard<A, M> {
             return Err(TakeInError::NoMemory(parcel));
         };
         let mut resident = Resident::settle(parcel, &mut self.store, owner);
-        resident.enter(&mut self.agenda, slot, &mut self.scratch);
+        resident.enter(&mut self.agenda, slot);
         self.slots[slot] = Some(resident);
         Ok(slot)
     }
@@ -216,7 +211,7 @@ impl<A: Agenda, M: Mail> Shard<A, M> {
         Ok(gone.leave(&mut self.store, shelf))
     }
 
-    /// Begins the agenda's time anew: its clock is 0, and all entries are set again from the dues, each below
+    /// Begins the agenda's time anew: its clock is 0, and each entry is set again from what comes next, below
     /// 2 * 10^15 ns. One that is refused memory is parked.
     pub fn rebase(&mut self)
         ensures { IsRebased self.old self.new }
@@ -237,7 +232,7 @@ impl<A: Agenda, M: Mail> Shard<A, M> {
         park_all(self.slots.as_mut_slice());
     }
 
-    // Sets the entries of a slot's resident, if there is one, from the agenda's clock on.
+    // Sets the entry of a slot's resident, if there is one, from the agenda's clock on.
     fn enter(&mut self, slot: usize)
         requires inside { slot < 256 }
         ensures stands { stands_of self.new.seats ≡ stands_of self.old.seats }
@@ -246,7 +241,7 @@ impl<A: Agenda, M: Mail> Shard<A, M> {
         ensures others { (k : ℕ) → k ≢ slot → seat_at self.new.seats k ≡ seat_at self.old.seats k }
     {
         if let Some(resident) = &mut self.slots[slot] {
-            resident.enter(&mut self.agenda, slot, &mut self.scratch);
+            resident.enter(&mut self.agenda, slot);
         }
     }
 

@@ -55,7 +55,6 @@ returns-in-Err-Backward-clause-seated g c = λ p seated.
     (record {
       going = record { kept = kept; going = seated.going.going };
       entries = seated.entries;
-      noted = seated.noted;
       ready = seated.ready;
       late = seated.late;
       below = seated.below;

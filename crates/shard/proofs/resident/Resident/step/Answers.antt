@@ -1,17 +1,14 @@
-use Rattle.std.proofs.Common.{◌≡◌, ◌<◌, [], sym, ap, ◌∙◌, subst, List, None, cond, length, take, arith, rules}
+use Rattle.std.proofs.Common.{◌≡◌, ◌<◌, [], sym, ap, ◌∙◌, subst, length, take, arith, rules}
 use denote.Enum.Bare.{same_true}
 use Rattle.emu_model.specs.declared.commands.Spec.{Spec}
 use Rattle.experiment.specs.contracts.experiment.Event.{the_type}
 use Rattle.shard.specs.Seen.{Seen}
 use Rattle.shard.specs.Stand.{heard_from}
-use Rattle.emu_model.specs.declared.sources.Due.{Due}
-use Rattle.emu_model.specs.Laws.{same_source}
-use Rattle.packet_store.specs.Pocket.{empty_pocket}
 use Rattle.packet_store.specs.Books.{pocket_of}
 use Rattle.experiment.specs.declared.experiment.Event.TheVariants.{Ran}
 use Rattle.experiment.specs.Moves.{Makes}
 use Rattle.experiment.specs.Kept.{KeptExperiment}
-use Rattle.shard.specs.Entries.{entries_of}
+use Rattle.shard.proofs.RowFacts.{one_entry}
 use Rattle.shard.proofs.resident.Resident.step.Goals as goal
 
 pub set_again-requires : goal.set_again-requires
@@ -25,6 +22,7 @@ set_again-requires g c =
     let was = c.event-event.ensures in
     let ran : c.event-event.result ≡ Ran = same_true the_type (search rules) _ _ (sym c.if-eq.ensures) in
     let makes : Makes Ran p e q f = subst (λ a. Makes a p e q f) ran was.makes in
+    let row = one_entry r.offset e c.requires.least.ready c.requires.least.next in
     record {
       stale = (
         q,
@@ -42,7 +40,8 @@ set_again-requires g c =
             };
             going = makes.1;
           };
-          entries = λ s. c.requires.least.entries s ∙ ap (λ (ds : List Due). entries_of r.offset ds s) (sym was.noted);
+          was = row.at;
+          entries = λ s. c.requires.least.entries s ∙ row.entries s;
           ready = c.requires.least.ready;
           late = c.requires.least.late;
           early = c.requires.least.early;
