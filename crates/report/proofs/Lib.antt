@@ -1,2 +1,3 @@
 mod Examples
+pub mod Decimals
 pub mod Places

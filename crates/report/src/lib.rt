@@ -1,6 +1,7 @@
 //! The text of a report, and of the listings in it (own).
 #![tactic(auto)]
 
+mod event;
 mod lines;
 mod pieces;
 mod report;

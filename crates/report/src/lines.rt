@@ -3,16 +3,20 @@
 
 ghost use Rattle.std.specs.Prelude.{◌≡◌, ◌+◌, ◌≤◌, ◌++◌, length, codes, decimal, vec_len, vec_capacity, IsOk, OnOk, OnErr};
 ghost use Rattle.report.specs.Room.{spare};
+ghost use Rattle.report.specs.Words.{instance_name, load_of, cause_of};
 ghost use Rattle.std.specs.List.{flat_map};
 ghost use Rattle.report.specs.Lines.{spaced, fields_of, line_of, heading_of, behind_space, counters_of};
 ghost use Rattle.emu_model.specs.declared.records.Record.TheVariants.{RuleLine, PipeLine};
 
+use crate::event::{
+    LONGEST_EVENT, put, put_cause, put_event, put_instance, put_labelled, put_load,
+};
 use crate::pieces::{append, append_labelled, append_number, append_places};
 use crate::words::{
-    append_action, append_cause, append_discipline, append_end, append_header, append_instance,
-    append_load, append_mask, append_protocol, append_queue, refusal_code,
+    append_action, append_discipline, append_end, append_header, append_instance, append_mask,
+    append_protocol, append_queue, refusal_code,
 };
-use emu_model::{Counters, Mask, PipeConfig, PipeNumber, Record, Rule, SendSpec};
+use emu_model::{Counters, DropCause, Load, Mask, PipeConfig, PipeNumber, Record, Rule, SendSpec};
 use std::alloc::AllocError;
 
 // No line is longer, nor a heading without its name.
@@ -56,15 +60,89 @@ fn append_pipe(out: &mut Vec<u8>, pipe: PipeNumber, config: &PipeConfig)
     append_discipline(out, config.discipline);
 }
 
-#[inline]
 fn append_event(out: &mut Vec<u8>, moment: u64, word: &[u8], number: u64)
-    requires { 40 + length word.now ≤ spare out.old }
-    ensures items { out.new.items ≡ out.old.items ++ decimal moment ++ word.now ++ decimal number }
-    ensures room { spare out.old ≤ spare out.new + (40 + length word.now) }
+    requires { (128 ≤ spare out.old) × (length word.now ≤ 9) }
+    ensures items { out.new.items ≡ out.old.items ++ (decimal moment ++ (word.now ++ decimal number)) }
+    ensures room { spare out.old ≤ spare out.new + 49 }
     ensures capacity { vec_capacity out.old ≤ vec_capacity out.new }
 {
-    append_number(out, moment);
-    append_labelled(out, word, number);
+    let mut text = [0; LONGEST_EVENT];
+    let start = put_event(&mut text, LONGEST_EVENT, moment, word, number);
+    append(out, &text[start..]);
+}
+
+fn append_load(out: &mut Vec<u8>, load: Load)
+    requires { 46 ≤ spare out.old }
+    ensures items { out.new.items ≡ out.old.items ++ load_of load }
+    ensures room { spare out.old ≤ spare out.new + 46 }
+    ensures capacity { vec_capacity out.old ≤ vec_capacity out.new }
+{
+    let mut text = [0; LONGEST_EVENT];
+    let start = put_load(&mut text, LONGEST_EVENT, load);
+    append(out, &text[start..]);
+}
+
+// What a packet did at an instance.
+fn append_at_instance(
+    out: &mut Vec<u8>,
+    moment: u64,
+    word: &[u8],
+    packet: u64,
+    pipe: PipeNumber,
+    instance: u8,
+)
+    requires { (128 ≤ spare out.old) × (length word.now ≤ 9) }
+    ensures items { out.new.items ≡ out.old.items ++ (decimal moment ++ (word.now ++ (decimal packet ++ (codes " " ++ instance_name pipe instance)))) }
+    ensures room { spare out.old ≤ spare out.new + 128 }
+    ensures capacity { vec_capacity out.old ≤ vec_capacity out.new }
+{
+    let mut text = [0; LONGEST_EVENT];
+    let end = put_instance(&mut text, LONGEST_EVENT, pipe, instance);
+    let end = put(&mut text, end, b" ");
+    let start = put_event(&mut text, end, moment, word, packet);
+    append(out, &text[start..]);
+}
+
+fn append_delivery(out: &mut Vec<u8>, moment: u64, packet: u64, load: Load)
+    requires { 128 ≤ spare out.old }
+    ensures items { out.new.items ≡ out.old.items ++ (decimal moment ++ (codes " deliver " ++ (decimal packet ++ (codes " " ++ load_of load)))) }
+    ensures room { spare out.old ≤ spare out.new + 128 }
+    ensures capacity { vec_capacity out.old ≤ vec_capacity out.new }
+{
+    let mut text = [0; LONGEST_EVENT];
+    let end = put_load(&mut text, LONGEST_EVENT, load);
+    let end = put(&mut text, end, b" ");
+    let start = put_event(&mut text, end, moment, b" deliver ", packet);
+    append(out, &text[start..]);
+}
+
+fn append_drop(out: &mut Vec<u8>, moment: u64, packet: u64, load: Load, cause: DropCause)
+    requires { 128 ≤ spare out.old }
+    ensures items { out.new.items ≡ out.old.items ++ (decimal moment ++ (codes " drop " ++ (decimal packet ++ (codes " " ++ (load_of load ++ (codes " " ++ cause_of cause)))))) }
+    ensures room { spare out.old ≤ spare out.new + 128 }
+    ensures capacity { vec_capacity out.old ≤ vec_capacity out.new }
+{
+    let mut text = [0; LONGEST_EVENT];
+    let end = put_cause(&mut text, LONGEST_EVENT, cause);
+    let end = put(&mut text, end, b" ");
+    let end = put_load(&mut text, end, load);
+    let end = put(&mut text, end, b" ");
+    let start = put_event(&mut text, end, moment, b" drop ", packet);
+    append(out, &text[start..]);
+}
+
+// What a sender's window is after an acknowledgement or a timeout.
+fn append_window(out: &mut Vec<u8>, moment: u64, word: &[u8], flow: u64, cwnd: u64, ssthresh: u64)
+    requires { (128 ≤ spare out.old) × (length word.now ≤ 9) }
+    ensures items { out.new.items ≡ out.old.items ++ (decimal moment ++ (word.now ++ (decimal flow ++ (codes " " ++ (decimal cwnd ++ (codes " " ++ decimal ssthresh)))))) }
+    ensures room { spare out.old ≤ spare out.new + 128 }
+    ensures capacity { vec_capacity out.old ≤ vec_capacity out.new }
+{
+    let mut text = [0; LONGEST_EVENT];
+    let end = put_labelled(&mut text, LONGEST_EVENT, b" ", ssthresh);
+    let end = put_labelled(&mut text, end, b" ", cwnd);
+    let start = put_event(&mut text, end, moment, word, flow);
+    append(out, &text[start..]);
 }
 
 fn append_fields(out: &mut Vec<u8>, line: &Record)
@@ -114,9 +192,7 @@ fn append_fields(out: &mut Vec<u8>, line: &Record)
             pipe,
             instance,
         } => {
-            append_event(out, moment, b" arrive ", packet);
-            append(out, b" ");
-            append_instance(out, pipe, instance);
+            append_at_instance(out, moment, b" arrive ", packet, pipe, instance);
         }
         Record::InstanceIdentified {
             moment,
@@ -147,50 +223,34 @@ fn append_fields(out: &mut Vec<u8>, line: &Record)
             pipe,
             instance,
         } => {
-            append_event(out, moment, b" finish ", packet);
-            append(out, b" ");
-            append_instance(out, pipe, instance);
+            append_at_instance(out, moment, b" finish ", packet, pipe, instance);
         }
         Record::PacketDelivered {
             moment,
             packet,
             load,
-        } => {
-            append_event(out, moment, b" deliver ", packet);
-            append(out, b" ");
-            append_load(out, load);
-        }
+        } => append_delivery(out, moment, packet, load),
         Record::PacketPassed {
             moment,
             packet,
             pipe,
             instance,
         } => {
-            append_event(out, moment, b" pass ", packet);
-            append(out, b" ");
-            append_instance(out, pipe, instance);
+            append_at_instance(out, moment, b" pass ", packet, pipe, instance);
         }
         Record::PacketDropped {
             moment,
             packet,
             load,
             cause,
-        } => {
-            append_event(out, moment, b" drop ", packet);
-            append(out, b" ");
-            append_load(out, load);
-            append(out, b" ");
-            append_cause(out, cause);
-        }
+        } => append_drop(out, moment, packet, load, cause),
         Record::AckTaken {
             moment,
             flow,
             cwnd,
             ssthresh,
         } => {
-            append_event(out, moment, b" ack ", u64::from(flow.get()));
-            append_labelled(out, b" ", cwnd);
-            append_labelled(out, b" ", ssthresh);
+            append_window(out, moment, b" ack ", u64::from(flow.get()), cwnd, ssthresh);
         }
         Record::TimerExpired {
             moment,
@@ -198,9 +258,14 @@ fn append_fields(out: &mut Vec<u8>, line: &Record)
             cwnd,
             ssthresh,
         } => {
-            append_event(out, moment, b" expire ", u64::from(flow.get()));
-            append_labelled(out, b" ", cwnd);
-            append_labelled(out, b" ", ssthresh);
+            append_window(
+                out,
+                moment,
+                b" expire ",
+                u64::from(flow.get()),
+                cwnd,
+                ssthresh,
+            );
         }
         Record::StepsSpent { moment } => {
             append_number(out, moment);

@@ -2,12 +2,12 @@
 
 ghost use Rattle.std.specs.Prelude.{◌≡◌, ◌+◌, ◌≤◌, ◌++◌, vec_capacity};
 ghost use Rattle.report.specs.Room.{spare};
-ghost use Rattle.report.specs.Words.{instance_name, load_of, cause_of, code_of, action_of, protocol_of, transport_of, dotted, address_and_port, header_of, prefix_of, ports_of, end_of, queue_of, mask_of, discipline_of};
+ghost use Rattle.report.specs.Words.{instance_name, code_of, action_of, protocol_of, transport_of, dotted, address_and_port, header_of, prefix_of, ports_of, end_of, queue_of, mask_of, discipline_of};
 
 use crate::pieces::{append, append_labelled, append_number, append_places};
 use emu_model::{
-    Action, Discipline, DropCause, Load, Mask, PipeNumber, PortRange, Prefix, Protocol,
-    ProtocolMatch, QueueLimit, Refusal, SendSpec,
+    Action, Discipline, Mask, PipeNumber, PortRange, Prefix, Protocol, ProtocolMatch, QueueLimit,
+    Refusal, SendSpec,
 };
 
 #[inline]
@@ -19,44 +19,6 @@ pub fn append_instance(out: &mut Vec<u8>, pipe: PipeNumber, instance: u8)
 {
     append_number(out, u64::from(pipe.get()));
     append_labelled(out, b".", u64::from(instance));
-}
-
-#[inline]
-pub fn append_load(out: &mut Vec<u8>, load: Load)
-    requires { 46 ≤ spare out.old }
-    ensures items { out.new.items ≡ out.old.items ++ load_of load }
-    ensures room { spare out.old ≤ spare out.new + 46 }
-    ensures capacity { vec_capacity out.old ≤ vec_capacity out.new }
-{
-    match load {
-        Load::Plain => append(out, b"plain"),
-        Load::Seg { flow, first } => {
-            append_labelled(out, b"data ", u64::from(flow.get()));
-            append_labelled(out, b" ", first);
-        }
-        Load::Ack { flow, upto } => {
-            append_labelled(out, b"ack ", u64::from(flow.get()));
-            append_labelled(out, b" ", upto);
-        }
-    }
-}
-
-pub fn append_cause(out: &mut Vec<u8>, cause: DropCause)
-    requires { 10 ≤ spare out.old }
-    ensures items { out.new.items ≡ out.old.items ++ cause_of cause }
-    ensures room { spare out.old ≤ spare out.new + 10 }
-    ensures capacity { vec_capacity out.old ≤ vec_capacity out.new }
-{
-    match cause {
-        DropCause::Denied => append(out, b"denied"),
-        DropCause::NoPipe => append(out, b"nopipe"),
-        DropCause::NoInstance => append(out, b"noinstance"),
-        DropCause::Lost => append(out, b"lost"),
-        DropCause::Full => append(out, b"full"),
-        DropCause::Codel => append(out, b"codel"),
-        DropCause::Deleted => append(out, b"deleted"),
-        DropCause::Budget => append(out, b"budget"),
-    }
 }
 
 pub fn refusal_code(refusal: Refusal) -> u64
