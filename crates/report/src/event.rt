@@ -11,7 +11,7 @@ use itoa::write_digits;
 pub const LONGEST_EVENT: usize = 128;
 
 /// Puts bytes, and returns where they begin.
-#[inline]
+#[inline(always)]
 pub fn put(text: &mut [u8], end: usize, bytes: &[u8]) -> usize
     requires { (length bytes.now ≤ end) × (end ≤ length text.old) }
     ensures start { result + length bytes.now ≡ end }
@@ -34,7 +34,7 @@ pub fn put_number(text: &mut [u8], end: usize, number: u64) -> usize
 }
 
 /// Puts a number behind its label, and returns where the label begins.
-#[inline]
+#[inline(always)]
 pub fn put_labelled(text: &mut [u8], end: usize, label: &[u8], number: u64) -> usize
     requires { (length label.now + 20 ≤ end) × (end ≤ length text.old) }
     ensures start { (end ≤ result + (length label.now + 20)) × (result ≤ end) }
@@ -45,7 +45,7 @@ pub fn put_labelled(text: &mut [u8], end: usize, label: &[u8], number: u64) -> u
 }
 
 /// Puts an instance's name, and returns where it begins.
-#[inline]
+#[inline(always)]
 pub fn put_instance(text: &mut [u8], end: usize, pipe: PipeNumber, instance: u8) -> usize
     requires { (41 ≤ end) × (end ≤ length text.old) }
     ensures start { (end ≤ result + 41) × (result ≤ end) }
@@ -56,7 +56,7 @@ pub fn put_instance(text: &mut [u8], end: usize, pipe: PipeNumber, instance: u8)
 }
 
 /// Puts what a packet holds, and returns where it begins.
-#[inline]
+#[inline(always)]
 pub fn put_load(text: &mut [u8], end: usize, load: Load) -> usize
     requires { (46 ≤ end) × (end ≤ length text.old) }
     ensures start { (end ≤ result + 46) × (result ≤ end) }
@@ -76,7 +76,7 @@ pub fn put_load(text: &mut [u8], end: usize, load: Load) -> usize
 }
 
 /// Puts why a packet was dropped, and returns where it begins.
-#[inline]
+#[inline(always)]
 pub fn put_cause(text: &mut [u8], end: usize, cause: DropCause) -> usize
     requires { (10 ≤ end) × (end ≤ length text.old) }
     ensures start { (end ≤ result + 10) × (result ≤ end) }
@@ -95,7 +95,7 @@ pub fn put_cause(text: &mut [u8], end: usize, cause: DropCause) -> usize
 }
 
 /// Puts a moment, what happened then, and to which number; returns where the moment begins.
-#[inline]
+#[inline(always)]
 pub fn put_event(text: &mut [u8], end: usize, moment: u64, word: &[u8], number: u64) -> usize
     requires { (length word.now + 40 ≤ end) × (end ≤ length text.old) }
     ensures start { (end ≤ result + (length word.now + 40)) × (result ≤ end) }
