@@ -17,7 +17,7 @@ returns-in-InstanceLine-clause-items c =
       c.append_labelled-in-InstanceLine-3.ensures.items,
       c.append_labelled-in-InstanceLine-2.ensures.items,
       c.append_labelled-in-InstanceLine.ensures.items,
-      c.append_instance.ensures.items,
+      c.append_instance-in-InstanceLine.ensures.items,
       c.append-in-InstanceLine.ensures.items,
       c.from-in-InstanceLine.ensures,
     )
