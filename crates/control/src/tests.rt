@@ -178,7 +178,7 @@ fn lengths(rt: HostRuntime) -> Result<(), Fail> {
 
 /// Each kind of command, and options out of their usual order.
 const KINDS: &str =
-    "experiment a-1_b seed 18446744073709551615  budget 7 steps 9\n# x\n\n @0 add 100 skipto 200 tcp from 10.0.0.0/8 1-2 to any 80\n@1 pipe 3 config plr 0.25 codel interval 50 target 1us mask dst-ip 0xFF proto 0x6 queue 8KB delay 3ms bw 2Mbit/s\n@1 pipe 4 config\n@1 train 2 udp 1.2.3.4 5 6.7.8.9 10 40 count 3 gap 4\n@1 flow 9 1.2.3.4 5 6.7.8.9 10 smss 64 segments 2 rto adaptive window 7\n@1 one_pass 1\n@1 delete 5\n@1 stop 9\n@1 pipe delete 3\n@1 pipe show\n@1 show\n@1 inject tcp 1.2.3.4 5 6.7.8.9 10 1500\n@2 end\nexperiment b seed 0 budget 1\n@0 end\n";
+    "experiment a-1_b seed 18446744073709551615  budget 7 steps 9\n# x\n\n @0 add 100 skipto 200 tcp from 10.0.0.0/8 1-2 to any 80\n@1 pipe 3 config plr 0.25 codel interval 50 target 1us mask dst-ip 0xFF proto 0x6 queue 8KB delay 3ms bw 2Mbit/s\n@1 pipe 4 config\n@1 train 2 udp 1.2.3.4 5 6.7.8.9 10 40 count 3 gap 4\n@1 flow 9 1.2.3.4 5 6.7.8.9 10 smss 64 segments 2 rto adaptive window 7\n@1 one_pass 1\n@1 trace 1\n@1 delete 5\n@1 stop 9\n@1 pipe delete 3\n@1 pipe show\n@1 show\n@1 inject tcp 1.2.3.4 5 6.7.8.9 10 1500\n@2 end\nexperiment b seed 0 budget 1\n@0 end\n";
 
 fn has_rule(rt: &impl Abort, rule: &Rule) {
     assert_eq!(rt; rule.number.get(), 100);
@@ -229,6 +229,7 @@ fn kind(command: &Command) -> u32 {
         Command::Stop(_) => 10,
         Command::OnePass(_) => 11,
         Command::End => 12,
+        Command::Trace(_) => 13,
     }
 }
 
@@ -264,8 +265,8 @@ fn every_kind(rt: HostRuntime) {
                 }
             }
             assert_eq!(rt; scenario.experiments().len(), 2);
-            assert_eq!(rt; commands, 14);
-            assert_eq!(rt; kinds, 93);
+            assert_eq!(rt; commands, 15);
+            assert_eq!(rt; kinds, 106);
         }
     }
 }

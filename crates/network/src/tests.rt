@@ -6,6 +6,8 @@ ghost use Rattle.network.specs.Kept.{net_keys, IsHoused, Stands};
 ghost use Rattle.network.specs.Due.{IsDue};
 ghost use Rattle.packet_store.specs.Own.{own_pocket};
 
+mod traces;
+
 use super::*;
 use emu_model::{
     Action, Amount, Bandwidth, Class, Command, Delay, Discipline, DropCause, Due, FlowNumber,
