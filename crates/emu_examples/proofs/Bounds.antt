@@ -6,13 +6,13 @@ use Rattle.emu_model.specs.declared.pipes.QueueLimit.TheVariants.{Slots, KBytes}
 use Rattle.emu_model.specs.declared.sources.FlowSpec.{FlowSpec}
 use Rattle.emu_model.specs.declared.sources.Timing.TheVariants.{Fixed}
 use Rattle.emu_model.specs.Rules.{port_matches, counted_up, is_behind, default_rule}
-use Rattle.emu_model.specs.FlowIds.{FlowId, new_instance, same_flow, same_mask, protocol_number}
+use Rattle.emu_model.specs.FlowIds.{FlowId, new_instance, same_flow, protocol_number}
 use Rattle.emu_model.specs.declared.packets.Protocol.TheVariants.{Tcp}
 use Rattle.emu_model.specs.declared.pipes.Discipline.TheVariants.{ControlledDelay}
 use Rattle.emu_model.specs.Pipes.{same_discipline}
 use Rattle.emu_model.specs.Loss.{is_below_rate, stream_of}
 use Rattle.emu_model.specs.DropTail.{Waiting, accepts}
-use Rattle.emu_model.specs.Codel.{Times, Control, opening_control, is_short, is_droppable, opening_count, count_up, begin_dropping, drop_on, control_step, codel_dequeue, drop_first}
+use Rattle.emu_model.specs.Codel.{Times, Control, opening_control, is_short, is_droppable, opening_count, count_up, begin_dropping, drop_on, control_step, control_law, codel_dequeue, drop_first}
 use Rattle.emu_model.specs.Reno.{Sender, opening_sender, opening_window, bounded, expire, is_new, round_trip, new_estimate, estimated_timeout, ack, emit, grown_window, half_flight}
 
 -- 256 instances a pipe: the 256th has the number 255, and there is no 257th
@@ -243,3 +243,52 @@ dropping_ends = refl
 -- as dropping begins, the packet behind the one dropped is looked at: nothing is behind it
 next_is_looked_at : (drop_first times 310 dropping_on (packet 1500) (packet 40 ∷ [])).control.first_above ≡ 0
 next_is_looked_at = refl
+
+-- the control law with an interval of 100: 100 / sqrt(1) is 100, and 1 / sqrt(2) is rounded to 0
+exact_step : control_law 100 7 1 ≡ 107
+unfolding control_step
+exact_step = refl
+
+no_step : control_law 1 7 2 ≡ 7
+unfolding control_step
+no_step = refl
+
+-- a packet that came at 3 has waited 4 at 7, which is short
+since_its_stamp : is_short times 7 (record (packet 40) { stamp = 3 }) (left_behind 40) ≡ true
+since_its_stamp = refl
+
+-- a drop is due at drop_next itself: at 200 the count becomes 2
+at_drop_next : (drop_on times 200 dropping_on (packet 1500) (replicate 4 (packet 1500))).control.count ≡ 2
+unfolding control_step
+at_drop_next = refl
+
+-- behind a drop a head with too little behind it is given, ends dropping, and clears first_above_time
+one_then_given : (drop_on times 310 dropping_on (packet 1500) (packet 40 ∷ [])).dropped ≡ packet 1500 ∷ []
+one_then_given = refl
+
+given_ends_dropping :
+    (drop_on times 310 dropping_on (packet 1500) (packet 40 ∷ [])).control.dropping ≡ false
+given_ends_dropping = refl
+
+given_clears_above :
+    (drop_on times 310 dropping_on (packet 1500) (packet 40 ∷ [])).control.first_above ≡ 0
+given_clears_above = refl
+
+-- so does an empty queue
+empty_ends_dropping : (codel_dequeue {A = ℕ} times 310 dropping_on []).control.dropping ≡ false
+empty_ends_dropping = refl
+
+empty_clears_above : (codel_dequeue {A = ℕ} times 310 dropping_on []).control.first_above ≡ 0
+empty_clears_above = refl
+
+-- 16 intervals from drop_next on: 50 + 1600
+after_drop_next : opening_count times 1649 (record (dropped_before 5 2) { drop_next = 50 }) ≡ 3
+after_drop_next = refl
+
+-- dropping that begins again with a count of 6 - 2 has its next drop after 100 / sqrt(4)
+begins_with_four : (begin_dropping times 1000 (dropped_before 6 2)).count ≡ 4
+begins_with_four = refl
+
+next_of_four : (begin_dropping times 1000 (dropped_before 6 2)).drop_next ≡ 1050
+unfolding control_step
+next_of_four = refl

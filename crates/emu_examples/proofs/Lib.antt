@@ -1,5 +1,7 @@
+mod AcknowledgementPorts
 mod AdaptiveFlow
 mod AdaptiveFlowFixed
+mod AdaptiveLoss
 mod AdaptiveSamples
 mod AllowLink
 mod AllowTrain
@@ -7,12 +9,19 @@ mod AllowTrainAgain
 mod BenchesAtOnce
 mod Bounds
 mod ByteLimit
+mod CodelConfigured
+mod CodelFourDrops
 mod CodelOneDrop
+mod CodelReentry
 mod CodelTwoDrops
+mod DeletedEverywhere
 mod ExitsInOrder
 mod FastRetransmit
+mod FiveFields
 mod FourExperiments
+mod FullAndLost
 mod HeldThreshold
+mod HeldThresholdGrown
 mod LimitPipes
 mod LimitRules
 mod LimitTrains
@@ -33,6 +42,7 @@ mod OneSlot
 mod PacketBudget
 mod PipeDeleted
 mod PipeMadeAnew
+mod PortsAndProtocols
 mod Random01
 mod Random02
 mod Random03
@@ -58,5 +68,6 @@ mod TracedBurst
 mod TracedFlow
 mod TracedMasked
 mod TracedTwoPipes
+mod TwoLosses
 mod TwoPipesInTurn
 mod TwoPipesThenDenied
