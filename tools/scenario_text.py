@@ -299,7 +299,8 @@ class Judged:
 
 
 COUNTERS = re.compile(rb"counters" + rb" ([0-9]+)" * 11)
-BODY = re.compile(rb"[0-9]+ (?:ok|refused|finish|pass|deliver|drop|ack|expire|spent).*|rule .*|pipe .*|instance .*")
+BODY = re.compile(rb"[0-9]+ (?:ok|refused|make|identify|arrive|finish|pass|deliver|drop|ack|expire|spent).*"
+                  rb"|rule .*|pipe .*|instance .*")
 CLOSING = re.compile(rb"[0-9]+ (?:ok [0-9]+|spent)")
 
 
