@@ -57,6 +57,7 @@ mod RefusedCommands
 mod RenoFourSegments
 mod RenoTimeouts
 mod RuleReplaced
+mod SenderSteps
 mod SharedRounding
 mod SpentEarly
 mod StepBudget
