@@ -34,6 +34,7 @@ mod LossWords
 mod LossWordsBoth
 mod MaskFixed
 mod MaskedInstances
+mod NetSteps
 mod NewRate
 mod OnePacket
 mod OnePacketHeld
