@@ -4,6 +4,8 @@ mod SlotChanges
 mod RowFacts
 mod KeptFacts
 mod TurnFacts
+pub mod CallerLemmas
+mod RunFacts
 mod SeatFacts
 mod RestartFacts
 mod PostFacts

@@ -1,24 +1,20 @@
--- What a turn does to the resident whose entry is least.
-use Rattle.std.proofs.Common.{◌≡◌, ◌≢◌, ℕ, ◌+◌, ◌*◌, ◌^◌, ◌<◌, ◌≤◌, true, false, List, set, Option, Some, None, IsSome, sym, ap, ◌∙◌, arith, subst}
+-- What turns do to the resident whose entry is least.
+use Rattle.std.proofs.Common.{◌≡◌, ◌≢◌, ℕ, ◌+◌, ◌*◌, ◌^◌, ◌<◌, ◌≤◌, List, set, Option, Some, None, IsSome, sym, ap, ◌∙◌, arith, subst}
 use Rattle.std.specs.Prelude.{IfSome, unwrap_or}
-use denote.Enum.Bare.{sameb}
 use Rattle.emu_model.specs.declared.records.Ending.{Ending}
 use Rattle.emu_model.specs.declared.sources.Source.{Source}
 use Rattle.emu_model.specs.Net.{counters_of}
 use Rattle.emu_model.specs.Step.{State}
 use Rattle.packet_store.specs.Pocket.{Pocket}
 use Rattle.timer_wheel.specs.Rows.{Row, no_dues}
-use Rattle.experiment.specs.contracts.experiment.Event.{the_type}
-use Rattle.experiment.specs.declared.experiment.Event.{Event}
-use Rattle.experiment.specs.declared.experiment.Event.TheVariants.{Ran, Ended, Halted, Still}
 use Rattle.experiment.specs.Kept.{view, shown_ending}
 use Rattle.shard.specs.Seen.{Seen, IsToldMore, IsPublished}
 use Rattle.shard.specs.declared.resident.Resident.{Resident}
 use Rattle.shard.specs.Stand.{Final}
 use Rattle.shard.specs.Kept.{next_kept}
 use Rattle.shard.specs.Seats.{IsDossierOf, resident_at, standing, IsSeated, IsShard}
-use Rattle.shard.specs.Steps.{IsLeast, IsLeaving, Steps}
-use Rattle.shard.specs.Turns.{IsTurn, IsEnd, last_state}
+use Rattle.shard.specs.Steps.{IsLeast, IsLeaving}
+use Rattle.shard.specs.Turns.{IsEnd, last_state}
 use Rattle.shard.proofs.Slots.{late-later}
 use Rattle.shard.proofs.SlotChanges.{seated_at, runs, IsAloneAt, GoesOn, IsChanged, stays, leaves}
 
@@ -42,25 +38,6 @@ module _ {M : Type 0} (seen : M → Seen) where
         late = late-later r.offset clock time on f.late;
         early = subst (λ t. t < 2 ^ 62 + 2 * 10 ^ 15) (sym at) (within_limit r.offset clock due running f.late (f.below source due was) early);
       }
-
-  -- it stays
-  pub record Stayed (p : Pocket) (old : Resident M) (q : Pocket) (row : Row) (clock : ℕ) (new : Resident M) : Type 0 where
-    pub seated : IsSeated seen q row clock new
-    pub owner : new.owner ≡ old.owner
-    pub turn : IsTurn seen (standing p old) (standing q new)
-
-  pub stayed : (a : Event) (p : Pocket) (old : Resident M) (q : Pocket) (row : Row) (clock : ℕ) (new : Resident M) → sameb the_type a Ran ≡ true → Steps seen a p old q row clock new → Stayed p old q row clock new
-  stayed Ran p old q row clock new e s = record { seated = s.0; owner = s.1; turn = s.2 }
-  stayed Ended p old q row clock new e s = absurd (cc)
-  stayed Halted p old q row clock new e s = absurd (cc)
-  stayed Still p old q row clock new e s = absurd s
-
-  -- it has ended
-  pub over : (a : Event) (p : Pocket) (old : Resident M) (q : Pocket) (row : Row) (clock : ℕ) (new : Resident M) → sameb the_type a Ran ≡ false → Steps seen a p old q row clock new → (e : Ending) × IsLeaving seen p q e old new
-  over Ran p old q row clock new e s = absurd (cc)
-  over Ended p old q row clock new e s = s
-  over Halted p old q row clock new e s = s
-  over Still p old q row clock new e s = absurd s
 
   pub ended : (p q : Pocket) (e : Ending) (old new : Resident M) (d : Final M) → IsLeaving seen p q e old new → IsDossierOf q new d → IsEnd seen (standing p old) d
   ended p q e old new d l done =
@@ -87,15 +64,11 @@ pub record Called {M : Type 0} (before after : ℕ → Pocket) (rows later : ℕ
   pub on : GoesOn clock time
 
 module _ {M : Type 0} (seen : M → Seen) where
-  -- the resident of a slot made a step and stays
-  pub ran : (before after : ℕ → Pocket) (rows later : ℕ → Row) (clock middle time : ℕ) (slots : List (Option (Resident M))) (k : ℕ) (r t : Resident M) (event : Event) → IsShard seen before rows clock slots → Called before after rows later clock time slots k r → time ≡ middle → sameb the_type event Ran ≡ true → Steps seen event (before r.owner) r (after r.owner) (later k) middle t →
-      IsChanged seen before after later time slots (set slots k (Some t)) k (Some t) × IsTurn seen (standing (before r.owner) r) (standing (after t.owner) t)
-  ran before after rows later clock middle time slots k r t event s a same e steps =
-      let m = stayed seen event (before r.owner) r (after r.owner) (later k) middle t e steps in
-      let seated : IsSeated seen (after r.owner) (later k) time t = subst (λ x. IsSeated seen (after r.owner) (later k) x t) (sym same) m.seated in (
-        stays seen before after rows later clock time slots k r t s a.on a.at seated m.owner,
-        subst (λ o. IsTurn seen (standing (before r.owner) r) (standing (after o) t)) (sym m.owner) m.turn,
-      )
+  -- the resident of a slot made turns and stays
+  pub ran : (before after : ℕ → Pocket) (rows later : ℕ → Row) (clock middle time : ℕ) (slots : List (Option (Resident M))) (k : ℕ) (r t : Resident M) → IsShard seen before rows clock slots → Called before after rows later clock time slots k r → time ≡ middle →
+      IsSeated seen (after r.owner) (later k) middle t → t.owner ≡ r.owner → IsChanged seen before after later time slots (set slots k (Some t)) k (Some t)
+  ran before after rows later clock middle time slots k r t s a same seated owner =
+      stays seen before after rows later clock time slots k r t s a.on a.at (subst (λ x. IsSeated seen (after r.owner) (later k) x t) (sym same) seated) owner
 
   -- the resident of a slot has ended and goes
   pub gone : (before after last : ℕ → Pocket) (rows later : ℕ → Row) (clock time : ℕ) (slots : List (Option (Resident M))) (k : ℕ) (r : Resident M) → IsShard seen before rows clock slots → Called before after rows later clock time slots k r → later k ≡ no_dues → ((o : ℕ) → o ≢ r.owner → last o ≡ after o) →

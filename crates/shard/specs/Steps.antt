@@ -1,5 +1,5 @@
 -- What a step does to a resident.
-use Rattle.std.specs.Prelude.{◌≡◌, ℕ, ◌+◌, ◌*◌, ◌^◌, ◌<◌, ◌≤◌, Some, IsSome, IfSome}
+use Rattle.std.specs.Prelude.{◌≡◌, ℕ, ◌+◌, ◌*◌, ◌^◌, ◌<◌, ◌≤◌, Bool, Some, IsSome, IfSome}
 use Rattle.emu_model.specs.declared.records.Ending.{Ending}
 use Rattle.emu_model.specs.declared.sources.Source.{Source}
 use Rattle.packet_store.specs.Pocket.{Pocket}
@@ -12,7 +12,7 @@ use Rattle.shard.specs.declared.resident.Resident.{Resident}
 use Rattle.shard.specs.Entries.{entries_of, row_at}
 use Rattle.shard.specs.Kept.{IsKept, IsGoing, next_kept}
 use Rattle.shard.specs.Seats.{standing, IsSeated}
-use Rattle.shard.specs.Turns.{IsTurn, last_state}
+use Rattle.shard.specs.Turns.{IsTurn, HasRun, LeavesOff, last_state}
 
 module _ {M : Type 0} where
   -- a resident whose entry is the least of the agenda
@@ -45,9 +45,44 @@ module _ {M : Type 0} where
     pub mail : IsToldMore seen old.mail new.mail
     pub published : IsPublished seen new.experiment.net.log.records new.mail
 
-  abbrev pub Steps : (M → Seen) → Event → Pocket → Resident M → Pocket → Row → ℕ → Resident M → Type 0
-  Steps seen Ran p old q row clock new =
-      IsSeated seen q row clock new × (new.owner ≡ old.owner) × IsTurn seen (standing p old) (standing q new)
-  Steps seen Ended p old q row clock new = (e : Ending) × IsLeaving seen p q e old new
-  Steps seen Halted p old q row clock new = (e : Ending) × IsLeaving seen p q e old new
-  Steps seen Still p old q row clock new = ⊥
+  -- a step, which leaves the entry as it was
+  abbrev pub Advances : (M → Seen) → Event → Pocket → Resident M → Pocket → Resident M → Type 0
+  Advances seen Ran p old q new =
+      IsGoing seen q new.experiment new.published new.mail × IsTurn seen (standing p old) (standing q new)
+  Advances seen Ended p old q new = (e : Ending) × IsLeaving seen p q e old new
+  Advances seen Halted p old q new = (e : Ending) × IsLeaving seen p q e old new
+  Advances seen Still p old q new = ⊥
+
+  -- it made n turns and stays; so many more than one were asked for
+  pub record HasStayed (seen : M → Seen) (may_refuse : Bool) (more n : ℕ) (p : Pocket) (old : Resident M) (q : Pocket) (new : Resident M) : Type 0 where
+    pub some : 1 ≤ n
+    pub few : n ≤ more + 1
+    pub left_off : LeavesOff may_refuse more n (standing q new)
+    pub turns : HasRun seen n (standing p old) (standing q new)
+    pub published : IsPublished seen new.experiment.net.log.records new.mail
+
+  -- it made n turns, after which it was `last`, and ended in the next one
+  pub record HasLeft (seen : M → Seen) (more n : ℕ) (p : Pocket) (old : Resident M) (q : Pocket) (new : Resident M) : Type 0 where
+    pub few : n ≤ more
+    pub pocket : Pocket
+    pub last : Resident M
+    pub owner : last.owner ≡ old.owner
+    pub turns : HasRun seen n (standing p old) (standing pocket last)
+    pub ending : Ending
+    pub leaving : IsLeaving seen pocket q ending last new
+
+  -- many turns, which leave the entry as it was
+  abbrev pub RunsOn : (M → Seen) → Bool → ℕ → ℕ → Event → Pocket → Resident M → Pocket → Resident M → Type 0
+  RunsOn seen may_refuse more n Ran p old q new =
+      HasStayed seen may_refuse more n p old q new × IsGoing seen q new.experiment new.published new.mail
+  RunsOn seen may_refuse more n Ended p old q new = HasLeft seen more n p old q new
+  RunsOn seen may_refuse more n Halted p old q new = HasLeft seen more n p old q new
+  RunsOn seen may_refuse more n Still p old q new = ⊥
+
+  -- many turns, after which the entry is what comes next
+  abbrev pub Runs : (M → Seen) → Bool → ℕ → ℕ → Event → Pocket → Resident M → Pocket → Row → ℕ → Resident M → Type 0
+  Runs seen may_refuse more n Ran p old q row clock new =
+      HasStayed seen may_refuse more n p old q new × IsSeated seen q row clock new × (new.owner ≡ old.owner)
+  Runs seen may_refuse more n Ended p old q row clock new = HasLeft seen more n p old q new
+  Runs seen may_refuse more n Halted p old q row clock new = HasLeft seen more n p old q new
+  Runs seen may_refuse more n Still p old q row clock new = ⊥

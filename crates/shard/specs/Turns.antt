@@ -1,10 +1,11 @@
 -- What the answers of a shard say, on its seats.
-use Rattle.std.specs.Prelude.{◌≡◌, ℕ, ◌+◌, ◌^◌, ◌<◌, ◌≤◌, ◌⊎◌, true, [], ◌∷◌, ◌++◌, Some, None, IsSome, slice_set}
+use Rattle.std.specs.Prelude.{◌≡◌, ℕ, zero, suc, ◌+◌, ◌^◌, ◌<◌, ◌≤◌, ◌⊎◌, Bool, true, [], ◌∷◌, ◌++◌, Some, None, IsSome, slice_set}
 use Rattle.emu_model.specs.declared.commands.Timed.{Timed}
 use Rattle.emu_model.specs.declared.records.Ending.{Ending}
 use Rattle.emu_model.specs.declared.records.Ending.TheVariants.{Ended as ByEnd, Spent, Halted}
 use Rattle.emu_model.specs.Net.{counters_of}
 use Rattle.emu_model.specs.Step.{State, step}
+use Rattle.emu_model.specs.Alone.{after_steps}
 use Rattle.emu_model.specs.Laws.{with_more}
 use Rattle.experiment.specs.Kept.{last_moment, shown_ending}
 use Rattle.shard.specs.Seen.{Seen, IsToldMore, IsPublished}
@@ -51,6 +52,15 @@ pub record IsEnd {M : Type 0} (seen : M → Seen) (s : Stand M) (d : Final M) : 
   pub mail : IsToldMore seen s.mail d.mail
   pub published : IsPublished seen d.records d.mail
 
+-- n steps were made one after the other, and letters were put into the mail
+pub record HasRun {M : Type 0} (seen : M → Seen) (n : ℕ) (s t : Stand M) : Type 0 where
+  pub name : t.name ≡ s.name
+  pub spec : t.spec ≡ s.spec
+  pub consumed : t.consumed ≡ s.consumed
+  pub state : t.state ≡ after_steps n s.state
+  pub made : t.state.steps ≡ s.state.steps + n
+  pub mail : IsToldMore seen s.mail t.mail
+
 -- the time of the agenda began anew: nobody is shown otherwise
 pub record IsRebased {M : Type 0} (old new : Seating M) : Type 0 where
   pub stands : stands_of new.seats ≡ stands_of old.seats
@@ -86,6 +96,58 @@ Turns {M} seen Idle old new =
 -- one turn, before which the time may have begun anew
 abbrev pub TurnsSettled : {M : Type 0} → (M → Seen) → Turned M → Seating M → Seating M → Type 0
 TurnsSettled {M} seen answer old new = (mid : Seating M) × Settles old mid × Turns seen answer mid new
+
+-- the resident of a slot made n turns one after the other, and every other slot is as before
+pub record RanFor {M : Type 0} (seen : M → Seen) (n name : ℕ) (old new : Seating M) (slot : ℕ) (s t : Seat M) : Type 0 where
+  pub was : seat_at old.seats slot ≡ Some s
+  pub name_is : s.stand.name ≡ name
+  pub ready : IsSome s.offset
+  pub turns : HasRun seen n s.stand t.stand
+  pub published : IsPublished seen t.stand.state.net.records t.stand.mail
+  pub others : new.seats ≡ slice_set old.seats slot (Some t)
+
+-- the resident of a slot made n turns, after which it stood so, and ended in the next one
+pub record EndedAfter {M : Type 0} (seen : M → Seen) (n : ℕ) (d : Final M) (old new : Seating M) (slot : ℕ) (s : Seat M) (t : Stand M) : Type 0 where
+  pub was : seat_at old.seats slot ≡ Some s
+  pub ready : IsSome s.offset
+  pub turns : HasRun seen n s.stand t
+  pub end : IsEnd seen t d
+  pub others : new.seats ≡ slice_set old.seats slot None
+
+-- why no further turn followed: there were as many as were asked for, there is no next command, or who watches may
+-- have said no
+abbrev pub LeavesOff : {M : Type 0} → Bool → ℕ → ℕ → Stand M → Type 0
+LeavesOff may_refuse more ran t = (ran ≡ more + 1) ⊎ ((t.state.left ≡ []) ⊎ (may_refuse ≡ true))
+
+-- one turn and at most so many more of the same resident, of which so many ran
+abbrev pub ManyTurns : {M : Type 0} → (M → Seen) → Bool → ℕ → ℕ → Turned M → Seating M → Seating M → Type 0
+ManyTurns {M} seen may_refuse more ran (Ran name) old new =
+    (1 ≤ ran) × (ran ≤ more + 1) × ((slot : ℕ) × (s : Seat M) × (t : Seat M) × LeavesOff may_refuse more ran t.stand × RanFor seen ran name old new slot s t)
+ManyTurns {M} seen may_refuse more ran (Ended d) old new =
+    (ran ≤ more) × ((slot : ℕ) × (s : Seat M) × (t : Stand M) × EndedAfter seen ran d old new slot s t)
+ManyTurns {M} seen may_refuse more ran Idle old new =
+    (ran ≡ 0) × (new ≡ old) × ((slot : ℕ) (s : Seat M) → seat_at old.seats slot ≡ Some s → s.offset ≡ None)
+
+-- the same, before which the time may have begun anew
+abbrev pub ManyTurnsSettled : {M : Type 0} → (M → Seen) → Bool → ℕ → ℕ → Turned M → Seating M → Seating M → Type 0
+ManyTurnsSettled {M} seen may_refuse more ran answer old new =
+    (mid : Seating M) × Settles old mid × ManyTurns seen may_refuse more ran answer mid new
+
+-- who watches heard a name so many times, and said yes each time
+abbrev pub SaidYes : {W : Type 0} → (ℕ → Bool → W → W → Type 0) → ℕ → ℕ → W → W → Type 0
+SaidYes {W} hears name zero v w = w ≡ v
+SaidYes {W} hears name (suc n) v w = (u : W) × SaidYes hears name n v u × hears name true u w
+
+-- who watches heard a name so many times, and said yes each time but perhaps the last
+abbrev pub Heard : {W : Type 0} → (ℕ → Bool → W → W → Type 0) → ℕ → ℕ → W → W → Type 0
+Heard {W} hears name zero v w = w ≡ v
+Heard {W} hears name (suc n) v w = (u : W) × SaidYes hears name n v u × ((answer : Bool) × hears name answer u w)
+
+-- the name of whose turns they were
+abbrev pub NamesIt : {M : Type 0} → Turned M → ℕ → Type 0
+NamesIt (Ran n) name = n ≡ name
+NamesIt (Ended d) name = d.name ≡ name
+NamesIt Idle name = Unit {0}
 
 -- a parcel came to the least vacant slot
 pub record TakenIn {M : Type 0} (parcel : Stand M) (old new : Seating M) (slot : ℕ) (s : Seat M) : Type 0 where

@@ -11,6 +11,7 @@ mod resident;
 mod shard;
 #[cfg(test)]
 mod tests;
+mod watch;
 
 pub use dossier::Dossier;
 pub use list_mail::ListMail;
@@ -18,3 +19,4 @@ pub use mail::Mail;
 pub use parcel::{Parcel, Unopened};
 pub use posts::{PostError, Vacant};
 pub use shard::{PackError, Polled, Shard, TakeInError, Turned};
+pub use watch::{Unwatched, Watch};

@@ -7,6 +7,7 @@ use crate::dossier::Dossier;
 use crate::mail::Mail;
 use crate::parcel::Parcel;
 use crate::shard::Polled;
+use crate::watch::Watch;
 use emu_model::{Class, Ending, Record, Source};
 use experiment::{ApplyError, Event, Experiment};
 use packet_store::{OwnShelf, Owner, Shelf, Store};
@@ -59,8 +60,8 @@ impl<M: Mail> Resident<M> {
     ghost use Rattle.experiment.specs.Kept.{view, IsAlone};
     ghost use Rattle.shard.specs.Kept.{IsKept, IsGoing};
     ghost use Rattle.shard.specs.Seats.{IsDossierOf, IsSeated, standing, seat};
-    ghost use Rattle.shard.specs.Turns.{Polls};
-    ghost use Rattle.shard.specs.Steps.{IsLeast, IsStale, Steps};
+    ghost use Rattle.shard.specs.Turns.{Polls, Heard};
+    ghost use Rattle.shard.specs.Steps.{IsLeast, IsStale, Advances, RunsOn, Runs};
 
     // Sets its entry anew, from the agenda's clock on. Parked where it has no next command, or where memory is
     // refused.
@@ -86,21 +87,64 @@ impl<M: Mail> Resident<M> {
         self.offset = Some(offset);
     }
 
-    // Makes one step, whose entry is the agenda's least.
-    pub(crate) fn step<A: Agenda>(
+    // Makes one step, and leaves its entry as it was.
+    fn advance(&mut self, store: &mut Store) -> Event
+        requires going { IsGoing M.seen (pocket_of store.old self.old.owner) self.old.experiment self.old.published self.old.mail }
+        requires next { IsSome self.old.experiment.next }
+        ensures advances { Advances M.seen result (pocket_of store.old self.old.owner) self.old (pocket_of store.new self.old.owner) self.new }
+        ensures owner { self.new.owner ≡ self.old.owner }
+        ensures offset { self.new.offset ≡ self.old.offset }
+        ensures others { (o : ℕ) → o ≢ self.old.owner → pocket_of store.new o ≡ pocket_of store.old o }
+    {
+        let event = self.experiment.event(store, self.owner);
+        self.published = publish(&mut self.mail, self.experiment.records(), self.published);
+        event
+    }
+
+    // Makes one step and at most `more` others, and leaves its entry as it was.
+    fn run_on<W: Watch>(&mut self, store: &mut Store, more: u32, watch: &mut W) -> Event
+        requires going { IsGoing M.seen (pocket_of store.old self.old.owner) self.old.experiment self.old.published self.old.mail }
+        requires next { IsSome self.old.experiment.next }
+        ensures runs { (n : ℕ) × Heard W.hears self.old.name n watch.old watch.new
+            × RunsOn M.seen W.may_refuse more n result (pocket_of store.old self.old.owner) self.old (pocket_of store.new self.old.owner) self.new }
+        ensures owner { self.new.owner ≡ self.old.owner }
+        ensures offset { self.new.offset ≡ self.old.offset }
+        ensures others { (o : ℕ) → o ≢ self.old.owner → pocket_of store.new o ≡ pocket_of store.old o }
+    {
+        for made in 0..more {
+            let event = self.advance(store);
+            if event != Event::Ran {
+                return event;
+            }
+            if !watch.ran(self.name) || !self.experiment.has_next() {
+                return Event::Ran;
+            }
+        }
+        let event = self.advance(store);
+        if event == Event::Ran {
+            let _ = watch.ran(self.name);
+        }
+        event
+    }
+
+    // Makes one step and at most `more` others while it has a next command, it doesn't end and `watch` says yes. Its
+    // entry is the agenda's least.
+    pub(crate) fn run<A: Agenda, W: Watch>(
         &mut self,
         store: &mut Store,
         agenda: &mut A,
         slot: usize,
+        more: u32,
+        watch: &mut W,
     ) -> Event
         requires least { IsLeast M.seen (pocket_of store.old self.old.owner) (A.entries agenda.old slot) (A.time agenda.old) self.old }
-        ensures steps { Steps M.seen result (pocket_of store.old self.old.owner) self.old (pocket_of store.new self.old.owner) (A.entries agenda.new slot) (A.time agenda.old) self.new }
+        ensures runs { (n : ℕ) × Heard W.hears self.old.name n watch.old watch.new
+            × Runs M.seen W.may_refuse more n result (pocket_of store.old self.old.owner) self.old (pocket_of store.new self.old.owner) (A.entries agenda.new slot) (A.time agenda.old) self.new }
         ensures others { (o : ℕ) → o ≢ self.old.owner → pocket_of store.new o ≡ pocket_of store.old o }
         ensures rows { (o : ℕ) → o ≢ slot → A.entries agenda.new o ≡ A.entries agenda.old o }
         ensures time { A.time agenda.new ≡ A.time agenda.old }
     {
-        let event = self.experiment.event(store, self.owner);
-        self.published = publish(&mut self.mail, self.experiment.records(), self.published);
+        let event = self.run_on(store, more, watch);
         if event == Event::Ran {
             self.set_again(agenda, slot);
         }

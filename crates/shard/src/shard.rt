@@ -10,6 +10,7 @@ use crate::dossier::Dossier;
 use crate::mail::Mail;
 use crate::parcel::Parcel;
 use crate::resident::Resident;
+use crate::watch::{Unwatched, Watch};
 use emu_model::{Record, Timed};
 use experiment::Event;
 use packet_store::{OwnShelf, Shelf, Store};
@@ -88,7 +89,7 @@ impl<A: Agenda, M: Mail> Model for Shard<A, M> {
 impl<A: Agenda, M: Mail> Shard<A, M> {
     ghost use Rattle.std.specs.Prelude.{◌≡◌, ◌≢◌, ℕ, ◌≤◌, ◌<◌, ◌^◌, None, Some, IfOk, IfErr, IfSome, IfNone, OnErr, IsSome, MatchOption, length, IsTrue, IsFalse};
     ghost use Rattle.shard.specs.Stand.{seat_at, stands_of, Seat, IsTold};
-    ghost use Rattle.shard.specs.Turns.{Turns, TurnsSettled, TakenIn, ComesBack, PackedAt, IsPoll, IsRebased};
+    ghost use Rattle.shard.specs.Turns.{TurnsSettled, ManyTurns, ManyTurnsSettled, Heard, NamesIt, TakenIn, ComesBack, PackedAt, IsPoll, IsRebased};
 
     /// A shard without residents, whose clock is 0.
     pub fn new(alloc: Global) -> Result<Self, AllocError>
@@ -124,16 +125,26 @@ impl<A: Agenda, M: Mail> Shard<A, M> {
     pub fn turn(&mut self) -> Turned<M>
         ensures { TurnsSettled M.seen result self.old self.new }
     {
+        self.turns(0, &mut Unwatched)
+    }
+
+    /// `turn`, and then at most `more` further events of the same resident, whatever else is due before: while it has
+    /// a next command, doesn't end, and `watch` says yes, which hears of each that ran.
+    pub fn turns<W: Watch>(&mut self, more: u32, watch: &mut W) -> Turned<M>
+        ensures { (ran name : ℕ) × Heard W.hears name ran watch.old watch.new × NamesIt result name
+            × ManyTurnsSettled M.seen W.may_refuse more ran result self.old self.new }
+    {
         if self.agenda.clock() >= LATEST_CLOCK {
             self.rebase();
         }
-        self.turn_now()
+        self.turns_now(more, watch)
     }
 
-    // One event of one resident.
-    fn turn_now(&mut self) -> Turned<M>
+    // The events of one resident.
+    fn turns_now<W: Watch>(&mut self, more: u32, watch: &mut W) -> Turned<M>
         requires early { self.old.clock < 2 ^ 62 }
-        ensures { Turns M.seen result self.old self.new }
+        ensures { (ran name : ℕ) × Heard W.hears name ran watch.old watch.new × NamesIt result name
+            × ManyTurns M.seen W.may_refuse more ran result self.old self.new }
     {
         let Some(entry) = self.agenda.move_to_least() else {
             return Turned::Idle;
@@ -144,7 +155,7 @@ impl<A: Agenda, M: Mail> Shard<A, M> {
         };
         self.turned = slot;
         let name = resident.name;
-        let event = resident.step(&mut self.store, &mut self.agenda, slot);
+        let event = resident.run(&mut self.store, &mut self.agenda, slot, more, watch);
         if event == Event::Ran {
             return Turned::Ran(name);
         }
