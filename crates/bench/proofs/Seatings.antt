@@ -5,7 +5,7 @@ use Rattle.std.proofs.lemmas.Bool.Decides.{Decides-eqb}
 use Rattle.std.proofs.lemmas.List.Sums.{sum_by-set, sum_by-append, sum_by-cons}
 use Rattle.shard.specs.Stand.{Stand, Seat, Seating, Final, seat_at, stand_in, stands_of}
 use Rattle.shard.specs.declared.shard.Turned.TheVariants.{Ran, Ended, Idle}
-use Rattle.shard.specs.Turns.{TakenIn, Settles, TurnsSettled}
+use Rattle.shard.specs.Turns.{TakenIn, Settles, ManyTurnsSettled}
 use Rattle.bench.specs.declared.mail.RingMail.{RingMail}
 use Rattle.bench.specs.Rings.{ring_seen}
 use Rattle.bench.specs.Custody.{times, seat_named, seated, AreResidents}
@@ -86,32 +86,34 @@ went_seated x old seats slot s was others =
     let e = ap (seated x) others in
     omega arith
 
--- after a step all names are there
-pub ran_seated : (x name : ℕ) (old new : Seating RingMail) → TurnsSettled ring_seen (Ran name) old new → seated x new.seats ≡ seated x old.seats
-ran_seated x name old new h =
+-- after turns all names are there
+pub ran_seated : (x name : ℕ) (may_refuse : Bool) (more ran : ℕ) (old new : Seating RingMail) → ManyTurnsSettled ring_seen may_refuse more ran (Ran name) old new → seated x new.seats ≡ seated x old.seats
+ran_seated x name may_refuse more ran old new h =
     let mid = h.0 in
-    let r = h.2.3 in
-    let slot = h.2.0 in
-    let s = h.2.1 in
-    let t = h.2.2 in
+    let turns = h.2.2 in
+    let slot = turns.0 in
+    let s = turns.1 in
+    let t = turns.2 in
+    let r = turns.4 in
     let c = changed x mid.seats slot (Some s) (Some t) (held_inside mid.seats slot s r.was) r.was in
     let e = ap (seated x) r.others in
     let f : seat_named x (Some s) ≡ one_of x s.stand.name = refl in
     let g : seat_named x (Some t) ≡ one_of x t.stand.name = refl in
-    let n = same_one x t.stand.name s.stand.name r.turn.name in
+    let n = same_one x t.stand.name s.stand.name r.turns.name in
     let m = settled_seated x old mid h.1 in
     omega arith
 
-pub idle_seated : (x : ℕ) (old new : Seating RingMail) → TurnsSettled ring_seen Idle old new → seated x new.seats ≡ seated x old.seats
-idle_seated x old new h = ap (λ (g : Seating RingMail). seated x g.seats) h.2.0 ∙ settled_seated x old h.0 h.1
+pub idle_seated : (x : ℕ) (may_refuse : Bool) (more ran : ℕ) (old new : Seating RingMail) → ManyTurnsSettled ring_seen may_refuse more ran Idle old new → seated x new.seats ≡ seated x old.seats
+idle_seated x may_refuse more ran old new h = ap (λ (g : Seating RingMail). seated x g.seats) h.2.1 ∙ settled_seated x old h.0 h.1
 
 -- after an end all others are there
-pub ended_seated : (x : ℕ) (d : Final RingMail) (old new : Seating RingMail) → TurnsSettled ring_seen (Ended d) old new → seated x new.seats + one_of x d.name ≡ seated x old.seats
-ended_seated x d old new h =
+pub ended_seated : (x : ℕ) (d : Final RingMail) (may_refuse : Bool) (more ran : ℕ) (old new : Seating RingMail) → ManyTurnsSettled ring_seen may_refuse more ran (Ended d) old new → seated x new.seats + one_of x d.name ≡ seated x old.seats
+ended_seated x d may_refuse more ran old new h =
     let mid = h.0 in
-    let r = h.2.2 in
-    let g = went_seated x mid new.seats h.2.0 h.2.1 r.was r.others in
-    let n = same_one x d.name h.2.1.stand.name r.end.name in
+    let turns = h.2.1 in
+    let r = turns.3 in
+    let g = went_seated x mid new.seats turns.0 turns.1 r.was r.others in
+    let n = same_one x d.name turns.1.stand.name (r.end.name ∙ r.turns.name) in
     let m = settled_seated x old mid h.1 in
     omega arith
 
@@ -119,9 +121,9 @@ itself : (n : ℕ) → one_of n n ≡ 1
 itself n = let f : Bool → ℕ = λ b. cond b 1 0 in ap f ((Decides-eqb n n).1 refl)
 
 -- one of the name ended, so the list has it
-pub ended_there : (names : List ℕ) (d : Final RingMail) (old new : Seating RingMail) → AreResidents names old.seats → TurnsSettled ring_seen (Ended d) old new → 0 < times d.name names
-ended_there names d old new sits h =
-    let g = ended_seated d.name d old new h in
+pub ended_there : (names : List ℕ) (d : Final RingMail) (may_refuse : Bool) (more ran : ℕ) (old new : Seating RingMail) → AreResidents names old.seats → ManyTurnsSettled ring_seen may_refuse more ran (Ended d) old new → 0 < times d.name names
+ended_there names d may_refuse more ran old new sits h =
+    let g = ended_seated d.name d may_refuse more ran old new h in
     let a = sits d.name in
     let i = itself d.name in
     omega arith
@@ -163,9 +165,9 @@ goes_out names fewer n old new slot s sits was others is lacks x =
     let h = sits x in
     omega arith
 
-pub ends : (names fewer : List ℕ) (n : ℕ) (d : Final RingMail) (old new : Seating RingMail) → AreResidents names old.seats → TurnsSettled ring_seen (Ended d) old new → n ≡ d.name → LacksOne n names fewer → AreResidents fewer new.seats
-ends names fewer n d old new sits t is lacks x =
-    let a = ended_seated x d old new t in
+pub ends : (names fewer : List ℕ) (n : ℕ) (d : Final RingMail) (may_refuse : Bool) (more ran : ℕ) (old new : Seating RingMail) → AreResidents names old.seats → ManyTurnsSettled ring_seen may_refuse more ran (Ended d) old new → n ≡ d.name → LacksOne n names fewer → AreResidents fewer new.seats
+ends names fewer n d may_refuse more ran old new sits t is lacks x =
+    let a = ended_seated x d may_refuse more ran old new t in
     let b = lacks x in
     let c = same_one x n d.name is in
     let h = sits x in

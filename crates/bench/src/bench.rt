@@ -9,7 +9,7 @@ use crate::deque::{Deque, Peer};
 use crate::mail::RingMail;
 use crate::names::remove_one;
 use crossbeam_deque::Steal;
-use shard::{PackError, Parcel, Polled, Shard, TakeInError, Turned};
+use shard::{PackError, Parcel, Polled, Shard, TakeInError, Turned, Unwatched, Watch};
 use std::alloc::{AllocError, Global};
 use timer_wheel::Wheel;
 
@@ -68,7 +68,7 @@ pub enum AdoptError {
 impl Bench {
     ghost use Rattle.std.specs.Prelude.{◌≡◌, ◌≢◌, ◌+◌, ◌≤◌, ℕ, None, Some, true, false, [], IfOk, OnOk, IfErr, OnErr, IfSome, IfNone, MatchOption};
     ghost use Rattle.shard.specs.Stand.{Seat, seat_at, IsTold};
-    ghost use Rattle.shard.specs.Turns.{TurnsSettled, IsPoll};
+    ghost use Rattle.shard.specs.Turns.{TurnsSettled, ManyTurnsSettled, Heard, NamesIt, IsPoll};
     ghost use Rattle.bench.specs.Rings.{ring_seen};
     ghost use Rattle.bench.specs.Custody.{hand, times, named, seated};
     ghost use Rattle.bench.specs.Ends.{peer_view};
@@ -146,7 +146,19 @@ impl Bench {
         ensures lists { NotesEnd result self.old self.new }
         ensures peered { self.new.peered ≡ self.old.peered }
     {
-        match self.shard.turn() {
+        self.turns(0, &mut Unwatched)
+    }
+
+    /// `turn`, and then at most `more` further events of the same resident, while it has a next command, doesn't end,
+    /// and `watch` says yes, which hears of each that ran.
+    pub fn turns<W: Watch>(&mut self, more: u32, watch: &mut W) -> Turned<RingMail>
+        ensures shard { (ran name : ℕ) × Heard W.hears name ran watch.old watch.new × NamesIt result name
+            × ManyTurnsSettled ring_seen W.may_refuse more ran result (bench_seating self.old) (bench_seating self.new) }
+        ensures view { bench_view self.new ≡ bench_view self.old }
+        ensures lists { NotesEnd result self.old self.new }
+        ensures peered { self.new.peered ≡ self.old.peered }
+    {
+        match self.shard.turns(more, watch) {
             Turned::Ended(dossier) => {
                 let name = dossier.name();
                 self.ended.push_reserved(name);

@@ -4,9 +4,10 @@ use Rattle.std.specs.Io.KnownBytes.{Appends, Keeps}
 use Rattle.emu_model.specs.Alone.{Trace}
 use Rattle.control.specs.declared.scenario.Experiment.{Experiment}
 use Rattle.lab.specs.Bytes.{IsCut, Puts, Stops}
-use Rattle.lab.specs.Reports.{trace_alone, reports_with, reports, tally, Reads, Writes, WritesCut}
+use Rattle.std.specs.Prelude.{flat_map}
+use Rattle.lab.specs.Reports.{trace_alone, reports_with, report_alone, reports, tally, Reads, Writes, WritesCut}
 use Rattle.lab.proofs.Writing.{writing_none, writing_done, appends_kept, puts_both, stops_behind}
-use Rattle.lab.proofs.Reporting.{reports_alone}
+use Rattle.lab.proofs.Reporting.{reports_alone, texts_alone}
 
 cut-all : (a b : Option (List ℕ)) (kept bytes : List ℕ) → kept ≡ [] → Stops a kept b bytes → IsCut a b bytes
 unfolding Stops
@@ -37,6 +38,30 @@ reports_written read a b c kept l es plans ts reads none are left f g = (
   reads,
   subst (Appends a c) (append-nil (reports_with plans ts) ∙ same-reports es plans ts are left)
       (all-written a c kept (reports_with plans ts ++ []) none (puts_both a b c kept l [] (reports_with plans ts) [] f g)),
+)
+
+-- the same of texts that were made before
+same-texts : (es plans : List Experiment) (texts : List (List ℕ)) → plans ≡ es → texts ≡ map report_alone plans → flat_map (λ x. x) texts ≡ reports es
+same-texts es plans texts are made = ap (flat_map (λ x. x)) made ∙ texts_alone plans ∙ ap reports are
+
+pub texts_cut : (read a b : Option (List ℕ)) (kept : List ℕ) (es plans : List Experiment) (texts : List (List ℕ)) → Reads read es → kept ≡ [] → plans ≡ es → texts ≡ map report_alone plans →
+    Stops a kept b (flat_map (λ x. x) texts) → WritesCut reports read a b
+texts_cut read a b kept es plans texts reads none are made f =
+    (es, reads, subst (IsCut a b) (same-texts es plans texts are made) (cut-all a b kept (flat_map (λ x. x) texts) none f))
+
+pub texts_cut_after : (read a b c : Option (List ℕ)) (kept l : List ℕ) (es plans : List Experiment) (texts : List (List ℕ)) → Reads read es → kept ≡ [] → plans ≡ es → texts ≡ map report_alone plans →
+    Puts a kept b l (flat_map (λ x. x) texts) → Stops b l c [] → WritesCut reports read a c
+texts_cut_after read a b c kept l es plans texts reads none are made f g =
+    texts_cut read a c kept es plans texts reads none are made
+    (subst (Stops a kept c) (append-nil (flat_map (λ x. x) texts)) (stops_behind a b c kept l (flat_map (λ x. x) texts) [] f g))
+
+pub texts_written : (read a b c : Option (List ℕ)) (kept l : List ℕ) (es plans : List Experiment) (texts : List (List ℕ)) → Reads read es → kept ≡ [] → plans ≡ es → texts ≡ map report_alone plans →
+    Puts a kept b l (flat_map (λ x. x) texts) → Puts b l c [] [] → Writes reports read a c
+texts_written read a b c kept l es plans texts reads none are made f g = (
+  es,
+  reads,
+  subst (Appends a c) (append-nil (flat_map (λ x. x) texts) ∙ same-texts es plans texts are made)
+      (all-written a c kept (flat_map (λ x. x) texts ++ []) none (puts_both a b c kept l [] (flat_map (λ x. x) texts) [] f g)),
 )
 
 -- the line of `check`

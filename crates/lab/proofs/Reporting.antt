@@ -9,7 +9,7 @@ use Rattle.report.specs.Lines.{line_of, heading_of, counters_of, report_of}
 use Rattle.emu_model.specs.Alone.{Trace}
 use Rattle.control.specs.declared.scenario.Experiment.{Experiment}
 use Rattle.lab.specs.Bytes.{Puts, Stops}
-use Rattle.lab.specs.Reports.{trace_alone, report_with, reports_with, reports}
+use Rattle.lab.specs.Reports.{trace_alone, report_with, reports_with, report_alone, reports}
 use Rattle.lab.proofs.Writing.{puts_both, stops_before, stops_behind}
 
 pub heading_puts : (a b c d : Option (List ℕ)) (k l m n name : List ℕ) → Puts a k b l (codes "experiment ") → Puts b l c m name → Puts c m d n (codes "\n") → Puts a k d n (heading_of name)
@@ -52,31 +52,50 @@ report_puts_as a b c d k l m n name told rs listed cs counted is are count f g h
     (subst (λ (t : List Record). Puts b l c m (flat_map line_of t)) are g)
     (subst (λ (t : Counters). Puts c m d n (counters_of t)) count h)
 
--- the lines of records in their turns
-one-line : (rs : List Record) (i : ℕ) (r : Record) → i < length rs → r ≡ slice_index_or rs i r →
-    flat_map line_of (take i rs) ++ line_of r ≡ flat_map line_of (take (i + 1) rs)
-one-line rs i r below is =
-    ap (λ (l : List ℕ). flat_map line_of (take i rs) ++ l) (sym (append-nil (line_of r)))
-    ∙ sym (flat_map-append line_of (take i rs) (r ∷ []))
-    ∙ ap (λ (t : Record). flat_map line_of (take i rs ++ t ∷ [])) is
-    ∙ ap (flat_map line_of) (sym (take_more rs i r below))
+-- pieces in their turns
+module _ {A : Type 0} (f : A → List ℕ) where
+  one-piece : (rs : List A) (i : ℕ) (r : A) → i < length rs → r ≡ slice_index_or rs i r →
+      flat_map f (take i rs) ++ f r ≡ flat_map f (take (i + 1) rs)
+  one-piece rs i r below is =
+      ap (λ (l : List ℕ). flat_map f (take i rs) ++ l) (sym (append-nil (f r)))
+      ∙ sym (flat_map-append f (take i rs) (r ∷ []))
+      ∙ ap (λ (t : A). flat_map f (take i rs ++ t ∷ [])) is
+      ∙ ap (flat_map f) (sym (take_more rs i r below))
 
-all-lines : (rs : List Record) (i : ℕ) → flat_map line_of (take i rs) ++ flat_map line_of (drop i rs) ≡ flat_map line_of rs
-all-lines rs i = sym (flat_map-append line_of (take i rs) (drop i rs)) ∙ ap (flat_map line_of) (take-append-drop i rs)
+  all-pieces : (rs : List A) (i : ℕ) → flat_map f (take i rs) ++ flat_map f (drop i rs) ≡ flat_map f rs
+  all-pieces rs i = sym (flat_map-append f (take i rs) (drop i rs)) ∙ ap (flat_map f) (take-append-drop i rs)
 
+  pieces_puts : (a b c : Option (List ℕ)) (k l m : List ℕ) (rs : List A) (i : ℕ) (r : A) → i < length rs → r ≡ slice_index_or rs i r →
+      Puts a k b l (flat_map f (take i rs)) → Puts b l c m (f r) → Puts a k c m (flat_map f (take (i + 1) rs))
+  pieces_puts a b c k l m rs i r below is g h =
+      subst (Puts a k c m) (one-piece rs i r below is) (puts_both a b c k l m (flat_map f (take i rs)) (f r) g h)
+
+  pieces_stops : (a b c : Option (List ℕ)) (k l : List ℕ) (rs : List A) (i : ℕ) (r : A) → i < length rs → r ≡ slice_index_or rs i r →
+      Puts a k b l (flat_map f (take i rs)) → Stops b l c (f r) → Stops a k c (flat_map f rs)
+  pieces_stops a b c k l rs i r below is g h =
+      subst (Stops a k c) (all-pieces rs (i + 1)) (
+      stops_before a c k (flat_map f (take (i + 1) rs)) (flat_map f (drop (i + 1) rs)) (
+      subst (Stops a k c) (one-piece rs i r below is) (stops_behind a b c k l (flat_map f (take i rs)) (f r) g h)
+      )
+      )
+
+-- the lines of records
 pub records_puts : (a b c : Option (List ℕ)) (k l m : List ℕ) (rs : List Record) (i : ℕ) (r : Record) → i < length rs → r ≡ slice_index_or rs i r →
     Puts a k b l (flat_map line_of (take i rs)) → Puts b l c m (line_of r) → Puts a k c m (flat_map line_of (take (i + 1) rs))
-records_puts a b c k l m rs i r below is f g =
-    subst (Puts a k c m) (one-line rs i r below is) (puts_both a b c k l m (flat_map line_of (take i rs)) (line_of r) f g)
+records_puts = pieces_puts line_of
 
 pub records_stops : (a b c : Option (List ℕ)) (k l : List ℕ) (rs : List Record) (i : ℕ) (r : Record) → i < length rs → r ≡ slice_index_or rs i r →
     Puts a k b l (flat_map line_of (take i rs)) → Stops b l c (line_of r) → Stops a k c (flat_map line_of rs)
-records_stops a b c k l rs i r below is f g =
-    subst (Stops a k c) (all-lines rs (i + 1)) (
-    stops_before a c k (flat_map line_of (take (i + 1) rs)) (flat_map line_of (drop (i + 1) rs)) (
-    subst (Stops a k c) (one-line rs i r below is) (stops_behind a b c k l (flat_map line_of (take i rs)) (line_of r) f g)
-    )
-    )
+records_stops = pieces_stops line_of
+
+-- texts that were made before
+pub texts_puts : (a b c : Option (List ℕ)) (k l m : List ℕ) (ts : List (List ℕ)) (i : ℕ) (t : List ℕ) → i < length ts → t ≡ slice_index_or ts i t →
+    Puts a k b l (flat_map (λ x. x) (take i ts)) → Puts b l c m t → Puts a k c m (flat_map (λ x. x) (take (i + 1) ts))
+texts_puts = pieces_puts (λ x. x)
+
+pub texts_stops : (a b c : Option (List ℕ)) (k l : List ℕ) (ts : List (List ℕ)) (i : ℕ) (t : List ℕ) → i < length ts → t ≡ slice_index_or ts i t →
+    Puts a k b l (flat_map (λ x. x) (take i ts)) → Stops b l c t → Stops a k c (flat_map (λ x. x) ts)
+texts_stops = pieces_stops (λ x. x)
 
 -- the reports of experiments in their turns
 one-report : (es : List Experiment) (ts : List Trace) (i : ℕ) (e : Experiment) (t : Trace) → i < length es → i < length ts →
@@ -128,3 +147,8 @@ reports_stops a b c k l es ts i e t below short is at f g =
 pub reports_alone : (es : List Experiment) → reports_with es (map trace_alone es) ≡ reports es
 reports_alone [] = refl
 reports_alone (e ∷ es) = ap (λ (l : List ℕ). report_with e (trace_alone e) ++ l) (reports_alone es)
+
+-- all of them
+pub texts_alone : (es : List Experiment) → flat_map (λ x. x) (map report_alone es) ≡ reports es
+texts_alone [] = refl
+texts_alone (e ∷ es) = ap (λ (l : List ℕ). report_alone e ++ l) (texts_alone es)

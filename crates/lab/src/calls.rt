@@ -13,6 +13,7 @@ use crate::input::read_text;
 use crate::output::Buffer;
 use crate::plan::{Gate, Plan};
 use crate::progress::{Progress, Silent};
+use crate::texts::texts_together;
 use crate::together::run_together;
 use control::{Experiment, ParseError, Scenario, parse_scenario};
 use itoa::Buffer as Digits;
@@ -111,7 +112,7 @@ pub fn run<H: Threads + Wait + Sync, R: Inlet, W: Outlet, G: Gate>(
 }
 
 /// `run`, with somebody who is told how many experiments have ended.
-#[tactic(auto, using(crate::proofs::Endings::reports_written, crate::proofs::Endings::reports_cut, crate::proofs::Endings::reports_cut_after))]
+#[tactic(auto, using(crate::proofs::Endings::texts_written, crate::proofs::Endings::texts_cut, crate::proofs::Endings::texts_cut_after))]
 pub fn run_told<H: Threads + Wait + Sync, R: Inlet, W: Outlet, G: Gate, P: Progress + Sync>(
     rt: &H,
     alloc: Global,
@@ -131,10 +132,11 @@ pub fn run_told<H: Threads + Wait + Sync, R: Inlet, W: Outlet, G: Gate, P: Progr
     let scenario = read_scenario(alloc, reader)?;
     let plans = scenario.experiments();
     let left = run_together(rt, alloc, plans, plan, gate, progress)?;
+    let texts = texts_together(rt, alloc, plans, left, plan.workers)?;
     let Ok(mut buffer) = Buffer::new(alloc) else {
         return Err(RunFault::Memory);
     };
-    let Ok(()) = buffer.put_reports(writer, plans, left.as_slice()) else {
+    let Ok(()) = buffer.put_texts(writer, texts.as_slice()) else {
         return Err(RunFault::Write);
     };
     let Ok(()) = buffer.finish(writer) else {

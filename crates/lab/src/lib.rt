@@ -14,6 +14,7 @@ mod progress;
 mod tenants;
 #[cfg(test)]
 mod tests;
+mod texts;
 mod together;
 mod worker;
 

@@ -7,6 +7,7 @@ ghost use Rattle.lab.specs.Reports.{reports_with, report_with};
 
 use crate::alone::Outcome;
 use crate::ends::{Failed, Outlet, flush_all, write_all};
+use crate::texts::Text;
 use control::Experiment as Plan;
 use emu_model::{Counters, Record};
 use report::{write_counters, write_record};
@@ -176,6 +177,19 @@ impl Buffer {
     {
         for index in 0..plans.len() {
             self.put_report(writer, &plans[index], &outcomes[index])?;
+        }
+        Ok(())
+    }
+
+    /// Puts reports that were made before, one after the other.
+    #[tactic(auto, using(crate::proofs::Writing::puts_none, crate::proofs::Reporting::texts_puts, crate::proofs::Reporting::texts_stops))]
+    pub fn put_texts<W: Outlet>(&mut self, writer: &mut W, texts: &[Text]) -> Result<(), Failed>
+        ensures ok { OnOk result (Puts (W.contents writer.old) self.old (W.contents writer.new) self.new (flat_map (λ t. t) texts.now)) }
+        ensures cut { OnErr result (Stops (W.contents writer.old) self.old (W.contents writer.new) (flat_map (λ t. t) texts.now)) }
+        ensures failed { OnErr result (W.failed writer.new ≡ true) }
+    {
+        for text in texts {
+            self.put(writer, text.as_bytes())?;
         }
         Ok(())
     }

@@ -1,14 +1,14 @@
 //! What one worker does: it turns the residents of its bench, offers one of them now and then, and fetches others
 //! where it has nothing to do.
 
-ghost use Rattle.std.specs.Prelude.{◌≡◌, true, IfErr};
+ghost use Rattle.std.specs.Prelude.{◌≡◌, true, IfErr, IsTrue, Unit};
 ghost use Rattle.lab.specs.Plans.{IsWorkFault, IsMemory, is_honest};
 
 use crate::fault::RunFault;
 use crate::plan::{Gate, Plan};
 use crate::progress::Progress;
 use bench::{AdoptError, Bench, Closing, OfferError, Peer, RetakeError, RingMail};
-use shard::{Dossier, Parcel, Polled, TakeInError, Turned};
+use shard::{Dossier, Parcel, Polled, TakeInError, Turned, Watch};
 use std::alloc::Global;
 use std::marker::PhantomData;
 use std::sync::Wait;
@@ -17,6 +17,9 @@ use std::thread;
 
 /// How many slots a bench has.
 const SLOTS: usize = 256;
+
+/// How many turns one experiment makes before another's: what it holds is at hand then.
+const AT_ONCE: u32 = 64;
 
 /// What the workers share: how many experiments have ended, and whether there is a fault. Nothing is claimed of
 /// either.
@@ -71,7 +74,31 @@ pub(crate) struct Report<G: Gate> {
     pub ghost honest: { is_honest G.may_refuse fault ≡ true },
 }
 
-// What a worker has at hand.
+// Asks the gate after each turn of a bench, and counts them.
+struct Watching<'a, G: Gate> {
+    gate: &'a G,
+    bench: u32,
+    turns: u32,
+    refused: bool,
+    ghost honest: { IsTrue refused → G.may_refuse ≡ true },
+}
+
+impl<G: Gate> Watch for Watching<'_, G> {
+    ghost may_refuse = { G.may_refuse };
+
+    ghost hears = { λ _ _ _ _. Unit {0} };
+
+    fn ran(&mut self, name: u32) -> bool {
+        self.turns = self.turns.wrapping_add(1);
+        if self.gate.ran(self.bench, name) {
+            return true;
+        }
+        self.refused = true;
+        false
+    }
+}
+
+// What a worker has at hand, and how many turns were made since it offered a resident last.
 #[derive(Drop)]
 struct Desk {
     number: u32,
@@ -171,26 +198,34 @@ impl Desk {
         Ok(any)
     }
 
-    // After a turn of a resident: it is offered where its time has come, and else polled, so that its next command
-    // comes and its records are published.
-    fn after<G: Gate>(&mut self, name: u32, moves: u32, gate: &G) -> Result<(), RunFault>
-        ensures { IfErr result (IsWorkFault G.may_refuse) }
+    // After turns of a resident: it is polled, so that its next command comes and its records are published, and it is
+    // offered where its time has come.
+    fn after(&mut self, name: u32, moves: u32) -> Result<(), RunFault>
+        ensures { IfErr result IsMemory }
     {
-        if !gate.ran(self.number, name) {
-            return Err(RunFault::Gate);
-        }
         let Some(slot) = self.bench.slot_of(name) else {
             return Ok(());
         };
         self.poll(slot)?;
-        self.turns = self.turns.wrapping_add(1);
-        if moves > 0 && self.turns % moves == 0 {
+        if moves > 0 && self.turns >= moves {
+            self.turns = 0;
             self.offer(slot)?;
         }
         Ok(())
     }
 
-    // One turn. Whether something ran.
+    // How many turns may follow the next one at once.
+    fn more(&self, moves: u32) -> u32 {
+        if moves == 0 {
+            return AT_ONCE - 1;
+        }
+        moves
+            .saturating_sub(self.turns)
+            .clamp(1, AT_ONCE)
+            .saturating_sub(1)
+    }
+
+    // Some turns of one resident. Whether something ran.
     fn turn<G: Gate, P: Progress>(
         &mut self,
         moves: u32,
@@ -203,9 +238,21 @@ impl Desk {
         if self.dossiers.reserve(1).is_err() {
             return Err(RunFault::Memory);
         }
-        match self.bench.turn() {
+        let more = self.more(moves);
+        let mut watching = Watching {
+            gate,
+            bench: self.number,
+            turns: 0,
+            refused: false,
+        };
+        let turned = self.bench.turns(more, &mut watching);
+        self.turns = self.turns.wrapping_add(watching.turns);
+        if watching.refused {
+            return Err(RunFault::Gate);
+        }
+        match turned {
             Turned::Ran(name) => {
-                self.after(name, moves, gate)?;
+                self.after(name, moves)?;
                 return Ok(true);
             }
             Turned::Ended(dossier) => {
