@@ -31,6 +31,7 @@ impl ExperimentName {
         })
     }
 
+    /// Its bytes.
     pub fn as_bytes(&self) -> &[u8]
         ensures { result.now ≡ self.now }
     {
@@ -72,6 +73,7 @@ impl CommandList {
         Ok(())
     }
 
+    /// The commands in their order.
     pub fn as_slice(&self) -> &[Timed]
         ensures { result.now ≡ self.now }
     {
@@ -111,12 +113,14 @@ impl Model for Scenario {
 }
 
 impl Scenario {
+    /// The scenario of these experiments. Takes no memory.
     pub fn new(experiments: Vec<Experiment>) -> Self
         ensures { result ≡ experiments.items }
     {
         Scenario { experiments }
     }
 
+    /// The experiments in the order of the text.
     pub fn experiments(&self) -> &[Experiment]
         ensures { result.now ≡ self.now }
     {

@@ -351,6 +351,8 @@ fn command(raw: RawCommand) -> Option<Command>
     }
 }
 
+/// The command of a line with its moment (ns); None where a number is out of its range (own: 10^15 ns at most, and the
+/// ranges of docs/SCENARIO.md).
 #[tactic(auto, unfolding(crate::specs::Ranges::timed_within))]
 pub fn timed(raw: RawTimed) -> Option<Timed>
     ensures { result ≡ timed_within raw }
@@ -360,6 +362,7 @@ pub fn timed(raw: RawTimed) -> Option<Timed>
     Some(Timed { moment, command })
 }
 
+/// What an experiment is given; None where a number is out of its range. Without `steps` it may make 1,000,000.
 #[tactic(auto, unfolding(crate::specs::Ranges::spec_within))]
 pub fn spec(raw: RawHeader) -> Option<Spec>
     ensures { result ≡ spec_within (view_header raw.entry) }

@@ -29,10 +29,12 @@ impl Kept {
         }
     }
 
+    /// What was read so far.
     pub fn text(&self) -> &[u8] {
         self.text.as_slice()
     }
 
+    /// Whether a copy is wanted.
     pub fn is_wanted(&self) -> bool {
         self.is_wanted
     }
@@ -44,6 +46,7 @@ impl Kept {
 }
 
 impl<R: Drop> Keeper<R> {
+    /// A reader that adds what it reads to a copy.
     pub fn new(inner: R, kept: Kept) -> Keeper<R> {
         Keeper { inner, kept }
     }

@@ -31,6 +31,7 @@ impl Watched {
         }
     }
 
+    /// The commands that were refused, in the order of the reports.
     pub fn refusals(&self) -> &[Refusal] {
         self.replies.refusals()
     }
@@ -48,6 +49,7 @@ impl Watched {
 }
 
 impl<W: Drop> Watcher<W> {
+    /// A writer that notes what it writes.
     pub fn new(inner: W, watched: Watched) -> Watcher<W> {
         Watcher { inner, watched }
     }

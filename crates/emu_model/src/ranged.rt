@@ -33,6 +33,7 @@ impl<const LOW: u8, const HIGH: u8> RangedU8<LOW, HIGH> {
         }
     }
 
+    /// The number itself.
     pub fn get(self) -> u8
         ensures value { result ≡ self.entry }
         ensures low { LOW ≤ result }
@@ -71,6 +72,7 @@ impl<const LOW: u16, const HIGH: u16> RangedU16<LOW, HIGH> {
         }
     }
 
+    /// The number itself.
     pub fn get(self) -> u16
         ensures value { result ≡ self.entry }
         ensures low { LOW ≤ result }
@@ -109,6 +111,7 @@ impl<const LOW: u32, const HIGH: u32> RangedU32<LOW, HIGH> {
         }
     }
 
+    /// The number itself.
     pub fn get(self) -> u32
         ensures value { result ≡ self.entry }
         ensures low { LOW ≤ result }
@@ -147,6 +150,7 @@ impl<const LOW: u64, const HIGH: u64> RangedU64<LOW, HIGH> {
         }
     }
 
+    /// The number itself.
     pub fn get(self) -> u64
         ensures value { result ≡ self.entry }
         ensures low { LOW ≤ result }

@@ -59,6 +59,7 @@ impl Prefix {
         }
     }
 
+    /// The address, with its bits past the length cleared.
     pub fn address(self) -> u32
         ensures { result ≡ self.address }
     {
@@ -66,6 +67,7 @@ impl Prefix {
         address
     }
 
+    /// How many bits of an address are compared.
     pub fn length(self) -> PrefixLength
         ensures { result ≡ self.len }
     {
@@ -106,6 +108,7 @@ impl PortRange {
         }
     }
 
+    /// The first port.
     pub fn first(self) -> u16
         ensures { result ≡ self.first }
     {
@@ -113,6 +116,7 @@ impl PortRange {
         first
     }
 
+    /// The last port, not below the first.
     pub fn last(self) -> u16
         ensures { result ≡ self.last }
     {

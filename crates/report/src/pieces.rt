@@ -6,6 +6,7 @@ ghost use Rattle.report.specs.Words.{places};
 
 use itoa::Buffer;
 
+/// These bytes.
 #[tactic(auto, unfolding(crate::specs::Room::spare))]
 #[inline]
 pub fn append(out: &mut Vec<u8>, bytes: &[u8])
@@ -19,6 +20,7 @@ pub fn append(out: &mut Vec<u8>, bytes: &[u8])
     };
 }
 
+/// A number in decimal digits, at most 20.
 #[inline]
 pub fn append_number(out: &mut Vec<u8>, number: u64)
     requires { 20 ≤ spare out.old }

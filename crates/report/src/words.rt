@@ -10,6 +10,7 @@ use emu_model::{
     Refusal, SendSpec,
 };
 
+/// The name of an instance: its pipe, a point, its number.
 #[inline]
 pub fn append_instance(out: &mut Vec<u8>, pipe: PipeNumber, instance: u8)
     requires { 41 ≤ spare out.old }
@@ -21,12 +22,14 @@ pub fn append_instance(out: &mut Vec<u8>, pipe: PipeNumber, instance: u8)
     append_labelled(out, b".", u64::from(instance));
 }
 
+/// The code of a refused command (docs/REPORT.md).
 pub fn refusal_code(refusal: Refusal) -> u64
     ensures { result ≡ code_of refusal }
 {
     u64::from(refusal as u8)
 }
 
+/// What a rule does, in the words of a scenario.
 pub fn append_action(out: &mut Vec<u8>, action: Action)
     requires { 27 ≤ spare out.old }
     ensures items { out.new.items ≡ out.old.items ++ action_of action }
@@ -42,6 +45,7 @@ pub fn append_action(out: &mut Vec<u8>, action: Action)
     }
 }
 
+/// The protocol of a rule: `ip`, `tcp` or `udp`.
 pub fn append_protocol(out: &mut Vec<u8>, proto: ProtocolMatch)
     requires { 3 ≤ spare out.old }
     ensures items { out.new.items ≡ out.old.items ++ protocol_of proto }
@@ -150,6 +154,7 @@ pub fn append_end(out: &mut Vec<u8>, prefix: Prefix, ports: Option<PortRange>)
     append_ports(out, ports);
 }
 
+/// The limit of a queue, in slots or in KBytes of 1024 bytes.
 pub fn append_queue(out: &mut Vec<u8>, queue: QueueLimit)
     requires { 26 ≤ spare out.old }
     ensures items { out.new.items ≡ out.old.items ++ queue_of queue }
@@ -165,6 +170,7 @@ pub fn append_queue(out: &mut Vec<u8>, queue: QueueLimit)
     }
 }
 
+/// A mask: its five fields in hexadecimal digits.
 pub fn append_mask(out: &mut Vec<u8>, mask: Mask)
     requires { 30 ≤ spare out.old }
     ensures items { out.new.items ≡ out.old.items ++ mask_of mask }
@@ -182,6 +188,7 @@ pub fn append_mask(out: &mut Vec<u8>, mask: Mask)
     append_places(out, 16, 4, u32::from(mask.dport));
 }
 
+/// The discipline of a queue, of CoDel with its target and interval (ns).
 pub fn append_discipline(out: &mut Vec<u8>, discipline: Discipline)
     requires { 63 ≤ spare out.old }
     ensures items { out.new.items ≡ out.old.items ++ discipline_of discipline }

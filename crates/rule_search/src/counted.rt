@@ -60,6 +60,7 @@ impl CountedRule {
         CountedRule::new(rule, 0)
     }
 
+    /// The rule as it was added.
     pub fn rule(&self) -> Rule
         ensures { result ≡ self.now.rule }
     {
