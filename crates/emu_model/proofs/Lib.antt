@@ -1,4 +1,5 @@
 mod Later
+mod Walk
 mod Growth
 mod ControlRoot
 mod ComponentFacts
@@ -9,6 +10,8 @@ mod Sums
 mod Keeping
 mod PipeKeeping
 mod Conserved
+mod OneByOne
+mod Told
 mod Numbers
 mod Single
 mod AllFacts

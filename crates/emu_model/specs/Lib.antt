@@ -21,3 +21,4 @@ pub mod DueLaws
 pub mod ComponentLaws
 pub mod RenoLaws
 pub mod CodelLaws
+pub mod TraceLaws

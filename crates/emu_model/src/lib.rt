@@ -14,6 +14,7 @@ mod records;
 mod reno_laws;
 mod rules;
 mod sources;
+mod trace_laws;
 
 pub use codel_laws::{dropping_begins_with_one, drops_are_on_time, reentry_goes_on};
 pub use commands::{Budget, Command, Spec, Timed, command_in_range};
@@ -38,6 +39,7 @@ pub use reno_laws::{
 };
 pub use rules::{Action, PortRange, Prefix, ProtocolMatch, Rule, Verdict};
 pub use sources::{Class, Due, FlowSpec, SendSpec, Source, Timing, TrainSpec};
+pub use trace_laws::{each_make_once, each_packet_once, make_comes_first};
 
 // Lists hold many of these.
 const _: () = prove!(size_of::<Record>() <= 72);

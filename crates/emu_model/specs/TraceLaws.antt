@@ -1,0 +1,61 @@
+-- Laws of what becomes of each packet, and of what a trace says of it (own), over the definitions alone.
+use Rattle.std.specs.Prelude.{◌≡◌, ◌≢◌, ℕ, ◌+◌, Bool, true, false, ◌==◌, nat_lt, if◌then◌else◌, List, [], ◌∷◌, ◌++◌, map, count_by, flat_map}
+use Rattle.std.specs.List.{AllByRecursion}
+use Rattle.emu_model.specs.Types.{Packet, Spec, Timed, Trace, Record, PacketMade, PacketArrived, PacketFinished, PacketDelivered, PacketPassed, PacketDropped}
+use Rattle.emu_model.specs.Pipes.{pipe_packets}
+use Rattle.emu_model.specs.Net.{Net}
+use Rattle.emu_model.specs.Alone.{alone}
+
+-- the first command is `trace 1`, and none is `trace 0`
+abbrev pub IsTraced : List Timed → Type 0
+IsTraced [] = ⊥
+IsTraced (t ∷ ts) =
+    (t.command ≡ Trace true) × AllByRecursion (λ u. u.command ≢ Trace false) ts
+
+-- a record says that packet k is made, is delivered, is dropped
+abbrev pub makes : ℕ → Record → Bool
+makes k (PacketMade moment packet load proto src sport dst dport size) = packet == k
+makes k _ = false
+
+abbrev pub delivers : ℕ → Record → Bool
+delivers k (PacketDelivered moment packet load) = packet == k
+delivers k _ = false
+
+abbrev pub drops : ℕ → Record → Bool
+drops k (PacketDropped moment packet load cause) = packet == k
+drops k _ = false
+
+-- what waits, is in service or is under way
+abbrev pub held_packets : Net → List Packet
+held_packets n = map (λ x. x.item) n.direct.flight ++ flat_map pipe_packets n.pipes
+
+-- 1 for a packet that was made
+abbrev pub once_made : ℕ → Net → ℕ
+once_made k n = if nat_lt k n.made then 1 else 0
+
+-- each packet that was made is delivered, dropped or held, once in all; no other is
+abbrev pub EachPacketOnce : Type 0
+EachPacketOnce = (spec : Spec) (c : List Timed) (n k : ℕ) →
+    let net = (alone spec c n).net in
+    count_by (delivers k) net.records + count_by (drops k) net.records
+    + count_by (λ p. p.number == k) (held_packets net) ≡ once_made k net
+
+-- in a traced run each packet that was made has one `make`; no other has
+abbrev pub EachMakeOnce : Type 0
+EachMakeOnce = (spec : Spec) (c : List Timed) (n k : ℕ) → IsTraced c →
+    count_by (makes k) (alone spec c n).net.records ≡ once_made k (alone spec c n).net
+
+-- a record tells of packet k, but isn't its `make`
+abbrev pub tells_of : ℕ → Record → Bool
+tells_of k (PacketArrived moment packet pipe instance) = packet == k
+tells_of k (PacketFinished moment packet pipe instance) = packet == k
+tells_of k (PacketPassed moment packet pipe instance) = packet == k
+tells_of k (PacketDelivered moment packet load) = packet == k
+tells_of k (PacketDropped moment packet load cause) = packet == k
+tells_of k _ = false
+
+-- in a traced run whatever tells of a packet stands behind its `make`
+abbrev pub MakeComesFirst : Type 0
+MakeComesFirst = (spec : Spec) (c : List Timed) (n k : ℕ) (before after : List Record) (r : Record) →
+    IsTraced c → (alone spec c n).net.records ≡ before ++ r ∷ after → tells_of k r ≡ true →
+    count_by (makes k) before ≡ 1
