@@ -12,6 +12,11 @@ mod PipeKeeping
 mod Conserved
 mod OneByOne
 mod Told
+mod Sublists
+mod InstanceOrder
+mod PipeOrder
+mod FoundPipes
+mod Order
 mod Numbers
 mod Single
 mod AllFacts

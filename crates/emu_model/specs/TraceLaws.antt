@@ -1,9 +1,10 @@
 -- Laws of what becomes of each packet, and of what a trace says of it (own), over the definitions alone.
-use Rattle.std.specs.Prelude.{◌≡◌, ◌≢◌, ℕ, ◌+◌, Bool, true, false, ◌==◌, nat_lt, if◌then◌else◌, List, [], ◌∷◌, ◌++◌, map, count_by, flat_map}
+use Rattle.std.specs.Prelude.{◌≡◌, ◌≢◌, ℕ, ◌+◌, Bool, true, false, ◌&&◌, ◌⊎◌, ◌==◌, nat_lt, if◌then◌else◌, List, [], ◌∷◌, ◌++◌, map, slice_get, count_by, flat_map}
+use Rattle.std.specs.Option.{option_map_or}
 use Rattle.std.specs.List.{AllByRecursion}
 use Rattle.emu_model.specs.Types.{Packet, Spec, Timed, Trace, Record, PacketMade, PacketArrived, PacketFinished, PacketDelivered, PacketPassed, PacketDropped}
-use Rattle.emu_model.specs.Pipes.{pipe_packets}
-use Rattle.emu_model.specs.Net.{Net}
+use Rattle.emu_model.specs.Pipes.{PipeState, pipe_packets}
+use Rattle.emu_model.specs.Net.{Net, find_pipe}
 use Rattle.emu_model.specs.Alone.{alone}
 
 -- the first command is `trace 1`, and none is `trace 0`
@@ -59,3 +60,51 @@ abbrev pub MakeComesFirst : Type 0
 MakeComesFirst = (spec : Spec) (c : List Timed) (n k : ℕ) (before after : List Record) (r : Record) →
     IsTraced c → (alone spec c n).net.records ≡ before ++ r ∷ after → tells_of k r ≡ true →
     count_by (makes k) before ≡ 1
+
+-- the packets that arrive in instance k of a pipe, by the records; that finish there; that pass on
+abbrev pub arrives_in : ℕ → ℕ → Record → List ℕ
+arrives_in pipe k (PacketArrived moment packet p i) =
+    if p == pipe && i == k then packet ∷ [] else []
+arrives_in pipe k _ = []
+
+abbrev pub finishes_in : ℕ → ℕ → Record → List ℕ
+finishes_in pipe k (PacketFinished moment packet p i) =
+    if p == pipe && i == k then packet ∷ [] else []
+finishes_in pipe k _ = []
+
+abbrev pub passes_in : ℕ → ℕ → Record → List ℕ
+passes_in pipe k (PacketPassed moment packet p i) =
+    if p == pipe && i == k then packet ∷ [] else []
+passes_in pipe k _ = []
+
+-- the packets under way in instance k of a pipe
+abbrev pub flight_in : ℕ → PipeState → List ℕ
+flight_in k p =
+    option_map_or (λ i. map (λ x. x.item.number) i.line.flight) (slice_get p.instances k) []
+
+abbrev pub under_way : ℕ → ℕ → Net → List ℕ
+under_way pipe k n = option_map_or (flight_in k) (find_pipe pipe n) []
+
+-- some of a list, in its order
+abbrev pub IsSublist : List ℕ → List ℕ → Type 0
+IsSublist [] ys = Unit {0}
+IsSublist (x ∷ xs) [] = ⊥
+IsSublist (x ∷ xs) (y ∷ ys) = ((x ≡ y) × IsSublist xs ys) ⊎ IsSublist (x ∷ xs) ys
+
+-- in a traced run what finishes in an instance comes in the order in which it arrived there
+abbrev pub FinishesKeepOrder : Type 0
+FinishesKeepOrder = (spec : Spec) (c : List Timed) (n pipe k : ℕ) → IsTraced c →
+    let records : List Record = (alone spec c n).net.records in
+    IsSublist (flat_map (finishes_in pipe k) records) (flat_map (arrives_in pipe k) records)
+
+-- what finished in an instance is what left it (to be delivered, to pass on, or with the pipe), and
+-- then what is under way in it, in this order; what passed on is of what left, in its order
+pub record LeavesInOrder (pipe k : ℕ) (n : Net) : Type 0 where
+  pub gone : List ℕ
+  pub first_left : flat_map (finishes_in pipe k) n.records ≡ gone ++ under_way pipe k n
+  pub passed : IsSublist (flat_map (passes_in pipe k) n.records) gone
+
+-- so what leaves an instance leaves in the order in which it finished there
+abbrev pub ExitsKeepOrder : Type 0
+ExitsKeepOrder = (spec : Spec) (c : List Timed) (n pipe k : ℕ) →
+    LeavesInOrder pipe k (alone spec c n).net

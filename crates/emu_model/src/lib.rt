@@ -39,7 +39,9 @@ pub use reno_laws::{
 };
 pub use rules::{Action, PortRange, Prefix, ProtocolMatch, Rule, Verdict};
 pub use sources::{Class, Due, FlowSpec, SendSpec, Source, Timing, TrainSpec};
-pub use trace_laws::{each_make_once, each_packet_once, make_comes_first};
+pub use trace_laws::{
+    each_make_once, each_packet_once, exits_keep_order, finishes_keep_order, make_comes_first,
+};
 
 // Lists hold many of these.
 const _: () = prove!(size_of::<Record>() <= 72);

@@ -1,0 +1,5 @@
+use Rattle.emu_model.proofs.Order as law
+use Rattle.emu_model.proofs.trace_laws.exits_keep_order.Goals as goal
+
+pub returns : goal.returns
+returns c = law.exits_keep_order

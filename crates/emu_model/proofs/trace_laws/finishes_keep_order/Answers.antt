@@ -1,0 +1,5 @@
+use Rattle.emu_model.proofs.Order as law
+use Rattle.emu_model.proofs.trace_laws.finishes_keep_order.Goals as goal
+
+pub returns : goal.returns
+returns c = law.finishes_keep_order
