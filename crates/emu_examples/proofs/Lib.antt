@@ -65,6 +65,7 @@ mod StepBudget
 mod StopWithoutFlow
 mod StoppedFlow
 mod TraceOnAndOff
+mod TraceWords
 mod TracedBudget
 mod TracedBurst
 mod TracedFlow
