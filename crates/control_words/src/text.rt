@@ -1,9 +1,11 @@
 //! Lines and words.
 
-ghost use Rattle.std.specs.Prelude.{◌≡◌, ◌∷◌, [], length, position, ◌==◌, ◌<◌, MatchOption, IfSome};
+ghost use Rattle.std.specs.Prelude.{◌≡◌, ◌∷◌, ◌+◌, [], length, take, drop, position, ◌==◌, ◌<◌, MatchOption, IfSome};
 ghost use Rattle.std.specs.List.{prefix_len, position_or_len};
 ghost use Rattle.std.specs.Str.{bytes_eq};
 ghost use Rattle.control_words.specs.Text.{parts, lines, words};
+
+use memchr::memchr;
 
 /// Whether the word is just this text. Own.
 pub fn is(word: &[u8], text: &str) -> bool
@@ -18,13 +20,29 @@ fn place_of(bytes: &[u8], separator: u8) -> Option<usize>
     bytes.iter().position(|b| *b == separator)
 }
 
+/// The same, many bytes at a time: for a separator that is likely to be far.
+fn far_place_of(bytes: &[u8], separator: u8) -> Option<usize>
+    ensures { result ≡ position (λ b. b == separator) bytes.now }
+{
+    memchr(separator, bytes)
+}
+
+/// What stands before this place, and what stands behind it.
+fn around(bytes: &[u8], place: usize) -> (&[u8], &[u8])
+    requires { place < length bytes.now }
+    ensures before { result.0.now ≡ take place bytes.now }
+    ensures behind { result.1.now ≡ drop (place + 1) bytes.now }
+{
+    (&bytes[..place], &bytes[place + 1..])
+}
+
 /// What stands before the first separator, and what follows it. `None` where there is none.
 pub fn cut(bytes: &[u8], separator: u8) -> Option<(&[u8], &[u8])>
     ensures value { MatchOption result (parts separator bytes.now ≡ bytes.now ∷ []) (λ x. parts separator bytes.now ≡ x.0.now ∷ parts separator x.1.now) }
     ensures shorter { IfSome result (λ x. length x.1.now < length bytes.now) }
 {
     let end = place_of(bytes, separator)?;
-    Some((&bytes[..end], &bytes[end + 1..]))
+    Some(around(bytes, end))
 }
 
 /// The first line, without its line feed, and what follows it. `None` where there is no line feed. Own.
@@ -32,7 +50,8 @@ pub fn first_line(bytes: &[u8]) -> Option<(&[u8], &[u8])>
     ensures value { MatchOption result (lines bytes.now ≡ bytes.now ∷ []) (λ x. lines bytes.now ≡ x.0.now ∷ lines x.1.now) }
     ensures shorter { IfSome result (λ x. length x.1.now < length bytes.now) }
 {
-    cut(bytes, b'\n')
+    let end = far_place_of(bytes, b'\n')?;
+    Some(around(bytes, end))
 }
 
 fn leading_spaces(bytes: &[u8]) -> usize

@@ -1,5 +1,4 @@
-use Rattle.std.proofs.Common.{◌≡◌, ◌∷◌, ◌+◌, ◌-◌, length, take, drop, sym, ap, ◌∙◌, eqb, arith, List, ℕ}
-use Rattle.std.proofs.lemmas.Grind.{common_steps}
+use Rattle.std.proofs.Common.{◌∷◌, sym, ap₂, ◌∙◌, eqb, List, ℕ}
 use Rattle.control_words.specs.Text.{parts}
 use Rattle.control_words.proofs.Split.{first_part, no_part}
 use Rattle.control_words.proofs.text.cut.Goals as goal
@@ -9,7 +8,5 @@ returns-in_err-end-clause-value c = rw c.from_residual.ensures (no_part (λ b. e
 
 pub returns-clause-value : goal.returns-clause-value
 returns-clause-value c =
-    let bytes = c.args.bytes.now in
-    let end = c.in_ok-end.end in
-    let rest : take (length bytes - (end + 1)) (drop (end + 1) bytes) ≡ drop (end + 1) bytes = grind (arith, common_steps) in
-    first_part (λ b. eqb b c.args.separator) bytes end (sym c.in_ok-end.ensures) ∙ ap (λ (r : List ℕ). take end bytes ∷ parts c.args.separator r) (sym rest)
+    first_part (λ b. eqb b c.args.separator) c.args.bytes.now c.in_ok-end.end (sym c.in_ok-end.ensures)
+    ∙ ap₂ (λ (l r : List ℕ). l ∷ parts c.args.separator r) (sym c.around.ensures.before) (sym c.around.ensures.behind)
