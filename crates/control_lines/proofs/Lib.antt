@@ -1,3 +1,5 @@
 pub mod Reading
 pub mod LineLaw
 pub mod LineEntries
+pub mod PacketWords
+pub mod PacketLine

@@ -3,3 +3,4 @@ pub mod Grammar
 pub mod Laws
 pub mod Ranges
 pub mod Shape
+pub mod PacketLine

@@ -4,6 +4,7 @@
 
 mod laws;
 mod line;
+mod packet_line;
 mod ranges;
 mod raw;
 mod shape;

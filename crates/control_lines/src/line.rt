@@ -14,6 +14,7 @@ ghost use Rattle.control_lines.specs.Entries.{
   IsFirstAlone,
 };
 
+use crate::packet_line::packet_line;
 use crate::ranges;
 use crate::raw::RawLine;
 use crate::shape::line_shape;
@@ -49,7 +50,12 @@ pub enum LineEntry<'a> {
 fn all_printable(line: &[u8]) -> bool
     ensures { result ≡ list_all is_printable line.now }
 {
-    line.iter().all(|c| b' ' <= *c && *c <= b'~')
+    let mut all = true;
+    // Each byte is looked at, whatever those before it are: so they can be looked at many at a time.
+    for c in line {
+        all &= (b' ' <= *c) & (*c <= b'~');
+    }
+    all
 }
 
 /// Whether the line has no word, or is a comment.
@@ -88,6 +94,9 @@ fn entry(line: &[u8]) -> Result<LineEntry, LineFault>
     }
     if !all_printable(line) {
         return Err(LineFault::BadByte);
+    }
+    if let Some(command) = packet_line(line) {
+        return Ok(LineEntry::Does(command));
     }
     if is_comment(line) {
         return Ok(LineEntry::Nothing);
