@@ -1,5 +1,5 @@
 -- A single packet's line, from its words.
-use Rattle.std.proofs.Common.{◌≡◌, ℕ, ◌≤◌, eqb, true, List, [], ◌∷◌, length, Some, None, Ok, refl, sym, ap, ◌∙◌, arith}
+use Rattle.std.proofs.Common.{◌≡◌, ℕ, ◌≤◌, eqb, List, [], ◌∷◌, length, Some, None, Ok, refl, sym, ap, ◌∙◌, arith}
 use Rattle.std.specs.List.{list_all}
 use Rattle.std.proofs.lemmas.Bool.{eqb-true, le-ltb, not_from_true, cond-false}
 use Rattle.emu_model.specs.declared.commands.Timed.{Timed}
@@ -39,6 +39,7 @@ pub packet_is : (text r1 r2 r3 r4 r5 : List ℕ) (proto : Protocol) (src sport d
 packet_is text r1 r2 r3 r4 r5 proto src sport dst dport size a b c lc d e le f low high =
     let all = a.split ∙ ap (λ (ws : List (List ℕ)). a.word ∷ ws) (b.split ∙ ap (λ (ws : List (List ℕ)). b.word ∷ ws) (c.split ∙ ap (λ (ws : List (List ℕ)). c.word ∷ ws) (d.split ∙ ap (λ (ws : List (List ℕ)). d.word ∷ ws) (e.split ∙ ap (λ (ws : List (List ℕ)). e.word ∷ ws) f.split)))) in
     record {
+      printed = a.printed ∙ (b.printed ∙ (c.printed ∙ (d.printed ∙ (e.printed ∙ f.printed))));
       raw = sent proto b.is.0 sport d.is.0 dport size;
       shape = ap send_of all ∙ send_at a.word b.word c.word d.word e.word f.word proto b.is.0 d.is.0 sport dport size a.is b.is.1 c.is d.is.1 e.is f.is;
       within = send_inside proto b.is.0 d.is.0 src sport dst dport size b.is.2 lc d.is.2 le low high;
@@ -64,20 +65,21 @@ timed_inside : (n : ℕ) (send : RawSend) (packet : SendSpec) → n ≤ 10000000
 unfolding timed_within command_within
 timed_inside n send packet p q = rw (within_is n 0 1000000000000000 (omega arith) p, q) refl
 
-pub line_is : (line r1 r2 : List ℕ) (n : ℕ) (packet : SendSpec) → Takes IsMoment line n r1 → n ≤ 1000000000000000 → words r1 ≡ inject ∷ words r2 → IsPacket r2 packet
+pub line_is : (line r1 r2 : List ℕ) (n : ℕ) (packet : SendSpec) → Takes IsMoment line n r1 → n ≤ 1000000000000000 → words r1 ≡ inject ∷ words r2 → list_all is_printable r1 ≡ list_all is_printable r2 → IsPacket r2 packet
     → IsPacketLine line (record { moment = n; command = commands.Inject packet })
-line_is line r1 r2 n packet m le verb p =
+line_is line r1 r2 n packet m le verb printed p =
     let at = begins_at m.word n m.is in
     let all : words line ≡ (64 ∷ at.0) ∷ inject ∷ words r2 = m.split ∙ (ap (λ (w : List ℕ). w ∷ words r1) at.1 ∙ ap (λ (ws : List (List ℕ)). (64 ∷ at.0) ∷ ws) verb) in
     record {
       raw = record { moment = n; command = raw.Inject p.raw };
+      printed = m.printed ∙ (printed ∙ p.printed);
       said = ap is_skipped all;
       shape = ap shape_of all ∙ line_at at.0 (words r2) n p.raw (ap moment_of (sym at.1) ∙ m.is) p.shape;
       within = timed_inside n p.raw packet le p.within;
     }
 
-pub protocol_is : (text word rest : List ℕ) (proto : Protocol) → words text ≡ word ∷ words rest → protocol_of word ≡ Some proto → Takes IsProtocol text proto rest
-protocol_is text word rest proto split is = record { word = word; split = split; is = is }
+pub protocol_is : (text word rest : List ℕ) (proto : Protocol) → words text ≡ word ∷ words rest → list_all is_printable text ≡ list_all is_printable rest → protocol_of word ≡ Some proto → Takes IsProtocol text proto rest
+protocol_is text word rest proto split printed is = record { word = word; split = split; printed = printed; is = is }
 
 pub is_tcp : protocol_of tcp ≡ Some Tcp
 unfolding protocol_of
@@ -87,8 +89,8 @@ pub is_udp : protocol_of udp ≡ Some Udp
 unfolding protocol_of
 is_udp = refl
 
-pub packet_entry : (line : List ℕ) (timed : Timed) → length line ≤ 512 → list_all is_printable line ≡ true → IsPacketLine line timed → entry_of line ≡ Ok (Does timed)
+pub packet_entry : (line : List ℕ) (timed : Timed) → length line ≤ 512 → IsPacketLine line timed → entry_of line ≡ Ok (Does timed)
 unfolding entry_of line_within
-packet_entry line timed short printed p =
+packet_entry line timed short p =
     cond-false _ _ _ (le-ltb 512 (length line) short)
-    ∙ (cond-false _ _ _ (not_from_true _ printed) ∙ (cond-false _ _ _ p.said ∙ (ap shaped p.shape ∙ rw p.within refl)))
+    ∙ (cond-false _ _ _ (not_from_true _ p.printed) ∙ (cond-false _ _ _ p.said ∙ (ap shaped p.shape ∙ rw p.within refl)))

@@ -1,10 +1,10 @@
 -- The words of a line, read from the front.
-use Rattle.std.proofs.Common.{◌≡◌, ℕ, ◌+◌, ◌-◌, ◌*◌, ◌^◌, ◌<◌, ◌≤◌, ◌&&◌, eqb, not, Bool, true, false, cond, List, [], ◌∷◌, ◌++◌, length, get_or, take, drop, min, Option, Some, None, refl, sym, ap, ap₂, ◌∙◌, arith, lit<}
+use Rattle.std.proofs.Common.{◌≡◌, ℕ, ◌+◌, ◌-◌, ◌*◌, ◌^◌, ◌<◌, ◌≤◌, ◌&&◌, eqb, not, Bool, true, false, cond, List, [], ◌∷◌, ◌++◌, length, get_or, take, drop, min, Option, Some, None, refl, sym, ap, ap₂, ◌∙◌, arith, lit<, inl, inr}
 use Rattle.std.specs.List.{list_all, filter, All}
 use Rattle.std.specs.Char.{is_ascii_digit}
 use Rattle.std.proofs.Math.Nat.{pow-le-pow_right}
 use Rattle.std.proofs.lemmas.Nat.{pow-add}
-use Rattle.std.proofs.lemmas.Bool.{and_parts, and_from, leb-true, le-leb, le-ltb, ne_eqb, not-true, not_from_false, cond-true, cond-false}
+use Rattle.std.proofs.lemmas.Bool.{and_parts, and_from, or_cases, or_left, eqb-true, leb-true, le-leb, le-ltb, ne_eqb, not-true, not_from_false, cond-true, cond-false}
 use Rattle.std.proofs.lemmas.Option.{same_Some}
 use Rattle.std.proofs.lemmas.List.{take_more, take-append-drop, take-take, length-take, length-take-le, get_or-take, append_assoc, append-nil, drop_more, take_rest}
 use Rattle.std.proofs.lemmas.List.Folds.{list_all-append}
@@ -15,7 +15,8 @@ use Rattle.control_words.specs.Numbers.{digits_after, number_of, moment_of}
 use Rattle.control_words.specs.Addresses.{address_of}
 use Rattle.control_words.specs.declared.raw.RawAddress.{RawAddress}
 use Rattle.control_lines.specs.Ranges.{within, address_within}
-use Rattle.control_lines.specs.PacketLine.{is_not_space, IsNumber, IsAddress, IsMoment, Leads, Takes}
+use Rattle.control_lines.specs.Entries.{is_printable}
+use Rattle.control_lines.specs.PacketLine.{is_address_byte, IsNumber, IsAddress, IsMoment, Leads, Takes}
 
 -- ---- digits
 pub open_cond : {A : Type 0} (b : Bool) (o : Option A) (a : A) → cond b o None ≡ Some a → (b ≡ true) × (o ≡ Some a)
@@ -83,17 +84,40 @@ behind_is text b some is = drop_more text 0 0 some ∙ ap₂ (λ (x : ℕ) (xs :
 passes_apart : (p q : ℕ → Bool) → ((c : ℕ) → p c ≡ true → q c ≡ false) → (xs : List ℕ) → list_all p xs ≡ true → All (λ x. q x ≡ false) xs
 passes_apart p q apart xs e = λ k d lt. apart (get_or xs k d) (AllPass-from_list_all p xs e k d lt)
 
+passes_too : (p q : ℕ → Bool) → ((c : ℕ) → p c ≡ true → q c ≡ true) → (xs : List ℕ) → list_all p xs ≡ true → list_all q xs ≡ true
+passes_too p q too xs e = list_all-from_AllPass q xs (λ k d lt. too (get_or xs k d) (AllPass-from_list_all p xs e k d lt))
+
 digit_no_point : (c : ℕ) → is_ascii_digit c ≡ true → eqb c 46 ≡ false
 digit_no_point c e = let h = digit_bound c e in ne_eqb c 46 (λ z. omega (arith, z, h.0))
 
-digit_no_space : (c : ℕ) → is_ascii_digit c ≡ true → eqb c 32 ≡ false
-digit_no_space c e = let h = digit_bound c e in ne_eqb c 32 (λ z. omega (arith, z, h.0))
+-- a byte of an address lies from the point to the digit 9
+address_bound : (c : ℕ) → is_address_byte c ≡ true → (46 ≤ c) × (c ≤ 57)
+address_bound c e = elim (or_cases (is_ascii_digit c) (eqb c 46) e) [
+  | inl digit ↦ (let h = digit_bound c digit in (omega (arith, h.0), h.1))
+  | inr point ↦ (let h = eqb-true c 46 point in (omega (arith, h), omega (arith, h)))
+]
+
+abbrev pub is_not_space : ℕ → Bool
+is_not_space c = not (eqb c 32)
 
 no_space : (c : ℕ) → is_not_space c ≡ true → eqb c 32 ≡ false
 no_space c e = not-true (eqb c 32) e
 
-pub digits_apart : (xs : List ℕ) → list_all is_ascii_digit xs ≡ true → list_all is_not_space xs ≡ true
-digits_apart xs e = list_all-from_AllPass is_not_space xs (λ k d lt. not_from_false _ (digit_no_space (get_or xs k d) (AllPass-from_list_all is_ascii_digit xs e k d lt)))
+address_apart : (c : ℕ) → is_address_byte c ≡ true → is_not_space c ≡ true
+address_apart c e = let h = address_bound c e in not_from_false _ (ne_eqb c 32 (λ z. omega (arith, z, h.0)))
+
+without_space : (xs : List ℕ) → list_all is_address_byte xs ≡ true → list_all is_not_space xs ≡ true
+without_space xs e = passes_too is_address_byte is_not_space address_apart xs e
+
+is_printed : (c : ℕ) → is_address_byte c ≡ true → is_printable c ≡ true
+is_printed c e = let h = address_bound c e in and_from _ _ (le-leb 32 c (omega (arith, h.0))) (le-leb c 126 (omega (arith, h.1)))
+
+digits_within : (xs : List ℕ) → list_all is_ascii_digit xs ≡ true → list_all is_address_byte xs ≡ true
+digits_within xs e = passes_too is_ascii_digit is_address_byte (λ c d. or_left _ _ d) xs e
+
+-- what stands in front is printable
+front_printed : (front rest : List ℕ) → list_all is_address_byte front ≡ true → list_all is_printable (front ++ rest) ≡ list_all is_printable rest
+front_printed front rest e = list_all-append is_printable front rest ∙ ap (λ (b : Bool). b && list_all is_printable rest) (passes_too is_address_byte is_printable is_printed front e)
 
 pub word_in_front : (front rest : List ℕ) → 0 < length front → list_all is_not_space front ≡ true → words (front ++ 32 ∷ rest) ≡ front ∷ words rest
 word_in_front [] rest lt all = absurd (omega (arith, lt))
@@ -119,14 +143,16 @@ some_part (c ∷ cs) a e = omega arith
 pub number_taken : (text behind rest : List ℕ) (n : ℕ) → Leads IsNumber is_ascii_digit text n behind → behind ≡ 32 ∷ rest → Takes IsNumber text n rest
 number_taken text behind rest n leads is = record {
   word = leads.front;
-  split = ap words (leads.joined ∙ ap (λ r. leads.front ++ r) is) ∙ word_in_front leads.front rest (some_digit leads.front n leads.is) (digits_apart leads.front leads.all);
+  split = ap words (leads.joined ∙ ap (λ r. leads.front ++ r) is) ∙ word_in_front leads.front rest (some_digit leads.front n leads.is) (without_space leads.front (digits_within leads.front leads.all));
+  printed = ap (list_all is_printable) (leads.joined ∙ ap (λ r. leads.front ++ r) is) ∙ front_printed leads.front (32 ∷ rest) (digits_within leads.front leads.all);
   is = leads.is;
 }
 
 pub last_taken : (text behind : List ℕ) (n : ℕ) → Leads IsNumber is_ascii_digit text n behind → behind ≡ [] → Takes IsNumber text n []
 last_taken text behind n leads is = record {
   word = leads.front;
-  split = ap words (leads.joined ∙ (ap (λ r. leads.front ++ r) is ∙ append-nil leads.front)) ∙ word_alone leads.front (some_digit leads.front n leads.is) (digits_apart leads.front leads.all);
+  split = ap words (leads.joined ∙ (ap (λ r. leads.front ++ r) is ∙ append-nil leads.front)) ∙ word_alone leads.front (some_digit leads.front n leads.is) (without_space leads.front (digits_within leads.front leads.all));
+  printed = ap (list_all is_printable) (leads.joined ∙ ap (λ r. leads.front ++ r) is) ∙ front_printed leads.front [] (digits_within leads.front leads.all);
   is = leads.is;
 }
 
@@ -134,14 +160,16 @@ pub moment_taken : (text digits behind rest : List ℕ) (n : ℕ) → text ≡ 6
 unfolding moment_of
 moment_taken text digits behind rest n is-text leads is = record {
   word = 64 ∷ leads.front;
-  split = ap words (is-text ∙ ap (λ r. 64 ∷ r) (leads.joined ∙ ap (λ r. leads.front ++ r) is)) ∙ word_in_front (64 ∷ leads.front) rest (omega arith) (digits_apart leads.front leads.all);
+  split = ap words (is-text ∙ ap (λ r. 64 ∷ r) (leads.joined ∙ ap (λ r. leads.front ++ r) is)) ∙ word_in_front (64 ∷ leads.front) rest (omega arith) (without_space leads.front (digits_within leads.front leads.all));
+  printed = ap (list_all is_printable) (is-text ∙ ap (λ r. 64 ∷ r) (leads.joined ∙ ap (λ r. leads.front ++ r) is)) ∙ front_printed leads.front (32 ∷ rest) (digits_within leads.front leads.all);
   is = leads.is;
 }
 
-pub address_taken : (text behind rest : List ℕ) (n : ℕ) → Leads IsAddress is_not_space text n behind → behind ≡ 32 ∷ rest → Takes IsAddress text n rest
+pub address_taken : (text behind rest : List ℕ) (n : ℕ) → Leads IsAddress is_address_byte text n behind → behind ≡ 32 ∷ rest → Takes IsAddress text n rest
 address_taken text behind rest n leads is = record {
   word = leads.front;
-  split = ap words (leads.joined ∙ ap (λ r. leads.front ++ r) is) ∙ word_in_front leads.front rest (some_part leads.front leads.is.0 leads.is.1) leads.all;
+  split = ap words (leads.joined ∙ ap (λ r. leads.front ++ r) is) ∙ word_in_front leads.front rest (some_part leads.front leads.is.0 leads.is.1) (without_space leads.front leads.all);
+  printed = ap (list_all is_printable) (leads.joined ∙ ap (λ r. leads.front ++ r) is) ∙ front_printed leads.front (32 ∷ rest) leads.all;
   is = leads.is;
 }
 
@@ -157,8 +185,8 @@ point_follows text behind rest n leads is = record {
 pub within_is : (n low high : ℕ) → low ≤ n → n ≤ high → within n low high ≡ Some n
 within_is n low high l h = cond-true _ _ _ (and_from _ _ (le-leb low n l) (le-leb n high h))
 
-point_joins : (xs ys : List ℕ) → list_all is_ascii_digit xs ≡ true → list_all is_not_space ys ≡ true → list_all is_not_space (xs ++ 46 ∷ ys) ≡ true
-point_joins xs ys a b = list_all-append is_not_space xs (46 ∷ ys) ∙ and_from _ _ (digits_apart xs a) b
+point_joins : (xs ys : List ℕ) → list_all is_ascii_digit xs ≡ true → list_all is_address_byte ys ≡ true → list_all is_address_byte (xs ++ 46 ∷ ys) ≡ true
+point_joins xs ys a b = list_all-append is_address_byte xs (46 ∷ ys) ∙ and_from _ _ (digits_within xs a) b
 
 part_ends : (xs ys : List ℕ) → list_all is_ascii_digit xs ≡ true → parts 46 (xs ++ 46 ∷ ys) ≡ xs ∷ parts 46 ys
 part_ends xs ys a = slice_split_at (λ b. eqb b 46) xs 46 ys (passes_apart is_ascii_digit (λ b. eqb b 46) digit_no_point xs a) refl
@@ -176,7 +204,7 @@ unfolding address_within
 four_within i j k l p q r s = rw (within_is i 0 255 (omega arith) p, within_is j 0 255 (omega arith) q, within_is k 0 255 (omega arith) r, within_is l 0 255 (omega arith) s) refl
 
 pub address_leads : (text r1 r2 r3 rest : List ℕ) (i j k l n : ℕ) → Leads IsNumber is_ascii_digit text i (46 ∷ r1) → i ≤ 255 → Leads IsNumber is_ascii_digit r1 j (46 ∷ r2) → j ≤ 255
-    → Leads IsNumber is_ascii_digit r2 k (46 ∷ r3) → k ≤ 255 → Leads IsNumber is_ascii_digit r3 l rest → l ≤ 255 → n ≡ ((i * 256 + j) * 256 + k) * 256 + l → Leads IsAddress is_not_space text n rest
+    → Leads IsNumber is_ascii_digit r2 k (46 ∷ r3) → k ≤ 255 → Leads IsNumber is_ascii_digit r3 l rest → l ≤ 255 → n ≡ ((i * 256 + j) * 256 + k) * 256 + l → Leads IsAddress is_address_byte text n rest
 address_leads text r1 r2 r3 rest i j k l n a p b q c r d s is =
     let tail3 : List ℕ = c.front ++ 46 ∷ d.front in
     let tail2 : List ℕ = b.front ++ 46 ∷ tail3 in
@@ -188,5 +216,5 @@ address_leads text r1 r2 r3 rest i j k l n a p b q c r d s is =
       front = whole;
       joined = a.joined ∙ (ap (λ t. a.front ++ 46 ∷ t) join2 ∙ sym (append_assoc a.front (46 ∷ tail2) rest));
       is = (record { first = i; second = j; third = k; fourth = l }, four whole a.front b.front c.front d.front i j k l split a.is b.is c.is d.is, four_within i j k l p q r s ∙ ap (λ m. Some m) (sym is));
-      all = point_joins a.front tail2 a.all (point_joins b.front tail3 b.all (point_joins c.front d.front c.all (digits_apart d.front d.all)));
+      all = point_joins a.front tail2 a.all (point_joins b.front tail3 b.all (point_joins c.front d.front c.all (digits_within d.front d.all)));
     }

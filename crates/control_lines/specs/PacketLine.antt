@@ -1,6 +1,7 @@
 -- A line that sends a single packet, read from the front.
-use Rattle.std.specs.Prelude.{◌≡◌, ℕ, Bool, false, true, not, List, [], ◌∷◌, ◌++◌, Some, ◌==◌}
+use Rattle.std.specs.Prelude.{◌≡◌, ℕ, Bool, false, true, ◌||◌, List, [], ◌∷◌, ◌++◌, Some, ◌==◌}
 use Rattle.std.specs.List.{list_all}
+use Rattle.std.specs.Char.{is_ascii_digit}
 use lib.Chars.{codes}
 use Rattle.emu_model.specs.declared.commands.Timed.{Timed}
 use Rattle.emu_model.specs.declared.packets.Protocol.{Protocol}
@@ -12,7 +13,7 @@ use Rattle.control_words.specs.declared.raw.RawAddress.{RawAddress}
 use Rattle.control_lines.specs.Shape.{send_of, shape_of}
 use Rattle.control_lines.specs.Ranges.{address_within, send_within, timed_within}
 use Rattle.control_lines.specs.Grammar.{Command}
-use Rattle.control_lines.specs.Entries.{is_skipped}
+use Rattle.control_lines.specs.Entries.{is_printable, is_skipped}
 use Rattle.control_lines.specs.declared.raw.RawSend.{RawSend}
 use Rattle.control_lines.specs.declared.raw.RawTimed.{RawTimed}
 
@@ -39,8 +40,8 @@ IsProtocol word proto = protocol_of word ≡ Some proto
 abbrev pub IsAddress : List ℕ → ℕ → Type 0
 IsAddress word n = (raw : RawAddress) × (address_of word ≡ Some raw) × (address_within raw ≡ Some n)
 
-abbrev pub is_not_space : ℕ → Bool
-is_not_space c = not (c == 32)
+abbrev pub is_address_byte : ℕ → Bool
+is_address_byte c = is_ascii_digit c || c == 46
 
 -- the text begins with what is this, all its bytes of a kind, and the rest follows
 pub record Leads {A : Type 0} (Is : List ℕ → A → Type 0) (kind : ℕ → Bool) (text : List ℕ) (a : A) (rest : List ℕ) : Type 0 where
@@ -49,21 +50,24 @@ pub record Leads {A : Type 0} (Is : List ℕ → A → Type 0) (kind : ℕ → B
   pub is : Is front a
   pub all : list_all kind front ≡ true
 
--- the text's first word is this, and the rest has the others
+-- the text's first word is this, all its bytes printable, and the rest has the others
 pub record Takes {A : Type 0} (Is : List ℕ → A → Type 0) (text : List ℕ) (a : A) (rest : List ℕ) : Type 0 where
   pub word : List ℕ
   pub split : words text ≡ word ∷ words rest
+  pub printed : list_all is_printable text ≡ list_all is_printable rest
   pub is : Is word a
 
--- the text's words are a packet, each number in its range
+-- the text's bytes are printable, and its words are a packet, each number in its range
 pub record IsPacket (text : List ℕ) (packet : SendSpec) : Type 0 where
   pub raw : RawSend
+  pub printed : list_all is_printable text ≡ true
   pub shape : send_of (words text) ≡ Some (raw, [])
   pub within : send_within raw ≡ Some packet
 
--- the line is a command, each number in its range
+-- the line's bytes are printable, and it is a command, each number in its range
 pub record IsPacketLine (line : List ℕ) (timed : Timed) : Type 0 where
   pub raw : RawTimed
+  pub printed : list_all is_printable line ≡ true
   pub said : is_skipped (words line) ≡ false
   pub shape : shape_of (words line) ≡ Some (Command raw)
   pub within : timed_within raw ≡ Some timed

@@ -92,11 +92,11 @@ fn entry(line: &[u8]) -> Result<LineEntry, LineFault>
     if line.len() > MAX_LINE {
         return Err(LineFault::TooLong);
     }
-    if !all_printable(line) {
-        return Err(LineFault::BadByte);
-    }
     if let Some(command) = packet_line(line) {
         return Ok(LineEntry::Does(command));
+    }
+    if !all_printable(line) {
+        return Err(LineFault::BadByte);
     }
     if is_comment(line) {
         return Ok(LineEntry::Nothing);

@@ -3,13 +3,15 @@
 
 ghost use Rattle.std.specs.Prelude.{◌≡◌, ◌≤◌, ◌==◌, ◌&&◌, not, ◌∷◌, [], Some, length, take, IfSome};
 ghost use Rattle.std.specs.Char.{is_ascii_digit};
+ghost use Rattle.std.specs.List.{list_all};
 ghost use Rattle.control_words.specs.Text.{words};
 ghost use Rattle.control_words.specs.Numbers.{digits_after};
+ghost use Rattle.control_lines.specs.Entries.{is_printable};
 ghost use Rattle.control_lines.specs.PacketLine.{
   inject,
   tcp,
   udp,
-  is_not_space,
+  is_address_byte,
   IsNumber,
   IsAddress,
   IsMoment,
@@ -104,7 +106,8 @@ fn moment_word(text: &[u8]) -> Option<(u64, &[u8])>
 
 /// What follows the word `inject` and the space behind it.
 fn after_inject(text: &[u8]) -> Option<&[u8]>
-    ensures { IfSome result (λ r. words text.now ≡ inject ∷ words r.now) }
+    ensures word { IfSome result (λ r. words text.now ≡ inject ∷ words r.now) }
+    ensures printed { IfSome result (λ r. list_all is_printable text.now ≡ list_all is_printable r.now) }
 {
     match text {
         [b'i', b'n', b'j', b'e', b'c', b't', b' ', rest @ ..] => Some(rest),
@@ -114,7 +117,8 @@ fn after_inject(text: &[u8]) -> Option<&[u8]>
 
 /// What follows the word `tcp` and the space behind it.
 fn after_tcp(text: &[u8]) -> Option<&[u8]>
-    ensures { IfSome result (λ r. words text.now ≡ tcp ∷ words r.now) }
+    ensures word { IfSome result (λ r. words text.now ≡ tcp ∷ words r.now) }
+    ensures printed { IfSome result (λ r. list_all is_printable text.now ≡ list_all is_printable r.now) }
 {
     match text {
         [b't', b'c', b'p', b' ', rest @ ..] => Some(rest),
@@ -124,7 +128,8 @@ fn after_tcp(text: &[u8]) -> Option<&[u8]>
 
 /// What follows the word `udp` and the space behind it.
 fn after_udp(text: &[u8]) -> Option<&[u8]>
-    ensures { IfSome result (λ r. words text.now ≡ udp ∷ words r.now) }
+    ensures word { IfSome result (λ r. words text.now ≡ udp ∷ words r.now) }
+    ensures printed { IfSome result (λ r. list_all is_printable text.now ≡ list_all is_printable r.now) }
 {
     match text {
         [b'u', b'd', b'p', b' ', rest @ ..] => Some(rest),
@@ -165,7 +170,7 @@ fn part_and_point(text: &[u8]) -> Option<(u32, &[u8])>
 
 /// The address in front, and what directly follows it.
 fn address(text: &[u8]) -> Option<(u32, &[u8])>
-    ensures { IfSome result (λ x. Leads IsAddress is_not_space text.now x.0 x.1.now) }
+    ensures { IfSome result (λ x. Leads IsAddress is_address_byte text.now x.0 x.1.now) }
 {
     let (first, rest) = part_and_point(text)?;
     let (second, rest) = part_and_point(rest)?;
