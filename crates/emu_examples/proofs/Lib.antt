@@ -15,6 +15,7 @@ mod CodelOneDrop
 mod CodelReentry
 mod CodelTwoDrops
 mod DeletedEverywhere
+mod EndedInTime
 mod ExitsInOrder
 mod FastRetransmit
 mod FiveFields
@@ -61,6 +62,7 @@ mod RuleReplaced
 mod SenderSteps
 mod SharedRounding
 mod SpentEarly
+mod StateSteps
 mod StepBudget
 mod StopWithoutFlow
 mod StoppedFlow
