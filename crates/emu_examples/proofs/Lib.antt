@@ -8,12 +8,14 @@ mod AllowTrain
 mod AllowTrainAgain
 mod BenchesAtOnce
 mod Bounds
+mod BudgetOnTheLink
 mod ByteLimit
 mod CodelConfigured
 mod CodelFourDrops
 mod CodelOneDrop
 mod CodelReentry
 mod CodelTwoDrops
+mod CountedBehind
 mod DeletedEverywhere
 mod EndedInTime
 mod ExitsInOrder
@@ -31,6 +33,7 @@ mod ListingsWithoutShows
 mod LossAfterConfig
 mod LossAll
 mod LossNone
+mod LossSteps
 mod LossWords
 mod LossWordsBoth
 mod MaskFixed

@@ -5,6 +5,9 @@ use Rattle.emu_model.specs.declared.packets.Protocol.TheVariants.{Tcp, Udp}
 use Rattle.emu_model.specs.declared.packets.Load.TheVariants.{Plain}
 use Rattle.emu_model.specs.declared.packets.Packet.{Packet}
 use Rattle.emu_model.specs.declared.pipes.Mask.{Mask}
+use Rattle.emu_model.specs.declared.pipes.QueueLimit.TheVariants.{Slots}
+use Rattle.emu_model.specs.declared.pipes.Discipline.TheVariants.{TailDrop}
+use Rattle.emu_model.specs.declared.records.Record.TheVariants.{PacketArrived}
 use Rattle.emu_model.specs.declared.sources.Class.TheVariants.{NextCommand, Exit, Finish, Expiry, Emission}
 use Rattle.emu_model.specs.declared.sources.FlowSpec.{FlowSpec}
 use Rattle.emu_model.specs.declared.sources.TrainSpec.{TrainSpec}
@@ -14,7 +17,8 @@ use Rattle.emu_model.specs.FlowIds.{FlowId, protocol_number, flow_id, same_flow,
 use Rattle.emu_model.specs.Delay.{Line, leave, enter, exit_after}
 use Rattle.emu_model.specs.Reno.{opening_sender}
 use Rattle.emu_model.specs.Dues.{due, is_before, train_dues}
-use Rattle.emu_model.specs.Net.{Net, TrainState, opening_net}
+use Rattle.emu_model.specs.Pipes.{PipeState, opening_instance, instance_for}
+use Rattle.emu_model.specs.Net.{Net, TrainState, opening_net, arrivals}
 use Rattle.emu_model.specs.Commands.{shown_words, source_refusal, start_flow, start_train}
 
 -- at one moment commands come first, then exits, finishes, expiries and emissions, whatever their numbers are
@@ -83,6 +87,30 @@ each_mask_tells = refl
 -- instances are numbered from 0 in the order of their first packets
 known_instance : map (instance_of others) (others ++ zeros ∷ []) ≡ Some 0 ∷ Some 1 ∷ Some 2 ∷ Some 3 ∷ Some 4 ∷ Some 5 ∷ []
 known_instance = refl
+
+-- where a pipe has 256 instances of others, a packet has none, and a trace has no arrival of it
+abbrev pipe_with : ℕ → FlowId → PipeState
+pipe_with instances id = record {
+  number = 4;
+  config = record {
+    bw = 0;
+    delay = 0;
+    queue = Slots 50;
+    plr = 0;
+    mask = masks;
+    discipline = TailDrop;
+  };
+  instances = replicate instances (opening_instance id);
+}
+
+no_instance : instance_for any_packet (pipe_with 256 zeros) ≡ None
+no_instance = refl
+
+no_arrival : arrivals 9 any_packet (pipe_with 256 zeros) ≡ []
+no_arrival = refl
+
+arrival_at_the_first : arrivals 9 any_packet (pipe_with 256 (flow_id masks any_packet)) ≡ PacketArrived 9 0 4 0 ∷ []
+arrival_at_the_first = refl
 
 -- a delay line keeps the last exit when its first packet leaves
 abbrev two_on_the_way : Line ℕ
