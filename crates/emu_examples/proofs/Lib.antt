@@ -17,6 +17,16 @@ mod CodelReentry
 mod CodelTwoDrops
 mod CountedBehind
 mod DeletedEverywhere
+mod Drawn01
+mod Drawn02
+mod Drawn03
+mod Drawn04
+mod Drawn05
+mod Drawn06
+mod Drawn07
+mod Drawn08
+mod Drawn09
+mod Drawn10
 mod EndedInTime
 mod ExitsInOrder
 mod FastRetransmit
