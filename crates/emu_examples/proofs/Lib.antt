@@ -57,6 +57,7 @@ mod OneSlot
 mod PacketBudget
 mod PipeDeleted
 mod PipeMadeAnew
+mod PipeSteps
 mod PortsAndProtocols
 mod Random01
 mod Random02

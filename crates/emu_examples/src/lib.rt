@@ -1,7 +1,7 @@
 //! Worked examples and random scenarios, computed by the definitions: no code, theorems alone, in
 //! `proofs/`. Most files there were written by `tools/spell.py` from a scenario and its report; in
-//! `AdaptiveSamples`, `Bounds`, `NetSteps`, `SenderSteps` and `StateSteps` stand theorems on single
-//! words, worked out by hand.
+//! `AdaptiveSamples`, `Bounds` and those named `..Steps` stand theorems on single words, worked out
+//! by hand.
 #![tactic(auto)]
 
 /// How many steps the longest of these examples may take.
