@@ -181,6 +181,10 @@ steady :
     estimated_timeout (record { srtt = 2000000000; rttvar = 0 }) ≡ 2000000001
 steady = refl
 
+-- one of 70 s: 60 s at most
+longest_estimate : estimated_timeout (record { srtt = 70000000000; rttvar = 0 }) ≡ 60000000000
+longest_estimate = refl
+
 -- new data clears what a loss left: RFC 5681, section 3.2, step 6, and the count of duplicates
 abbrev troubled : Sender
 troubled = record two_sent { duplicates = 2; timed = true; recovery = true; resend = true; timer = Some 500; cwnd = 4; ssthresh = 1 }

@@ -36,6 +36,10 @@ opened : opening_sender flow ≡ record {
 }
 opened = refl
 
+-- an adaptive time begins at 1 s (RFC 6298, section 2.1)
+first_time : (opening_sender (record flow { timing = Adaptive })).timeout ≡ 1000000000
+first_time = refl
+
 -- a sender that sends again after an expiry, with two duplicates: no field is as at the opening
 abbrev busy : Sender
 busy = record {
