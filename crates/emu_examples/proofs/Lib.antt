@@ -73,6 +73,7 @@ mod RefusedCommands
 mod RenoFourSegments
 mod RenoTimeouts
 mod RuleReplaced
+mod RuleSteps
 mod SenderSteps
 mod SharedRounding
 mod SpentEarly
