@@ -76,6 +76,7 @@ mod RuleReplaced
 mod RuleSteps
 mod SenderSteps
 mod SharedRounding
+mod SpanSteps
 mod SpentEarly
 mod StateSteps
 mod StepBudget

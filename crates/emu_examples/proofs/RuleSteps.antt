@@ -1,5 +1,5 @@
 -- RuleSteps: single words of the definitions of rules, each worked out by hand from the rule in its comment.
-use Rattle.std.specs.Prelude.{◌≡◌, refl, ℕ, true, false, Some, None, List, [], ◌∷◌, replicate, map}
+use Rattle.std.specs.Prelude.{◌≡◌, refl, ℕ, ◌-◌, ◌^◌, true, false, Some, None, List, [], ◌∷◌, replicate, map}
 use Rattle.emu_model.specs.Spans.{address_span}
 use Rattle.emu_model.specs.declared.packets.Protocol.TheVariants.{Tcp, Udp}
 use Rattle.emu_model.specs.declared.packets.Load.TheVariants.{Plain}
@@ -9,7 +9,8 @@ use Rattle.emu_model.specs.declared.rules.Action.TheVariants.{Permit, Forbid, Co
 use Rattle.emu_model.specs.declared.rules.ProtocolMatch.TheVariants.{OnlyTcp}
 use Rattle.emu_model.specs.declared.rules.Rule.{Rule}
 use Rattle.emu_model.specs.declared.rules.Verdict.TheVariants.{Allow, Deny, Pipe}
-use Rattle.emu_model.specs.Rules.{Counted, rule_matches, is_behind, start_behind, verdict_by, verdict_of_match, verdict, counted_rules, default_rule}
+use Rattle.emu_model.specs.declared.records.Refusal.TheVariants.{BadNumber, BadSkip, RulesFull, NoRule}
+use Rattle.emu_model.specs.Rules.{Counted, RuleBook, rule_matches, is_behind, start_behind, verdict_by, verdict_of_match, verdict, counted_rules, default_rule, opening_book, is_rule_number, is_bad_skip, add_refusal, delete_refusal}
 
 -- from 10.0.0.1 1000 to 10.0.1.2 80
 abbrev packet : Packet
@@ -100,3 +101,41 @@ counted_behind :
     ≡ counted 100 0 Count ∷ counted 200 1 (SkipTo 300) ∷ counted 250 2 (SendTo 4) ∷ counted 300 3 (SendTo 5)
     ∷ record default_rule { packets = 1; bytes = 500 } ∷ []
 counted_behind = refl
+
+-- a rule has a number from 1 to 65534
+rule_numbers : map is_rule_number (0 ∷ 1 ∷ 65534 ∷ 65535 ∷ []) ≡ false ∷ true ∷ true ∷ false ∷ []
+rule_numbers = refl
+
+-- a jump of 200 goes to 201 at least and to 65535 at most
+jumps :
+    map (is_bad_skip 200) (SkipTo 199 ∷ SkipTo 200 ∷ SkipTo 201 ∷ SkipTo 65535 ∷ SkipTo 65536 ∷ Count ∷ [])
+    ≡ true ∷ true ∷ false ∷ false ∷ true ∷ false ∷ []
+jumps = refl
+
+-- 256 rules besides the default, and 2^64 - 1 addings
+abbrev book : ℕ → ℕ → RuleBook
+book rules added = record { rules = replicate rules (counted 100 0 Count); added = added }
+
+refused_first_of_all : add_refusal (rule 65535 (SkipTo 5)) (book 257 0) ≡ Some BadNumber
+refused_first_of_all = refl
+
+refused_before_the_limit : add_refusal (rule 100 (SkipTo 5)) (book 257 0) ≡ Some BadSkip
+refused_before_the_limit = refl
+
+room_for_the_last : add_refusal (rule 100 Permit) (book 256 (2 ^ 64 - 2)) ≡ None
+room_for_the_last = refl
+
+no_room_for_a_rule : add_refusal (rule 100 Permit) (book 257 0) ≡ Some RulesFull
+no_room_for_a_rule = refl
+
+no_room_for_an_adding : add_refusal (rule 100 Permit) (book 1 (2 ^ 64 - 1)) ≡ Some RulesFull
+no_room_for_an_adding = refl
+
+deletions :
+    map (λ n. delete_refusal n (book 3 3)) (0 ∷ 65535 ∷ 99 ∷ 100 ∷ [])
+    ≡ Some BadNumber ∷ Some BadNumber ∷ Some NoRule ∷ None ∷ []
+deletions = refl
+
+-- an experiment begins with the default alone, and nothing added
+at_the_opening : opening_book ≡ record { rules = default_rule ∷ []; added = 0 }
+at_the_opening = refl

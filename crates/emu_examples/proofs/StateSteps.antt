@@ -4,10 +4,10 @@ use Rattle.std.specs.Prelude.{◌≡◌, refl, ℕ, false, Some, None, List, [],
 use Rattle.emu_model.specs.declared.commands.Spec.{Spec}
 use Rattle.emu_model.specs.declared.commands.Timed.{Timed}
 use Rattle.emu_model.specs.declared.commands.Command.TheVariants.{OnePass, End}
-use Rattle.emu_model.specs.declared.records.Ending.TheVariants.{Ended}
-use Rattle.emu_model.specs.declared.records.Record.TheVariants.{CommandDone}
+use Rattle.emu_model.specs.declared.records.Ending.TheVariants.{Ended, Spent}
+use Rattle.emu_model.specs.declared.records.Record.TheVariants.{CommandDone, StepsSpent}
 use Rattle.emu_model.specs.FlowIds.{FlowId, different}
-use Rattle.emu_model.specs.Rate.{finishes}
+use Rattle.emu_model.specs.Rate.{finishes, finish_at, follow}
 use Rattle.emu_model.specs.Delay.{exits}
 use Rattle.emu_model.specs.Net.{opening_net}
 use Rattle.emu_model.specs.Alone.{alone}
@@ -57,6 +57,26 @@ after_the_last = refl
 -- from then on it stands still
 stands_still : alone spec commands 3 ≡ alone spec commands 2
 stands_still = refl
+
+-- with a budget of one step it is spent after the first
+spent_after_the_first :
+    alone (record spec { budget = record { packets = 10; steps = 1 } }) commands 2 ≡ record {
+      spec = record spec { budget = record { packets = 10; steps = 1 } };
+      left = record { moment = 5; command = End } ∷ [];
+      taken = 1;
+      clock = 3;
+      steps = 1;
+      net = record opening_net { one_pass = false; records = CommandDone 3 0 ∷ StepsSpent 3 ∷ [] };
+      ending = Some Spent;
+    }
+spent_after_the_first = refl
+
+-- at rate 0 a packet finishes where its period began, and nothing is summed
+no_rate : finish_at 0 7 100 ≡ 7
+no_rate = refl
+
+period_without_rate : follow 0 100 (record { start = 3; sum = 5; finish = 9 }) ≡ record { start = 3; sum = 5; finish = 3 }
+period_without_rate = refl
 
 -- at 3 Gbit/s a byte takes 8/3 ns: of three bytes in one period the first ends at 2.67, rounded up to 3, the second at 5.33,
 -- to 6, and the third at 8; a period that began at 10 is 10 later
