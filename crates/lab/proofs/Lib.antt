@@ -6,5 +6,6 @@ pub mod ReadFacts
 pub mod Reporting
 pub mod Servings
 pub mod Settled
+pub mod ReportTexts
 pub mod Turns
 pub mod Writing

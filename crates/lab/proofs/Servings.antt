@@ -1,6 +1,5 @@
 -- Which tenant serves which experiment.
 use Rattle.std.proofs.Common.{◌≡◌, ◌≢◌, ◌<◌, ◌+◌, ◌++◌, ℕ, zero, suc, List, [], ◌∷◌, length, take, set, get_or, sym, refl, ap, ◌∙◌, arith, length-append, map, ⊎_elim, subst}
-use Rattle.std.specs.List.{remove}
 use Rattle.std.proofs.lemmas.Bool.{cases_lt, cases_order}
 use Rattle.std.proofs.lemmas.List.{get_or-set_same, get_or-set_other, get_or_append_left, map-append, take_more}
 use Rattle.std.proofs.Math.ListN.{length-set}
@@ -73,21 +72,21 @@ serves_start ts es all k t e low =
     subst Q is (all k t e low)
 
 -- the first is gone
-pub serves_rest : (n : ℕ) (ts : List Tenant) (es : List Experiment) → ServesFrom n ts es → ServesFrom (n + 1) (remove ts 0) es
-serves_rest n [] es from k t e low = absurd (omega arith)
-serves_rest n (u ∷ us) es from k t e low =
-    let is : n + suc k ≡ n + 1 + k = omega arith in
+pub serves_rest : (n : ℕ) (ts us : List Tenant) (u : Tenant) (es : List Experiment) → ts ≡ u ∷ us → ServesFrom n ts es → ServesFrom (n + 1) us es
+serves_rest n ts us u es is from k t e low =
+    let all : ServesFrom n (u ∷ us) es = subst (λ l. ServesFrom n l es) is from in
+    let next : n + suc k ≡ n + 1 + k = omega arith in
     let Q : ℕ → Type 0 = λ m. Serves (get_or us k t) (get_or es m e) in
-    subst Q is (from (suc k) t e (omega arith))
+    subst Q next (all (suc k) t e (omega arith))
 
 -- the first that is left serves the experiment at n
-pub serves_here : (n : ℕ) (ts : List Tenant) (es : List Experiment) (t : Tenant) (x : Experiment) → ServesFrom n ts es → 0 < length ts → t ≡ get_or ts 0 t → x ≡ get_or es n x → Serves t x
-serves_here n ts es t x from some there here =
-    let is : n + 0 ≡ n = omega arith in
-    let S : ℕ → Type 0 = λ m. Serves (get_or ts 0 t) (get_or es m x) in
-    let P : Tenant → Type 0 = λ v. Serves v (get_or es n x) in
-    let Q : Experiment → Type 0 = λ y. Serves t y in
-    subst Q (sym here) (subst P (sym there) (subst S is (from 0 t x some)))
+pub serves_here : (n : ℕ) (ts us : List Tenant) (u : Tenant) (es : List Experiment) (x : Experiment) → ts ≡ u ∷ us → ServesFrom n ts es → x ≡ get_or es n x → Serves u x
+serves_here n ts us u es x is from here =
+    let all : ServesFrom n (u ∷ us) es = subst (λ l. ServesFrom n l es) is from in
+    let first : n + 0 ≡ n = omega arith in
+    let S : ℕ → Type 0 = λ m. Serves u (get_or es m x) in
+    let Q : Experiment → Type 0 = λ y. Serves u y in
+    subst Q (sym here) (subst S first (all 0 u x (omega arith)))
 
 -- one more that was settled
 pub collects : (n : ℕ) (es : List Experiment) (x : Experiment) (all : List Trace) (v : Trace) (new : List Trace) → n < length es → x ≡ get_or es n x → all ≡ map trace_alone (take n es) → v ≡ trace_alone x → new ≡ all ++ v ∷ []

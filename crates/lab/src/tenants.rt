@@ -197,8 +197,8 @@ fn settle_one(
 /// Settles each tenant with its dossier.
 pub(crate) fn settle_all(
     alloc: Global,
-    mut tenants: Vec<Tenant>,
-    mut dossiers: Vec<Option<Dossier<RingMail>>>,
+    tenants: Vec<Tenant>,
+    dossiers: Vec<Option<Dossier<RingMail>>>,
     scenario: &[Experiment],
 ) -> Result<Vec<Outcome>, RunFault>
     requires { IsServed tenants scenario.now }
@@ -206,13 +206,13 @@ pub(crate) fn settle_all(
     ensures err { IfErr result IsSettleFault }
 {
     let mut all = Vec::new(alloc);
+    let mut tenants = tenants.into_iter();
+    let mut dossiers = dossiers.into_iter();
     for experiment in scenario {
-        let tenant = tenants.remove(0);
-        let dossier = if dossiers.is_empty() {
-            None
-        } else {
-            dossiers.remove(0)
+        let Some(tenant) = tenants.next() else {
+            unreachable!()
         };
+        let dossier = dossiers.next().unwrap_or(None);
         if all.reserve(1).is_err() {
             return Err(RunFault::Memory);
         }

@@ -64,11 +64,14 @@ fn texts_in_turn(
     ensures err { IfErr result IsMemory }
 {
     let mut texts = Vec::new(alloc);
-    if texts.reserve(plans.len()).is_err() {
+    let Ok(()) = texts.reserve(plans.len()) else {
         return Err(RunFault::Memory);
-    }
+    };
     for outcome in outcomes {
-        let text = Text::new(alloc, &plans[texts.len()], outcome)?;
+        let Some(plan) = plans.get(texts.len()) else {
+            unreachable!()
+        };
+        let text = Text::new(alloc, plan, outcome)?;
         texts.push_reserved(text);
     }
     Ok(texts)
@@ -110,7 +113,8 @@ pub(crate) fn texts_together<R: Threads + Sync>(
         return texts_in_turn(alloc, plans, outcomes);
     }
     let others = threads / 2;
-    let middle = share(outcomes.as_slice(), threads - others, threads);
+    let mine = threads - others;
+    let middle = share(outcomes.as_slice(), mine, threads);
     let Ok(later) = outcomes.split_off(middle) else {
         return Err(RunFault::Memory);
     };
@@ -126,7 +130,7 @@ pub(crate) fn texts_together<R: Threads + Sync>(
             requires { IsSync R.row × (outcomes.items ≡ map trace_alone first_plans.now) }
             ensures ok { IfOk result (λ texts. texts.items ≡ map report_alone first_plans.entry.now) }
             ensures err { IfErr result IsMemory }
-        { texts_together(rt, alloc, first_plans, outcomes, threads - others) },
+        { texts_together(rt, alloc, first_plans, outcomes, mine) },
     );
     let mut texts = front?;
     let mut last = behind?;

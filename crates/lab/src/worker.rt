@@ -1,7 +1,7 @@
 //! What one worker does: it turns the residents of its bench, offers one of them now and then, and fetches others
 //! where it has nothing to do.
 
-ghost use Rattle.std.specs.Prelude.{◌≡◌, true, IfErr, IsTrue, Unit};
+ghost use Rattle.std.specs.Prelude.{◌≡◌, true, IfErr, IsTrue};
 ghost use Rattle.lab.specs.Plans.{IsWorkFault, IsMemory, is_honest};
 
 use crate::fault::RunFault;
@@ -75,6 +75,7 @@ pub(crate) struct Report<G: Gate> {
 }
 
 // Asks the gate after each turn of a bench, and counts them.
+#[derive(Drop)]
 struct Watching<'a, G: Gate> {
     gate: &'a G,
     bench: u32,
