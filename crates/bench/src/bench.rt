@@ -66,7 +66,7 @@ pub enum AdoptError {
 }
 
 impl Bench {
-    ghost use Rattle.std.specs.Prelude.{◌≡◌, ◌≢◌, ◌+◌, ◌≤◌, ℕ, None, Some, true, false, [], IfOk, OnOk, IfErr, OnErr, IfSome, IfNone, MatchOption};
+    ghost use Rattle.std.specs.Prelude.{◌≡◌, ◌≢◌, ◌+◌, ◌≤◌, ℕ, None, Some, true, false, [], length, IfOk, OnOk, IfErr, OnErr, IfSome, IfNone, MatchOption};
     ghost use Rattle.shard.specs.Stand.{Seat, seat_at, IsTold};
     ghost use Rattle.shard.specs.Turns.{TurnsSettled, ManyTurnsSettled, Heard, NamesIt, IsPoll};
     ghost use Rattle.bench.specs.Rings.{ring_seen};
@@ -186,6 +186,13 @@ impl Bench {
         ensures none { IfNone result ((slot : ℕ) (s : Seat RingMail) → seat_at (bench_seating self.now).seats slot ≡ Some s → s.stand.name ≢ name) }
     {
         self.shard.slot_of(name)
+    }
+
+    /// How many residents there are.
+    pub fn residents(&self) -> usize
+        ensures { result ≡ length self.now.resident.items }
+    {
+        self.resident.len()
     }
 
     /// What each resident keeps: it shows the state of running it alone.

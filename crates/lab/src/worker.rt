@@ -174,26 +174,34 @@ impl Desk {
         }
     }
 
-    // Polls a slot. Whether its resident can make a turn now and could not before.
-    fn poll(&mut self, slot: usize) -> Result<bool, RunFault>
+    // Polls a slot.
+    fn poll(&mut self, slot: usize) -> Result<(), RunFault>
         ensures { IfErr result IsMemory }
     {
         match self.bench.poll(slot) {
-            Polled::Took(_) => return Ok(true),
-            Polled::Resumed(_) => return Ok(true),
             Polled::NoMemory(_) => return Err(RunFault::Memory),
-            _ => return Ok(false),
+            _ => return Ok(()),
         }
     }
 
-    // Polls each slot. Whether any resident can make a turn now.
+    // Polls each resident. Whether any can make a turn now and could not before.
     fn poll_all(&mut self) -> Result<bool, RunFault>
         ensures { IfErr result IsMemory }
     {
         let mut any = false;
+        let mut left = self.bench.residents();
         for slot in 0..SLOTS {
-            if self.poll(slot)? {
-                any = true;
+            if left == 0 {
+                return Ok(any);
+            }
+            match self.bench.poll(slot) {
+                Polled::NoMemory(_) => return Err(RunFault::Memory),
+                Polled::Vacant => {}
+                Polled::Took(_) | Polled::Resumed(_) => {
+                    any = true;
+                    left -= 1;
+                }
+                _ => left -= 1,
             }
         }
         Ok(any)

@@ -50,6 +50,9 @@ fn with_one(drops: [u64; 8], cause: DropCause) -> [u64; 8]
     drops
 }
 
+// How many records there is room for once there is any, so that the first few don't grow the list step by step.
+const FIRST_ROOM: usize = 2048;
+
 impl RecordLog {
     /// No records. Takes no memory.
     pub fn new(alloc: Global) -> Self
@@ -69,6 +72,10 @@ impl RecordLog {
         ensures records { self.new.records ≡ self.old.records }
         ensures room { self.old.spare ≤ self.new.spare }
     {
+        if self.records.capacity() == 0 {
+            // Want of so much room is no want of the room that is asked for.
+            let _ = self.records.reserve(FIRST_ROOM);
+        }
         self.records.reserve(additional)
     }
 

@@ -7,6 +7,9 @@ use crate::lines::{write_counters, write_heading, write_record};
 use emu_model::{Counters, Record};
 use std::alloc::{AllocError, Global};
 
+// How many bytes a line has, its line feed included: most have fewer.
+const LINE: usize = 32;
+
 /// The report of an experiment: its name, a line for each record, its counters.
 pub fn report_text(
     alloc: Global,
@@ -17,6 +20,8 @@ pub fn report_text(
     ensures { IfOk result (λ text. text.items ≡ report_of name.now records.now counters.now) }
 {
     let mut text = Vec::new(alloc);
+    // Most lines fit, so that the text grows once at most; without that room it grows as it needs.
+    let _ = text.reserve(records.len().saturating_mul(LINE));
     write_heading(&mut text, name)?;
     for line in records {
         write_record(&mut text, line)?;
