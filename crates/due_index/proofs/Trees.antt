@@ -1,14 +1,14 @@
 -- A tree of which one place changes.
-use Rattle.std.proofs.Common.{inl, inr, ◌≡◌, ◌≢◌, ℕ, zero, suc, ◌+◌, ◌-◌, ◌*◌, ◌/◌, ◌<◌, List, [], ◌∷◌, ◌++◌, length, set, get_or, refl, sym, ap, ◌∙◌, subst, arith, get_or-set_same, get_or-set_other}
+use Rattle.std.proofs.Common.{inl, inr, ◌≡◌, ◌≢◌, ℕ, zero, suc, ◌+◌, ◌-◌, ◌*◌, ◌/◌, ◌<◌, ◌≤◌, List, [], ◌∷◌, ◌++◌, length, set, get_or, refl, sym, ap, ◌∙◌, subst, arith, get_or-set_same, get_or-set_other}
 use Rattle.std.specs.Prelude.{Option}
 use Rattle.std.proofs.Math.ListN.{get_or-map}
 use Rattle.std.proofs.lemmas.Bool.{cases_eq}
-use Rattle.std.proofs.lemmas.List.{get_or_past, get_or_default, length-map, map-set, set-get_or}
+use Rattle.std.proofs.lemmas.List.{get_or_past, get_or_default, length-map, length-set, map-set, set-get_or}
 use Rattle.emu_model.specs.declared.sources.Due.{Due}
 use Rattle.due_index.specs.declared.tree.Node.{Node}
 use Rattle.due_index.specs.Least.{dues_in, least_of, lesser}
 use Rattle.due_index.specs.Tree.{no_node, node_at, owns_of, gathered, IsMet, IsTree, IsTreeBut}
-use Rattle.due_index.proofs.LeastDues.{least_of-leaf}
+use Rattle.due_index.proofs.LeastDues.{least_of-leaf, lesser-none}
 use Rattle.due_index.proofs.Runs.{run, leaf, root_is, run-list}
 
 -- a list in which place k alone is another
@@ -118,6 +118,52 @@ module _ (xs : List Node) (k : ℕ) (x : Node) (within : k < length xs) (at : x 
       ] in
       met_still xs ys i (least i) (ap (λ (n : Node). n.own) (p.others i other))
       (least (2 * i + 1)) (least (2 * i + 2)) (h i)
+
+-- where nothing stands below a place, its own due and its least change together
+module _ (xs : List Node) (k : ℕ) (o : Option Due) where
+  leaf_node : Node
+  leaf_node = record { own = o; least = o }
+
+  pub leaf_owns : owns_of (set xs k (record { own = o; least = o })) ≡ set (owns_of xs) k o
+  leaf_owns = map-set (λ (n : Node). n.own) xs k (record { own = o; least = o })
+
+  module _ (within : k < length xs) (h : IsTree xs) (last : length xs ≤ 2 * k + 1) where
+    put_leaf : IsPut xs (set xs k leaf_node) k leaf_node
+    put_leaf = put_here xs k leaf_node within
+
+    past : (i : ℕ) → length xs ≤ i → node_at (set xs k leaf_node) i ≡ no_node
+    past i l = get_or_past (set xs k leaf_node) i no_node (omega (arith, length-set xs k leaf_node))
+
+    leaf_here : IsMet (set xs k leaf_node) k
+    unfolding leaf_node
+    leaf_here =
+        ap (λ (n : Node). n.least) put_leaf.here
+        ∙ sym (lesser-none o)
+        ∙ (λ t. lesser (sym (ap (λ (n : Node). n.own) put_leaf.here) t)
+        (lesser (sym (ap (λ (n : Node). n.least) (past (2 * k + 1) last)) t)
+        (sym (ap (λ (n : Node). n.least) (past (2 * k + 2) (omega arith))) t)))
+
+    leaf_there : (i : ℕ) → i ≢ k → 2 * i + 1 ≢ k → 2 * i + 2 ≢ k → IsMet (set xs k leaf_node) i
+    leaf_there i other left right =
+        let ys = set xs k leaf_node in
+        let least : (j : ℕ) → j ≢ k → (node_at ys j).least ≡ (node_at xs j).least =
+        λ j e. ap (λ (n : Node). n.least) (put_leaf.others j e) in
+        met_still xs ys i (least i other) (ap (λ (n : Node). n.own) (put_leaf.others i other))
+        (least (2 * i + 1) left) (least (2 * i + 2) right) (h i)
+
+    pub leaf_put_root : k ≡ 0 → IsTree (set xs k (record { own = o; least = o }))
+    unfolding leaf_node
+    leaf_put_root root i = elim (cases_eq i k) [
+      | inl same ↦ subst (λ j. IsMet (set xs k leaf_node) j) (sym same) leaf_here
+      | inr other ↦ leaf_there i other (λ e. omega arith) (λ e. omega arith)
+    ]
+
+    pub leaf_put_but : k ≢ 0 → IsTreeBut ((k - 1) / 2) (set xs k (record { own = o; least = o }))
+    unfolding leaf_node
+    leaf_put_but low i above = elim (cases_eq i k) [
+      | inl same ↦ subst (λ j. IsMet (set xs k leaf_node) j) (sym same) leaf_here
+      | inr other ↦ leaf_there i other (λ e. above (omega arith)) (λ e. above (omega arith))
+    ]
 
 -- one place more, where nothing is due
 node_at-push : (xs : List Node) (i : ℕ) → node_at (xs ++ no_node ∷ []) i ≡ node_at xs i

@@ -3,7 +3,7 @@
 ghost use Rattle.std.specs.Prelude.{◌≡◌, ◌+◌, ◌-◌, ◌<◌, ◌≤◌, ◌++◌, ◌∷◌, [], length, slice_set, OnOk, OnErr, IsOk};
 ghost use Rattle.due_index.specs.Least.{least_of, dues_in};
 
-use crate::tree::{Node, is_same, mend};
+use crate::tree::{Node, is_same, put};
 use emu_model::Due;
 use std::alloc::{AllocError, Global};
 use std::marker::Model;
@@ -76,12 +76,10 @@ impl DueIndex {
         requires { place < length self.old.leaves }
         ensures { self.new ≡ record self.old { leaves = slice_set self.old.leaves place due } }
     {
-        let node = &mut self.nodes[place];
-        if is_same(node.own, due) {
+        if is_same(&self.nodes[place].own, &due) {
             return;
         }
-        node.own = due;
-        mend(self.nodes.as_mut_slice(), place);
+        put(self.nodes.as_mut_slice(), place, due);
     }
 
     /// No places any more; their room stays.
