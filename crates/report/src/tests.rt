@@ -3,8 +3,8 @@
 use crate::{pipe_listing, report_text, rule_listing, write_counters, write_heading, write_record};
 use emu_model::{
     Action, Bandwidth, CodelTime, Counters, Delay, Discipline, DropCause, FlowNumber, KByteLimit,
-    Load, LossRate, Mask, PipeConfig, PipeNumber, PortRange, Prefix, PrefixLength, ProtocolMatch,
-    QueueLimit, Record, Refusal, Rule, RuleNumber, SlotLimit,
+    Load, LossRate, Mask, PipeConfig, PipeNumber, PortRange, Prefix, PrefixLength, Protocol,
+    ProtocolMatch, QueueLimit, Record, Refusal, Rule, RuleNumber, Size, SlotLimit,
 };
 use std::process::Abort;
 use std::str;
@@ -352,6 +352,114 @@ fn each_kind_of_line(rt: HostRuntime) -> Result<(), Fail> {
         &rt,
         &text,
         "5 refused 0 10\n5 refused 1 11\n5 refused 2 12\n5 refused 3 13\n5 refused 4 20\n5 refused 5 21\n5 refused 6 22\n5 refused 7 23\n5 refused 8 24\n5 refused 9 25\n6 drop 7 plain denied\n6 drop 7 plain nopipe\n6 drop 7 plain noinstance\n6 drop 7 plain lost\n6 drop 7 plain full\n6 drop 7 plain codel\n6 drop 7 plain deleted\n6 drop 7 plain budget\n18446744073709551615 pass 18446744073709551615 65535.255\n1000000000 expire 1 1460 2920\n0 spent\nrule 00005 12 345 allow tcp from 10.11.12.13 80 to 255.255.255.254/31 1024-65535\npipe 65535 bw 10000000000 delay 60000 queue 10KBytes plr 600000 mask 0f/01234567/89abcdef/ffff/000a codel target 5000000 interval 100000000\ninstance 65535.255 waiting 1 bytes 2 busy 0 flight 3 drawn 4\n",
+    );
+    Ok(())
+}
+
+// What `trace 1` adds: the least values, the greatest, and values that differ within a line.
+#[test]
+fn lines_of_a_trace(rt: HostRuntime) -> Result<(), Fail> {
+    let (first_pipe, last_pipe) = (pipe_number(&rt, 1), pipe_number(&rt, 65535));
+    let (first_flow, last_flow) = (flow_number(&rt, 1), flow_number(&rt, 65535));
+    let size = |bytes| Size::new(bytes).expect(&rt, "a size");
+    let records = [
+        Record::PacketMade {
+            moment: 0,
+            packet: 0,
+            load: Load::Plain,
+            proto: Protocol::Udp,
+            src: 0,
+            sport: 0,
+            dst: 0,
+            dport: 0,
+            size: size(40),
+        },
+        Record::PacketMade {
+            moment: u64::MAX,
+            packet: u64::MAX,
+            load: Load::Seg {
+                flow: last_flow,
+                first: u64::MAX,
+            },
+            proto: Protocol::Tcp,
+            src: 0xffffffff,
+            sport: 65535,
+            dst: 0xffffffff,
+            dport: 65535,
+            size: size(1500),
+        },
+        Record::PacketMade {
+            moment: 11200000,
+            packet: 3,
+            load: Load::Ack {
+                flow: first_flow,
+                upto: 1460,
+            },
+            proto: Protocol::Tcp,
+            src: 0x0a0b0c0d,
+            sport: 80,
+            dst: 0xc0a80102,
+            dport: 1024,
+            size: size(41),
+        },
+        Record::PacketArrived {
+            moment: 0,
+            packet: 0,
+            pipe: first_pipe,
+            instance: 0,
+        },
+        Record::PacketArrived {
+            moment: u64::MAX,
+            packet: u64::MAX,
+            pipe: last_pipe,
+            instance: 255,
+        },
+        Record::PacketArrived {
+            moment: 12,
+            packet: 34,
+            pipe: first_pipe,
+            instance: 56,
+        },
+        Record::InstanceIdentified {
+            moment: 0,
+            pipe: first_pipe,
+            instance: 0,
+            proto: 0,
+            src: 0,
+            dst: 0,
+            sport: 0,
+            dport: 0,
+        },
+        Record::InstanceIdentified {
+            moment: u64::MAX,
+            pipe: last_pipe,
+            instance: 255,
+            proto: 255,
+            src: 0xffffffff,
+            dst: 0xffffffff,
+            sport: 65535,
+            dport: 65535,
+        },
+        Record::InstanceIdentified {
+            moment: 12,
+            pipe: first_pipe,
+            instance: 34,
+            proto: 6,
+            src: 0x0a0b0c0d,
+            dst: 0xc0a80102,
+            sport: 1000,
+            dport: 80,
+        },
+    ];
+    let mut text = Vec::new(rt.alloc());
+    for record in &records {
+        write_record(&mut text, record)?;
+    }
+    // 1000 is 3e8 in hexadecimal, and 80 is 50.
+    same_text(
+        &rt,
+        &text,
+        "0 make 0 plain udp 0.0.0.0 0 0.0.0.0 0 40\n18446744073709551615 make 18446744073709551615 data 65535 18446744073709551615 tcp 255.255.255.255 65535 255.255.255.255 65535 1500\n11200000 make 3 ack 1 1460 tcp 10.11.12.13 80 192.168.1.2 1024 41\n0 arrive 0 1.0\n18446744073709551615 arrive 18446744073709551615 65535.255\n12 arrive 34 1.56\n0 identify 1.0 00/00000000/00000000/0000/0000\n18446744073709551615 identify 65535.255 ff/ffffffff/ffffffff/ffff/ffff\n12 identify 1.34 06/0a0b0c0d/c0a80102/03e8/0050\n",
     );
     Ok(())
 }
