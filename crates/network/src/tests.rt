@@ -72,7 +72,18 @@ fn obeys_once(
     true
 }
 
-/// A command is obeyed, at the second try where memory was refused, and nothing is recorded before
+/// How many records, packets made and packets held there are, and what is due first.
+fn seen(net: &Network, shelf: &OwnShelf) -> (usize, u64, usize, Due) {
+    let held = shelf.count(0);
+    (
+        net.records().len(),
+        net.counters(held as u64).made,
+        held,
+        net.earliest(0, next_command(LATEST)),
+    )
+}
+
+/// A command is obeyed, at the second try where memory was refused, and nothing has changed before
 /// that.
 #[tactic(auto, using(crate::proofs::Standing::stands_at))]
 fn obeys(
@@ -94,11 +105,11 @@ fn obeys(
     ensures made { net.new.made ≤ net.old.made + 2 }
     ensures spare { IsTrue result → 0 < net.new.log.spare }
 {
-    let before = net.records().len();
+    let before = seen(net, shelf);
     if obeys_once(net, shelf, at(room, now), number, command) {
         return true;
     }
-    if net.records().len() != before {
+    if seen(net, shelf) != before {
         return false;
     }
     obeys_once(net, shelf, at(room, now), number, command)
@@ -123,7 +134,8 @@ fn happens(net: &mut Network, shelf: &mut OwnShelf, at: Moment, due: Due) -> boo
     true
 }
 
-/// All events before a moment come. One that is refused memory is tried again.
+/// All events before a moment come. One that is refused memory is tried again, and nothing has changed
+/// before that.
 #[tactic(auto, using(crate::proofs::Standing::stands_at, crate::proofs::Standing::next_is_due))]
 fn goes_on(
     net: &mut Network,
@@ -148,10 +160,10 @@ fn goes_on(
         if due.source.class == Class::NextCommand {
             return true;
         }
-        let before = net.records().len();
+        let before = seen(net, shelf);
         if happens(net, shelf, at(room, due.moment), due) {
             clock = due.moment;
-        } else if net.records().len() != before {
+        } else if seen(net, shelf) != before {
             return false;
         }
     }
