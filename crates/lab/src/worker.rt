@@ -19,7 +19,7 @@ use std::thread;
 const SLOTS: usize = 256;
 
 /// How many turns one experiment makes before another's: what it holds is at hand then.
-const AT_ONCE: u32 = 64;
+const AT_ONCE: u32 = 1024;
 
 /// What the workers share: how many experiments have ended, and whether there is a fault. Nothing is claimed of
 /// either.

@@ -1,6 +1,6 @@
 -- What stands in a line of a report: each as its bytes (own; rules and pipes in the words of
 -- ipfw(8)).
-use Rattle.std.specs.Prelude.{ℕ, ◌/◌, ◌%◌, ◌^◌, ◌==◌, zero, suc, List, [], ◌∷◌, ◌++◌, Option, None, Some, if◌then◌else◌, codes, decimal, slice_index}
+use Rattle.std.specs.Prelude.{ℕ, ◌+◌, ◌/◌, ◌%◌, ◌^◌, ◌==◌, zero, suc, List, [], ◌∷◌, ◌++◌, Option, None, Some, if◌then◌else◌, codes, decimal, slice_index}
 use Rattle.std.specs.List.{join_with_byte}
 use Rattle.emu_model.specs.Spans.{AddressSpan, PortSpan}
 use Rattle.emu_model.specs.declared.packets.Protocol.{Protocol}
@@ -26,6 +26,10 @@ unfoldable pub places : ℕ → ℕ → ℕ → List ℕ
 places base zero n = []
 places base (suc count) n =
     places base count (n / base) ++ slice_index (codes "0123456789abcdef") (n % base) ∷ []
+
+-- the two digits of a number below 100, a zero in front
+abbrev pub pair_of : ℕ → List ℕ
+pair_of n = (48 + n / 10) ∷ (48 + n % 10) ∷ []
 
 -- N.I, the pipe and the instance
 abbrev pub instance_name : ℕ → ℕ → List ℕ

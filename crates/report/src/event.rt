@@ -4,11 +4,19 @@
 ghost use Rattle.std.specs.Prelude.{◌≡◌, ◌+◌, ◌≤◌, ◌++◌, length, codes, decimal, drop};
 ghost use Rattle.report.specs.Words.{instance_name, load_of, cause_of};
 
+use crate::moments::Moments;
 use emu_model::{DropCause, Load, PipeNumber};
 use itoa::write_digits;
 
-/// No event is longer.
+/// No line of an event is longer; such a line ends here in its array.
 pub const LONGEST_EVENT: usize = 128;
+
+/// Most lines are no longer. So many bytes are copied of each such line, and what is too much is
+/// taken back: a fixed number of bytes takes a few moves, where any other takes a call.
+pub const SHORT_EVENT: usize = 64;
+
+/// The array in which a line is made.
+pub const ROOM: usize = LONGEST_EVENT + SHORT_EVENT;
 
 /// Puts bytes, and returns where they begin.
 #[inline(always)]
@@ -96,11 +104,18 @@ pub fn put_cause(text: &mut [u8], end: usize, cause: DropCause) -> usize
 
 /// Puts a moment, what happened then, and to which number; returns where the moment begins.
 #[inline(always)]
-pub fn put_event(text: &mut [u8], end: usize, moment: u64, word: &[u8], number: u64) -> usize
-    requires { (length word.now + 40 ≤ end) × (end ≤ length text.old) }
-    ensures start { (end ≤ result + (length word.now + 40)) × (result ≤ end) }
+pub fn put_event(
+    moments: &mut Moments,
+    text: &mut [u8],
+    end: usize,
+    moment: u64,
+    word: &[u8],
+    number: u64,
+) -> usize
+    requires { (length word.now + 44 ≤ end) × (end ≤ length text.old) }
+    ensures start { (end ≤ result + (length word.now + 44)) × (result ≤ end) }
     ensures items { drop result text.new ≡ decimal moment ++ (word.now ++ (decimal number ++ drop end text.old)) }
 {
     let start = put_labelled(text, end, word, number);
-    put_number(text, start, moment)
+    moments.put(text, start, moment)
 }

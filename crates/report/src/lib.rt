@@ -3,6 +3,7 @@
 
 mod event;
 mod lines;
+mod moments;
 mod pieces;
 mod report;
 #[cfg(test)]
@@ -10,4 +11,5 @@ mod tests;
 mod words;
 
 pub use lines::{write_counters, write_heading, write_record};
+pub use moments::Moments;
 pub use report::{pipe_listing, report_text, rule_listing};

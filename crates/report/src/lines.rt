@@ -1,7 +1,7 @@
 //! The lines of a report, each appended to a text (own). Moments are in ns. Where memory is refused,
 //! the text stays as it was.
 
-ghost use Rattle.std.specs.Prelude.{◌≡◌, ◌+◌, ◌≤◌, ◌++◌, length, codes, decimal, vec_len, vec_capacity, IsOk, OnOk, OnErr};
+ghost use Rattle.std.specs.Prelude.{◌≡◌, ℕ, ◌+◌, ◌-◌, ◌≤◌, ◌++◌, List, length, codes, decimal, drop, vec_len, vec_capacity, IsOk, OnOk, OnErr};
 ghost use Rattle.report.specs.Room.{spare};
 ghost use Rattle.report.specs.Words.{instance_name, load_of, cause_of};
 ghost use Rattle.std.specs.List.{flat_map};
@@ -9,8 +9,10 @@ ghost use Rattle.report.specs.Lines.{spaced, fields_of, line_of, heading_of, beh
 ghost use Rattle.emu_model.specs.declared.records.Record.TheVariants.{RuleLine, PipeLine};
 
 use crate::event::{
-    LONGEST_EVENT, put, put_cause, put_event, put_instance, put_labelled, put_load,
+    LONGEST_EVENT, ROOM, SHORT_EVENT, put, put_cause, put_event, put_instance, put_labelled,
+    put_load,
 };
+use crate::moments::Moments;
 use crate::pieces::{append, append_labelled, append_number, append_places};
 use crate::words::{
     append_action, append_discipline, append_end, append_header, append_instance, append_mask,
@@ -60,14 +62,43 @@ fn append_pipe(out: &mut Vec<u8>, pipe: PipeNumber, config: &PipeConfig)
     append_discipline(out, config.discipline);
 }
 
-fn append_event(out: &mut Vec<u8>, moment: u64, word: &[u8], number: u64)
+// The line that stands in an array from a place up to `LONGEST_EVENT`.
+#[inline(always)]
+fn append_made(out: &mut Vec<u8>, text: &[u8; ROOM], start: usize)
+    requires { (start ≤ 128) × (128 ≤ spare out.old) }
+    ensures items { (line rest : List ℕ) → length rest ≡ 64 → drop start text.now ≡ line ++ rest → out.new.items ≡ out.old.items ++ line }
+    ensures capacity { vec_capacity out.old ≤ vec_capacity out.new }
+{
+    if start < LONGEST_EVENT - SHORT_EVENT {
+        return append(out, &text[start..LONGEST_EVENT]);
+    }
+    let length = out.len() + (LONGEST_EVENT - start);
+    append(out, &text[start..start + SHORT_EVENT]);
+    out.truncate(length);
+}
+
+// That a command was done.
+#[inline(always)]
+fn append_done(out: &mut Vec<u8>, moments: &mut Moments, moment: u64, command: u64)
+    requires { 128 ≤ spare out.old }
+    ensures items { out.new.items ≡ out.old.items ++ (decimal moment ++ (codes " ok " ++ (decimal command ++ codes "\n"))) }
+    ensures capacity { vec_capacity out.old ≤ vec_capacity out.new }
+{
+    let mut text = [0; ROOM];
+    let end = put(&mut text, LONGEST_EVENT, b"\n");
+    let start = put_event(moments, &mut text, end, moment, b" ok ", command);
+    append_made(out, &text, start);
+}
+
+// What happened to a number, but for the rest of its line.
+fn append_event(out: &mut Vec<u8>, moments: &mut Moments, moment: u64, word: &[u8], number: u64)
     requires { (128 ≤ spare out.old) × (length word.now ≤ 9) }
     ensures items { out.new.items ≡ out.old.items ++ (decimal moment ++ (word.now ++ decimal number)) }
-    ensures room { spare out.old ≤ spare out.new + 49 }
+    ensures room { spare out.old ≤ spare out.new + 53 }
     ensures capacity { vec_capacity out.old ≤ vec_capacity out.new }
 {
     let mut text = [0; LONGEST_EVENT];
-    let start = put_event(&mut text, LONGEST_EVENT, moment, word, number);
+    let start = put_event(moments, &mut text, LONGEST_EVENT, moment, word, number);
     append(out, &text[start..]);
 }
 
@@ -83,8 +114,10 @@ fn append_load(out: &mut Vec<u8>, load: Load)
 }
 
 // What a packet did at an instance.
+#[inline(always)]
 fn append_at_instance(
     out: &mut Vec<u8>,
+    moments: &mut Moments,
     moment: u64,
     word: &[u8],
     packet: u64,
@@ -92,74 +125,93 @@ fn append_at_instance(
     instance: u8,
 )
     requires { (128 ≤ spare out.old) × (length word.now ≤ 9) }
-    ensures items { out.new.items ≡ out.old.items ++ (decimal moment ++ (word.now ++ (decimal packet ++ (codes " " ++ instance_name pipe instance)))) }
-    ensures room { spare out.old ≤ spare out.new + 128 }
+    ensures items { out.new.items ≡ out.old.items ++ (decimal moment ++ (word.now ++ (decimal packet ++ (codes " " ++ (instance_name pipe instance ++ codes "\n"))))) }
     ensures capacity { vec_capacity out.old ≤ vec_capacity out.new }
 {
-    let mut text = [0; LONGEST_EVENT];
-    let end = put_instance(&mut text, LONGEST_EVENT, pipe, instance);
+    let mut text = [0; ROOM];
+    let end = put(&mut text, LONGEST_EVENT, b"\n");
+    let end = put_instance(&mut text, end, pipe, instance);
     let end = put(&mut text, end, b" ");
-    let start = put_event(&mut text, end, moment, word, packet);
-    append(out, &text[start..]);
+    let start = put_event(moments, &mut text, end, moment, word, packet);
+    append_made(out, &text, start);
 }
 
-fn append_delivery(out: &mut Vec<u8>, moment: u64, packet: u64, load: Load)
+#[inline(always)]
+fn append_delivery(out: &mut Vec<u8>, moments: &mut Moments, moment: u64, packet: u64, load: Load)
     requires { 128 ≤ spare out.old }
-    ensures items { out.new.items ≡ out.old.items ++ (decimal moment ++ (codes " deliver " ++ (decimal packet ++ (codes " " ++ load_of load)))) }
-    ensures room { spare out.old ≤ spare out.new + 128 }
+    ensures items { out.new.items ≡ out.old.items ++ (decimal moment ++ (codes " deliver " ++ (decimal packet ++ (codes " " ++ (load_of load ++ codes "\n"))))) }
     ensures capacity { vec_capacity out.old ≤ vec_capacity out.new }
 {
-    let mut text = [0; LONGEST_EVENT];
-    let end = put_load(&mut text, LONGEST_EVENT, load);
+    let mut text = [0; ROOM];
+    let end = put(&mut text, LONGEST_EVENT, b"\n");
+    let end = put_load(&mut text, end, load);
     let end = put(&mut text, end, b" ");
-    let start = put_event(&mut text, end, moment, b" deliver ", packet);
-    append(out, &text[start..]);
+    let start = put_event(moments, &mut text, end, moment, b" deliver ", packet);
+    append_made(out, &text, start);
 }
 
-fn append_drop(out: &mut Vec<u8>, moment: u64, packet: u64, load: Load, cause: DropCause)
+fn append_drop(
+    out: &mut Vec<u8>,
+    moments: &mut Moments,
+    moment: u64,
+    packet: u64,
+    load: Load,
+    cause: DropCause,
+)
     requires { 128 ≤ spare out.old }
-    ensures items { out.new.items ≡ out.old.items ++ (decimal moment ++ (codes " drop " ++ (decimal packet ++ (codes " " ++ (load_of load ++ (codes " " ++ cause_of cause)))))) }
-    ensures room { spare out.old ≤ spare out.new + 128 }
+    ensures items { out.new.items ≡ out.old.items ++ (decimal moment ++ (codes " drop " ++ (decimal packet ++ (codes " " ++ (load_of load ++ (codes " " ++ (cause_of cause ++ codes "\n"))))))) }
     ensures capacity { vec_capacity out.old ≤ vec_capacity out.new }
 {
-    let mut text = [0; LONGEST_EVENT];
-    let end = put_cause(&mut text, LONGEST_EVENT, cause);
+    let mut text = [0; ROOM];
+    let end = put(&mut text, LONGEST_EVENT, b"\n");
+    let end = put_cause(&mut text, end, cause);
     let end = put(&mut text, end, b" ");
     let end = put_load(&mut text, end, load);
     let end = put(&mut text, end, b" ");
-    let start = put_event(&mut text, end, moment, b" drop ", packet);
-    append(out, &text[start..]);
+    let start = put_event(moments, &mut text, end, moment, b" drop ", packet);
+    append_made(out, &text, start);
 }
 
 // What a sender's window is after an acknowledgement or a timeout.
-fn append_window(out: &mut Vec<u8>, moment: u64, word: &[u8], flow: u64, cwnd: u64, ssthresh: u64)
+#[inline(always)]
+fn append_window(
+    out: &mut Vec<u8>,
+    moments: &mut Moments,
+    moment: u64,
+    word: &[u8],
+    flow: u64,
+    cwnd: u64,
+    ssthresh: u64,
+)
     requires { (128 ≤ spare out.old) × (length word.now ≤ 9) }
-    ensures items { out.new.items ≡ out.old.items ++ (decimal moment ++ (word.now ++ (decimal flow ++ (codes " " ++ (decimal cwnd ++ (codes " " ++ decimal ssthresh)))))) }
-    ensures room { spare out.old ≤ spare out.new + 128 }
+    ensures items { out.new.items ≡ out.old.items ++ (decimal moment ++ (word.now ++ (decimal flow ++ (codes " " ++ (decimal cwnd ++ (codes " " ++ (decimal ssthresh ++ codes "\n"))))))) }
     ensures capacity { vec_capacity out.old ≤ vec_capacity out.new }
 {
-    let mut text = [0; LONGEST_EVENT];
-    let end = put_labelled(&mut text, LONGEST_EVENT, b" ", ssthresh);
+    let mut text = [0; ROOM];
+    let end = put(&mut text, LONGEST_EVENT, b"\n");
+    let end = put_labelled(&mut text, end, b" ", ssthresh);
     let end = put_labelled(&mut text, end, b" ", cwnd);
-    let start = put_event(&mut text, end, moment, word, flow);
-    append(out, &text[start..]);
+    let start = put_event(moments, &mut text, end, moment, word, flow);
+    append_made(out, &text, start);
 }
 
-fn append_fields(out: &mut Vec<u8>, line: &Record)
-    requires { 399 ≤ spare out.old }
-    ensures items { out.new.items ≡ out.old.items ++ spaced (fields_of line.now) }
-    ensures room { spare out.old ≤ spare out.new + 399 }
+fn append_line(out: &mut Vec<u8>, moments: &mut Moments, line: &Record)
+    requires { 400 ≤ spare out.old }
+    ensures items { out.new.items ≡ out.old.items ++ line_of line.now }
     ensures capacity { vec_capacity out.old ≤ vec_capacity out.new }
 {
     match *line {
-        Record::CommandDone { moment, command } => append_event(out, moment, b" ok ", command),
+        Record::CommandDone { moment, command } => {
+            append_done(out, moments, moment, command);
+        }
         Record::CommandRefused {
             moment,
             command,
             refusal,
         } => {
-            append_event(out, moment, b" refused ", command);
+            append_event(out, moments, moment, b" refused ", command);
             append_labelled(out, b" ", refusal_code(refusal));
+            append(out, b"\n");
         }
         Record::PacketMade {
             moment,
@@ -180,11 +232,12 @@ fn append_fields(out: &mut Vec<u8>, line: &Record)
                 dport,
                 size,
             };
-            append_event(out, moment, b" make ", packet);
+            append_event(out, moments, moment, b" make ", packet);
             append(out, b" ");
             append_load(out, load);
             append(out, b" ");
             append_header(out, &send);
+            append(out, b"\n");
         }
         Record::PacketArrived {
             moment,
@@ -192,7 +245,7 @@ fn append_fields(out: &mut Vec<u8>, line: &Record)
             pipe,
             instance,
         } => {
-            append_at_instance(out, moment, b" arrive ", packet, pipe, instance);
+            append_at_instance(out, moments, moment, b" arrive ", packet, pipe, instance);
         }
         Record::InstanceIdentified {
             moment,
@@ -216,6 +269,7 @@ fn append_fields(out: &mut Vec<u8>, line: &Record)
                 dport,
             };
             append_mask(out, id);
+            append(out, b"\n");
         }
         Record::PacketFinished {
             moment,
@@ -223,34 +277,42 @@ fn append_fields(out: &mut Vec<u8>, line: &Record)
             pipe,
             instance,
         } => {
-            append_at_instance(out, moment, b" finish ", packet, pipe, instance);
+            append_at_instance(out, moments, moment, b" finish ", packet, pipe, instance);
         }
         Record::PacketDelivered {
             moment,
             packet,
             load,
-        } => append_delivery(out, moment, packet, load),
+        } => append_delivery(out, moments, moment, packet, load),
         Record::PacketPassed {
             moment,
             packet,
             pipe,
             instance,
         } => {
-            append_at_instance(out, moment, b" pass ", packet, pipe, instance);
+            append_at_instance(out, moments, moment, b" pass ", packet, pipe, instance);
         }
         Record::PacketDropped {
             moment,
             packet,
             load,
             cause,
-        } => append_drop(out, moment, packet, load, cause),
+        } => append_drop(out, moments, moment, packet, load, cause),
         Record::AckTaken {
             moment,
             flow,
             cwnd,
             ssthresh,
         } => {
-            append_window(out, moment, b" ack ", u64::from(flow.get()), cwnd, ssthresh);
+            append_window(
+                out,
+                moments,
+                moment,
+                b" ack ",
+                u64::from(flow.get()),
+                cwnd,
+                ssthresh,
+            );
         }
         Record::TimerExpired {
             moment,
@@ -260,6 +322,7 @@ fn append_fields(out: &mut Vec<u8>, line: &Record)
         } => {
             append_window(
                 out,
+                moments,
                 moment,
                 b" expire ",
                 u64::from(flow.get()),
@@ -269,14 +332,20 @@ fn append_fields(out: &mut Vec<u8>, line: &Record)
         }
         Record::StepsSpent { moment } => {
             append_number(out, moment);
-            append(out, b" spent");
+            append(out, b" spent\n");
         }
         Record::RuleLine {
             rule,
             packets,
             bytes,
-        } => append_rule(out, &rule, packets, bytes),
-        Record::PipeLine { pipe, config } => append_pipe(out, pipe, &config),
+        } => {
+            append_rule(out, &rule, packets, bytes);
+            append(out, b"\n");
+        }
+        Record::PipeLine { pipe, config } => {
+            append_pipe(out, pipe, &config);
+            append(out, b"\n");
+        }
         Record::InstanceLine {
             pipe,
             instance,
@@ -293,21 +362,26 @@ fn append_fields(out: &mut Vec<u8>, line: &Record)
             append_labelled(out, b" busy ", u64::from(busy));
             append_labelled(out, b" flight ", flight);
             append_labelled(out, b" drawn ", drawn);
+            append(out, b"\n");
         }
     }
 }
 
-/// Appends the line of one record; `AllocError` leaves the text as it was.
+/// Appends the line of one record; `AllocError` leaves the text as it was. What is kept of moments
+/// changes nothing of the text: where the same is handed to the next line, that costs less.
 #[tactic(auto, unfolding(crate::specs::Room::spare))]
-pub fn write_record(out: &mut Vec<u8>, line: &Record) -> Result<(), AllocError>
+pub fn write_record(
+    out: &mut Vec<u8>,
+    moments: &mut Moments,
+    line: &Record,
+) -> Result<(), AllocError>
     ensures ok { OnOk result (out.new.items ≡ out.old.items ++ line_of line.now) }
     ensures err { OnErr result (out.new.items ≡ out.old.items) }
     ensures capacity { vec_capacity out.old ≤ vec_capacity out.new }
     ensures succeeds { vec_len out.old + 400 ≤ vec_capacity out.old → IsOk result }
 {
     out.reserve(LONGEST_LINE)?;
-    append_fields(out, line);
-    append(out, b"\n");
+    append_line(out, moments, line);
     Ok(())
 }
 

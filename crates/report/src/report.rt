@@ -4,6 +4,7 @@ ghost use Rattle.std.specs.Prelude.{◌≡◌, IfOk};
 ghost use Rattle.report.specs.Lines.{report_of, rules_of, pipes_of};
 
 use crate::lines::{write_counters, write_heading, write_record};
+use crate::moments::Moments;
 use emu_model::{Counters, Record};
 use std::alloc::{AllocError, Global};
 
@@ -20,11 +21,12 @@ pub fn report_text(
     ensures { IfOk result (λ text. text.items ≡ report_of name.now records.now counters.now) }
 {
     let mut text = Vec::new(alloc);
+    let mut moments = Moments::new();
     // Most lines fit, so that the text grows once at most; without that room it grows as it needs.
     let _ = text.reserve(records.len().saturating_mul(LINE));
     write_heading(&mut text, name)?;
     for line in records {
-        write_record(&mut text, line)?;
+        write_record(&mut text, &mut moments, line)?;
     }
     write_counters(&mut text, counters)?;
     Ok(text)
@@ -35,9 +37,10 @@ pub fn rule_listing(alloc: Global, records: &[Record]) -> Result<Vec<u8>, AllocE
     ensures { IfOk result (λ text. text.items ≡ rules_of records.now) }
 {
     let mut text = Vec::new(alloc);
+    let mut moments = Moments::new();
     for line in records {
         if let Record::RuleLine { .. } = line {
-            write_record(&mut text, line)?;
+            write_record(&mut text, &mut moments, line)?;
         }
     }
     Ok(text)
@@ -48,9 +51,10 @@ pub fn pipe_listing(alloc: Global, records: &[Record]) -> Result<Vec<u8>, AllocE
     ensures { IfOk result (λ text. text.items ≡ pipes_of records.now) }
 {
     let mut text = Vec::new(alloc);
+    let mut moments = Moments::new();
     for line in records {
         if let Record::PipeLine { .. } | Record::InstanceLine { .. } = line {
-            write_record(&mut text, line)?;
+            write_record(&mut text, &mut moments, line)?;
         }
     }
     Ok(text)

@@ -1,6 +1,8 @@
 //! Whole reports of worked experiments, and each kind of line. The texts are the format's own.
 
-use crate::{pipe_listing, report_text, rule_listing, write_counters, write_heading, write_record};
+use crate::{
+    Moments, pipe_listing, report_text, rule_listing, write_counters, write_heading, write_record,
+};
 use emu_model::{
     Action, Bandwidth, CodelTime, Counters, Delay, Discipline, DropCause, FlowNumber, KByteLimit,
     Load, LossRate, Mask, PipeConfig, PipeNumber, PortRange, Prefix, PrefixLength, Protocol,
@@ -248,6 +250,7 @@ fn reno_four_segments(rt: HostRuntime) -> Result<(), Fail> {
 #[test]
 fn each_kind_of_line(rt: HostRuntime) -> Result<(), Fail> {
     let mut text = Vec::new(rt.alloc());
+    let mut moments = Moments::new();
     for (command, refusal) in [
         (0, Refusal::BadNumber),
         (1, Refusal::BadSkip),
@@ -263,6 +266,7 @@ fn each_kind_of_line(rt: HostRuntime) -> Result<(), Fail> {
         let moment = 5;
         write_record(
             &mut text,
+            &mut moments,
             &Record::CommandRefused {
                 moment,
                 command,
@@ -283,6 +287,7 @@ fn each_kind_of_line(rt: HostRuntime) -> Result<(), Fail> {
         let (moment, packet, load) = (6, 7, Load::Plain);
         write_record(
             &mut text,
+            &mut moments,
             &Record::PacketDropped {
                 moment,
                 packet,
@@ -346,7 +351,7 @@ fn each_kind_of_line(rt: HostRuntime) -> Result<(), Fail> {
             drawn: 4,
         },
     ] {
-        write_record(&mut text, &line)?;
+        write_record(&mut text, &mut moments, &line)?;
     }
     same_text(
         &rt,
@@ -452,14 +457,64 @@ fn lines_of_a_trace(rt: HostRuntime) -> Result<(), Fail> {
         },
     ];
     let mut text = Vec::new(rt.alloc());
+    let mut moments = Moments::new();
     for record in &records {
-        write_record(&mut text, record)?;
+        write_record(&mut text, &mut moments, record)?;
     }
     // 1000 is 3e8 in hexadecimal, and 80 is 50.
     same_text(
         &rt,
         &text,
         "0 make 0 plain udp 0.0.0.0 0 0.0.0.0 0 40\n18446744073709551615 make 18446744073709551615 data 65535 18446744073709551615 tcp 255.255.255.255 65535 255.255.255.255 65535 1500\n11200000 make 3 ack 1 1460 tcp 10.11.12.13 80 192.168.1.2 1024 41\n0 arrive 0 1.0\n18446744073709551615 arrive 18446744073709551615 65535.255\n12 arrive 34 1.56\n0 identify 1.0 00/00000000/00000000/0000/0000\n18446744073709551615 identify 65535.255 ff/ffffffff/ffffffff/ffff/ffff\n12 identify 1.34 06/0a0b0c0d/c0a80102/03e8/0050\n",
+    );
+    Ok(())
+}
+
+// The last eight digits of a moment change by themselves, or with those before them, forwards and
+// back; and the longest line of an event is far longer than most.
+#[test]
+fn digits_of_moments(rt: HostRuntime) -> Result<(), Fail> {
+    let mut text = Vec::new(rt.alloc());
+    let mut moments = Moments::new();
+    for moment in [
+        7,
+        99999999,
+        100000000,
+        100000001,
+        199999999,
+        200000000,
+        200000000,
+        100000000,
+        300000000000012,
+        300000012345678,
+        300000099999999,
+        300000100000000,
+        5,
+        u64::MAX,
+        u64::MAX - 9551615,
+        u64::MAX - 9551616,
+    ] {
+        write_record(&mut text, &mut moments, &done(moment, 10))?;
+    }
+    let flow = flow_number(&rt, 65535);
+    let load = Load::Seg {
+        flow,
+        first: u64::MAX,
+    };
+    write_record(
+        &mut text,
+        &mut moments,
+        &Record::PacketDropped {
+            moment: u64::MAX,
+            packet: u64::MAX,
+            load,
+            cause: DropCause::NoInstance,
+        },
+    )?;
+    same_text(
+        &rt,
+        &text,
+        "7 ok 10\n99999999 ok 10\n100000000 ok 10\n100000001 ok 10\n199999999 ok 10\n200000000 ok 10\n200000000 ok 10\n100000000 ok 10\n300000000000012 ok 10\n300000012345678 ok 10\n300000099999999 ok 10\n300000100000000 ok 10\n5 ok 10\n18446744073709551615 ok 10\n18446744073700000000 ok 10\n18446744073699999999 ok 10\n18446744073709551615 drop 18446744073709551615 data 65535 18446744073709551615 noinstance\n",
     );
     Ok(())
 }
@@ -474,13 +529,14 @@ fn refused_lines_change_nothing(rt: HostRuntime) -> Result<(), Fail> {
         drops: NO_DROPS,
     };
     let mut text = Vec::new(rt.alloc());
+    let mut moments = Moments::new();
     for command in 0..100 {
         let length = text.len();
         if write_heading(&mut text, b"again").is_err() {
             assert_eq!(rt; text.len(), length, "a heading");
         }
         let length = text.len();
-        if write_record(&mut text, &done(0, command)).is_err() {
+        if write_record(&mut text, &mut moments, &done(0, command)).is_err() {
             assert_eq!(rt; text.len(), length, "a record");
         }
         let length = text.len();

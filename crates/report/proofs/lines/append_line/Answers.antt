@@ -1,7 +1,7 @@
 use mir.Val.{bool_byte}
 use Rattle.std.proofs.Common.{◌≡◌, Bool, true, false, append_assoc, refl}
 use Rattle.std.specs.Prelude.{if◌then◌else◌}
-use Rattle.report.proofs.lines.append_fields.Goals as goal
+use Rattle.report.proofs.lines.append_line.Goals as goal
 
 -- a `bool` as a number
 bool_byte-if : (busy : Bool) → bool_byte busy ≡ (if busy then 1 else 0)
@@ -12,6 +12,7 @@ pub returns-in-InstanceLine-clause-items : goal.returns-in-InstanceLine-clause-i
 returns-in-InstanceLine-clause-items c =
     rw (
       c.in-InstanceLine.is,
+      c.append-in-InstanceLine-2.ensures.items,
       c.append_labelled-in-InstanceLine-5.ensures.items,
       c.append_labelled-in-InstanceLine-4.ensures.items,
       c.append_labelled-in-InstanceLine-3.ensures.items,

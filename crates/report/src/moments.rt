@@ -1,0 +1,100 @@
+//! The digits of moments. Moments of one report mostly differ in their last eight digits alone, so
+//! what stands before these is kept from one line to the next.
+
+ghost use Rattle.std.specs.Prelude.{◌≡◌, ◌+◌, ◌/◌, ◌%◌, ◌<◌, ◌≤◌, ◌++◌, length, decimal, drop};
+ghost use Rattle.report.specs.Words.{pair_of};
+
+use crate::event::put_number;
+use itoa::write_digits;
+use std::marker::Model;
+
+// Each number below 100, in two digits.
+static PAIRS: [u8; 200] =
+    *b"00010203040506070809101112131415161718192021222324252627282930313233343536373839404142434445464748495051525354555657585960616263646566676869707172737475767778798081828384858687888990919293949596979899";
+
+// Where the last eight digits of a moment begin to be others before them.
+const EIGHT_DIGITS: u64 = 100_000_000;
+
+/// The digits of a moment that was written before, but for its last eight.
+#[derive(Drop)]
+pub struct Moments {
+    // the least moment with these digits
+    least: u64,
+    digits: [u8; 16],
+    // where in the array they begin
+    start: usize,
+}
+
+impl Model for Moments {
+    ghost use Rattle.std.specs.Prelude.{ℕ, ◌≡◌, ◌/◌, ◌%◌, ◌≤◌, decimal, drop};
+
+    ghost Value = { ℕ };
+
+    ghost view = { λ m. m.least };
+
+    ghost invariant = { λ m. (100000000 ≤ m.least) × (m.least % 100000000 ≡ 0) × (m.start ≤ 16) × (drop m.start m.digits ≡ decimal (m.least / 100000000)) };
+}
+
+// Puts two digits.
+#[inline(always)]
+fn put_pair(text: &mut [u8], at: usize, pair: u32)
+    requires { (pair < 100) × (at + 2 ≤ length text.old) }
+    ensures { drop at text.new ≡ pair_of pair ++ drop (at + 2) text.old }
+{
+    let from = pair as usize * 2;
+    let (tens, ones) = (PAIRS[from], PAIRS[from + 1]);
+    text[at] = tens;
+    text[at + 1] = ones;
+}
+
+// Puts four digits.
+#[inline(always)]
+fn put_four(text: &mut [u8], at: usize, four: u32)
+    requires { (four < 10000) × (at + 4 ≤ length text.old) }
+    ensures { drop at text.new ≡ pair_of (four / 100) ++ (pair_of (four % 100) ++ drop (at + 4) text.old) }
+{
+    put_pair(text, at + 2, four % 100);
+    put_pair(text, at, four / 100);
+}
+
+impl Moments {
+    /// Of 1, which is what stands before the last eight digits of the least moment with nine.
+    pub fn new() -> Self {
+        Moments {
+            least: EIGHT_DIGITS,
+            digits: [b'1'; 16],
+            start: 15,
+        }
+    }
+
+    /// Puts a moment, and returns where it begins.
+    #[inline(always)]
+    pub fn put(&mut self, text: &mut [u8], end: usize, moment: u64) -> usize
+        requires { (24 ≤ end) × (end ≤ length text.old) }
+        ensures start { (end ≤ result + 24) × (result ≤ end) }
+        ensures items { drop result text.new ≡ decimal moment ++ drop end text.old }
+    {
+        if moment < self.least || moment - self.least >= EIGHT_DIGITS {
+            return self.put_other(text, end, moment);
+        }
+        let last = (moment - self.least) as u32;
+        put_four(text, end - 4, last % 10_000);
+        put_four(text, end - 8, last / 10_000);
+        text[end - 24..end - 8].copy_from_slice(&self.digits);
+        end - 24 + self.start
+    }
+
+    // Puts a moment that begins otherwise, and keeps how.
+    fn put_other(&mut self, text: &mut [u8], end: usize, moment: u64) -> usize
+        requires { (20 ≤ end) × (end ≤ length text.old) }
+        ensures start { (end ≤ result + 20) × (result ≤ end) }
+        ensures items { drop result text.new ≡ decimal moment ++ drop end text.old }
+    {
+        if moment >= EIGHT_DIGITS {
+            let high = moment / EIGHT_DIGITS;
+            self.start = write_digits(high, &mut self.digits, 16);
+            self.least = high * EIGHT_DIGITS;
+        }
+        put_number(text, end, moment)
+    }
+}
