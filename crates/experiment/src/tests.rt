@@ -478,3 +478,96 @@ fn refused_memory_changes_nothing(rt: HostRuntime) -> Result<(), Fail> {
     played.ok_or("event")?;
     Ok(())
 }
+
+/// What is recorded of one packet through the pipe, traced from the first command on.
+fn lines_of_a_traced_packet() -> Option<[Record; 10]> {
+    let pipe = PipeNumber::new(1)?;
+    let (packet, instance) = (0, 0);
+    Some([
+        done(0, 0),
+        done(0, 1),
+        done(0, 2),
+        done(0, 3),
+        Record::PacketMade {
+            moment: 0,
+            packet,
+            load: Load::Plain,
+            proto: Protocol::Udp,
+            src: 0x0a00_0001,
+            sport: 1000,
+            dst: 0x0a00_0002,
+            dport: 2000,
+            size: Size::new(1000)?,
+        },
+        Record::InstanceIdentified {
+            moment: 0,
+            pipe,
+            instance,
+            proto: 0,
+            src: 0,
+            dst: 0,
+            sport: 0,
+            dport: 0,
+        },
+        Record::PacketArrived {
+            moment: 0,
+            packet,
+            pipe,
+            instance,
+        },
+        Record::PacketFinished {
+            moment: 8_000_000,
+            packet,
+            pipe,
+            instance,
+        },
+        Record::PacketDelivered {
+            moment: 18_000_000,
+            packet,
+            load: Load::Plain,
+        },
+        done(20_000_000, 4),
+    ])
+}
+
+/// The end comes behind a finish and an exit, or one of them halts. Whether it came; None where an
+/// answer was another.
+fn comes_out_or_halts(rt: &impl Abort, bench: &mut Bench) -> Option<bool> {
+    assert!(rt; bench.applies_in_the_end(20_000_000, Command::End));
+    for _ in 0..3 {
+        if bench.event_or_halt()? == Event::Halted {
+            return Some(false);
+        }
+    }
+    Some(true)
+}
+
+/// A traced packet, up to the end or a halt, and the lines up to there. Whether the end came; None where
+/// an answer was another.
+fn traces_or_halts(rt: &impl Abort, bench: &mut Bench, lines: &[Record]) -> Option<bool> {
+    let commands = [Command::Trace(true), config()?, rule()?, inject()?];
+    let sent = obeys_or_halts(rt, bench, &commands)?;
+    let whole = sent && comes_out_or_halts(rt, bench)?;
+    let records = bench.experiment.records();
+    assert_eq!(rt; records.len() == lines.len(), whole);
+    assert!(rt; lines.starts_with(records));
+    Some(whole)
+}
+
+/// Passes with ample memory, and where any one allocation is refused: an event that halts leaves all as it
+/// was, and an experiment that is tried again records the making, the instance and the arrival.
+#[test]
+fn refused_trace_is_recorded_at_the_second_try(rt: HostRuntime) -> Result<(), Fail> {
+    let lines = lines_of_a_traced_packet().ok_or("lines")?;
+    let mut whole = false;
+    for _try in 0..2 {
+        let Some(mut bench) = Bench::new(rt.alloc(), 10, 1000) else {
+            continue;
+        };
+        let traced = traces_or_halts(&rt, &mut bench, &lines);
+        drop(bench);
+        whole = whole || traced.ok_or("event")?;
+    }
+    assert!(rt; whole);
+    Ok(())
+}
