@@ -1,5 +1,5 @@
 -- In a scenario that is spelled, the commands of each experiment stand in order.
-use Rattle.std.proofs.Common.{◌≡◌, inl, inr, ℕ, ◌^◌, ◌≤◌, Bool, true, false, ◌&&◌, if◌then◌else◌, ltb, List, [], ◌∷◌, ◌++◌, Option, Some, None, Ok, Err, IfOk, refl, sym, ap, subst, ◌∙◌, arith}
+use Rattle.std.proofs.Common.{◌≡◌, inl, inr, ℕ, ◌^◌, ◌≤◌, Bool, true, false, ◌&&◌, if◌then◌else◌, ltb, List, [], ◌∷◌, ◌++◌, Option, Some, None, refl, sym, ap, subst, ◌∙◌, arith}
 use Rattle.std.specs.Prelude.{All, option_map, option_and_then, nat_le}
 use Rattle.std.specs.List.{AllByRecursion}
 use Rattle.std.proofs.lemmas.Bool.{leb-true, ltb-true, ltb-false}
@@ -15,7 +15,6 @@ use Rattle.control_lines.specs.declared.raw.RawTimed.{RawTimed}
 use Rattle.control.specs.declared.fault.Cause.TheVariants.{NoExperiment, Backwards}
 use Rattle.control.specs.declared.scenario.Experiment.{Experiment}
 use Rattle.control.specs.Scenario.{commands, IsFine, begun, with_command, with_last, experiments, AreSpelled, Spells}
-use Rattle.control.specs.Answer.{Answer}
 use Rattle.control.specs.Order.{AreInOrder}
 use Rattle.control.proofs.Order.{first_moment, with_last_is}
 
@@ -149,8 +148,3 @@ spelled-in-order before (line ∷ more ∷ rest) s h spelled =
 
 pub in-order : (bytes : List ℕ) (s : List Experiment) → Spells bytes s → All IsInOrder s
 in-order bytes s spells = All-from_recursion IsInOrder s (spelled-in-order [] (lines bytes) s holds-nil spells.1)
-
--- what was read stands in order
-pub read_in_order : (bytes : List ℕ) (r : Answer) → IfOk r (λ s. Spells bytes s) → IfOk r (λ s. All IsInOrder s)
-read_in_order bytes (Ok s) spells = in-order bytes s spells
-read_in_order bytes (Err e) spells = tt

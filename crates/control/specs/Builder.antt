@@ -1,7 +1,8 @@
 -- What a builder has, and what its calls answer.
 use Rattle.std.specs.Prelude.{◌≡◌, ℕ, List, Result, Ok, Err, ◌⊎◌}
-use Rattle.control_lines.specs.Entries.{Entry, IsEntry, IsFirstAlone}
+use Rattle.control_lines.specs.Entries.{Entry, Nothing, Begins, Does, IsEntry, IsFirstAlone}
 use Rattle.control_lines.specs.declared.line.LineFault.{LineFault}
+use Rattle.control.specs.Names.{IsName}
 use Rattle.control.specs.Scenario.{Grows}
 use Rattle.control.specs.Steps.{cause_in_line, Sofar, step}
 use Rattle.control.specs.declared.fault.Cause.{Cause}
@@ -11,6 +12,12 @@ use Rattle.control.specs.declared.reading.Builder.{Builder}
 
 abbrev pub sofar : Builder → Sofar
 sofar b = record { done = b.done.items; running = b.running; latest = b.latest }
+
+-- a name with which an experiment begins has the form of one
+abbrev pub IsNamed : Entry → Type 0
+IsNamed Nothing = Unit {0}
+IsNamed (Begins name spec) = IsName name
+IsNamed (Does c) = Unit {0}
 
 abbrev pub Passes : Result Sofar Cause → Type 0
 Passes (Ok s) = Unit {0}

@@ -3,13 +3,15 @@
 
 mod fault;
 mod laws;
+mod names;
 mod reading;
 mod scenario;
 
 pub use fault::{Cause, Fault, ParseError};
 pub use laws::{texts_join, texts_part, texts_spell_one};
+pub use names::ExperimentName;
 pub use reading::parse_scenario;
-pub use scenario::{CommandList, Experiment, ExperimentName, Scenario};
+pub use scenario::{CommandList, Experiment, Scenario};
 
 #[cfg(test)]
 mod tests;

@@ -1,7 +1,7 @@
 //! Reading a scenario, line by line.
 
-ghost use Rattle.std.specs.Prelude.{◌≡◌, ◌≤◌, List, All, length, map, sum, IfOk, IfErr};
-ghost use Rattle.control.specs.Order.{AreInOrder};
+ghost use Rattle.std.specs.Prelude.{◌≡◌, ◌≤◌, List, length, map, sum, IfOk, IfErr};
+ghost use Rattle.control.specs.Ranges.{IsScenario};
 ghost use Rattle.std.specs.List.{list_any};
 ghost use Rattle.control.specs.Scenario.{is_end, Spells, HasFault};
 ghost use Rattle.control.specs.Steps.{has_name};
@@ -10,7 +10,8 @@ ghost use Rattle.control.specs.declared.fault.Fault.{Fault as FaultValue};
 ghost use Rattle.control.specs.declared.scenario.Experiment.{Experiment as ExperimentValue};
 
 use crate::fault::{Cause, Fault, LineError, ParseError, at_line, in_line};
-use crate::scenario::{CommandList, Experiment, ExperimentName, Scenario};
+use crate::names::ExperimentName;
+use crate::scenario::{CommandList, Experiment, Scenario};
 use control_lines::{LineEntry, read_line};
 use control_words::first_line;
 use emu_model::{Command, Spec, Timed};
@@ -53,11 +54,13 @@ impl Builder {
     ghost use Rattle.std.specs.Prelude.{◌≡◌};
     ghost use Rattle.control_lines.specs.Entries.{view_entry};
     ghost use Rattle.control.specs.Steps.{begin as begin_of, add as add_of, step};
-    ghost use Rattle.control.specs.Builder.{sofar, GivesStep, OnMemory, Taken};
+    ghost use Rattle.control.specs.Builder.{sofar, GivesStep, IsNamed, OnMemory, Taken};
+    ghost use Rattle.control.specs.Names.{IsName};
     ghost use Rattle.control.specs.Scenario.{Grows};
 
     #[tactic(auto, unfolding(crate::specs::Steps::begin))]
     fn begin(&mut self, alloc: Global, name: &[u8], spec: &Spec) -> Result<(), LineError>
+        requires { IsName name.now }
         ensures { GivesStep (sofar self.new) result (begin_of (sofar self.old) name.now spec.now) }
     {
         if self.running.is_some() {
@@ -104,6 +107,7 @@ impl Builder {
     }
 
     fn take_entry(&mut self, alloc: Global, entry: &LineEntry) -> Result<(), LineError>
+        requires { IsNamed (view_entry entry.now) }
         ensures step { GivesStep (sofar self.new) result (step (sofar self.old) (view_entry entry.now)) }
         ensures grows { OnMemory result (Grows (view_entry entry.now)) }
     {
@@ -135,8 +139,9 @@ fn fault_at<T>(line: u64, cause: Cause) -> Result<T, ParseError>
 pub fn parse_scenario(alloc: Global, bytes: &[u8]) -> Result<Scenario, ParseError>
     // What is read is what the bytes spell.
     ensures spelled { IfOk result (λ s. Spells bytes.now s) }
-    // So the moments of an experiment's commands don't fall.
-    ensures in_order { IfOk result (λ s. All (λ e. AreInOrder 0 e.commands) s) }
+    // So there are few experiments, and the moments of each one's commands don't fall: what every
+    // `Scenario` keeps.
+    ensures ranged { IfOk result (λ s. IsScenario s) }
     // It has fewer commands than the text has bytes.
     ensures few { IfOk result (λ s. sum (map (λ e. length e.commands) s) ≤ length bytes.now) }
     // Whatever spells a scenario is read as just that one, and never refused but for memory.

@@ -1,43 +1,13 @@
 //! What a scenario is.
 
-ghost use Rattle.std.specs.Prelude.{◌≡◌, [], ◌∷◌, ◌++◌, IfOk, OnErr, OnOk};
+ghost use Rattle.std.specs.Prelude.{◌≡◌, [], ◌∷◌, ◌++◌, OnErr, OnOk};
+ghost use Rattle.control.specs.Ranges.{IsScenario};
 
+use crate::names::ExperimentName;
 use emu_model::{Spec, Timed};
 use std::alloc::{AllocError, Global};
 use std::marker::Model;
 use std::slice;
-
-/// The name of an experiment: 1 to 32 of `a` to `z`, `0` to `9`, `-` and `_`.
-#[derive(Drop)]
-pub struct ExperimentName {
-    text: Vec<u8>,
-}
-
-impl Model for ExperimentName {
-    ghost use Rattle.std.specs.Prelude.{ℕ, List};
-
-    ghost Value = { List ℕ };
-
-    ghost view = { λ n. n.text.items };
-}
-
-impl ExperimentName {
-    /// Takes memory for a copy of the text.
-    pub fn new(alloc: Global, text: &[u8]) -> Result<Self, AllocError>
-        ensures { IfOk result (λ n. n ≡ text.now) }
-    {
-        Ok(ExperimentName {
-            text: Vec::from_slice(alloc, text)?,
-        })
-    }
-
-    /// Its bytes.
-    pub fn as_bytes(&self) -> &[u8]
-        ensures { result.now ≡ self.now }
-    {
-        self.text.as_slice()
-    }
-}
 
 /// Commands in their order.
 #[derive(Drop)]
@@ -97,7 +67,7 @@ pub struct Experiment {
     pub commands: CommandList,
 }
 
-/// Experiments in the order of the text, at most 256.
+/// Experiments in the order of the text: at most 256, and the moments of each one's commands don't fall.
 #[derive(Drop)]
 pub struct Scenario {
     experiments: Vec<Experiment>,
@@ -106,15 +76,19 @@ pub struct Scenario {
 impl Model for Scenario {
     ghost use Rattle.std.specs.Prelude.{List};
     ghost use Rattle.control.specs.declared.scenario.Experiment.{Experiment};
+    ghost use Rattle.control.specs.Ranges.{IsScenario};
 
     ghost Value = { List Experiment };
 
     ghost view = { λ s. s.experiments.items };
+
+    ghost invariant = { λ s. IsScenario s.experiments.items };
 }
 
 impl Scenario {
     /// The scenario of these experiments. Takes no memory.
     pub fn new(experiments: Vec<Experiment>) -> Self
+        requires { IsScenario experiments.items }
         ensures { result ≡ experiments.items }
     {
         Scenario { experiments }
@@ -122,14 +96,16 @@ impl Scenario {
 
     /// The experiments in the order of the text.
     pub fn experiments(&self) -> &[Experiment]
-        ensures { result.now ≡ self.now }
+        ensures value { result.now ≡ self.now }
+        ensures ranged { IsScenario result.now }
     {
         self.experiments.as_slice()
     }
 
     /// The experiments as a `Vec`. Takes no memory.
     pub fn into_vec(self) -> Vec<Experiment>
-        ensures { result.items ≡ self }
+        ensures value { result.items ≡ self }
+        ensures ranged { IsScenario result.items }
     {
         let Scenario { experiments } = self;
         experiments

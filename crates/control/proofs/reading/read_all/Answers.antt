@@ -1,6 +1,7 @@
 use Rattle.std.proofs.Common.{ℕ, arith, rules}
 use Rattle.control.specs.Builder.{sofar}
 use Rattle.control.proofs.Walk.{holds_first, holds_next, line_fails, is_cut, has_no_end, is_done, is_too_big}
+use Rattle.control.proofs.Ranged.{is-scenario}
 use Rattle.control.proofs.reading.read_all.Goals as goal
 
 pub returns-then-bytes-gt-MAX_BYTES : goal.returns-then-bytes-gt-MAX_BYTES
@@ -26,6 +27,9 @@ returns-then-not-is_empty c = rw c.fault_at-then-not-is_empty.ensures (is_cut c.
 
 pub returns-then-is_some : goal.returns-then-is_some
 returns-then-is_some c = rw c.fault_at-then-is_some.ensures (has_no_end c.loop-line.number (sofar c.loop-line.builder) c.loop-line.rest.now c.args.bytes.now (omega arith) c.in_default.ensures.value c.loop-line.invariant.holds (search rules) (search rules))
+
+pub new-scenario-requires : goal.new-scenario-requires
+new-scenario-requires c = is-scenario c.args.bytes.now c.loop-line.builder.done.items (is_done c.loop-line.number (sofar c.loop-line.builder) c.loop-line.rest.now c.args.bytes.now (omega arith) c.in_default.ensures.value c.loop-line.invariant.holds (search rules) (search rules)).found
 
 pub returns : goal.returns
 returns c = rw c.new-scenario.ensures (is_done c.loop-line.number (sofar c.loop-line.builder) c.loop-line.rest.now c.args.bytes.now (omega arith) c.in_default.ensures.value c.loop-line.invariant.holds (search rules) (search rules))
