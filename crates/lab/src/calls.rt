@@ -1,7 +1,6 @@
 //! `run_alone`, `run` and `check`: all is read before any step, and all steps are made before anything is written.
 
-ghost use Rattle.std.specs.Prelude.{◌≡◌, ◌≢◌, ◌≤◌, length, sum, map, IfOk, IfErr, Err, All, true};
-ghost use Rattle.control.specs.Order.{AreInOrder};
+ghost use Rattle.std.specs.Prelude.{◌≡◌, ◌≢◌, ◌≤◌, length, sum, map, IfOk, IfErr, Err, true};
 ghost use Rattle.lab.specs.Bytes.{TakesFew};
 ghost use Rattle.lab.specs.Plans.{IsOwnFault};
 ghost use Rattle.lab.specs.Reports.{reports, tally, Calls, Reads, ReadsFault, reader_failed, writer_failed};
@@ -25,7 +24,6 @@ use std::thread::Threads;
 #[tactic(auto, using(crate::proofs::ReadFacts::read_spells, crate::proofs::ReadFacts::read_faults))]
 fn read_scenario<R: Inlet>(alloc: Global, reader: &mut R) -> Result<Scenario, RunFault>
     ensures read { IfOk result (λ es. Reads (R.remaining reader.old) es) }
-    ensures in_order { IfOk result (λ es. All (λ e. AreInOrder 0 e.commands) es) }
     ensures few { IfOk result (λ es. sum (map (λ e. length e.commands) es) ≤ 16777216) }
     ensures taken { TakesFew (R.remaining reader.old) (R.remaining reader.new) }
     ensures fault { IfErr result (λ e. ReadsFault (R.remaining reader.old) e) }
