@@ -293,8 +293,9 @@ impl Pipe {
 
     /// The packet in service in an instance finishes at the moment `now` (ns), at which it is due, and is
     /// told: it goes on its way, and the next is served. What CoDel drops, in order, is taken from the
-    /// shelf into `drops`, which loses what it held. All growths come first: of the delay line, and where
-    /// CoDel is the discipline of lists of drops; refused, only room has grown.
+    /// shelf into `drops`, which loses what it held and keeps its room, so that a list that once had
+    /// room enough has it ever after. All growths come first: of the delay line, and where CoDel is the
+    /// discipline of lists of drops; refused, only room has grown.
     pub fn finish<S: Shelf>(
         &mut self,
         shelf: &mut S,
@@ -317,6 +318,7 @@ impl Pipe {
         ensures refused_pocket { OnErr result (S.pocket shelf.new owner ≡ S.pocket shelf.old owner) }
         ensures count { OnOk result ((S.pocket shelf.new owner).count + length drops.new.items ≡ (S.pocket shelf.old owner).count) }
         ensures succeeds { IsFreeAt index now (vec_capacity drops.old) self.old → IsOk result }
+        ensures capacity { vec_capacity drops.old ≤ vec_capacity drops.new }
     {
         let config = self.config;
         let number = instance_number(self.number, index);

@@ -1,6 +1,6 @@
 //! One instance of a pipe beside its flow identifier, and what a packet does there.
 
-ghost use Rattle.std.specs.Prelude.{◌≡◌, ◌≢◌, ℕ, ◌+◌, ◌-◌, ◌*◌, ◌^◌, ◌<◌, Some, None, length, option_map, IfSome, OnSome, IfOk, OnErr, IsOk, vec_capacity};
+ghost use Rattle.std.specs.Prelude.{◌≡◌, ◌≢◌, ℕ, ◌+◌, ◌-◌, ◌*◌, ◌^◌, ◌<◌, ◌≤◌, Some, None, length, option_map, IfSome, OnSome, IfOk, OnErr, IsOk, vec_capacity};
 ghost use Rattle.pipe_instance.specs.Keyed.{IsTuned, keys_in};
 ghost use Rattle.pipe_core.specs.Steps.{Comes, Exits, Finishes, HasRoom, IsFree, most_dropped};
 ghost use Rattle.emu_model.specs.Delay.{first_item};
@@ -80,8 +80,8 @@ impl Slot {
     }
 
     /// The packet in service finishes, at the moment at which it is due, and is told; the next is
-    /// served. What CoDel drops is taken from the shelf into `drops`, which loses what it held. All
-    /// growths come first.
+    /// served. What CoDel drops is taken from the shelf into `drops`, which loses what it held and
+    /// keeps its room. All growths come first.
     pub(crate) fn finish<S: Shelf>(
         &mut self,
         shelf: &mut S,
@@ -101,6 +101,7 @@ impl Slot {
         ensures refused_pocket { OnErr result (S.pocket shelf.new owner ≡ S.pocket shelf.old owner) }
         ensures others { (o : ℕ) → o ≢ owner → S.pocket shelf.new o ≡ S.pocket shelf.old o }
         ensures succeeds { IsFree now (vec_capacity drops.old) self.old.instance → IsOk result }
+        ensures capacity { vec_capacity drops.old ≤ vec_capacity drops.new }
     {
         drops.clear();
         let most = self.most_dropped(config);

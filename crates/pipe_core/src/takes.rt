@@ -19,6 +19,7 @@ pub(crate) fn take_dropped<S: Shelf>(
 )
     requires named { AreNamed (S.pocket shelf.old owner) (map (λ w. w.item) dropped.now) }
     requires room { vec_len drops.old + length dropped.now ≤ vec_capacity drops.old }
+    ensures capacity { vec_capacity drops.new ≡ vec_capacity drops.old }
     ensures taken { Taking (S.pocket shelf.old owner) (S.pocket shelf.new owner) (map (λ w. w.item) dropped.now) [] drops.old.items drops.new.items }
     ensures others { (o : ℕ) → o ≢ owner → S.pocket shelf.new o ≡ S.pocket shelf.old o }
 {

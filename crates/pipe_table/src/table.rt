@@ -195,7 +195,8 @@ impl PipeTable {
     }
 
     /// The packet in service in an instance finishes at the moment `now` (ns), at which it is due, and
-    /// is told. What CoDel drops stands in `drops` then, in order. Refused, only room has grown.
+    /// is told. What CoDel drops stands in `drops` then, in order; the list keeps its room. Refused, only
+    /// room has grown.
     pub fn finish<S: Shelf>(
         &mut self,
         shelf: &mut S,
@@ -219,6 +220,7 @@ impl PipeTable {
         ensures refused { OnErr result (HasGrown self.old.pipes self.new.pipes) }
         ensures refused_pocket { OnErr result (S.pocket shelf.new owner ≡ S.pocket shelf.old owner) }
         ensures succeeds { IsFreeIn number instance now (vec_capacity drops.old) self.old.pipes → IsOk result }
+        ensures capacity { vec_capacity drops.old ≤ vec_capacity drops.new }
     {
         keys_say_all();
         let Some(place) = self.place_of(number) else {
