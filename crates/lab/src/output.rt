@@ -10,7 +10,7 @@ use crate::ends::{Failed, Outlet, flush_all, write_all};
 use crate::texts::Text;
 use control::Experiment as Plan;
 use emu_model::{Counters, Record};
-use report::{Moments, write_counters, write_record};
+use report::{write_counters, write_record};
 use std::alloc::{AllocError, Global};
 use std::marker::Model;
 
@@ -94,18 +94,13 @@ impl Buffer {
 
     // Puts the line of a record.
     #[tactic(auto, using(crate::proofs::Writing::puts_next, crate::proofs::Writing::puts_kept_as, crate::proofs::Writing::stops_any))]
-    fn put_record<W: Outlet>(
-        &mut self,
-        writer: &mut W,
-        moments: &mut Moments,
-        line: &Record,
-    ) -> Result<(), Failed>
+    fn put_record<W: Outlet>(&mut self, writer: &mut W, line: &Record) -> Result<(), Failed>
         ensures ok { OnOk result (Puts (W.contents writer.old) self.old (W.contents writer.new) self.new (line_of line.now)) }
         ensures cut { OnErr result (Stops (W.contents writer.old) self.old (W.contents writer.new) (line_of line.now)) }
         ensures failed { OnErr result (W.failed writer.new ≡ true) }
     {
         self.make_room(writer)?;
-        let Ok(()) = write_record(&mut self.kept, moments, line) else {
+        let Ok(()) = write_record(&mut self.kept, line) else {
             unreachable!()
         };
         Ok(())
@@ -144,9 +139,8 @@ impl Buffer {
         ensures cut { OnErr result (Stops (W.contents writer.old) self.old (W.contents writer.new) (flat_map line_of records.now)) }
         ensures failed { OnErr result (W.failed writer.new ≡ true) }
     {
-        let mut moments = Moments::new();
         for line in records {
-            self.put_record(writer, &mut moments, line)?;
+            self.put_record(writer, line)?;
         }
         Ok(())
     }
