@@ -10,7 +10,7 @@ use crate::ends::{Failed, Outlet, flush_all, write_all};
 use crate::texts::Text;
 use control::Experiment as Plan;
 use emu_model::{Counters, Record};
-use report::{write_counters, write_record};
+use report::{Moments, write_counters, write_record};
 use std::alloc::{AllocError, Global};
 use std::marker::Model;
 
@@ -24,6 +24,8 @@ const LONGEST_LINE: usize = 400;
 #[derive(Drop)]
 pub struct Buffer {
     kept: Vec<u8>,
+    // what the lines so far leave of their moments for the next one
+    moments: Moments,
 }
 
 impl Model for Buffer {
@@ -42,7 +44,8 @@ impl Buffer {
         ensures { IfOk result (λ b. b ≡ []) }
     {
         let kept = Vec::with_capacity(alloc, CAPACITY)?;
-        Ok(Buffer { kept })
+        let moments = Moments::new();
+        Ok(Buffer { kept, moments })
     }
 
     // Writes all that is kept.
@@ -100,7 +103,7 @@ impl Buffer {
         ensures failed { OnErr result (W.failed writer.new ≡ true) }
     {
         self.make_room(writer)?;
-        let Ok(()) = write_record(&mut self.kept, line) else {
+        let Ok(()) = write_record(&mut self.kept, &mut self.moments, line) else {
             unreachable!()
         };
         Ok(())
