@@ -6,6 +6,7 @@ use std::test::*;
 
 mod limits;
 mod lines;
+mod printed;
 
 /// Wants this fault.
 fn wants(rt: &(impl Abort + AllocGlobal), text: &str, line: u64, cause: Cause) {

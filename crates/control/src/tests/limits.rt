@@ -39,7 +39,7 @@ fn one_byte_more_is_too_big(rt: HostRuntime) -> Result<(), Fail> {
 }
 
 /// So many experiments, each of two lines.
-fn experiments(alloc: Global, count: u32) -> Result<String, AllocError> {
+pub fn experiments(alloc: Global, count: u32) -> Result<String, AllocError> {
     let mut text = String::new(alloc);
     for i in 0..count {
         let lines = format!(in alloc; "experiment e{i} seed 0 budget 1\n@0 end\n")?;
