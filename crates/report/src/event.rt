@@ -4,7 +4,7 @@
 ghost use Rattle.std.specs.Prelude.{◌≡◌, ◌+◌, ◌≤◌, ◌++◌, length, codes, decimal, drop};
 ghost use Rattle.report.specs.Words.{instance_name, load_of, cause_of};
 
-use crate::moments::Moments;
+use crate::moments::Leading;
 use emu_model::{DropCause, Load, PipeNumber};
 use itoa::write_digits;
 
@@ -38,6 +38,11 @@ pub fn put_number(text: &mut [u8], end: usize, number: u64) -> usize
     ensures start { (end ≤ result + 20) × (result ≤ end) }
     ensures items { drop result text.new ≡ decimal number ++ drop end text.old }
 {
+    // Half of all numbers are a flow, a pipe or an instance of one digit.
+    if number < 10 {
+        text[end - 1] = b'0' + number as u8;
+        return end - 1;
+    }
     write_digits(number, text, end)
 }
 
@@ -105,7 +110,7 @@ pub fn put_cause(text: &mut [u8], end: usize, cause: DropCause) -> usize
 /// Puts a moment, what happened then, and to which number; returns where the moment begins.
 #[inline(always)]
 pub fn put_event(
-    moments: &mut Moments,
+    leading: &mut Leading,
     text: &mut [u8],
     end: usize,
     moment: u64,
@@ -117,5 +122,5 @@ pub fn put_event(
     ensures items { drop result text.new ≡ decimal moment ++ (word.now ++ (decimal number ++ drop end text.old)) }
 {
     let start = put_labelled(text, end, word, number);
-    moments.put(text, start, moment)
+    leading.put(text, start, moment)
 }

@@ -84,10 +84,16 @@ fn append_done(out: &mut Vec<u8>, moments: &mut Moments, moment: u64, command: u
     ensures items { out.new.items ≡ out.old.items ++ (decimal moment ++ (codes " ok " ++ (decimal command ++ codes "\n"))) }
     ensures capacity { vec_capacity out.old ≤ vec_capacity out.new }
 {
-    let mut text = [0; ROOM];
-    let end = put(&mut text, LONGEST_EVENT, b"\n");
-    let start = put_event(moments, &mut text, end, moment, b" ok ", command);
-    append_made(out, &text, start);
+    let end = put(&mut moments.text, LONGEST_EVENT, b"\n");
+    let start = put_event(
+        &mut moments.leading,
+        &mut moments.text,
+        end,
+        moment,
+        b" ok ",
+        command,
+    );
+    append_made(out, &moments.text, start);
 }
 
 // What happened to a number, but for the rest of its line.
@@ -98,7 +104,14 @@ fn append_event(out: &mut Vec<u8>, moments: &mut Moments, moment: u64, word: &[u
     ensures capacity { vec_capacity out.old ≤ vec_capacity out.new }
 {
     let mut text = [0; LONGEST_EVENT];
-    let start = put_event(moments, &mut text, LONGEST_EVENT, moment, word, number);
+    let start = put_event(
+        &mut moments.leading,
+        &mut text,
+        LONGEST_EVENT,
+        moment,
+        word,
+        number,
+    );
     append(out, &text[start..]);
 }
 
@@ -128,12 +141,18 @@ fn append_at_instance(
     ensures items { out.new.items ≡ out.old.items ++ (decimal moment ++ (word.now ++ (decimal packet ++ (codes " " ++ (instance_name pipe instance ++ codes "\n"))))) }
     ensures capacity { vec_capacity out.old ≤ vec_capacity out.new }
 {
-    let mut text = [0; ROOM];
-    let end = put(&mut text, LONGEST_EVENT, b"\n");
-    let end = put_instance(&mut text, end, pipe, instance);
-    let end = put(&mut text, end, b" ");
-    let start = put_event(moments, &mut text, end, moment, word, packet);
-    append_made(out, &text, start);
+    let end = put(&mut moments.text, LONGEST_EVENT, b"\n");
+    let end = put_instance(&mut moments.text, end, pipe, instance);
+    let end = put(&mut moments.text, end, b" ");
+    let start = put_event(
+        &mut moments.leading,
+        &mut moments.text,
+        end,
+        moment,
+        word,
+        packet,
+    );
+    append_made(out, &moments.text, start);
 }
 
 #[inline(always)]
@@ -142,12 +161,18 @@ fn append_delivery(out: &mut Vec<u8>, moments: &mut Moments, moment: u64, packet
     ensures items { out.new.items ≡ out.old.items ++ (decimal moment ++ (codes " deliver " ++ (decimal packet ++ (codes " " ++ (load_of load ++ codes "\n"))))) }
     ensures capacity { vec_capacity out.old ≤ vec_capacity out.new }
 {
-    let mut text = [0; ROOM];
-    let end = put(&mut text, LONGEST_EVENT, b"\n");
-    let end = put_load(&mut text, end, load);
-    let end = put(&mut text, end, b" ");
-    let start = put_event(moments, &mut text, end, moment, b" deliver ", packet);
-    append_made(out, &text, start);
+    let end = put(&mut moments.text, LONGEST_EVENT, b"\n");
+    let end = put_load(&mut moments.text, end, load);
+    let end = put(&mut moments.text, end, b" ");
+    let start = put_event(
+        &mut moments.leading,
+        &mut moments.text,
+        end,
+        moment,
+        b" deliver ",
+        packet,
+    );
+    append_made(out, &moments.text, start);
 }
 
 fn append_drop(
@@ -162,14 +187,20 @@ fn append_drop(
     ensures items { out.new.items ≡ out.old.items ++ (decimal moment ++ (codes " drop " ++ (decimal packet ++ (codes " " ++ (load_of load ++ (codes " " ++ (cause_of cause ++ codes "\n"))))))) }
     ensures capacity { vec_capacity out.old ≤ vec_capacity out.new }
 {
-    let mut text = [0; ROOM];
-    let end = put(&mut text, LONGEST_EVENT, b"\n");
-    let end = put_cause(&mut text, end, cause);
-    let end = put(&mut text, end, b" ");
-    let end = put_load(&mut text, end, load);
-    let end = put(&mut text, end, b" ");
-    let start = put_event(moments, &mut text, end, moment, b" drop ", packet);
-    append_made(out, &text, start);
+    let end = put(&mut moments.text, LONGEST_EVENT, b"\n");
+    let end = put_cause(&mut moments.text, end, cause);
+    let end = put(&mut moments.text, end, b" ");
+    let end = put_load(&mut moments.text, end, load);
+    let end = put(&mut moments.text, end, b" ");
+    let start = put_event(
+        &mut moments.leading,
+        &mut moments.text,
+        end,
+        moment,
+        b" drop ",
+        packet,
+    );
+    append_made(out, &moments.text, start);
 }
 
 // What a sender's window is after an acknowledgement or a timeout.
@@ -187,12 +218,18 @@ fn append_window(
     ensures items { out.new.items ≡ out.old.items ++ (decimal moment ++ (word.now ++ (decimal flow ++ (codes " " ++ (decimal cwnd ++ (codes " " ++ (decimal ssthresh ++ codes "\n"))))))) }
     ensures capacity { vec_capacity out.old ≤ vec_capacity out.new }
 {
-    let mut text = [0; ROOM];
-    let end = put(&mut text, LONGEST_EVENT, b"\n");
-    let end = put_labelled(&mut text, end, b" ", ssthresh);
-    let end = put_labelled(&mut text, end, b" ", cwnd);
-    let start = put_event(moments, &mut text, end, moment, word, flow);
-    append_made(out, &text, start);
+    let end = put(&mut moments.text, LONGEST_EVENT, b"\n");
+    let end = put_labelled(&mut moments.text, end, b" ", ssthresh);
+    let end = put_labelled(&mut moments.text, end, b" ", cwnd);
+    let start = put_event(
+        &mut moments.leading,
+        &mut moments.text,
+        end,
+        moment,
+        word,
+        flow,
+    );
+    append_made(out, &moments.text, start);
 }
 
 fn append_line(out: &mut Vec<u8>, moments: &mut Moments, line: &Record)

@@ -4,7 +4,7 @@
 ghost use Rattle.std.specs.Prelude.{◌≡◌, ◌+◌, ◌/◌, ◌%◌, ◌<◌, ◌≤◌, ◌++◌, length, decimal, drop};
 ghost use Rattle.report.specs.Words.{pair_of};
 
-use crate::event::put_number;
+use crate::event::{ROOM, put_number};
 use itoa::write_digits;
 use std::marker::Model;
 
@@ -15,9 +15,27 @@ static PAIRS: [u8; 200] =
 // Where the last eight digits of a moment begin to be others before them.
 const EIGHT_DIGITS: u64 = 100_000_000;
 
-/// The digits of a moment that was written before, but for its last eight.
+/// What lines leave for the next one: the first digits of a moment, and the array in which they were
+/// made, which so needs no clearing. Nothing of it is seen in the text.
 #[derive(Drop)]
 pub struct Moments {
+    pub(crate) leading: Leading,
+    pub(crate) text: [u8; ROOM],
+}
+
+impl Moments {
+    /// Before the first line.
+    pub fn new() -> Self {
+        Moments {
+            leading: Leading::new(),
+            text: [0; ROOM],
+        }
+    }
+}
+
+/// The digits of a moment that was written before, but for its last eight.
+#[derive(Drop)]
+pub struct Leading {
     // the least moment with these digits
     least: u64,
     digits: [u8; 16],
@@ -25,7 +43,7 @@ pub struct Moments {
     start: usize,
 }
 
-impl Model for Moments {
+impl Model for Leading {
     ghost use Rattle.std.specs.Prelude.{ℕ, ◌≡◌, ◌/◌, ◌%◌, ◌≤◌, decimal, drop};
 
     ghost Value = { ℕ };
@@ -57,10 +75,10 @@ fn put_four(text: &mut [u8], at: usize, four: u32)
     put_pair(text, at, four / 100);
 }
 
-impl Moments {
+impl Leading {
     /// Of 1, which is what stands before the last eight digits of the least moment with nine.
     pub fn new() -> Self {
-        Moments {
+        Leading {
             least: EIGHT_DIGITS,
             digits: [b'1'; 16],
             start: 15,

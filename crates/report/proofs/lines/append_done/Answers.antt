@@ -1,13 +1,12 @@
-use Rattle.std.proofs.Common.{drop, refl, append_assoc}
-use Rattle.std.specs.Prelude.{replicate}
+use Rattle.std.proofs.Common.{drop, arith, append_assoc, length-drop}
 use Rattle.report.proofs.lines.append_done.Goals as goal
 
 pub returns-clause-items : goal.returns-clause-items
 returns-clause-items c =
     c.append_made.ensures.items
     _
-    (drop 128 (replicate 192 0))
-    refl
+    (drop 128 c.args.moments.now.text)
+    (omega (arith, length-drop 128 c.args.moments.now.text))
     (rw (
       c.put_event-start.ensures.items,
       c.put-end.ensures.items,

@@ -1,6 +1,6 @@
 use Rattle.std.proofs.Common.{arith}
 use Rattle.report.proofs.Kept.{moment_put}
-use Rattle.report.proofs.moments.Moments.put.Goals as goal
+use Rattle.report.proofs.moments.Leading.put.Goals as goal
 
 pub returns-clause-items : goal.returns-clause-items
 returns-clause-items c =

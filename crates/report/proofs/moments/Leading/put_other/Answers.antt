@@ -1,6 +1,6 @@
 use Rattle.std.proofs.Common.{rules, ◌/◌, arith}
 use Rattle.std.proofs.lemmas.Fmt.{length-decimal-le}
-use Rattle.report.proofs.moments.Moments.put_other.Goals as goal
+use Rattle.report.proofs.moments.Leading.put_other.Goals as goal
 
 pub write_digits-self-inside-requires : goal.write_digits-self-inside-requires
 write_digits-self-inside-requires c =
