@@ -10,7 +10,7 @@ use Rattle.packet_store.specs.Pocket.{Pocket}
 use Rattle.pipe_core.specs.declared.slot.Slot.{Slot}
 use Rattle.pipe_core.specs.Moves.{packet_at, AreNamed, Keeps}
 use Rattle.pipe_core.specs.Keyed.{KeyedPipe, seen_pipe, view, ids_of, keys_of, IsSlot, IsPipe}
-use Rattle.pipe_core.specs.Steps.{IsGrown, Comes, ChangesAt, ComesAt, drops_of}
+use Rattle.pipe_core.specs.Steps.{Comes, ChangesAt, ComesAt, drops_of}
 use Rattle.pipe_core.proofs.PipeFacts.{arrive-nowhere, arrive-there, view-stays, Keeps-lift}
 use Rattle.pipe_core.proofs.Places.{IsPlace, slot_at}
 
@@ -35,24 +35,23 @@ comes_at k now packet answer p q old x y ids at pipe came = record {
 }
 
 -- one that finds no instance
-pub arrive_none : (now : ℕ) (packet : Packet) (p0 p : Pocket) (old r m : KeyedPipe) (id : FlowId) → p ≡ p0 → IsGrown old r →
-    id ≡ flow_id r.config.mask packet → None ≡ instance_of (ids_of r.slots) id → m.slots ≡ r.slots →
-    m ≡ record r { slots = m.slots; spare = m.spare } →
-    pipe_arrive old.seed now packet (view p0 old)
+pub arrive_none : (now : ℕ) (packet : Packet) (p : Pocket) (old m : KeyedPipe) (id : FlowId) →
+    id ≡ flow_id old.config.mask packet → None ≡ instance_of (ids_of old.slots) id → m.slots ≡ old.slots →
+    m ≡ record old { slots = m.slots; spare = m.spare } →
+    pipe_arrive old.seed now packet (view p old)
     ≡ record { state = view p m; dropped = record { packet = packet; cause = NoInstance } ∷ [] }
-arrive_none now packet p0 p old r m id e grown ide none slots same =
+arrive_none now packet p old m id ide none slots same =
     let f : ℕ → Packet = packet_at p.find in
-    ap (pipe_arrive old.seed now packet) (ap (λ z. view z old) (sym e) ∙ sym (grown.shown f))
-    ∙ arrive-nowhere f old.seed now packet r (ap (instance_of (ids_of r.slots)) (sym ide) ∙ sym none)
-    ∙ (λ i. drop_one (seen_pipe f (record r { slots = sym slots i })) packet NoInstance)
+    arrive-nowhere f old.seed now packet old (ap (instance_of (ids_of old.slots)) (sym ide) ∙ sym none)
+    ∙ (λ i. drop_one (seen_pipe f (record old { slots = sym slots i })) packet NoInstance)
     ∙ (λ i. drop_one (seen_pipe f (sym same i)) packet NoInstance)
 
-module _ (now k : ℕ) (packet : Packet) (answer : Option DropCause) (p0 p q : Pocket) (old r m n : KeyedPipe) (id : FlowId)
-    (e : p ≡ p0) (grown : IsGrown old r) (same : m ≡ record r { slots = m.slots; spare = m.spare })
+module _ (now k : ℕ) (packet : Packet) (answer : Option DropCause) (p q : Pocket) (old m n : KeyedPipe) (id : FlowId)
+    (same : m ≡ record old { slots = m.slots; spare = m.spare })
     (came : ComesAt k now packet answer p q m n) where
-  pub arrive_some : AreNamed p0 (keys_of old.slots) → id ≡ flow_id r.config.mask packet → Some k ≡ instance_of (ids_of r.slots) id →
-      ((f : ℕ → Packet) → with_instance id k (seen_pipe f r) ≡ seen_pipe f m) →
-      pipe_arrive old.seed now packet (view p0 old) ≡ record { state = view q n; dropped = drops_of packet answer }
+  pub arrive_some : AreNamed p (keys_of old.slots) → id ≡ flow_id old.config.mask packet → Some k ≡ instance_of (ids_of old.slots) id →
+      ((f : ℕ → Packet) → with_instance id k (seen_pipe f old) ≡ seen_pipe f m) →
+      pipe_arrive old.seed now packet (view p old) ≡ record { state = view q n; dropped = drops_of packet answer }
   arrive_some named ide there made =
       let f : ℕ → Packet = packet_at q.find in
       let before : List Slot = came.slots.0 in
@@ -60,29 +59,25 @@ module _ (now k : ℕ) (packet : Packet) (answer : Option DropCause) (p0 p q : P
       let x : Slot = came.slots.2 in
       let y : Slot = came.slots.3 in
       let change : ChangesAt k p q m n before behind x y = came.slots.4 in
-      let turn : Comes r.config now packet answer p q x y =
+      let turn : Comes old.config now packet answer p q x y =
       subst (λ (c : PipeConfig). Comes c now packet answer p q x y) (ap (λ (z : KeyedPipe). z.config) same) came.slots.5 in
-      let slot : IsSlot r.config r.seed r.number k x =
+      let slot : IsSlot old.config old.seed old.number k x =
       subst (λ (z : KeyedPipe). IsSlot z.config z.seed z.number k x) same change.slot in
-      let named_now : AreNamed p (keys_of old.slots) = subst (λ z. AreNamed z (keys_of old.slots)) (sym e) named in
-      ap (pipe_arrive old.seed now packet)
-      (ap (λ z. view z old) (sym e) ∙ sym (view-stays p q old named_now turn.stays) ∙ sym (grown.shown f))
-      ∙ (λ i. pipe_arrive (ap (λ (z : KeyedPipe). z.seed) (sym grown.same) i) now packet (seen_pipe f r))
-      ∙ arrive-there f now packet r m k before behind x y (drops_of packet answer)
-      (ap (instance_of (ids_of r.slots)) (sym ide) ∙ sym there)
-      ((λ i. with_instance (sym ide i) k (seen_pipe f r)) ∙ made f)
+      ap (pipe_arrive old.seed now packet) (sym (view-stays p q old named turn.stays))
+      ∙ arrive-there f now packet old m k before behind x y (drops_of packet answer)
+      (ap (instance_of (ids_of old.slots)) (sym ide) ∙ sym there)
+      ((λ i. with_instance (sym ide i) k (seen_pipe f old)) ∙ made f)
       (ap (λ (z : KeyedPipe). z.number) same) (ap (λ (z : KeyedPipe). z.config) same)
       change.was change.place slot turn.shown
       ∙ (λ i. record { state = seen_pipe f (sym change.is i); dropped = drops_of packet answer })
 
-  pub arrive_keys : keys_of m.slots ≡ keys_of r.slots → Keeps p0 q (keys_of old.slots) (keys_of n.slots)
+  pub arrive_keys : keys_of m.slots ≡ keys_of old.slots → Keeps p q (keys_of old.slots) (keys_of n.slots)
   arrive_keys keys =
       let before : List Slot = came.slots.0 in
       let behind : List Slot = came.slots.1 in
       let x : Slot = came.slots.2 in
       let y : Slot = came.slots.3 in
       let change : ChangesAt k p q m n before behind x y = came.slots.4 in
-      subst (λ z. Keeps z q (keys_of old.slots) (keys_of n.slots)) e
-      (subst (λ ks. Keeps p q ks (keys_of n.slots)) (ap keys_of (sym change.was) ∙ keys ∙ grown.keys)
+      subst (λ ks. Keeps p q ks (keys_of n.slots)) (ap keys_of (sym change.was) ∙ keys)
       (subst (λ ks. Keeps p q (keys_of (before ++ x ∷ behind)) ks) (ap (λ (z : KeyedPipe). keys_of z.slots) (sym change.is))
-      (Keeps-lift p q before behind x y change.keys)))
+      (Keeps-lift p q before behind x y change.keys))

@@ -156,19 +156,19 @@ impl Pipe {
         shelf: &mut S,
         owner: Owner,
         now: u64,
-        packet: Packet,
+        packet: &Packet,
     ) -> Result<(), NoMemory>
         ensures grown { IsGrown self.old self.new }
         ensures pockets { (o : ℕ) → S.pocket shelf.new o ≡ S.pocket shelf.old o }
         ensures rooms { (o : ℕ) → S.room shelf.old o ≤ S.room shelf.new o }
         ensures room { OnOk result ((S.pocket shelf.old owner).count < (S.pocket shelf.old owner).budget → 0 < S.room shelf.new owner) }
-        ensures ready { OnOk result (HasRoomAt packet self.new) }
-        ensures succeeds { 0 < S.room shelf.old owner → HasRoomAt packet self.old → IsOk result }
+        ensures ready { OnOk result (HasRoomAt packet.now self.new) }
+        ensures succeeds { 0 < S.room shelf.old owner → HasRoomAt packet.now self.old → IsOk result }
     {
         let Ok(()) = shelf.put_ready(owner) else {
             return Err(NoMemory);
         };
-        let id = self.config.mask.apply(&packet);
+        let id = self.config.mask.apply(packet);
         match self.ids.find(id) {
             Some(index) => self.accept_ready(index as usize, packet.size, now),
             None => self.make_ready(id),
@@ -243,52 +243,49 @@ impl Pipe {
         shelf: &mut S,
         owner: Owner,
         now: u64,
-        packet: Packet,
+        packet: &Packet,
     ) -> Option<DropCause>
         requires inside { index < length self.old.slots }
         requires early { now < 2 * 10 ^ 15 }
         requires budget { (S.pocket shelf.old owner).count < (S.pocket shelf.old owner).budget }
         requires room { 0 < S.room shelf.old owner }
-        requires ready { HasRoomAtSlot packet.size index self.old }
-        ensures came { ComesAt index now packet result (S.pocket shelf.old owner) (S.pocket shelf.new owner) self.old self.new }
+        requires ready { HasRoomAtSlot packet.now.size index self.old }
+        ensures came { ComesAt index now packet.now result (S.pocket shelf.old owner) (S.pocket shelf.new owner) self.old self.new }
         ensures others { (o : ℕ) → o ≢ owner → S.pocket shelf.new o ≡ S.pocket shelf.old o }
     {
-        let config = self.config;
         let number = instance_number(self.number, index);
         let slot = &mut self.slots[index];
-        let answer = slot.come(shelf, owner, now, &packet, &config);
+        let answer = slot.come(shelf, owner, now, packet, &self.config);
         self.dues.set(index, slot.due(number));
         answer
     }
 
     /// A packet comes at the moment `now` (ns): its instance is found or made, its loss word is drawn,
-    /// and then the limit decides. None where it is taken in, else why it is dropped. All growths come
-    /// first; refused, only room has grown.
+    /// and then the limit decides. None where it is taken in, else why it is dropped. `arrive_ready`
+    /// came before.
     pub fn arrive<S: Shelf>(
         &mut self,
         shelf: &mut S,
         owner: Owner,
         now: u64,
-        packet: Packet,
-    ) -> Result<Option<DropCause>, NoMemory>
+        packet: &Packet,
+    ) -> Option<DropCause>
         requires early { now < 2 * 10 ^ 15 }
         requires named { AreNamed (S.pocket shelf.old owner) (keys_of self.old.slots) }
         requires budget { (S.pocket shelf.old owner).count < (S.pocket shelf.old owner).budget }
-        ensures ok { IfOk result (λ answer. pipe_arrive self.old.seed now packet (view (S.pocket shelf.old owner) self.old)
-            ≡ record { state = view (S.pocket shelf.new owner) self.new; dropped = drops_of packet answer }) }
+        requires room { 0 < S.room shelf.old owner }
+        requires ready { HasRoomAt packet.now self.old }
+        ensures arrived { pipe_arrive self.old.seed now packet.now (view (S.pocket shelf.old owner) self.old)
+            ≡ record { state = view (S.pocket shelf.new owner) self.new; dropped = drops_of packet.now result } }
         ensures keys { Keeps (S.pocket shelf.old owner) (S.pocket shelf.new owner) (keys_of self.old.slots) (keys_of self.new.slots) }
         ensures same { self.new ≡ record self.old { slots = self.new.slots; spare = self.new.spare } }
         ensures others { (o : ℕ) → o ≢ owner → S.pocket shelf.new o ≡ S.pocket shelf.old o }
-        ensures refused { OnErr result (IsGrown self.old self.new) }
-        ensures refused_pocket { OnErr result (S.pocket shelf.new owner ≡ S.pocket shelf.old owner) }
-        ensures succeeds { 0 < S.room shelf.old owner → HasRoomAt packet self.old → IsOk result }
     {
-        self.arrive_ready(shelf, owner, now, packet)?;
-        let id = self.config.mask.apply(&packet);
+        let id = self.config.mask.apply(packet);
         let Some(index) = self.find_or_make(id) else {
-            return Ok(Some(DropCause::NoInstance));
+            return Some(DropCause::NoInstance);
         };
-        Ok(self.come(index, shelf, owner, now, packet))
+        self.come(index, shelf, owner, now, packet)
     }
 
     /// The packet in service in an instance finishes at the moment `now` (ns), at which it is due, and is

@@ -118,10 +118,11 @@ impl Bench {
         if now >= END || self.shelf.count(0) >= self.budget {
             return None;
         }
-        match self.pipe.arrive(&mut self.shelf, 0, now, *packet) {
-            Ok(answer) => Some(answer),
-            Err(_) => None,
+        let ready = self.pipe.arrive_ready(&mut self.shelf, 0, now, packet);
+        if ready.is_err() {
+            return None;
         }
+        Some(self.pipe.arrive(&mut self.shelf, 0, now, packet))
     }
 
     /// The number of what leaves first in an instance.

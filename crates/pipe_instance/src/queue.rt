@@ -10,7 +10,7 @@ ghost use Rattle.pipe_instance.specs.Turns.{put_last, passed};
 
 use emu_model::{Discipline, QueueLimit, Size};
 use packet_store::Key;
-use queue_disc::{Codel, Dequeued, DropTail, EnqueueError, NoMemory};
+use queue_disc::{Codel, Dequeued, DropTail, NoMemory};
 use std::alloc::Global;
 use std::marker::Model;
 
@@ -90,16 +90,9 @@ impl Queue {
         requires room { length self.old.waiting < self.old.capacity }
         ensures { self.new ≡ put_last now key size self.old }
     {
-        let put = match &mut self.kind {
-            Kind::Tail(queue) => queue.enqueue(key, size, now),
-            Kind::Controlled(queue) => queue.enqueue(key, size, now),
-        };
-        let Err(refused) = put else {
-            return;
-        };
-        match refused.cause {
-            EnqueueError::Full => unreachable!(),
-            EnqueueError::NoMemory => unreachable!(),
+        match &mut self.kind {
+            Kind::Tail(queue) => queue.enqueue_reserved(key, size, now),
+            Kind::Controlled(queue) => queue.enqueue_reserved(key, size, now),
         }
     }
 

@@ -102,7 +102,7 @@ impl PipeTable {
         let Some(place) = self.place_of(number) else {
             return Ok(());
         };
-        self.pipes[place].arrive_ready(shelf, owner, now, *packet)
+        self.pipes[place].arrive_ready(shelf, owner, now, packet)
     }
 
     /// A packet is handed to a pipe at the moment `now` (ns): None where it is taken in, else why it is
@@ -131,9 +131,7 @@ impl PipeTable {
         let Some(place) = self.place_of(number) else {
             return Some(DropCause::NoPipe);
         };
-        let Ok(answer) = self.pipes[place].arrive(shelf, owner, now, *packet) else {
-            unreachable!();
-        };
+        let answer = self.pipes[place].arrive(shelf, owner, now, packet);
         self.dues.set(place, self.pipes[place].least());
         answer
     }

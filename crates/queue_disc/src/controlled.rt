@@ -96,6 +96,15 @@ impl<A> Codel<A> {
         self.queue.enqueue(item, size, now)
     }
 
+    /// The same where the limit lets it in and there is room. Takes no memory.
+    pub fn enqueue_reserved(&mut self, item: A, size: Size, now: u64)
+        requires accepted { accepts self.old.limit self.old.waiting size ≡ true }
+        requires room { length self.old.waiting < self.old.capacity }
+        ensures { self.new ≡ record self.old { waiting = self.old.waiting ++ record { item = item; size = size; stamp = now } ∷ [] } }
+    {
+        self.queue.enqueue_reserved(item, size, now);
+    }
+
     /// Makes the growth that `enqueue` of these can need.
     pub fn enqueue_ready(&mut self, size: Size, now: u64) -> Result<(), NoMemory>
         ensures ok { OnOk result (self.new ≡ record self.old { capacity = self.new.capacity }) }

@@ -76,13 +76,24 @@ impl<A> DropTail<A> {
                 cause: EnqueueError::NoMemory,
             });
         };
+        self.enqueue_reserved(item, size, now);
+        Ok(())
+    }
+
+    /// The same where the limit lets it in and there is room. Takes no memory.
+    pub fn enqueue_reserved(&mut self, item: A, size: Size, now: u64)
+        requires accepted { accepts self.old.limit self.old.waiting size ≡ true }
+        requires room { length self.old.waiting < self.old.capacity }
+        ensures { self.new ≡ record self.old { waiting = self.old.waiting ++ record { item = item; size = size; stamp = now } ∷ [] } }
+    {
+        // Tells how many bytes can wait at most; nothing of it is left in the program.
+        let _accepted = self.accepts(size);
         self.bytes += u64::from(size.get());
         self.waiting.push_back_reserved(Waiting {
             item,
             size,
             stamp: now,
         });
-        Ok(())
     }
 
     /// Makes the growth that `enqueue` of these can need.

@@ -26,7 +26,7 @@ come-answer-requires-clause-ready g c =
     let x : Slot = c.index_mut-slot.result.now in
     let within : k < length s.slots.items = subst (λ (e : KeyedPipe). k < length e.slots) (sym c.self.view_is) c.requires.inside in
     let at : IsPlace k s.slots.items x = place_of s.slots.items k x c.index_mut-slot.ensures.value within in
-    let ready = subst (λ (e : KeyedPipe). HasRoomAtSlot c.args.packet.size k e) (sym c.self.view_is) c.requires.ready in
+    let ready = subst (λ (e : KeyedPipe). HasRoomAtSlot c.args.packet.now.size k e) (sym c.self.view_is) c.requires.ready in
     ready x (get_at k s.slots.items x at)
 
 pub invariant_of-self : goal.invariant_of-self
@@ -52,10 +52,10 @@ returns-clause-came g c =
     let q : Pocket = g.S.Shelf.pocket c.come-answer.new.shelf c.args.owner in
     let old : KeyedPipe = record { seed = s.seed; number = s.number; config = s.config; slots = s.slots.items; spare = min (min (vec_capacity s.slots - vec_len s.slots) s.ids.spare) s.dues.spare } in
     let spare = sym (ap (λ (p : Places). p.spare) c.set.ensures) in
-    rw (← c.self.view_is) (subst (λ n. ComesAt k c.args.now c.args.packet c.come-answer.result p q old (record old {
+    rw (← c.self.view_is) (subst (λ n. ComesAt k c.args.now c.args.packet.now c.come-answer.result p q old (record old {
       slots = set s.slots.items k c.come-answer.new.self;
       spare = min (min (vec_capacity s.slots - vec_len s.slots) s.ids.spare) n;
-    })) spare (comes_at k c.args.now c.args.packet c.come-answer.result p q old x c.come-answer.new.self s.ids.ids at c.self.invariant.0 c.come-answer.ensures.came))
+    })) spare (comes_at k c.args.now c.args.packet.now c.come-answer.result p q old x c.come-answer.new.self s.ids.ids at c.self.invariant.0 c.come-answer.ensures.came))
 
 pub due-requires : goal.due-requires
 due-requires g c =
