@@ -4,3 +4,4 @@ pub mod Places
 pub mod Pairs
 pub mod Kept
 pub mod Made
+pub mod Taken

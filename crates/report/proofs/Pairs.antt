@@ -4,7 +4,7 @@ use Rattle.std.specs.Prelude.{decimal}
 use lib.Ieee.Fits.{and_l, and_r}
 use Rattle.itoa.proofs.Decimal.{decimal_four}
 use Rattle.report.specs.Words.{pair_of}
-use Rattle.report.specs.declared.moments.TheConstants.{PAIRS}
+use Rattle.report.specs.declared.digits.TheConstants.{PAIRS}
 
 abbrev are_pairs : ℕ → Bool
 are_pairs zero = true

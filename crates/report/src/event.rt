@@ -4,9 +4,9 @@
 ghost use Rattle.std.specs.Prelude.{◌≡◌, ◌+◌, ◌≤◌, ◌++◌, length, codes, decimal, drop};
 ghost use Rattle.report.specs.Words.{instance_name, load_of, cause_of};
 
+use crate::digits::put_number;
 use crate::moments::Leading;
 use emu_model::{DropCause, Load, PipeNumber};
-use itoa::write_digits;
 
 /// No line of an event is longer; such a line ends here in its array.
 pub const LONGEST_EVENT: usize = 128;
@@ -15,8 +15,11 @@ pub const LONGEST_EVENT: usize = 128;
 /// taken back: a fixed number of bytes takes a few moves, where any other takes a call.
 pub const SHORT_EVENT: usize = 64;
 
-/// The array in which a line is made.
-pub const ROOM: usize = LONGEST_EVENT + SHORT_EVENT;
+/// How many lines of events are made together at most.
+pub const LINES: usize = 32;
+
+/// The array in which lines are made.
+pub const ROOM: usize = LINES * LONGEST_EVENT;
 
 /// Puts bytes, and returns where they begin.
 #[inline(always)]
@@ -28,22 +31,6 @@ pub fn put(text: &mut [u8], end: usize, bytes: &[u8]) -> usize
     let start = end - bytes.len();
     text[start..end].copy_from_slice(bytes);
     start
-}
-
-/// Puts a number, and returns where it begins.
-#[tactic(auto, using(crate::proofs::Decimals::at_most_twenty))]
-#[inline]
-pub fn put_number(text: &mut [u8], end: usize, number: u64) -> usize
-    requires { (20 ≤ end) × (end ≤ length text.old) }
-    ensures start { (end ≤ result + 20) × (result ≤ end) }
-    ensures items { drop result text.new ≡ decimal number ++ drop end text.old }
-{
-    // Half of all numbers are a flow, a pipe or an instance of one digit.
-    if number < 10 {
-        text[end - 1] = b'0' + number as u8;
-        return end - 1;
-    }
-    write_digits(number, text, end)
 }
 
 /// Puts a number behind its label, and returns where the label begins.

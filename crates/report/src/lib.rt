@@ -1,11 +1,14 @@
 //! The text of a report, and of the listings in it (own).
 #![tactic(auto)]
 
+mod digits;
 mod event;
+mod event_lines;
 mod lines;
 mod moments;
 mod pieces;
 mod report;
+mod runs;
 #[cfg(test)]
 mod tests;
 mod words;
@@ -13,3 +16,4 @@ mod words;
 pub use lines::{write_counters, write_heading, write_record};
 pub use moments::Moments;
 pub use report::{pipe_listing, report_text, rule_listing};
+pub use runs::write_records;

@@ -8,10 +8,8 @@ ghost use Rattle.std.specs.List.{flat_map};
 ghost use Rattle.report.specs.Lines.{spaced, fields_of, line_of, heading_of, behind_space, counters_of};
 ghost use Rattle.emu_model.specs.declared.records.Record.TheVariants.{RuleLine, PipeLine};
 
-use crate::event::{
-    LONGEST_EVENT, ROOM, SHORT_EVENT, put, put_cause, put_event, put_instance, put_labelled,
-    put_load,
-};
+use crate::event::{LONGEST_EVENT, ROOM, SHORT_EVENT, put_event, put_load};
+use crate::event_lines::{put_at_instance, put_delivery, put_done, put_drop, put_window};
 use crate::moments::Moments;
 use crate::pieces::{append, append_labelled, append_number, append_places};
 use crate::words::{
@@ -66,7 +64,8 @@ fn append_pipe(out: &mut Vec<u8>, pipe: PipeNumber, config: &PipeConfig)
 #[inline(always)]
 fn append_made(out: &mut Vec<u8>, text: &[u8; ROOM], start: usize)
     requires { (start ≤ 128) × (128 ≤ spare out.old) }
-    ensures items { (line rest : List ℕ) → length rest ≡ 64 → drop start text.now ≡ line ++ rest → out.new.items ≡ out.old.items ++ line }
+    ensures items { (line rest : List ℕ) → length rest ≡ 3968 → drop start text.now ≡ line ++ rest → out.new.items ≡ out.old.items ++ line }
+    ensures room { spare out.old ≤ spare out.new + 128 }
     ensures capacity { vec_capacity out.old ≤ vec_capacity out.new }
 {
     if start < LONGEST_EVENT - SHORT_EVENT {
@@ -82,15 +81,14 @@ fn append_made(out: &mut Vec<u8>, text: &[u8; ROOM], start: usize)
 fn append_done(out: &mut Vec<u8>, moments: &mut Moments, moment: u64, command: u64)
     requires { 128 ≤ spare out.old }
     ensures items { out.new.items ≡ out.old.items ++ (decimal moment ++ (codes " ok " ++ (decimal command ++ codes "\n"))) }
+    ensures room { spare out.old ≤ spare out.new + 128 }
     ensures capacity { vec_capacity out.old ≤ vec_capacity out.new }
 {
-    let end = put(&mut moments.text, LONGEST_EVENT, b"\n");
-    let start = put_event(
+    let start = put_done(
         &mut moments.leading,
         &mut moments.text,
-        end,
+        LONGEST_EVENT,
         moment,
-        b" ok ",
         command,
     );
     append_made(out, &moments.text, start);
@@ -139,18 +137,18 @@ fn append_at_instance(
 )
     requires { (128 ≤ spare out.old) × (length word.now ≤ 9) }
     ensures items { out.new.items ≡ out.old.items ++ (decimal moment ++ (word.now ++ (decimal packet ++ (codes " " ++ (instance_name pipe instance ++ codes "\n"))))) }
+    ensures room { spare out.old ≤ spare out.new + 128 }
     ensures capacity { vec_capacity out.old ≤ vec_capacity out.new }
 {
-    let end = put(&mut moments.text, LONGEST_EVENT, b"\n");
-    let end = put_instance(&mut moments.text, end, pipe, instance);
-    let end = put(&mut moments.text, end, b" ");
-    let start = put_event(
+    let start = put_at_instance(
         &mut moments.leading,
         &mut moments.text,
-        end,
+        LONGEST_EVENT,
         moment,
         word,
         packet,
+        pipe,
+        instance,
     );
     append_made(out, &moments.text, start);
 }
@@ -159,18 +157,16 @@ fn append_at_instance(
 fn append_delivery(out: &mut Vec<u8>, moments: &mut Moments, moment: u64, packet: u64, load: Load)
     requires { 128 ≤ spare out.old }
     ensures items { out.new.items ≡ out.old.items ++ (decimal moment ++ (codes " deliver " ++ (decimal packet ++ (codes " " ++ (load_of load ++ codes "\n"))))) }
+    ensures room { spare out.old ≤ spare out.new + 128 }
     ensures capacity { vec_capacity out.old ≤ vec_capacity out.new }
 {
-    let end = put(&mut moments.text, LONGEST_EVENT, b"\n");
-    let end = put_load(&mut moments.text, end, load);
-    let end = put(&mut moments.text, end, b" ");
-    let start = put_event(
+    let start = put_delivery(
         &mut moments.leading,
         &mut moments.text,
-        end,
+        LONGEST_EVENT,
         moment,
-        b" deliver ",
         packet,
+        load,
     );
     append_made(out, &moments.text, start);
 }
@@ -185,20 +181,17 @@ fn append_drop(
 )
     requires { 128 ≤ spare out.old }
     ensures items { out.new.items ≡ out.old.items ++ (decimal moment ++ (codes " drop " ++ (decimal packet ++ (codes " " ++ (load_of load ++ (codes " " ++ (cause_of cause ++ codes "\n"))))))) }
+    ensures room { spare out.old ≤ spare out.new + 128 }
     ensures capacity { vec_capacity out.old ≤ vec_capacity out.new }
 {
-    let end = put(&mut moments.text, LONGEST_EVENT, b"\n");
-    let end = put_cause(&mut moments.text, end, cause);
-    let end = put(&mut moments.text, end, b" ");
-    let end = put_load(&mut moments.text, end, load);
-    let end = put(&mut moments.text, end, b" ");
-    let start = put_event(
+    let start = put_drop(
         &mut moments.leading,
         &mut moments.text,
-        end,
+        LONGEST_EVENT,
         moment,
-        b" drop ",
         packet,
+        load,
+        cause,
     );
     append_made(out, &moments.text, start);
 }
@@ -216,18 +209,18 @@ fn append_window(
 )
     requires { (128 ≤ spare out.old) × (length word.now ≤ 9) }
     ensures items { out.new.items ≡ out.old.items ++ (decimal moment ++ (word.now ++ (decimal flow ++ (codes " " ++ (decimal cwnd ++ (codes " " ++ (decimal ssthresh ++ codes "\n"))))))) }
+    ensures room { spare out.old ≤ spare out.new + 128 }
     ensures capacity { vec_capacity out.old ≤ vec_capacity out.new }
 {
-    let end = put(&mut moments.text, LONGEST_EVENT, b"\n");
-    let end = put_labelled(&mut moments.text, end, b" ", ssthresh);
-    let end = put_labelled(&mut moments.text, end, b" ", cwnd);
-    let start = put_event(
+    let start = put_window(
         &mut moments.leading,
         &mut moments.text,
-        end,
+        LONGEST_EVENT,
         moment,
         word,
         flow,
+        cwnd,
+        ssthresh,
     );
     append_made(out, &moments.text, start);
 }
@@ -235,6 +228,7 @@ fn append_window(
 fn append_line(out: &mut Vec<u8>, moments: &mut Moments, line: &Record)
     requires { 400 ≤ spare out.old }
     ensures items { out.new.items ≡ out.old.items ++ line_of line.now }
+    ensures room { spare out.old ≤ spare out.new + 400 }
     ensures capacity { vec_capacity out.old ≤ vec_capacity out.new }
 {
     match *line {
@@ -414,6 +408,7 @@ pub fn write_record(
 ) -> Result<(), AllocError>
     ensures ok { OnOk result (out.new.items ≡ out.old.items ++ line_of line.now) }
     ensures err { OnErr result (out.new.items ≡ out.old.items) }
+    ensures room { OnOk result (spare out.old ≤ spare out.new + 400) }
     ensures capacity { vec_capacity out.old ≤ vec_capacity out.new }
     ensures succeeds { vec_len out.old + 400 ≤ vec_capacity out.old → IsOk result }
 {

@@ -1,19 +1,12 @@
 //! The digits of moments. Moments of one report mostly differ in their last eight digits alone, so
 //! what stands before these is kept from one line to the next.
 
-ghost use Rattle.std.specs.Prelude.{◌≡◌, ◌+◌, ◌/◌, ◌%◌, ◌<◌, ◌≤◌, ◌++◌, length, decimal, drop};
-ghost use Rattle.report.specs.Words.{pair_of};
+ghost use Rattle.std.specs.Prelude.{◌≡◌, ◌+◌, ◌≤◌, ◌++◌, length, decimal, drop};
 
-use crate::event::{ROOM, put_number};
+use crate::digits::{EIGHT_DIGITS, put_four, put_number};
+use crate::event::ROOM;
 use itoa::write_digits;
 use std::marker::Model;
-
-// Each number below 100, in two digits.
-static PAIRS: [u8; 200] =
-    *b"00010203040506070809101112131415161718192021222324252627282930313233343536373839404142434445464748495051525354555657585960616263646566676869707172737475767778798081828384858687888990919293949596979899";
-
-// Where the last eight digits of a moment begin to be others before them.
-const EIGHT_DIGITS: u64 = 100_000_000;
 
 /// What lines leave for the next one: the first digits of a moment, and the array in which they were
 /// made, which so needs no clearing. Nothing of it is seen in the text.
@@ -51,28 +44,6 @@ impl Model for Leading {
     ghost view = { λ m. m.least };
 
     ghost invariant = { λ m. (100000000 ≤ m.least) × (m.least % 100000000 ≡ 0) × (m.start ≤ 16) × (drop m.start m.digits ≡ decimal (m.least / 100000000)) };
-}
-
-// Puts two digits.
-#[inline(always)]
-fn put_pair(text: &mut [u8], at: usize, pair: u32)
-    requires { (pair < 100) × (at + 2 ≤ length text.old) }
-    ensures { drop at text.new ≡ pair_of pair ++ drop (at + 2) text.old }
-{
-    let from = pair as usize * 2;
-    let (tens, ones) = (PAIRS[from], PAIRS[from + 1]);
-    text[at] = tens;
-    text[at + 1] = ones;
-}
-
-// Puts four digits.
-#[inline(always)]
-fn put_four(text: &mut [u8], at: usize, four: u32)
-    requires { (four < 10000) × (at + 4 ≤ length text.old) }
-    ensures { drop at text.new ≡ pair_of (four / 100) ++ (pair_of (four % 100) ++ drop (at + 4) text.old) }
-{
-    put_pair(text, at + 2, four % 100);
-    put_pair(text, at, four / 100);
 }
 
 impl Leading {

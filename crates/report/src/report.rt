@@ -5,6 +5,7 @@ ghost use Rattle.report.specs.Lines.{report_of, rules_of, pipes_of};
 
 use crate::lines::{write_counters, write_heading, write_record};
 use crate::moments::Moments;
+use crate::runs::write_records;
 use emu_model::{Counters, Record};
 use std::alloc::{AllocError, Global};
 
@@ -25,9 +26,7 @@ pub fn report_text(
     // Most lines fit, so that the text grows once at most; without that room it grows as it needs.
     let _ = text.reserve(records.len().saturating_mul(LINE));
     write_heading(&mut text, name)?;
-    for line in records {
-        write_record(&mut text, &mut moments, line)?;
-    }
+    write_records(&mut text, &mut moments, records)?;
     write_counters(&mut text, counters)?;
     Ok(text)
 }

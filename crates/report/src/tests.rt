@@ -2,6 +2,7 @@
 
 use crate::{
     Moments, pipe_listing, report_text, rule_listing, write_counters, write_heading, write_record,
+    write_records,
 };
 use emu_model::{
     Action, Bandwidth, CodelTime, Counters, Delay, Discipline, DropCause, FlowNumber, KByteLimit,
@@ -519,6 +520,35 @@ fn digits_of_moments(rt: HostRuntime) -> Result<(), Fail> {
     Ok(())
 }
 
+// Numbers of each length, and many lines at once: more events than are made together, and among them
+// lines of other kinds, one of them the last.
+#[test]
+fn many_lines_at_once(rt: HostRuntime) -> Result<(), Fail> {
+    let mut records = Vec::new(rt.alloc());
+    let mut wanted = Vec::new(rt.alloc());
+    let mut number = 0u64;
+    for turn in 0..100u64 {
+        number = if turn % 20 == 0 {
+            1
+        } else {
+            number.wrapping_mul(10).wrapping_add(turn % 10)
+        };
+        records.push(done(turn, number))?;
+        wanted.extend_from_slice(format!(in rt.alloc(); "{turn} ok {number}\n")?.as_bytes())?;
+        if turn == 50 || turn == 99 {
+            records.push(Record::StepsSpent { moment: turn })?;
+            wanted.extend_from_slice(format!(in rt.alloc(); "{turn} spent\n")?.as_bytes())?;
+        }
+    }
+    let mut text = Vec::new(rt.alloc());
+    let mut moments = Moments::new();
+    write_records(&mut text, &mut moments, &records)?;
+    assert!(rt; text.as_slice() == wanted.as_slice(), "all lines");
+    write_records(&mut text, &mut moments, &[])?;
+    assert_eq!(rt; text.len(), wanted.len(), "none");
+    Ok(())
+}
+
 /// What is refused leaves the text as it was. A run in which an allocation fails shows it.
 #[test]
 fn refused_lines_change_nothing(rt: HostRuntime) -> Result<(), Fail> {
@@ -542,6 +572,15 @@ fn refused_lines_change_nothing(rt: HostRuntime) -> Result<(), Fail> {
         let length = text.len();
         if write_counters(&mut text, &counters).is_err() {
             assert_eq!(rt; text.len(), length, "counters");
+        }
+        let length = text.len();
+        let lines = [
+            done(0, command),
+            Record::StepsSpent { moment: 1 },
+            done(2, command),
+        ];
+        if write_records(&mut text, &mut moments, &lines).is_err() {
+            assert_eq!(rt; text.len(), length, "records");
         }
     }
     Ok(())

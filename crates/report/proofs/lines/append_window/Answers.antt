@@ -1,4 +1,4 @@
-use Rattle.std.proofs.Common.{drop, arith, append_assoc, length-drop}
+use Rattle.std.proofs.Common.{drop, arith, length-drop}
 use Rattle.report.proofs.lines.append_window.Goals as goal
 
 pub returns-clause-items : goal.returns-clause-items
@@ -7,10 +7,4 @@ returns-clause-items c =
     _
     (drop 128 c.args.moments.now.text)
     (omega (arith, length-drop 128 c.args.moments.now.text))
-    (rw (
-      c.put_event-start.ensures.items,
-      c.put_labelled-end-2.ensures.items,
-      c.put_labelled-end.ensures.items,
-      c.put-end.ensures.items,
-    )
-    (simp append_assoc))
+    c.put_window-start.ensures.items

@@ -1,7 +1,7 @@
 use Rattle.std.proofs.Common.{◌≡◌, ◌+◌, ◌-◌, arith}
 use Rattle.std.proofs.lemmas.Fmt.{decimal_digit}
 use Rattle.std.proofs.lemmas.List.{drop-set}
-use Rattle.report.proofs.event.put_number.Goals as goal
+use Rattle.report.proofs.digits.put_number.Goals as goal
 
 pub returns-then-number-lt10-clause-items : goal.returns-then-number-lt10-clause-items
 returns-then-number-lt10-clause-items c =

@@ -1,7 +1,7 @@
 use Rattle.std.proofs.Common.{◌≡◌, ◌+◌, ◌%◌, set, arith, length-set}
 use Rattle.std.proofs.lemmas.List.{set_comm, drop-set}
 use Rattle.report.proofs.Pairs.{pairs_at}
-use Rattle.report.proofs.moments.put_pair.Goals as goal
+use Rattle.report.proofs.digits.put_pair.Goals as goal
 
 pub returns : goal.returns
 returns c =
