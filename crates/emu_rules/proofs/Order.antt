@@ -12,6 +12,8 @@ use Rattle.emu_model.specs.declared.rules.Rule.{Rule}
 use Rattle.emu_model.specs.declared.records.Refusal.TheVariants.{BadNumber, BadSkip, RulesFull, NoRule}
 use Rattle.emu_model.specs.Rules.{Counted, RuleBook, the_rules, place_of_number, count_packet, count_at, new_rule, with_rule, is_bad_skip, is_rule_number, is_full, add_refusal}
 use Rattle.rule_search.specs.Walk.{Precedes, Ascends, IsOrdered, AreJumps, GoesForward}
+use Rattle.rule_search.specs.declared.memory.SearchMemory.{SearchMemory}
+use Rattle.rule_search.specs.Findings.{IsTrueOf}
 use Rattle.emu_rules.specs.Sound.{IsSound}
 
 -- ---- what an adding keeps
@@ -139,7 +141,7 @@ Ascends-count_at ks p i (c ∷ cs) h =
       Ascends-count_at ks p (i + 1) cs h.1,
     )
 
-the_rules-count_at : (ks : List ℕ) (p : Packet) (i : ℕ) (cs : List Counted) → the_rules (count_at ks p i cs) ≡ the_rules cs
+pub the_rules-count_at : (ks : List ℕ) (p : Packet) (i : ℕ) (cs : List Counted) → the_rules (count_at ks p i cs) ≡ the_rules cs
 the_rules-count_at ks p i [] = refl
 the_rules-count_at ks p i (c ∷ cs) =
     let hit = list_any (λ k. eqb k i) ks in
@@ -148,14 +150,15 @@ the_rules-count_at ks p i (c ∷ cs) =
     ap (λ r. r ∷ the_rules (count_at ks p (i + 1) cs)) same
     ∙ ap (λ rs. c.rule ∷ rs) (the_rules-count_at ks p (i + 1) cs)
 
-pub IsSound-counted : (ks : List ℕ) (p : Packet) (cs : List Counted) (jumps : List ℕ) (added : ℕ) → IsSound cs jumps added → IsSound (count_at ks p 0 cs) jumps added
-IsSound-counted ks p cs jumps added h = record {
+pub IsSound-counted : (ks : List ℕ) (p : Packet) (cs : List Counted) (jumps : List ℕ) (added : ℕ) (memory now : SearchMemory) → IsSound cs jumps added memory → IsTrueOf (the_rules cs) now → IsSound (count_at ks p 0 cs) jumps added now
+IsSound-counted ks p cs jumps added memory now h knows = record {
   ordered = record {
     ascends = Ascends-count_at ks p 0 cs h.ordered.ascends;
     forward = All-count_at (λ c. GoesForward c.rule.number c.rule.action) ks p 0 cs (λ c f. f) h.ordered.forward;
   };
   older = All-count_at (λ c. c.order ≤ added) ks p 0 cs (λ c le. le) h.older;
   jumps_are = subst (λ rs. AreJumps rs jumps) (sym (the_rules-count_at ks p 0 cs)) h.jumps_are;
+  memory_is = subst (λ rs. IsTrueOf rs now) (sym (the_rules-count_at ks p 0 cs)) knows;
 }
 
 abbrev pub book : List Counted → ℕ → RuleBook

@@ -5,7 +5,10 @@ ghost use Rattle.emu_model.specs.Rules.{opening_book, add_refusal, book_with, de
 ghost use Rattle.emu_rules.specs.Errors.{refusal_of};
 
 use emu_model::{Packet, Place, Refusal, Rule, RuleNumber, Verdict};
-use rule_search::{CountedRule, aim, first_behind, first_from, judge, judge_and_count, target_of};
+use rule_search::{
+    CountedRule, SearchMemory, aim, first_behind, first_from, judge, judge_and_count,
+    judge_by_memory, target_of,
+};
 use std::alloc::{AllocError, Global};
 use std::marker::Model;
 
@@ -24,6 +27,8 @@ pub struct RuleList {
     /// Where a search goes on that matched at each place.
     jumps: Vec<usize>,
     added: u64,
+    /// What searches among these rules found before.
+    memory: SearchMemory,
 }
 
 impl Model for RuleList {
@@ -34,7 +39,7 @@ impl Model for RuleList {
 
     ghost view = { λ l. record { rules = l.rules.items; added = l.added } };
 
-    ghost invariant = { λ l. IsSound l.rules.items l.jumps.items l.added };
+    ghost invariant = { λ l. IsSound l.rules.items l.jumps.items l.added l.memory };
 }
 
 impl RuleList {
@@ -50,6 +55,7 @@ impl RuleList {
             rules,
             jumps,
             added: 0,
+            memory: SearchMemory::new(alloc),
         })
     }
 
@@ -70,12 +76,16 @@ impl RuleList {
         if self.rules.reserve(1).is_err() || self.jumps.reserve(1).is_err() {
             return Err(AddError::NoMemory);
         }
+        if self.memory.make_places(self.rules.len() + 1).is_err() {
+            return Err(AddError::NoMemory);
+        }
         let place = first_from(&self.rules, counted.number() + 1);
         let Ok(()) = self.rules.insert(place, counted) else {
             unreachable!()
         };
         self.jumps.push_reserved(0);
         aim(&self.rules, &mut self.jumps);
+        self.memory.forget(); // a rule has come
         self.added += 1;
         Ok(())
     }
@@ -118,6 +128,7 @@ impl RuleList {
         self.rules.retain(|counted| counted.number() != number);
         self.jumps.truncate(self.rules.len());
         aim(&self.rules, &mut self.jumps);
+        self.memory.forget(); // rules have gone
         Ok(())
     }
 
@@ -126,7 +137,7 @@ impl RuleList {
         ensures verdict { result ≡ verdict 0 packet.now self.old.rules }
         ensures counted { self.new ≡ counted_book 0 packet.now self.old }
     {
-        judge_and_count(&mut self.rules, &self.jumps, 0, packet)
+        judge_and_count(&mut self.memory, &mut self.rules, &self.jumps, 0, packet)
     }
 
     /// The same verdict; nothing is counted.
@@ -134,6 +145,15 @@ impl RuleList {
         ensures { result ≡ verdict 0 packet.now self.now.rules }
     {
         judge(&self.rules, &self.jumps, 0, packet)
+    }
+
+    /// The same verdict, and nothing is counted; a later search for a packet of this flow goes by
+    /// what this one found. Takes no memory.
+    pub fn foresee(&mut self, packet: &Packet) -> Verdict
+        ensures verdict { result ≡ verdict 0 packet.now self.old.rules }
+        ensures same { self.new ≡ self.old }
+    {
+        judge_by_memory(&mut self.memory, &self.rules, &self.jumps, 0, packet)
     }
 
     /// The verdict of a search that begins behind the place of a rule, which may be gone: the
@@ -145,7 +165,13 @@ impl RuleList {
             self.new ≡ counted_book start packet.now self.old }
     {
         let start = first_behind(&self.rules, place);
-        judge_and_count(&mut self.rules, &self.jumps, start, packet)
+        judge_and_count(
+            &mut self.memory,
+            &mut self.rules,
+            &self.jumps,
+            start,
+            packet,
+        )
     }
 
     /// The same verdict; nothing is counted.
@@ -155,6 +181,16 @@ impl RuleList {
     {
         let start = first_behind(&self.rules, place);
         judge(&self.rules, &self.jumps, start, packet)
+    }
+
+    /// The same verdict, foreseen.
+    pub fn foresee_after(&mut self, place: Place, packet: &Packet) -> Verdict
+        ensures verdict { let start = start_behind place self.old.rules in
+            result ≡ verdict start packet.now self.old.rules }
+        ensures same { self.new ≡ self.old }
+    {
+        let start = first_behind(&self.rules, place);
+        judge_by_memory(&mut self.memory, &self.rules, &self.jumps, start, packet)
     }
 
     /// The rules in order with their counters, the default last.

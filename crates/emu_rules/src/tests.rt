@@ -22,6 +22,8 @@ enum Call {
     Look,
     SendAfter(u32, u64),
     LookAfter(u32, u64),
+    Foresee,
+    ForeseeAfter(u32, u64),
 }
 
 // What is out of range is the nearest value in it: the tables hold no such number.
@@ -131,6 +133,14 @@ fn look_after(list: &RuleList, n: u32, order: u64) -> &'static str {
     word(list.find_after(place(n, order), &udp()))
 }
 
+fn foresee(list: &mut RuleList) -> &'static str {
+    word(list.foresee(&udp()))
+}
+
+fn foresee_after(list: &mut RuleList, n: u32, order: u64) -> &'static str {
+    word(list.foresee_after(place(n, order), &udp()))
+}
+
 fn answer(list: &mut RuleList, call: Call) -> &'static str {
     match call {
         Call::Allow(n) => add_plain(list, n, Action::Permit),
@@ -143,6 +153,8 @@ fn answer(list: &mut RuleList, call: Call) -> &'static str {
         Call::Look => look(list),
         Call::SendAfter(n, order) => send_after(list, n, order),
         Call::LookAfter(n, order) => look_after(list, n, order),
+        Call::Foresee => foresee(list),
+        Call::ForeseeAfter(n, order) => foresee_after(list, n, order),
     }
 }
 
@@ -244,6 +256,40 @@ fn rule_replaced_behind_a_pipe(rt: HostRuntime) -> Result<(), Fail> {
     let lines = [(100, 2, 1, 1000), (300, 1, 1, 1000), (65535, 0, 0, 0)];
     let listed = lists(&list, &lines);
     assert!(rt; answered && listed);
+    Ok(())
+}
+
+/// Rules come and go between packets of one flow, in a list that is long enough for its memory.
+#[test]
+fn what_was_found_before_changes(rt: HostRuntime) -> Result<(), Fail> {
+    let mut list = made_at_last(rt.alloc())?;
+    let mut grown = true;
+    for n in 1..6 {
+        grown = grown && grows(&mut list, n);
+    }
+    let steps = [
+        (Call::Foresee, "deny"),
+        (Call::Send, "deny"),
+        (Call::Allow(6), "ok"),
+        (Call::Foresee, "allow"),
+        (Call::Send, "allow"),
+        (Call::ForeseeAfter(1, 0), "allow"),
+        (Call::Delete(3), "ok"),
+        (Call::SendAfter(1, 0), "allow"),
+        (Call::Delete(6), "ok"),
+        (Call::Foresee, "deny"),
+        (Call::SendAfter(1, 0), "deny"),
+    ];
+    let answered = answers(&mut list, &steps);
+    let lines = [
+        (1, 0, 2, 2000),
+        (2, 1, 4, 4000),
+        (4, 3, 4, 4000),
+        (5, 4, 4, 4000),
+        (65535, 0, 2, 2000),
+    ];
+    let listed = lists(&list, &lines);
+    assert!(rt; grown && answered && listed);
     Ok(())
 }
 

@@ -4,10 +4,12 @@
 
 mod counted;
 mod matching;
+mod memory;
 mod search;
 
 pub use counted::{CountedRule, target_of};
-pub use search::{aim, first_behind, first_from, judge, judge_and_count};
+pub use memory::SearchMemory;
+pub use search::{aim, first_behind, first_from, judge, judge_and_count, judge_by_memory};
 
 #[cfg(test)]
 mod tests;

@@ -3,8 +3,10 @@
 ghost use Rattle.std.specs.Prelude.{◌≡◌, ◌≤◌, length};
 ghost use Rattle.emu_model.specs.Rules.{the_rules, least_match, place_of_number, start_behind, verdict, counted_rules};
 ghost use Rattle.rule_search.specs.Walk.{IsOrdered, AreJumps};
+ghost use Rattle.rule_search.specs.Findings.{IsTrueOf};
 
 use crate::counted::{CountedRule, target_of};
+use crate::memory::{MOST_WALKED, SearchMemory};
 use emu_model::{Packet, Place, Verdict};
 
 /// The least place at or after `from` whose rule matches.
@@ -36,19 +38,68 @@ pub fn judge(rules: &[CountedRule], jumps: &[usize], start: usize, packet: &Pack
     Verdict::Deny
 }
 
-/// The same; each rule that matches counts the packet.
+/// The same place, by the memory where it knows.
+fn recalled_match(
+    memory: &mut SearchMemory,
+    rules: &[CountedRule],
+    from: usize,
+    packet: &Packet,
+) -> Option<usize>
+    requires { IsTrueOf (the_rules rules.now) memory.old }
+    ensures found { result ≡ least_match packet.now (the_rules rules.now) from }
+    ensures memory { IsTrueOf (the_rules rules.now) memory.new }
+{
+    if rules.len().saturating_sub(from) <= MOST_WALKED {
+        return next_match(rules, from, packet);
+    }
+    if let Some(found) = memory.recall(from, packet) {
+        return found;
+    }
+    let found = next_match(rules, from, packet);
+    memory.remember(from, packet, found);
+    found
+}
+
+/// The same verdict; what is found is remembered.
+pub fn judge_by_memory(
+    memory: &mut SearchMemory,
+    rules: &[CountedRule],
+    jumps: &[usize],
+    start: usize,
+    packet: &Packet,
+) -> Verdict
+    requires jumps { AreJumps (the_rules rules.now) jumps.now }
+    requires memory { IsTrueOf (the_rules rules.now) memory.old }
+    ensures verdict { result ≡ verdict start packet.now rules.now }
+    ensures memory { IsTrueOf (the_rules rules.now) memory.new }
+{
+    let mut from = start;
+    while let Some(place) = recalled_match(memory, rules, from, packet) {
+        let rule = &rules[place];
+        if let Some(decided) = rule.decision() {
+            return decided;
+        }
+        from = jumps[place];
+    }
+    Verdict::Deny
+}
+
+/// The same; each rule that matches counts the packet besides.
 pub fn judge_and_count(
+    memory: &mut SearchMemory,
     rules: &mut [CountedRule],
     jumps: &[usize],
     start: usize,
     packet: &Packet,
 ) -> Verdict
-    requires { AreJumps (the_rules rules.old) jumps.now }
+    requires jumps { AreJumps (the_rules rules.old) jumps.now }
+    requires memory { IsTrueOf (the_rules rules.old) memory.old }
     ensures verdict { result ≡ verdict start packet.now rules.old }
     ensures rules { rules.new ≡ counted_rules start packet.now rules.old }
+    ensures memory { IsTrueOf (the_rules rules.old) memory.new }
 {
     let mut from = start;
-    while let Some(place) = next_match(rules, from, packet) {
+    while let Some(place) = recalled_match(memory, rules, from, packet) {
         let counted = &mut rules[place];
         counted.count(packet);
         if let Some(verdict) = counted.decision() {

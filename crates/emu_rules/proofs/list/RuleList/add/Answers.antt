@@ -27,6 +27,7 @@ invariant_of-self-2 c =
       ordered = subst IsOrdered (sym is) (IsOrdered-with_rule added c.args.rule old c.self.invariant.ordered c.self.invariant.older taken.forward);
       older = subst (All (λ (x : Counted). x.order ≤ added + 1)) (sym is) (older-with_rule added c.args.rule old c.self.invariant.older);
       jumps_are = subst (AreJumps (the_rules c.insert.new.self.items)) (sym jumps) (subst (λ xs. AreJumps (the_rules xs) c.aim.new.jumps) c.deref-2.ensures.value c.aim.ensures);
+      memory_is = c.forget.ensures (the_rules old) (the_rules c.insert.new.self.items) (c.make_places.ensures.kept (the_rules old) c.self.invariant.memory_is);
     }
 
 pub returns-clause-ok : goal.returns-clause-ok

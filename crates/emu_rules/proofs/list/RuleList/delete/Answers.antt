@@ -41,6 +41,7 @@ invariant_of-self c =
       ordered = subst IsOrdered (sym kept) (IsOrdered-filter test old c.self.invariant.ordered);
       older = subst (All (λ (x : Counted). x.order ≤ added)) (sym kept) (All-filter test (λ (x : Counted). x.order ≤ added) old c.self.invariant.older);
       jumps_are = subst (AreJumps (the_rules c.retain.new.self.items)) (sym is) (subst (λ xs. AreJumps (the_rules xs) c.aim.new.jumps) c.deref-2.ensures.value c.aim.ensures);
+      memory_is = c.forget.ensures (the_rules old) (the_rules c.retain.new.self.items) c.self.invariant.memory_is;
     }
 
 pub returns-clause-ok : goal.returns-clause-ok
