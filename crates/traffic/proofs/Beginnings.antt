@@ -1,6 +1,6 @@
 -- A source that begins, and whether it may.
 use Rattle.std.proofs.Common.{◌≡◌, ◌≢◌, ℕ, ◌+◌, ◌<◌, Bool, true, false, ◌||◌, ◌==◌, cond, List, [], ◌∷◌, ◌++◌, length, get_or, map, refl, sym, ◌∙◌, ap, subst, arith}
-use Rattle.std.specs.Prelude.{Some, None, is_some, position}
+use Rattle.std.specs.Prelude.{Option, Some, None, is_some, position}
 use Rattle.std.specs.List.{All, list_any}
 use Rattle.std.proofs.lemmas.List.{map-append, length-map, length_push}
 use Rattle.std.proofs.lemmas.List.Elements.{All-push, All-map, All-weaker}
@@ -47,6 +47,26 @@ IsNew-from_free k t free =
           (All-weaker (λ u. train_has_number k u ≡ false) (λ (u : TrainState). u.number ≢ k) (λ u e. eqb-false _ _ e) t.trains (absent (train_has_number k) t.trains apart.1));
       few = omega (arith, few, length-map t.flows (λ (f : KeptFlow). f.state));
     }
+
+nowhere : (o : Option ℕ) → is_some o ≡ false → o ≡ None
+nowhere None e = refl
+nowhere (Some i) e = absurd (cc)
+
+-- a free number leads to no flow and to no train
+absent_places : (k : ℕ) (t : KeptTraffic) → IsFree k t →
+    (position (has_number k) t.flows ≡ None) × (position (train_has_number k) t.trains ≡ None)
+absent_places k t free =
+    let parts = refused _ _ (free opening_net) in
+    let apart = or_parts _ _ (sym (in_use k t opening_net) ∙ parts.0) in
+    (nowhere _ apart.0, nowhere _ apart.1)
+
+pub no_flow_there : (k : ℕ) (t : KeptTraffic) (fs : List KeptFlow) (ts : List TrainState) → kept fs ts ≡ t → IsFree k t →
+    position (has_number k) fs ≡ None
+no_flow_there k t fs ts is free = (absent_places k (kept fs ts) (subst (λ t. IsFree k t) (sym is) free)).0
+
+pub no_train_there : (k : ℕ) (t : KeptTraffic) (fs : List KeptFlow) (ts : List TrainState) → kept fs ts ≡ t → IsFree k t →
+    position (train_has_number k) ts ≡ None
+no_train_there k t fs ts is free = (absent_places k (kept fs ts) (subst (λ t. IsFree k t) (sym is) free)).1
 
 numbers_flow : (k : ℕ) (xs ys : List ℕ) → AreNumbers xs ys → IsNumber k → All (λ x. x ≢ k) xs → All (λ y. y ≢ k) ys →
     length xs + length ys < 256 → AreNumbers (xs ++ k ∷ []) ys

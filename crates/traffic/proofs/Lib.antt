@@ -4,3 +4,4 @@ pub mod Beginnings
 pub mod Sendings
 pub mod DueFacts
 pub mod Indexes
+pub mod Tables

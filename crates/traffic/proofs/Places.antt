@@ -18,7 +18,7 @@ module _ {X : Type 0} (p : X → Bool) where
   some_is true q i e = (refl, cc)
   some_is false q i e = absurd (cc)
 
-  none_is : (b : Bool) (q : ℕ) → cond b (Some q) None ≡ None → b ≡ false
+  pub none_is : (b : Bool) (q : ℕ) → cond b (Some q) None ≡ None → b ≡ false
   none_is true q e = absurd (cc)
   none_is false q e = refl
 

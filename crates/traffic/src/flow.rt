@@ -67,12 +67,6 @@ impl Flow {
         }
     }
 
-    pub(crate) fn number(&self) -> FlowNumber
-        ensures { result ≡ self.now.state.number }
-    {
-        self.number
-    }
-
     /// Its sender sends no more, and takes no acknowledgement.
     pub(crate) fn stop(&mut self)
         ensures { self.new ≡ record self.old { state = record self.old.state { stopped = true } } }

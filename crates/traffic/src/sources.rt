@@ -17,6 +17,7 @@ use crate::index::SourceIndex;
 use crate::sends::{Sending, Window};
 use crate::train::Train;
 use emu_model::{Class, Due, FlowNumber, FlowSpec, Refusal, SendSpec, TrainSpec};
+use number_table::NumberTable;
 use std::alloc::{AllocError, Global};
 use std::marker::Model;
 
@@ -31,18 +32,22 @@ pub struct Traffic {
     alloc: Global,
     flows: Vec<Flow>,
     trains: Vec<Train>,
+    flow_places: NumberTable,
+    train_places: NumberTable,
     index: SourceIndex,
 }
 
 impl Model for Traffic {
     ghost use Rattle.traffic.specs.Kept.{KeptTraffic, IsSound};
     ghost use Rattle.traffic.specs.Leaves.{AreIndexed};
+    ghost use Rattle.traffic.specs.Tables.{LeadsTo};
 
     ghost Value = { KeptTraffic };
 
     ghost view = { λ t. record { flows = t.flows.items; trains = t.trains.items } };
 
-    ghost invariant = { λ t. IsSound t.flows.items t.trains.items × AreIndexed t.flows.items t.trains.items t.index };
+    ghost invariant = { λ t. IsSound t.flows.items t.trains.items × AreIndexed t.flows.items t.trains.items t.index
+        × LeadsTo (λ f. f.state.number) t.flows.items t.flow_places × LeadsTo (λ u. u.number) t.trains.items t.train_places };
 }
 
 impl Traffic {
@@ -54,6 +59,8 @@ impl Traffic {
             alloc,
             flows: Vec::new(alloc),
             trains: Vec::new(alloc),
+            flow_places: NumberTable::new(alloc),
+            train_places: NumberTable::new(alloc),
             index: SourceIndex::new(alloc),
         }
     }
@@ -86,11 +93,12 @@ impl Traffic {
         ensures ok { OnOk result ((n : Net) → with_flow number flow.now (with_traffic self.old n) ≡ with_traffic self.new n) }
         ensures err { OnErr result (self.new ≡ self.old) }
     {
-        let _range = number.get();
         self.flows.reserve(1)?;
+        self.flow_places.ready(number.get())?;
         self.index.flow_ready()?;
         let flow = Flow::new(self.alloc, number, flow);
         self.index.add_flow(&flow);
+        self.flow_places.set(number.get(), self.flows.len());
         self.flows.push_reserved(flow);
         Ok(())
     }
@@ -107,11 +115,12 @@ impl Traffic {
         ensures ok { OnOk result ((n : Net) → with_train now number train.now (with_traffic self.old n) ≡ with_traffic self.new n) }
         ensures err { OnErr result (self.new ≡ self.old) }
     {
-        let _range = number.get();
         self.trains.reserve(1)?;
+        self.train_places.ready(number.get())?;
         self.index.train_ready()?;
         let train = Train::new(number, train, now);
         self.index.add_train(&train);
+        self.train_places.set(number.get(), self.trains.len());
         self.trains.push_reserved(train);
         Ok(())
     }
@@ -282,15 +291,13 @@ impl Traffic {
     fn flow_place(&self, number: FlowNumber) -> Option<usize>
         ensures { result ≡ position (λ f. f.state.number == number) self.now.flows }
     {
-        self.flows.iter().position(|flow| flow.number() == number)
+        self.flow_places.get(number.get())
     }
 
     /// The place of the train of this number.
     fn train_place(&self, number: FlowNumber) -> Option<usize>
         ensures { result ≡ position (λ t. t.number == number) self.now.trains }
     {
-        self.trains
-            .iter()
-            .position(|train| train.number() == number)
+        self.train_places.get(number.get())
     }
 }

@@ -43,12 +43,6 @@ impl Train {
         }
     }
 
-    pub(crate) fn number(&self) -> FlowNumber
-        ensures { result ≡ self.now.number }
-    {
-        self.number
-    }
-
     pub(crate) fn send(&self) -> SendSpec
         ensures { result ≡ self.now.train.packet }
     {

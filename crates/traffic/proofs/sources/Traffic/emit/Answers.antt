@@ -11,6 +11,7 @@ use Rattle.emu_model.specs.Net.{opening_net}
 use Rattle.traffic.proofs.Changes.{train_at, no_train, sound_train}
 use Rattle.traffic.proofs.Sendings.{send_by_train, send_by_flow, send_by_none, emission_by_train, emission_by_flow, emission_by_none, emitting_by_train, emitting_by_flow}
 use Rattle.traffic.proofs.Indexes.{flow_indexed, train_indexed}
+use Rattle.traffic.proofs.Tables.{leads_changed}
 use Rattle.traffic.proofs.sources.Traffic.emit.Goals as goal
 
 pub emit-sending-requires : goal.emit-sending-requires
@@ -25,6 +26,8 @@ pub invariant_of-self : goal.invariant_of-self
 invariant_of-self c = (
   sound_train c.self.inside.flows.items c.self.inside.trains.items _ c.index_mut-train.result.now c.emit-sending.new.self c.self.invariant.0 c.index_mut-train.ensures.value (ap (λ (u : TrainState). u.number) c.emit-sending.ensures.train),
   c.set_train.ensures c.self.inside.flows.items c.self.inside.trains.items c.self.invariant.1,
+  c.self.invariant.2,
+  leads_changed (λ (u : TrainState). u.number) c.self.inside.trains.items c.self.inside.train_places c.in-Some.place c.index_mut-train.result.now c.emit-sending.new.self c.self.invariant.3 c.index_mut-train.ensures.value (ap (λ (u : TrainState). u.number) c.emit-sending.ensures.train),
 )
 
 pub returns-in-Some-clause-emission : goal.returns-in-Some-clause-emission
@@ -79,6 +82,8 @@ pub invariant_of-self-2 : goal.invariant_of-self-2
 invariant_of-self-2 c = (
   sound_flow c.self.inside.flows.items c.self.inside.trains.items _ c.index_mut-flow.result.now c.emit-sending-2.new.self c.self.invariant.0 c.index_mut-flow.ensures.value (ap (λ (g : KeptFlow). g.state.number) c.emit-sending-2.ensures.flow),
   c.set_flow.ensures c.self.inside.flows.items c.self.inside.trains.items c.self.invariant.1,
+  leads_changed (λ (f : KeptFlow). f.state.number) c.self.inside.flows.items c.self.inside.flow_places c.in-Some-flow_place.place c.index_mut-flow.result.now c.emit-sending-2.new.self c.self.invariant.2 c.index_mut-flow.ensures.value (ap (λ (g : KeptFlow). g.state.number) c.emit-sending-2.ensures.flow),
+  c.self.invariant.3,
 )
 
 pub returns-clause-emission : goal.returns-clause-emission

@@ -1,20 +1,36 @@
 use Rattle.std.proofs.Common.{◌≡◌, sym, ◌∙◌, ap, subst}
+use Rattle.std.proofs.Common.{◌<◌, ◌==◌, length}
+use Rattle.std.specs.Prelude.{None, position}
 use Rattle.emu_model.specs.Net.{FlowState}
 use Rattle.std.proofs.Common.{◌≤◌, ◌++◌, [], ◌∷◌, arith}
-use Rattle.traffic.specs.Kept.{IsSound}
+use Rattle.traffic.specs.Kept.{KeptFlow, KeptTraffic, IsSound}
 use Rattle.traffic.specs.Leaves.{AreIndexed}
-use Rattle.traffic.proofs.Beginnings.{sound_with_flow}
+use Rattle.traffic.specs.Tables.{LeadsTo}
+use Rattle.traffic.proofs.Beginnings.{sound_with_flow, no_flow_there}
+use Rattle.traffic.proofs.Tables.{leads_on}
 use Rattle.traffic.proofs.sources.Traffic.start_flow.Goals as goal
 
 pub invariant_of-self-2 : goal.invariant_of-self-2
 invariant_of-self-2 c =
-    let is : c.push_reserved.new.self.items ≡ c.self.inside.flows.items ++ c.new-flow.result ∷ [] =
+    let fs = c.self.inside.flows.items in
+    let ts = c.self.inside.trains.items in
+    let number = λ (f : KeptFlow). f.state.number in
+    let is : c.push_reserved.new.self.items ≡ fs ++ c.new-flow.result ∷ [] =
     c.push_reserved.ensures.items ∙ ap (λ fs. fs ++ c.new-flow.result ∷ []) c.in_ok-reserve.ensures.items in
-    let low : 1 ≤ c.args.number = omega (arith, c.get-range.ensures.value, c.get-range.ensures.low) in
-    let high : c.args.number ≤ 65535 = omega (arith, c.get-range.ensures.value, c.get-range.ensures.high) in (
-      subst (λ fs. IsSound fs c.self.inside.trains.items) (sym is)
-          (sound_with_flow c.args.number c.args.self.now _ _ c.new-flow.result c.self.view_is c.requires c.self.invariant.0 (low, high) (ap (λ (s : FlowState). s.number) c.new-flow.ensures)),
-      subst (λ fs. AreIndexed fs c.self.inside.trains.items c.add_flow.new.self) (sym is)
-          (c.add_flow.ensures c.self.inside.flows.items c.self.inside.trains.items
-          (c.flow_ready.ensures.same c.self.inside.flows.items c.self.inside.trains.items c.self.invariant.1)),
+    let low : 1 ≤ c.args.number = omega (arith, c.get.ensures.value, c.get.ensures.low) in
+    let high : c.args.number ≤ 65535 = omega (arith, c.get.ensures.value, c.get.ensures.high) in
+    let named = ap (λ (s : FlowState). s.number) c.new-flow.ensures in
+    let table : LeadsTo number fs c.ready.new.self = λ k. c.ready.ensures.same k ∙ c.self.invariant.2 k in
+    let none = subst (λ k. position (λ f. number f == k) fs ≡ None) (sym c.get-2.ensures.value)
+    (no_flow_there c.args.number c.args.self.now fs ts c.self.view_is c.requires) in
+    let entry : c.get-2.result < length c.ready.new.self =
+    omega (arith, c.in_ok-ready.ensures.ready, c.get.ensures.value, c.get-2.ensures.value) in
+    let last : c.len.result ≡ length fs = omega (arith, c.len.ensures, c.self.inside.flows.ok.0, c.in_ok-reserve.ensures.len) in (
+      subst (λ fs. IsSound fs ts) (sym is)
+          (sound_with_flow c.args.number c.args.self.now _ _ c.new-flow.result c.self.view_is c.requires c.self.invariant.0 (low, high) named),
+      subst (λ fs. AreIndexed fs ts c.add_flow.new.self) (sym is)
+          (c.add_flow.ensures fs ts (c.flow_ready.ensures.same fs ts c.self.invariant.1)),
+      leads_on number fs c.push_reserved.new.self.items c.ready.new.self c.set.new.self c.get-2.result c.len.result c.new-flow.result
+          is c.set.ensures table none entry last (named ∙ sym c.get-2.ensures.value),
+      c.self.invariant.3,
     )

@@ -1,20 +1,36 @@
 use Rattle.std.proofs.Common.{◌≡◌, sym, ◌∙◌, ap, subst}
+use Rattle.std.proofs.Common.{◌<◌, ◌==◌, length}
+use Rattle.std.specs.Prelude.{None, position}
 use Rattle.emu_model.specs.Net.{TrainState}
 use Rattle.std.proofs.Common.{◌≤◌, ◌++◌, [], ◌∷◌, arith}
 use Rattle.traffic.specs.Kept.{IsSound}
 use Rattle.traffic.specs.Leaves.{AreIndexed}
-use Rattle.traffic.proofs.Beginnings.{sound_with_train}
+use Rattle.traffic.specs.Tables.{LeadsTo}
+use Rattle.traffic.proofs.Beginnings.{sound_with_train, no_train_there}
+use Rattle.traffic.proofs.Tables.{leads_on}
 use Rattle.traffic.proofs.sources.Traffic.start_train.Goals as goal
 
 pub invariant_of-self-2 : goal.invariant_of-self-2
 invariant_of-self-2 c =
-    let is : c.push_reserved.new.self.items ≡ c.self.inside.trains.items ++ c.new-train.result ∷ [] =
-    c.push_reserved.ensures.items ∙ ap (λ fs. fs ++ c.new-train.result ∷ []) c.in_ok-reserve.ensures.items in
-    let low : 1 ≤ c.args.number = omega (arith, c.get-range.ensures.value, c.get-range.ensures.low) in
-    let high : c.args.number ≤ 65535 = omega (arith, c.get-range.ensures.value, c.get-range.ensures.high) in (
-      subst (λ ts. IsSound c.self.inside.flows.items ts) (sym is)
-          (sound_with_train c.args.number c.args.self.now _ _ c.new-train.result c.self.view_is c.requires.free c.self.invariant.0 (low, high) (ap (λ (u : TrainState). u.number) c.new-train.ensures)),
-      subst (λ ts. AreIndexed c.self.inside.flows.items ts c.add_train.new.self) (sym is)
-          (c.add_train.ensures c.self.inside.flows.items c.self.inside.trains.items
-          (c.train_ready.ensures.same c.self.inside.flows.items c.self.inside.trains.items c.self.invariant.1)),
+    let fs = c.self.inside.flows.items in
+    let ts = c.self.inside.trains.items in
+    let number = λ (u : TrainState). u.number in
+    let is : c.push_reserved.new.self.items ≡ ts ++ c.new-train.result ∷ [] =
+    c.push_reserved.ensures.items ∙ ap (λ ts. ts ++ c.new-train.result ∷ []) c.in_ok-reserve.ensures.items in
+    let low : 1 ≤ c.args.number = omega (arith, c.get.ensures.value, c.get.ensures.low) in
+    let high : c.args.number ≤ 65535 = omega (arith, c.get.ensures.value, c.get.ensures.high) in
+    let named = ap (λ (u : TrainState). u.number) c.new-train.ensures in
+    let table : LeadsTo number ts c.ready.new.self = λ k. c.ready.ensures.same k ∙ c.self.invariant.3 k in
+    let none = subst (λ k. position (λ u. number u == k) ts ≡ None) (sym c.get-2.ensures.value)
+    (no_train_there c.args.number c.args.self.now fs ts c.self.view_is c.requires.free) in
+    let entry : c.get-2.result < length c.ready.new.self =
+    omega (arith, c.in_ok-ready.ensures.ready, c.get.ensures.value, c.get-2.ensures.value) in
+    let last : c.len.result ≡ length ts = omega (arith, c.len.ensures, c.self.inside.trains.ok.0, c.in_ok-reserve.ensures.len) in (
+      subst (λ ts. IsSound fs ts) (sym is)
+          (sound_with_train c.args.number c.args.self.now _ _ c.new-train.result c.self.view_is c.requires.free c.self.invariant.0 (low, high) named),
+      subst (λ ts. AreIndexed fs ts c.add_train.new.self) (sym is)
+          (c.add_train.ensures fs ts (c.train_ready.ensures.same fs ts c.self.invariant.1)),
+      c.self.invariant.2,
+      leads_on number ts c.push_reserved.new.self.items c.ready.new.self c.set.new.self c.get-2.result c.len.result c.new-train.result
+          is c.set.ensures table none entry last (named ∙ sym c.get-2.ensures.value),
     )

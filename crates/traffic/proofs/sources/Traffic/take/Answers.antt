@@ -10,6 +10,7 @@ use Rattle.traffic.specs.Kept.{KeptFlow, with_traffic}
 use Rattle.traffic.proofs.Changes.{kept, flow_at, no_flow, sound_flow}
 use Rattle.traffic.specs.Leaves.{expiry_due, emission_due}
 use Rattle.traffic.proofs.Indexes.{flow_as_before}
+use Rattle.traffic.proofs.Tables.{leads_changed}
 use Rattle.traffic.proofs.sources.Traffic.take.Goals as goal
 
 pub returns-in_default-clause-taken : goal.returns-in_default-clause-taken
@@ -35,6 +36,8 @@ invariant_of-self c = (
   flow_as_before c.self.inside.flows.items c.self.inside.trains.items c.self.inside.index c.in-Some.place
       c.index_mut-flow.result.now c.take.new.self c.self.invariant.1 c.index_mut-flow.ensures.value
       (ap expiry_due c.take.ensures.flow) (ap (emission_due 0) c.take.ensures.flow),
+  leads_changed (λ (f : KeptFlow). f.state.number) c.self.inside.flows.items c.self.inside.flow_places c.in-Some.place c.index_mut-flow.result.now c.take.new.self c.self.invariant.2 c.index_mut-flow.ensures.value (ap (λ (s : FlowState). s.number) c.take.ensures.flow),
+  c.self.invariant.3,
 )
 
 pub returns-clause-taken : goal.returns-clause-taken

@@ -8,6 +8,7 @@ use Rattle.traffic.specs.declared.sends.Window.{Window}
 use Rattle.traffic.specs.Kept.{KeptFlow, KeptTraffic, with_traffic}
 use Rattle.traffic.proofs.Changes.{kept, IsFlowAt, flow_at, no_flow, sound_flow}
 use Rattle.traffic.proofs.Indexes.{flow_indexed}
+use Rattle.traffic.proofs.Tables.{leads_changed}
 use Rattle.traffic.proofs.sources.Traffic.take_ack.Goals as goal
 
 -- what an acknowledgement leaves, taken or not
@@ -34,6 +35,8 @@ pub invariant_of-self : goal.invariant_of-self
 invariant_of-self c = (
   sound_flow c.self.inside.flows.items c.self.inside.trains.items _ c.index_mut-flow.result.now c.take_ack-window.new.self c.self.invariant.0 c.index_mut-flow.ensures.value (c.take_ack-window.ensures.number),
   c.set_flow.ensures c.self.inside.flows.items c.self.inside.trains.items c.self.invariant.1,
+  leads_changed (λ (f : KeptFlow). f.state.number) c.self.inside.flows.items c.self.inside.flow_places c.in-Some.place c.index_mut-flow.result.now c.take_ack-window.new.self c.self.invariant.2 c.index_mut-flow.ensures.value (c.take_ack-window.ensures.number),
+  c.self.invariant.3,
 )
 
 pub returns : goal.returns

@@ -8,6 +8,7 @@ use Rattle.std.specs.Prelude.{Result, Ok, Err}
 use Rattle.std.proofs.lemmas.Bool.{lt-ltb}
 use Rattle.traffic.specs.Leaves.{expiry_due, emission_due}
 use Rattle.traffic.proofs.Indexes.{flow_as_before}
+use Rattle.traffic.proofs.Tables.{leads_changed}
 use Rattle.traffic.proofs.sources.Traffic.take_ready.Goals as goal
 
 on_ok : {T E : Type 0} (P Q : Type 0) (r : Result T E) → (P → Q) → OnOk r P → OnOk r Q
@@ -28,6 +29,8 @@ invariant_of-self c = (
   flow_as_before c.self.inside.flows.items c.self.inside.trains.items c.self.inside.index c.in-Some.place
       c.index_mut-flow.result.now c.take_ready.new.self c.self.invariant.1 c.index_mut-flow.ensures.value
       (ap expiry_due c.take_ready.ensures.state) (ap (emission_due 0) c.take_ready.ensures.state),
+  leads_changed (λ (f : KeptFlow). f.state.number) c.self.inside.flows.items c.self.inside.flow_places c.in-Some.place c.index_mut-flow.result.now c.take_ready.new.self c.self.invariant.2 c.index_mut-flow.ensures.value (ap (λ (s : FlowState). s.number) c.take_ready.ensures.state),
+  c.self.invariant.3,
 )
 
 pub returns-clause-ready : goal.returns-clause-ready
