@@ -90,7 +90,7 @@ impl Network {
         ensures ready { OnOk result (CanMake send.now self.new) }
     {
         let packet = packet_of(Load::Plain, send, 0);
-        let verdict = self.book.find(&packet);
+        let verdict = self.book.foresee(&packet);
         self.arrival_ready(shelf, owner, now, verdict, &packet)
     }
 

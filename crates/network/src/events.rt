@@ -169,7 +169,7 @@ impl Network {
         if self.one_pass {
             return self.deliver_ready(shelf, owner, now, packet.load);
         }
-        let verdict = self.book.find_after(packet.place, packet);
+        let verdict = self.book.foresee_after(packet.place, packet);
         self.arrival_ready(shelf, owner, now, verdict, packet)
     }
 
