@@ -1,7 +1,7 @@
 -- The pieces of a report, put one after the other.
 use Rattle.std.proofs.Common.{◌≡◌, ℕ, zero, suc, add-one, map, arith, ◌+◌, ◌<◌, List, [], ◌∷◌, ◌++◌, length, take, drop, Option, refl, sym, ap, ◌∙◌, subst, append_assoc, append-nil}
 use Rattle.std.specs.Prelude.{codes, flat_map, slice_index_or}
-use Rattle.std.proofs.lemmas.List.{take_more, take-append-drop}
+use Rattle.std.proofs.lemmas.List.{take_more, take-append-drop, take-take, drop-take}
 use Rattle.std.proofs.lemmas.List.Concat.{flat_map-append}
 use Rattle.emu_model.specs.declared.records.Record.{Record}
 use Rattle.emu_model.specs.declared.records.Counters.{Counters}
@@ -65,6 +65,11 @@ module _ {A : Type 0} (f : A → List ℕ) where
   all-pieces : (rs : List A) (i : ℕ) → flat_map f (take i rs) ++ flat_map f (drop i rs) ≡ flat_map f rs
   all-pieces rs i = sym (flat_map-append f (take i rs) (drop i rs)) ∙ ap (flat_map f) (take-append-drop i rs)
 
+  some-pieces : (rs : List A) (i n : ℕ) → flat_map f (take i rs) ++ flat_map f (take n (drop i rs)) ≡ flat_map f (take (i + n) rs)
+  some-pieces rs i n =
+      (λ j. flat_map f (sym (take-take i (i + n) rs (omega arith)) j) ++ flat_map f (sym (drop-take i n rs) j))
+      ∙ all-pieces (take (i + n) rs) i
+
   pieces_puts : (a b c : Option (List ℕ)) (k l m : List ℕ) (rs : List A) (i : ℕ) (r : A) → i < length rs → r ≡ slice_index_or rs i r →
       Puts a k b l (flat_map f (take i rs)) → Puts b l c m (f r) → Puts a k c m (flat_map f (take (i + 1) rs))
   pieces_puts a b c k l m rs i r below is g h =
@@ -79,14 +84,16 @@ module _ {A : Type 0} (f : A → List ℕ) where
       )
       )
 
--- the lines of records
-pub records_puts : (a b c : Option (List ℕ)) (k l m : List ℕ) (rs : List Record) (i : ℕ) (r : Record) → i < length rs → r ≡ slice_index_or rs i r →
-    Puts a k b l (flat_map line_of (take i rs)) → Puts b l c m (line_of r) → Puts a k c m (flat_map line_of (take (i + 1) rs))
-records_puts = pieces_puts line_of
+-- the lines of records, some more of them at a time
+pub run_puts : (a b c : Option (List ℕ)) (k l m : List ℕ) (rs : List Record) (i n : ℕ) →
+    Puts a k b l (flat_map line_of (take i rs)) → Puts b l c m (flat_map line_of (take n (drop i rs))) → Puts a k c m (flat_map line_of (take (i + n) rs))
+run_puts a b c k l m rs i n f g =
+    subst (Puts a k c m) (some-pieces line_of rs i n) (puts_both a b c k l m (flat_map line_of (take i rs)) (flat_map line_of (take n (drop i rs))) f g)
 
-pub records_stops : (a b c : Option (List ℕ)) (k l : List ℕ) (rs : List Record) (i : ℕ) (r : Record) → i < length rs → r ≡ slice_index_or rs i r →
-    Puts a k b l (flat_map line_of (take i rs)) → Stops b l c (line_of r) → Stops a k c (flat_map line_of rs)
-records_stops = pieces_stops line_of
+pub run_stops : (a b c : Option (List ℕ)) (k l : List ℕ) (rs : List Record) (i : ℕ) →
+    Puts a k b l (flat_map line_of (take i rs)) → Stops b l c (flat_map line_of (drop i rs)) → Stops a k c (flat_map line_of rs)
+run_stops a b c k l rs i f g =
+    subst (Stops a k c) (all-pieces line_of rs i) (stops_behind a b c k l (flat_map line_of (take i rs)) (flat_map line_of (drop i rs)) f g)
 
 -- texts that were made before
 pub texts_puts : (a b c : Option (List ℕ)) (k l m : List ℕ) (ts : List (List ℕ)) (i : ℕ) (t : List ℕ) → i < length ts → t ≡ slice_index_or ts i t →

@@ -1,6 +1,6 @@
 //! Writing the reports, by way of a buffer that finds its room before the first byte is written.
 
-ghost use Rattle.std.specs.Prelude.{◌≡◌, ◌+◌, ◌≤◌, ◌++◌, [], true, is_err, length, flat_map, IfOk, OnOk, OnErr};
+ghost use Rattle.std.specs.Prelude.{◌≡◌, ◌+◌, ◌<◌, ◌≤◌, ◌++◌, [], true, is_err, length, flat_map, take, IfOk, OnOk, OnErr};
 ghost use Rattle.report.specs.Lines.{line_of, heading_of, counters_of};
 ghost use Rattle.lab.specs.Bytes.{Puts, Stops};
 ghost use Rattle.lab.specs.Reports.{reports_with, report_with};
@@ -10,7 +10,7 @@ use crate::ends::{Failed, Outlet, flush_all, write_all};
 use crate::texts::Text;
 use control::Experiment as Plan;
 use emu_model::{Counters, Record};
-use report::{Moments, write_counters, write_record};
+use report::{Moments, write_counters, write_records};
 use std::alloc::{AllocError, Global};
 use std::marker::Model;
 
@@ -19,6 +19,9 @@ const CAPACITY: usize = 65_536;
 
 /// No line of a record or of counters is longer.
 const LONGEST_LINE: usize = 400;
+
+/// The lines of so many records are made together.
+const RUN: usize = 32;
 
 /// What was not handed to the writer yet, at most 65536 bytes.
 #[derive(Drop)]
@@ -61,15 +64,16 @@ impl Buffer {
         Ok(())
     }
 
-    // Writes what is kept where there is no room for another line.
+    // Writes what is kept where there is no room for so many bytes more.
     #[tactic(auto, using(crate::proofs::Writing::puts_none))]
-    fn make_room<W: Outlet>(&mut self, writer: &mut W) -> Result<(), Failed>
+    fn make_room<W: Outlet>(&mut self, writer: &mut W, room: usize) -> Result<(), Failed>
+        requires { room ≤ 65536 }
         ensures ok { OnOk result (Puts (W.contents writer.old) self.old (W.contents writer.new) self.new []) }
-        ensures room { OnOk result (length self.new + 400 ≤ 65536) }
+        ensures room { OnOk result (length self.new + room ≤ 65536) }
         ensures cut { OnErr result (Stops (W.contents writer.old) self.old (W.contents writer.new) []) }
         ensures failed { OnErr result (W.failed writer.new ≡ true) }
     {
-        if self.kept.len() > CAPACITY - LONGEST_LINE {
+        if self.kept.len() > CAPACITY - room {
             return self.hand_on(writer);
         }
         Ok(())
@@ -95,18 +99,22 @@ impl Buffer {
         Ok(())
     }
 
-    // Puts the line of a record.
+    // Puts the lines of the first records, and says of how many.
     #[tactic(auto, using(crate::proofs::Writing::puts_next, crate::proofs::Writing::puts_kept_as, crate::proofs::Writing::stops_any))]
-    fn put_record<W: Outlet>(&mut self, writer: &mut W, line: &Record) -> Result<(), Failed>
-        ensures ok { OnOk result (Puts (W.contents writer.old) self.old (W.contents writer.new) self.new (line_of line.now)) }
-        ensures cut { OnErr result (Stops (W.contents writer.old) self.old (W.contents writer.new) (line_of line.now)) }
+    fn put_run<W: Outlet>(&mut self, writer: &mut W, records: &[Record]) -> Result<usize, Failed>
+        requires { 0 < length records.now }
+        ensures count { IfOk result (λ n. (0 < n) × (n ≤ length records.now)) }
+        ensures ok { IfOk result (λ n. Puts (W.contents writer.old) self.old (W.contents writer.new) self.new (flat_map line_of (take n records.now))) }
+        ensures cut { OnErr result (Stops (W.contents writer.old) self.old (W.contents writer.new) (flat_map line_of records.now)) }
         ensures failed { OnErr result (W.failed writer.new ≡ true) }
     {
-        self.make_room(writer)?;
-        let Ok(()) = write_record(&mut self.kept, &mut self.moments, line) else {
+        self.make_room(writer, RUN * LONGEST_LINE)?;
+        let count = records.len().min(RUN);
+        let lines = &records[..count];
+        let Ok(()) = write_records(&mut self.kept, &mut self.moments, lines) else {
             unreachable!()
         };
-        Ok(())
+        Ok(count)
     }
 
     // Puts the line of the counters.
@@ -116,7 +124,7 @@ impl Buffer {
         ensures cut { OnErr result (Stops (W.contents writer.old) self.old (W.contents writer.new) (counters_of counters.now)) }
         ensures failed { OnErr result (W.failed writer.new ≡ true) }
     {
-        self.make_room(writer)?;
+        self.make_room(writer, LONGEST_LINE)?;
         let Ok(()) = write_counters(&mut self.kept, counters) else {
             unreachable!()
         };
@@ -136,14 +144,15 @@ impl Buffer {
     }
 
     // Puts the lines of records.
-    #[tactic(auto, using(crate::proofs::Writing::puts_none, crate::proofs::Reporting::records_puts, crate::proofs::Reporting::records_stops))]
+    #[tactic(auto, using(crate::proofs::Writing::puts_none, crate::proofs::Reporting::run_puts, crate::proofs::Reporting::run_stops))]
     fn put_records<W: Outlet>(&mut self, writer: &mut W, records: &[Record]) -> Result<(), Failed>
         ensures ok { OnOk result (Puts (W.contents writer.old) self.old (W.contents writer.new) self.new (flat_map line_of records.now)) }
         ensures cut { OnErr result (Stops (W.contents writer.old) self.old (W.contents writer.new) (flat_map line_of records.now)) }
         ensures failed { OnErr result (W.failed writer.new ≡ true) }
     {
-        for line in records {
-            self.put_record(writer, line)?;
+        let mut done = 0;
+        while done < records.len() {
+            done += self.put_run(writer, &records[done..])?;
         }
         Ok(())
     }
