@@ -26,3 +26,9 @@ bench_moves p q old new budget n k = (AreNamed-kept p q old new n.0 k, k.budget 
 -- a packet that was put is named
 pub bench_put : (p q : Pocket) (key : ℕ) (packet : Packet) → p.find key ≡ None → q ≡ with_packet p key packet → AreNamed q (key ∷ [])
 bench_put p q key packet none put = AreNamed-given p q (key ∷ []) (Gives-put p q key packet none put)
+
+-- neither pocket nor keys have changed
+pub bench_stays : (p q : Pocket) (old new : List ℕ) (budget : ℕ) → AreNamed p old × (p.budget ≡ budget) → q ≡ p → new ≡ old →
+    AreNamed q new × (q.budget ≡ budget)
+bench_stays p q old new budget n same keys =
+    (subst (λ (r : Pocket). AreNamed r new) (sym same) (subst (AreNamed p) (sym keys) n.0), ap (λ (r : Pocket). r.budget) same ∙ n.1)
