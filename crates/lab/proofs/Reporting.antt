@@ -1,7 +1,7 @@
 -- The pieces of a report, put one after the other.
-use Rattle.std.proofs.Common.{◌≡◌, ℕ, zero, suc, add-one, map, arith, ◌+◌, ◌<◌, List, [], ◌∷◌, ◌++◌, length, take, drop, Option, refl, sym, ap, ◌∙◌, subst, append_assoc, append-nil}
+use Rattle.std.proofs.Common.{◌≡◌, ℕ, zero, suc, add-one, map, arith, ◌+◌, ◌-◌, ◌<◌, List, [], ◌∷◌, ◌++◌, length, take, drop, Option, refl, sym, ap, ◌∙◌, subst, append_assoc, append-nil}
 use Rattle.std.specs.Prelude.{codes, flat_map, slice_index_or}
-use Rattle.std.proofs.lemmas.List.{take_more, take-append-drop, take-take, drop-take}
+use Rattle.std.proofs.lemmas.List.{take_more, take_all, take-append-drop, take-take, drop-take, length-drop}
 use Rattle.std.proofs.lemmas.List.Concat.{flat_map-append}
 use Rattle.emu_model.specs.declared.records.Record.{Record}
 use Rattle.emu_model.specs.declared.records.Counters.{Counters}
@@ -84,16 +84,24 @@ module _ {A : Type 0} (f : A → List ℕ) where
       )
       )
 
+-- what a slice has from a place on
+rest_of : (rs : List Record) (i : ℕ) → take (length rs - i) (drop i rs) ≡ drop i rs
+rest_of rs i = take_all (length rs - i) (drop i rs) (omega (arith, length-drop i rs))
+
 -- the lines of records, some more of them at a time
 pub run_puts : (a b c : Option (List ℕ)) (k l m : List ℕ) (rs : List Record) (i n : ℕ) →
-    Puts a k b l (flat_map line_of (take i rs)) → Puts b l c m (flat_map line_of (take n (drop i rs))) → Puts a k c m (flat_map line_of (take (i + n) rs))
+    Puts a k b l (flat_map line_of (take i rs)) → Puts b l c m (flat_map line_of (take n (take (length rs - i) (drop i rs)))) →
+    Puts a k c m (flat_map line_of (take (i + n) rs))
 run_puts a b c k l m rs i n f g =
-    subst (Puts a k c m) (some-pieces line_of rs i n) (puts_both a b c k l m (flat_map line_of (take i rs)) (flat_map line_of (take n (drop i rs))) f g)
+    let next : Puts b l c m (flat_map line_of (take n (drop i rs))) =
+    subst (λ (t : List Record). Puts b l c m (flat_map line_of (take n t))) (rest_of rs i) g in
+    subst (Puts a k c m) (some-pieces line_of rs i n) (puts_both a b c k l m (flat_map line_of (take i rs)) (flat_map line_of (take n (drop i rs))) f next)
 
 pub run_stops : (a b c : Option (List ℕ)) (k l : List ℕ) (rs : List Record) (i : ℕ) →
-    Puts a k b l (flat_map line_of (take i rs)) → Stops b l c (flat_map line_of (drop i rs)) → Stops a k c (flat_map line_of rs)
+    Puts a k b l (flat_map line_of (take i rs)) → Stops b l c (flat_map line_of (take (length rs - i) (drop i rs))) → Stops a k c (flat_map line_of rs)
 run_stops a b c k l rs i f g =
-    subst (Stops a k c) (all-pieces line_of rs i) (stops_behind a b c k l (flat_map line_of (take i rs)) (flat_map line_of (drop i rs)) f g)
+    let last : Stops b l c (flat_map line_of (drop i rs)) = subst (λ (t : List Record). Stops b l c (flat_map line_of t)) (rest_of rs i) g in
+    subst (Stops a k c) (all-pieces line_of rs i) (stops_behind a b c k l (flat_map line_of (take i rs)) (flat_map line_of (drop i rs)) f last)
 
 -- texts that were made before
 pub texts_puts : (a b c : Option (List ℕ)) (k l m : List ℕ) (ts : List (List ℕ)) (i : ℕ) (t : List ℕ) → i < length ts → t ≡ slice_index_or ts i t →
