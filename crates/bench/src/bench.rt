@@ -141,7 +141,8 @@ impl Bench {
 
     /// One event of one resident. Takes no memory for the bench's lists.
     pub fn turn(&mut self) -> Turned<RingMail>
-        ensures shard { TurnsSettled ring_seen result (bench_seating self.old) (bench_seating self.new) }
+        ensures shard { TurnsSettled ring_seen result (bench_seating self.old)
+            (bench_seating self.new) }
         ensures view { bench_view self.new ≡ bench_view self.old }
         ensures lists { NotesEnd result self.old self.new }
         ensures peered { self.new.peered ≡ self.old.peered }
@@ -152,8 +153,10 @@ impl Bench {
     /// `turn`, and then at most `more` further events of the same resident, while it has a next command, doesn't end,
     /// and `watch` says yes, which hears of each that ran.
     pub fn turns<W: Watch>(&mut self, more: u32, watch: &mut W) -> Turned<RingMail>
-        ensures shard { (ran name : ℕ) × Heard W.hears name ran watch.old watch.new × NamesIt result name
-            × ManyTurnsSettled ring_seen W.may_refuse more ran result (bench_seating self.old) (bench_seating self.new) }
+        ensures shard { (ran name : ℕ) × Heard W.hears name ran watch.old watch.new
+            × NamesIt result name
+            × ManyTurnsSettled ring_seen W.may_refuse more ran result (bench_seating self.old)
+            (bench_seating self.new) }
         ensures view { bench_view self.new ≡ bench_view self.old }
         ensures lists { NotesEnd result self.old self.new }
         ensures peered { self.new.peered ≡ self.old.peered }
@@ -172,7 +175,8 @@ impl Bench {
 
     /// Takes a command from the mail of a slot's resident, where it has no next one.
     pub fn poll(&mut self, slot: usize) -> Polled
-        ensures shard { IsPoll ring_seen result (bench_seating self.old) (bench_seating self.new) slot }
+        ensures shard { IsPoll ring_seen result (bench_seating self.old)
+            (bench_seating self.new) slot }
         ensures view { bench_view self.new ≡ bench_view self.old }
         ensures lists { SameLists self.old self.new }
         ensures peered { self.new.peered ≡ self.old.peered }
@@ -182,8 +186,12 @@ impl Bench {
 
     /// The slot of the resident of a name.
     pub fn slot_of(&self, name: u32) -> Option<usize>
-        ensures some { IfSome result (λ slot. (s : Seat RingMail) × (seat_at (bench_seating self.now).seats slot ≡ Some s) × (s.stand.name ≡ name)) }
-        ensures none { IfNone result ((slot : ℕ) (s : Seat RingMail) → seat_at (bench_seating self.now).seats slot ≡ Some s → s.stand.name ≢ name) }
+        ensures some { IfSome result
+            (λ slot. (s : Seat RingMail) × (seat_at (bench_seating self.now).seats slot ≡ Some s)
+            × (s.stand.name ≡ name)) }
+        ensures none { IfNone result
+            ((slot : ℕ) (s : Seat RingMail) →
+            seat_at (bench_seating self.now).seats slot ≡ Some s → s.stand.name ≢ name) }
     {
         self.shard.slot_of(name)
     }
@@ -197,7 +205,8 @@ impl Bench {
 
     /// What each resident keeps: it shows the state of running it alone.
     pub fn known(&self)
-        ensures { (slot : ℕ) (s : Seat RingMail) → seat_at (bench_seating self.now).seats slot ≡ Some s → IsTold ring_seen s.stand }
+        ensures { (slot : ℕ) (s : Seat RingMail) →
+            seat_at (bench_seating self.now).seats slot ≡ Some s → IsTold ring_seen s.stand }
     {
         self.shard.known();
     }
@@ -267,8 +276,10 @@ impl Bench {
 
     /// Takes what another bench pushed first, if nobody took it.
     pub fn adopt(&mut self, peer: &mut Peer) -> Result<(), AdoptError>
-        ensures ok { OnOk result (Adopts (peer_view peer.old) (peer_view peer.new) self.old self.new) }
-        ensures err { IfErr result (λ e. AdoptFails e (peer_view peer.old) (peer_view peer.new) self.old self.new) }
+        ensures ok { OnOk result
+            (Adopts (peer_view peer.old) (peer_view peer.new) self.old self.new) }
+        ensures err { IfErr result
+            (λ e. AdoptFails e (peer_view peer.old) (peer_view peer.new) self.old self.new) }
         ensures peered { self.new.peered ≡ self.old.peered }
     {
         if self.make_room().is_err() {
@@ -296,9 +307,13 @@ impl Bench {
 
     /// Ends the bench: its lists, with the residents and what its deque still holds. Takes no memory.
     pub fn close(self) -> Closing
-        ensures lists { (result.admitted ≡ self.admitted) × (result.adopted ≡ self.adopted) × (result.ended ≡ self.ended) × (result.handed_out ≡ self.handed_out) }
-        ensures resident { (x : ℕ) → times x result.resident.items ≡ seated x (bench_seating self).seats }
-        ensures deque { (x : ℕ) → named x (bench_view self).taken + times x result.deque.items ≤ named x (bench_view self).pushed }
+        ensures lists { (result.admitted ≡ self.admitted) × (result.adopted ≡ self.adopted)
+            × (result.ended ≡ self.ended) × (result.handed_out ≡ self.handed_out) }
+        ensures resident { (x : ℕ) →
+            times x result.resident.items ≡ seated x (bench_seating self).seats }
+        ensures deque { (x : ℕ) →
+            named x (bench_view self).taken + times x result.deque.items
+            ≤ named x (bench_view self).pushed }
     {
         let Bench {
             shard: _,

@@ -23,9 +23,13 @@ pub struct Closing {
 
 // Takes from the deque until it is empty.
 pub(crate) fn drain(deque: &mut Deque, left: &mut Vec<u32>)
-    requires { (vec_len left.old ≡ 0) × (length (deque_view deque.old).pushed ≤ length (deque_view deque.old).taken + vec_capacity left.old) }
+    requires { (vec_len left.old ≡ 0)
+        × (length (deque_view deque.old).pushed
+        ≤ length (deque_view deque.old).taken + vec_capacity left.old) }
     ensures pushed { (deque_view deque.new).pushed ≡ (deque_view deque.old).pushed }
-    ensures taken { (x : ℕ) → named x (deque_view deque.new).taken ≡ named x (deque_view deque.old).taken + times x left.new.items }
+    ensures taken { (x : ℕ) →
+        named x (deque_view deque.new).taken
+        ≡ named x (deque_view deque.old).taken + times x left.new.items }
 {
     while let Some(parcel) = deque.pop() {
         left.push_reserved(name_of(parcel));

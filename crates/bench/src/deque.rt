@@ -53,7 +53,10 @@ impl Deque {
 
     // Pushes at the back, or hands the parcel back.
     pub(crate) fn push(&mut self, parcel: Parcel<RingMail>) -> Result<(), Parcel<RingMail>>
-        ensures { MatchResult result (λ _. deque_view self.new ≡ hand ((deque_view self.old).pushed ++ stamp parcel ∷ []) (deque_view self.old).taken) (λ p. (p ≡ parcel) × (deque_view self.new ≡ deque_view self.old)) }
+        ensures { MatchResult result
+            (λ _. deque_view self.new
+            ≡ hand ((deque_view self.old).pushed ++ stamp parcel ∷ []) (deque_view self.old).taken)
+            (λ p. (p ≡ parcel) × (deque_view self.new ≡ deque_view self.old)) }
     {
         match self.owner.push_as::<Pushed>(parcel) {
             Ok(()) => return Ok(()),
@@ -64,8 +67,12 @@ impl Deque {
     // Takes at the front.
     #[tactic(auto, using(crate::proofs::Custodies::fewer))]
     pub(crate) fn pop(&mut self) -> Option<Parcel<RingMail>>
-        ensures few { OnSome result (length (deque_view self.new).taken ≤ length (deque_view self.new).pushed) }
-        ensures taken { MatchOption result (deque_view self.new ≡ deque_view self.old) (λ p. (deque_view self.new ≡ hand (deque_view self.old).pushed ((deque_view self.old).taken ++ stamp p ∷ [])) × TookLess (deque_view self.new)) }
+        ensures few { OnSome result
+            (length (deque_view self.new).taken ≤ length (deque_view self.new).pushed) }
+        ensures taken { MatchOption result (deque_view self.new ≡ deque_view self.old)
+            (λ p. (deque_view self.new
+            ≡ hand (deque_view self.old).pushed ((deque_view self.old).taken ++ stamp p ∷ []))
+            × TookLess (deque_view self.new)) }
     {
         self.owner.pop_as::<Retaken>()
     }
@@ -79,7 +86,10 @@ impl Peer {
 
     // Takes at the front.
     pub(crate) fn steal(&mut self) -> Steal<Parcel<RingMail>>
-        ensures { MatchSteal result (peer_view self.new ≡ peer_view self.old) (peer_view self.new ≡ peer_view self.old) (λ p. peer_view self.new ≡ hand (peer_view self.old).pushed ((peer_view self.old).taken ++ stamp p ∷ [])) }
+        ensures { MatchSteal result (peer_view self.new ≡ peer_view self.old)
+            (peer_view self.new ≡ peer_view self.old)
+            (λ p. peer_view self.new
+            ≡ hand (peer_view self.old).pushed ((peer_view self.old).taken ++ stamp p ∷ [])) }
     {
         self.thief.steal_as::<Taken>(&mut self.pass)
     }

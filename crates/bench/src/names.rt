@@ -6,7 +6,8 @@ ghost use Rattle.bench.specs.Custody.{times};
 // Takes a name out of the list once.
 pub(crate) fn remove_one(names: &mut Vec<u32>, name: u32)
     requires there { 0 < times name names.old.items }
-    ensures others { (x : ℕ) → times x names.new.items + cond (name == x) 1 0 ≡ times x names.old.items }
+    ensures others { (x : ℕ) →
+        times x names.new.items + cond (name == x) 1 0 ≡ times x names.old.items }
     ensures len { vec_len names.new + 1 ≡ vec_len names.old }
     ensures room { vec_capacity names.new ≡ vec_capacity names.old }
 {

@@ -92,11 +92,15 @@ impl Outcome {
 
     /// What every outcome keeps: its records and counters, and how it ended, are those of running it alone.
     pub fn known(&self)
-        ensures records { self.now.records ≡ (alone self.now.spec self.now.commands self.now.events).net.records }
-        ensures counters { self.now.counters ≡ counters_of (alone self.now.spec self.now.commands self.now.events).net }
-        ensures ending { shown_ending (Some self.now.ending) ≡ (alone self.now.spec self.now.commands self.now.events).ending }
+        ensures records { self.now.records
+            ≡ (alone self.now.spec self.now.commands self.now.events).net.records }
+        ensures counters { self.now.counters
+            ≡ counters_of (alone self.now.spec self.now.commands self.now.events).net }
+        ensures ending { shown_ending (Some self.now.ending)
+            ≡ (alone self.now.spec self.now.commands self.now.events).ending }
         ensures few { self.now.events ≤ self.now.spec.budget.steps }
-        ensures made { (alone self.now.spec self.now.commands self.now.events).steps ≡ self.now.events }
+        ensures made { (alone self.now.spec self.now.commands self.now.events).steps
+            ≡ self.now.events }
     {
         self.dossier.known();
     }

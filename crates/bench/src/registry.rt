@@ -65,9 +65,12 @@ impl Registry {
         alloc: Global,
         spec: Spec,
     ) -> Result<(Tenant, Parcel<RingMail>), OpenError>
-        ensures tenant { IfOk result (λ r. (r.0.name ≡ self.old.next) × (r.0.spec ≡ spec) × (posted r.0 ≡ []) × (letters_read r.0 ≡ [])) }
+        ensures tenant { IfOk result
+            (λ r. (r.0.name ≡ self.old.next) × (r.0.spec ≡ spec) × (posted r.0 ≡ [])
+            × (letters_read r.0 ≡ [])) }
         ensures parcel { IfOk result (λ r. IsOpened self.old.next spec r.1) }
-        ensures next { IfOk result (λ _. (self.new.next ≡ self.old.next + 1) × (self.old.next < 10 ^ 6)) }
+        ensures next { IfOk result
+            (λ _. (self.new.next ≡ self.old.next + 1) × (self.old.next < 10 ^ 6)) }
         ensures err { OnErr result (self.new.next ≡ self.old.next) }
         ensures cause { IfErr result (λ e. OpenFails e self.old.next) }
     {

@@ -78,7 +78,8 @@ impl Tenant {
         requires sends { sent to ≡ [] }
         requires gets { received from ≡ [] }
         requires slots { producer_capacity to ≡ 64 }
-        ensures { (result.name ≡ name) × (result.spec ≡ spec) × (posted result ≡ []) × (letters_read result ≡ []) }
+        ensures { (result.name ≡ name) × (result.spec ≡ spec) × (posted result ≡ [])
+            × (letters_read result ≡ []) }
     {
         Tenant {
             name,
@@ -123,9 +124,13 @@ impl Tenant {
     /// Posts a command, at a moment (ns), behind those that were posted; or hands it back with the first cause that
     /// holds.
     pub fn post(&mut self, command: Timed) -> Result<(), Refusal>
-        ensures same { SameTenant self.old self.new × (letters_read self.new ≡ letters_read self.old) }
-        ensures ok { OnOk result ((posted self.new ≡ posted self.old ++ command ∷ []) × MayPost (posted self.old) command) }
-        ensures back { IfErr result (λ e. (e.command ≡ command) × (posted self.new ≡ posted self.old)) }
+        ensures same { SameTenant self.old self.new
+            × (letters_read self.new ≡ letters_read self.old) }
+        ensures ok { OnOk result
+            ((posted self.new ≡ posted self.old ++ command ∷ [])
+            × MayPost (posted self.old) command) }
+        ensures back { IfErr result
+            (λ e. (e.command ≡ command) × (posted self.new ≡ posted self.old)) }
         ensures cause { IfErr result (λ e. PostFails e.cause self.old self.new command) }
     {
         if self.closed {
@@ -155,7 +160,9 @@ impl Tenant {
     /// is taken.
     pub fn read(&mut self) -> Result<Option<Record>, AllocError>
         ensures same { SameTenant self.old self.new × (posted self.new ≡ posted self.old) }
-        ensures ok { IfOk result (λ o. MatchOption o (letters_read self.new ≡ letters_read self.old) (λ x. letters_read self.new ≡ letters_read self.old ++ x ∷ [])) }
+        ensures ok { IfOk result
+            (λ o. MatchOption o (letters_read self.new ≡ letters_read self.old)
+            (λ x. letters_read self.new ≡ letters_read self.old ++ x ∷ [])) }
         ensures none { IfOk result (λ o. MatchOption o (NoneWaits self.new) (λ _. Unit {0})) }
         ensures err { OnErr result (letters_read self.new ≡ letters_read self.old) }
     {

@@ -16,7 +16,7 @@ use Rattle.control.specs.declared.fault.Cause.TheVariants.{NoExperiment, Backwar
 use Rattle.control.specs.declared.scenario.Experiment.{Experiment}
 use Rattle.control.specs.Scenario.{commands, IsFine, begun, with_command, with_last, experiments, AreSpelled, Spells}
 use Rattle.control.specs.Order.{AreInOrder}
-use Rattle.control.proofs.Order.{first_moment, with_last_is}
+use Rattle.control.proofs.LinesRead.{first_moment, with_last_is}
 
 -- the moment of the last command, or an earlier one where there is none
 abbrev last_of : ℕ → List Timed → ℕ

@@ -1,7 +1,7 @@
 pub mod Counted
 pub mod InOrder
 pub mod Joining
-pub mod Order
+pub mod LinesRead
 pub mod Parting
 pub mod Ranged
-pub mod Walk
+pub mod LinesWalk

@@ -1,4 +1,4 @@
--- Laws of texts, over the definitions alone (own).
+-- Laws of texts, over the definitions alone (our choice).
 use Rattle.std.specs.Prelude.{◌≡◌, ◌≢◌, ℕ, ◌+◌, ◌≤◌, List, ◌++◌, length, All}
 use Rattle.control.specs.declared.scenario.Experiment.{Experiment}
 use Rattle.control.specs.Scenario.{Spells}

@@ -6,8 +6,6 @@ ghost use Rattle.std.specs.List.{list_any};
 ghost use Rattle.control.specs.Scenario.{is_end, Spells, HasFault};
 ghost use Rattle.control.specs.Steps.{has_name};
 ghost use Rattle.control.specs.Answer.{IsFaultOf, IsReadAs, IsFaultedAs, IsReading};
-ghost use Rattle.control.specs.declared.fault.Fault.{Fault as FaultValue};
-ghost use Rattle.control.specs.declared.scenario.Experiment.{Experiment as ExperimentValue};
 
 use crate::fault::{Cause, Fault, LineError, ParseError, at_line, in_line};
 use crate::names::ExperimentName;
@@ -108,7 +106,8 @@ impl Builder {
 
     fn take_entry(&mut self, alloc: Global, entry: &LineEntry) -> Result<(), LineError>
         requires { IsNamed (view_entry entry.now) }
-        ensures step { GivesStep (sofar self.new) result (step (sofar self.old) (view_entry entry.now)) }
+        ensures step { GivesStep (sofar self.new) result
+            (step (sofar self.old) (view_entry entry.now)) }
         ensures grows { OnMemory result (Grows (view_entry entry.now)) }
     {
         match entry {
@@ -145,12 +144,12 @@ pub fn parse_scenario(alloc: Global, bytes: &[u8]) -> Result<Scenario, ParseErro
     // It has fewer commands than the text has bytes.
     ensures few { IfOk result (λ s. sum (map (λ e. length e.commands) s) ≤ length bytes.now) }
     // Whatever spells a scenario is read as just that one, and never refused but for memory.
-    ensures only { (s : List ExperimentValue) → Spells bytes.now s → IsReadAs s result }
+    ensures only { (s : List Experiment) → Spells bytes.now s → IsReadAs s result }
     // A fault is the bytes' own: the first faulty line's, and in it the first that stands.
     // Memory is wanted only where a line without fault, behind lines without fault, adds something.
     ensures fault { IfErr result (λ e. IsFaultOf bytes.now e) }
     // Faulty bytes are refused with just that fault, or for memory.
-    ensures faulty { (f : FaultValue) → HasFault bytes.now f → IsFaultedAs f result }
+    ensures faulty { (f : Fault) → HasFault bytes.now f → IsFaultedAs f result }
 {
     read_all(alloc, bytes)
 }

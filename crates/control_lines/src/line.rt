@@ -87,7 +87,8 @@ fn in_ranges(line: RawLine) -> Option<LineEntry>
 
 #[tactic(auto, unfolding(crate::specs::Entries::entry_of))]
 fn entry(line: &[u8]) -> Result<LineEntry, LineFault>
-    ensures { MatchResult result (λ e. entry_of line.now ≡ Ok (view_entry e)) (λ c. entry_of line.now ≡ Err c) }
+    ensures { MatchResult result (λ e. entry_of line.now ≡ Ok (view_entry e))
+        (λ c. entry_of line.now ≡ Err c) }
 {
     if line.len() > MAX_LINE {
         return Err(LineFault::TooLong);
@@ -114,7 +115,8 @@ fn entry(line: &[u8]) -> Result<LineEntry, LineFault>
 /// What a line, without its line feed, says by itself: just what its words spell, or the first of
 /// its faults. Own.
 pub fn read_line(line: &[u8]) -> Result<LineEntry, LineFault>
-    ensures { MatchResult result (λ e. IsEntry line.now (view_entry e)) (λ c. IsFirstAlone c line.now) }
+    ensures { MatchResult result (λ e. IsEntry line.now (view_entry e))
+        (λ c. IsFirstAlone c line.now) }
 {
     options_are_read();
     entry(line)

@@ -107,7 +107,8 @@ fn moment_word(text: &[u8]) -> Option<(u64, &[u8])>
 /// What follows the word `inject` and the space behind it.
 fn after_inject(text: &[u8]) -> Option<&[u8]>
     ensures word { IfSome result (λ r. words text.now ≡ inject ∷ words r.now) }
-    ensures printed { IfSome result (λ r. list_all is_printable text.now ≡ list_all is_printable r.now) }
+    ensures printed { IfSome result
+        (λ r. list_all is_printable text.now ≡ list_all is_printable r.now) }
 {
     match text {
         [b'i', b'n', b'j', b'e', b'c', b't', b' ', rest @ ..] => Some(rest),
@@ -118,7 +119,8 @@ fn after_inject(text: &[u8]) -> Option<&[u8]>
 /// What follows the word `tcp` and the space behind it.
 fn after_tcp(text: &[u8]) -> Option<&[u8]>
     ensures word { IfSome result (λ r. words text.now ≡ tcp ∷ words r.now) }
-    ensures printed { IfSome result (λ r. list_all is_printable text.now ≡ list_all is_printable r.now) }
+    ensures printed { IfSome result
+        (λ r. list_all is_printable text.now ≡ list_all is_printable r.now) }
 {
     match text {
         [b't', b'c', b'p', b' ', rest @ ..] => Some(rest),
@@ -129,7 +131,8 @@ fn after_tcp(text: &[u8]) -> Option<&[u8]>
 /// What follows the word `udp` and the space behind it.
 fn after_udp(text: &[u8]) -> Option<&[u8]>
     ensures word { IfSome result (λ r. words text.now ≡ udp ∷ words r.now) }
-    ensures printed { IfSome result (λ r. list_all is_printable text.now ≡ list_all is_printable r.now) }
+    ensures printed { IfSome result
+        (λ r. list_all is_printable text.now ≡ list_all is_printable r.now) }
 {
     match text {
         [b'u', b'd', b'p', b' ', rest @ ..] => Some(rest),
@@ -150,7 +153,8 @@ fn protocol_word(text: &[u8]) -> Option<(Protocol, &[u8])>
 
 /// One of an address's four numbers, and what directly follows it.
 fn part(text: &[u8]) -> Option<(u32, &[u8])>
-    ensures { IfSome result (λ x. Leads IsNumber is_ascii_digit text.now x.0 x.1.now × (x.0 ≤ 255)) }
+    ensures { IfSome result
+        (λ x. Leads IsNumber is_ascii_digit text.now x.0 x.1.now × (x.0 ≤ 255)) }
 {
     let (n, rest) = number(text)?;
     if n > 255 {
@@ -161,7 +165,8 @@ fn part(text: &[u8]) -> Option<(u32, &[u8])>
 
 /// The same, and what follows the point behind it.
 fn part_and_point(text: &[u8]) -> Option<(u32, &[u8])>
-    ensures { IfSome result (λ x. Leads IsNumber is_ascii_digit text.now x.0 (46 ∷ x.1.now) × (x.0 ≤ 255)) }
+    ensures { IfSome result
+        (λ x. Leads IsNumber is_ascii_digit text.now x.0 (46 ∷ x.1.now) × (x.0 ≤ 255)) }
 {
     let (n, rest) = part(text)?;
     let rest = behind(rest, b'.')?;

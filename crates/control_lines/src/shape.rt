@@ -32,7 +32,8 @@ use control_options::{flow_options, pipe_options};
 use control_words::{RawPorts, Words, addresses, is, numbers};
 
 fn number(words: &mut Words) -> Option<u128>
-    ensures { option_map (λ n. (n, words_of words.new.rest.now)) result ≡ value number_of (words_of words.old.rest.now) }
+    ensures { option_map (λ n. (n, words_of words.new.rest.now)) result
+        ≡ value number_of (words_of words.old.rest.now) }
 {
     numbers::number(words.next_word()?)
 }
@@ -48,7 +49,8 @@ fn last_number(words: &mut Words) -> Option<u128>
 
 #[tactic(auto, unfolding(crate::specs::Shape::action_of))]
 fn action(words: &mut Words) -> Option<RawAction>
-    ensures { option_map (λ a. (a, words_of words.new.rest.now)) result ≡ action_of (words_of words.old.rest.now) }
+    ensures { option_map (λ a. (a, words_of words.new.rest.now)) result
+        ≡ action_of (words_of words.old.rest.now) }
 {
     let verb = words.next_word()?;
     if is(verb, "allow") {
@@ -69,7 +71,8 @@ fn action(words: &mut Words) -> Option<RawAction>
 /// The ports that may stand before `to`, and `to`.
 #[tactic(auto, unfolding(crate::specs::Shape::source_ports_of))]
 fn source_ports(words: &mut Words) -> Option<Option<RawPorts>>
-    ensures { option_map (λ p. (p, words_of words.new.rest.now)) result ≡ source_ports_of (words_of words.old.rest.now) }
+    ensures { option_map (λ p. (p, words_of words.new.rest.now)) result
+        ≡ source_ports_of (words_of words.old.rest.now) }
 {
     let first = words.next_word()?;
     if is(first, "to") {
@@ -118,7 +121,8 @@ fn rule(words: &mut Words) -> Option<RawRule>
 
 #[tactic(auto, unfolding(crate::specs::Shape::ends_of))]
 fn ends(words: &mut Words) -> Option<RawEnds>
-    ensures { option_map (λ e. (e, words_of words.new.rest.now)) result ≡ ends_of (words_of words.old.rest.now) }
+    ensures { option_map (λ e. (e, words_of words.new.rest.now)) result
+        ≡ ends_of (words_of words.old.rest.now) }
 {
     let src = addresses::address(words.next_word()?)?;
     let sport = number(words)?;
@@ -134,7 +138,8 @@ fn ends(words: &mut Words) -> Option<RawEnds>
 
 #[tactic(auto, unfolding(crate::specs::Shape::send_of))]
 fn send(words: &mut Words) -> Option<RawSend>
-    ensures { option_map (λ s. (s, words_of words.new.rest.now)) result ≡ send_of (words_of words.old.rest.now) }
+    ensures { option_map (λ s. (s, words_of words.new.rest.now)) result
+        ≡ send_of (words_of words.old.rest.now) }
 {
     let proto = addresses::protocol(words.next_word()?)?;
     let ends = ends(words)?;

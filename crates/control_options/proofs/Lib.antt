@@ -1,4 +1,5 @@
-pub mod Phrases
-pub mod Pairs
-pub mod PhraseKinds
-pub mod Settings
+mod Phrases
+mod Pairs
+mod PhraseKinds
+mod Settings
+pub mod CallerLemmas

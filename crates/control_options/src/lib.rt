@@ -1,5 +1,5 @@
-//! The options of a pipe and of a flow, as words: in any order, each at most once (own, in the words of
-//! ipfw(8)). A number has up to 20 digits here, whatever its range.
+//! The options of a pipe and of a flow, as words: in any order, each at most once (our choice, in the
+//! words of ipfw(8)). A number has up to 20 digits here, whatever its range.
 #![tactic(auto)]
 
 mod laws;

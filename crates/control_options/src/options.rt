@@ -49,7 +49,8 @@ fn is_time_key(key: &[u8]) -> bool
 
 #[tactic(auto, unfolding(crate::specs::Options::time_at))]
 fn time(key: &[u8], words: &mut Words) -> Option<Time>
-    ensures { option_map (λ t. (t, words_of words.new.rest.now)) result ≡ time_at key.now (words_of words.old.rest.now) }
+    ensures { option_map (λ t. (t, words_of words.new.rest.now)) result
+        ≡ time_at key.now (words_of words.old.rest.now) }
 {
     if is(key, "target") {
         Some(Time::Target(numbers::time(words.next_word()?)?))
@@ -62,7 +63,8 @@ fn time(key: &[u8], words: &mut Words) -> Option<Time>
 
 /// The next time, if one comes next.
 fn next_time(words: &mut Words) -> Option<Option<Time>>
-    ensures { option_map (λ t. (t, words_of words.new.rest.now)) result ≡ next_phrase is_time time_at (words_of words.old.rest.now) }
+    ensures { option_map (λ t. (t, words_of words.new.rest.now)) result
+        ≡ next_phrase is_time time_at (words_of words.old.rest.now) }
 {
     let mut ahead = *words;
     let Some(key) = ahead.next_word() else {
@@ -93,7 +95,8 @@ fn with_time(codel: RawCodel, time: Time) -> Option<RawCodel>
 
 /// The times of CoDel that come next.
 fn times(words: &mut Words, mut codel: RawCodel) -> Option<RawCodel>
-    ensures { option_map (λ c. (c, words_of words.new.rest.now)) result ≡ times_of codel (words_of words.old.rest.now) }
+    ensures { option_map (λ c. (c, words_of words.new.rest.now)) result
+        ≡ times_of codel (words_of words.old.rest.now) }
 {
     while let Some(time) = next_time(words)? {
         codel = with_time(codel, time)?;
@@ -114,7 +117,8 @@ fn is_field_key(key: &[u8]) -> bool
 
 #[tactic(auto, unfolding(crate::specs::Options::field_at))]
 fn field(key: &[u8], words: &mut Words) -> Option<Field>
-    ensures { option_map (λ f. (f, words_of words.new.rest.now)) result ≡ field_at key.now (words_of words.old.rest.now) }
+    ensures { option_map (λ f. (f, words_of words.new.rest.now)) result
+        ≡ field_at key.now (words_of words.old.rest.now) }
 {
     if is(key, "src-ip") {
         Some(Field::SrcIp(numbers::hexadecimal(words.next_word()?, 8)?))
@@ -133,7 +137,8 @@ fn field(key: &[u8], words: &mut Words) -> Option<Field>
 
 /// The next field of a mask, if one comes next.
 fn next_field(words: &mut Words) -> Option<Option<Field>>
-    ensures { option_map (λ f. (f, words_of words.new.rest.now)) result ≡ next_phrase is_field field_at (words_of words.old.rest.now) }
+    ensures { option_map (λ f. (f, words_of words.new.rest.now)) result
+        ≡ next_phrase is_field field_at (words_of words.old.rest.now) }
 {
     let mut ahead = *words;
     let Some(key) = ahead.next_word() else {
@@ -176,7 +181,8 @@ fn with_field(fields: RawFields, field: Field) -> Option<RawFields>
 
 /// The fields of a mask that come next.
 fn more_fields(words: &mut Words, mut fields: RawFields) -> Option<RawFields>
-    ensures { option_map (λ f. (f, words_of words.new.rest.now)) result ≡ fields_of fields (words_of words.old.rest.now) }
+    ensures { option_map (λ f. (f, words_of words.new.rest.now)) result
+        ≡ fields_of fields (words_of words.old.rest.now) }
 {
     while let Some(field) = next_field(words)? {
         fields = with_field(fields, field)?;
@@ -187,7 +193,8 @@ fn more_fields(words: &mut Words, mut fields: RawFields) -> Option<RawFields>
 /// `all`, or one field or more.
 #[tactic(auto, unfolding(crate::specs::Options::mask_of))]
 fn mask(words: &mut Words) -> Option<RawMask>
-    ensures { option_map (λ m. (m, words_of words.new.rest.now)) result ≡ mask_of (words_of words.old.rest.now) }
+    ensures { option_map (λ m. (m, words_of words.new.rest.now)) result
+        ≡ mask_of (words_of words.old.rest.now) }
 {
     let mut ahead = *words;
     if is(ahead.next_word()?, "all") {
@@ -210,7 +217,8 @@ fn mask(words: &mut Words) -> Option<RawMask>
 /// The option that begins with this word.
 #[tactic(auto, unfolding(crate::specs::Options::setting_at))]
 fn setting(key: &[u8], words: &mut Words) -> Option<Setting>
-    ensures { option_map (λ s. (s, words_of words.new.rest.now)) result ≡ setting_at key.now (words_of words.old.rest.now) }
+    ensures { option_map (λ s. (s, words_of words.new.rest.now)) result
+        ≡ setting_at key.now (words_of words.old.rest.now) }
 {
     if is(key, "bw") {
         Some(Setting::Bw(numbers::rate(words.next_word()?)?))
@@ -238,7 +246,8 @@ fn setting(key: &[u8], words: &mut Words) -> Option<Setting>
 
 /// The next option, if a word is left.
 fn next_setting(words: &mut Words) -> Option<Option<Setting>>
-    ensures { option_map (λ s. (s, words_of words.new.rest.now)) result ≡ next_phrase any_word setting_at (words_of words.old.rest.now) }
+    ensures { option_map (λ s. (s, words_of words.new.rest.now)) result
+        ≡ next_phrase any_word setting_at (words_of words.old.rest.now) }
 {
     let mut ahead = *words;
     let Some(key) = ahead.next_word() else {
@@ -304,7 +313,8 @@ pub fn pipe_options(mut words: Words) -> Option<RawConfig>
 /// The option that begins with this word.
 #[tactic(auto, unfolding(crate::specs::Options::flow_setting_at))]
 fn flow_setting(key: &[u8], words: &mut Words) -> Option<FlowSetting>
-    ensures { option_map (λ s. (s, words_of words.new.rest.now)) result ≡ flow_setting_at key.now (words_of words.old.rest.now) }
+    ensures { option_map (λ s. (s, words_of words.new.rest.now)) result
+        ≡ flow_setting_at key.now (words_of words.old.rest.now) }
 {
     if is(key, "ssthresh") {
         Some(FlowSetting::Ssthresh(numbers::number(words.next_word()?)?))
@@ -319,7 +329,8 @@ fn flow_setting(key: &[u8], words: &mut Words) -> Option<FlowSetting>
 
 /// The next option, if a word is left.
 fn next_flow_setting(words: &mut Words) -> Option<Option<FlowSetting>>
-    ensures { option_map (λ s. (s, words_of words.new.rest.now)) result ≡ next_phrase any_word flow_setting_at (words_of words.old.rest.now) }
+    ensures { option_map (λ s. (s, words_of words.new.rest.now)) result
+        ≡ next_phrase any_word flow_setting_at (words_of words.old.rest.now) }
 {
     let mut ahead = *words;
     let Some(key) = ahead.next_word() else {

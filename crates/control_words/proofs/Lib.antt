@@ -1,3 +1,4 @@
-pub mod Split
-pub mod Parts
-pub mod Places
+mod Split
+mod Parts
+mod FoundPlaces
+pub mod CallerLemmas

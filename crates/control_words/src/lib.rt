@@ -1,5 +1,6 @@
 //! What one word of a scenario says: lines and words, numbers with their units, addresses, ports and
-//! names (own, in the words of ipfw(8)). A number has up to 20 digits here, whatever its range.
+//! names (our choice, in the words of ipfw(8)). A number has up to 20 digits here, whatever its
+//! range.
 #![tactic(auto)]
 
 pub mod addresses;

@@ -38,7 +38,8 @@ fn around(bytes: &[u8], place: usize) -> (&[u8], &[u8])
 
 /// What stands before the first separator, and what follows it. `None` where there is none.
 pub fn cut(bytes: &[u8], separator: u8) -> Option<(&[u8], &[u8])>
-    ensures value { MatchOption result (parts separator bytes.now ≡ bytes.now ∷ []) (λ x. parts separator bytes.now ≡ x.0.now ∷ parts separator x.1.now) }
+    ensures value { MatchOption result (parts separator bytes.now ≡ bytes.now ∷ [])
+        (λ x. parts separator bytes.now ≡ x.0.now ∷ parts separator x.1.now) }
     ensures shorter { IfSome result (λ x. length x.1.now < length bytes.now) }
 {
     let end = place_of(bytes, separator)?;
@@ -47,7 +48,8 @@ pub fn cut(bytes: &[u8], separator: u8) -> Option<(&[u8], &[u8])>
 
 /// The first line, without its line feed, and what follows it. `None` where there is no line feed. Own.
 pub fn first_line(bytes: &[u8]) -> Option<(&[u8], &[u8])>
-    ensures value { MatchOption result (lines bytes.now ≡ bytes.now ∷ []) (λ x. lines bytes.now ≡ x.0.now ∷ lines x.1.now) }
+    ensures value { MatchOption result (lines bytes.now ≡ bytes.now ∷ [])
+        (λ x. lines bytes.now ≡ x.0.now ∷ lines x.1.now) }
     ensures shorter { IfSome result (λ x. length x.1.now < length bytes.now) }
 {
     let end = far_place_of(bytes, b'\n')?;
@@ -82,7 +84,8 @@ fn word_end(bytes: &[u8]) -> usize
 
 /// The first word, and what follows it. `None` where only spaces stand.
 fn first_word(bytes: &[u8]) -> Option<(&[u8], &[u8])>
-    ensures { MatchOption result (words bytes.now ≡ []) (λ x. words bytes.now ≡ x.0.now ∷ words x.1.now) }
+    ensures { MatchOption result (words bytes.now ≡ [])
+        (λ x. words bytes.now ≡ x.0.now ∷ words x.1.now) }
 {
     let (_, bytes) = bytes.split_at(leading_spaces(bytes));
     if bytes.is_empty() {
@@ -105,7 +108,8 @@ impl<'a> Words<'a> {
 
     /// Takes the next word. `None` where no word is left. Own.
     pub fn next_word(&mut self) -> Option<&'a [u8]>
-        ensures value { option_map (λ w. (w.now, words self.new.rest.now)) result ≡ next (words self.old.rest.now) }
+        ensures value { option_map (λ w. (w.now, words self.new.rest.now)) result
+            ≡ next (words self.old.rest.now) }
         ensures left { words self.new.rest.now ≡ drop 1 (words self.old.rest.now) }
     {
         let (word, rest) = first_word(self.rest)?;
@@ -115,7 +119,8 @@ impl<'a> Words<'a> {
 
     /// Takes the next word, whatever it is. `None` where it isn't this text, or where no word is left. Own.
     pub fn expect_word(&mut self, text: &str) -> Option<()>
-        ensures value { option_map (λ _. words self.new.rest.now) result ≡ after text.now (words self.old.rest.now) }
+        ensures value { option_map (λ _. words self.new.rest.now) result
+            ≡ after text.now (words self.old.rest.now) }
         ensures left { words self.new.rest.now ≡ drop 1 (words self.old.rest.now) }
     {
         is(self.next_word()?, text).then_some(())

@@ -7,7 +7,7 @@ use Rattle.std.proofs.lemmas.Option.{same_Some}
 use Rattle.emu_model.specs.declared.sources.Due.{Due}
 use Rattle.emu_model.specs.Dues.{is_before}
 use Rattle.due_index.specs.Least.{dues_in, least_of, lesser}
-use Rattle.due_index.proofs.Order.{is_before-order, same_due}
+use Rattle.due_index.proofs.DueOrder.{is_before-order, same_due}
 
 abbrev pub sooner : Due → Due → Due
 sooner a b = cond (is_before b a) b a

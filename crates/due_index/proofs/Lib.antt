@@ -1,4 +1,5 @@
-pub mod Order
-pub mod LeastDues
-pub mod Runs
-pub mod Trees
+mod DueOrder
+mod LeastDues
+mod Runs
+mod Trees
+pub mod CallerLemmas

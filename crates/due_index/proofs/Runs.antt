@@ -1,5 +1,5 @@
--- In a tree, the least at the root is the least of all places' own dues.
-use Rattle.std.proofs.Common.{◌≡◌, ℕ, zero, suc, ◌+◌, ◌*◌, ◌≤◌, List, [], ◌∷◌, length, refl, sym, ap, ◌∙◌, add-one, arith}
+-- In a tree, the root is the least of all leaves.
+use Rattle.std.proofs.Common.{◌≡◌, ℕ, zero, suc, ◌+◌, ◌*◌, ◌<◌, ◌≤◌, List, [], ◌∷◌, length, take, refl, sym, ap, ◌∙◌, add-one, arith}
 use Rattle.std.specs.Prelude.{Option, None, slice_index_or}
 use Rattle.emu_model.specs.declared.sources.Due.{Due}
 use Rattle.due_index.specs.Least.{lesser}
@@ -17,44 +17,33 @@ run-more f a (suc k) b e =
     ap (lesser (f a)) (run-more f (a + 1) k b (omega arith))
     ∙ sym (lesser-assoc (f a) (run f (a + 1) k) (f b))
 
-run-none : (f : ℕ → Option Due) (a k : ℕ) → ((i : ℕ) → a ≤ i → f i ≡ None) → run f a k ≡ None
-run-none f a zero h = refl
-run-none f a (suc k) h =
-    ap (λ o. lesser o (run f (a + 1) k)) (h a (omega arith))
-    ∙ run-none f (a + 1) k (λ i l. h i (omega arith))
+-- in a tree the first node is the least of each row of nodes that begins with node i
+pub frontier : (f : ℕ → Option Due) (half : ℕ) → ((i : ℕ) → 0 < i → i < half → f i ≡ lesser (f (2 * i)) (f (2 * i + 1))) →
+    (i : ℕ) → suc i ≤ half → f 1 ≡ run f (suc i) (suc i)
+frontier f half met zero within = sym (lesser-none (f 1))
+frontier f half met (suc i) within =
+    let k : ℕ = suc i in
+    let rest : Option Due = run f (k + 1) i in
+    let next : k + 1 ≡ suc k = omega arith in
+    frontier f half met i (omega (arith, within))
+    ∙ ap (λ o. lesser o rest) (met k (omega arith) (omega (arith, within)))
+    ∙ lesser-comm (lesser (f (2 * k)) (f (2 * k + 1))) rest
+    ∙ sym (lesser-assoc rest (f (2 * k)) (f (2 * k + 1)))
+    ∙ ap (λ o. lesser o (f (2 * k + 1))) (sym (run-more f (k + 1) i (2 * k) (omega arith)))
+    ∙ sym (run-more f (k + 1) k (2 * k + 1) (omega arith))
+    ∙ ap (λ j. run f j (suc k)) next
 
-regroup : (r a b c m : Option Due) →
-    lesser r (lesser (lesser a (lesser b c)) m) ≡ lesser (lesser r a) (lesser (lesser m b) c)
-regroup r a b c m =
-    ap (lesser r) (lesser-assoc a (lesser b c) m
-    ∙ ap (lesser a) (lesser-comm (lesser b c) m ∙ sym (lesser-assoc m b c)))
-    ∙ sym (lesser-assoc r a (lesser (lesser m b) c))
-
-module _ (own least : ℕ → Option Due)
-    (met : (i : ℕ) → least i ≡ lesser (own i) (lesser (least (2 * i + 1)) (least (2 * i + 2))))
-  where
-    -- the least of all below the root: of the first i places' own, and of the i + 1 that stand
-    -- below them
-    frontier : (i : ℕ) → least 0 ≡ lesser (run own 0 i) (run least i (suc i))
-    frontier zero = sym (lesser-none (least 0))
-    frontier (suc i) =
-        let next : i + 1 ≡ suc i = omega arith in
-        frontier i
-        ∙ ap (λ o. lesser (run own 0 i) (lesser o (run least (i + 1) i))) (met i)
-        ∙ regroup (run own 0 i) (own i) (least (2 * i + 1)) (least (2 * i + 2)) (run least (i + 1) i)
-        ∙ ap (λ o. lesser o
-        (lesser (lesser (run least (i + 1) i) (least (2 * i + 1))) (least (2 * i + 2))))
-        (sym (run-more own 0 i i (omega arith)))
-        ∙ ap (λ o. lesser (run own 0 (suc i)) (lesser o (least (2 * i + 2))))
-        (sym (run-more least (i + 1) i (2 * i + 1) (omega arith)))
-        ∙ ap (lesser (run own 0 (suc i)))
-        (sym (run-more least (i + 1) (suc i) (2 * i + 2) (omega arith)))
-        ∙ ap (λ j. lesser (run own 0 (suc i)) (run least j (suc (suc i)))) next
-
-    pub root_is : (n : ℕ) → ((i : ℕ) → n ≤ i → least i ≡ None) → least 0 ≡ run own 0 n
-    root_is n past =
-        frontier n ∙ ap (lesser (run own 0 n)) (run-none least n (suc n) past)
-        ∙ lesser-none (run own 0 n)
+-- the same dues elsewhere
+pub run-moved : (f g : ℕ → Option Due) (a c k : ℕ) → ((i : ℕ) → f (a + i) ≡ g (c + i)) → run f a k ≡ run g c k
+run-moved f g a c zero h = refl
+run-moved f g a c (suc k) h =
+    let here : a ≡ a + 0 = omega arith in
+    let there : c + 0 ≡ c = omega arith in
+    ap (λ o. lesser o (run f (a + 1) k)) (ap f here ∙ h 0 ∙ ap g there)
+    ∙ ap (lesser (g c)) (run-moved f g (a + 1) (c + 1) k (λ i.
+    let one : (a + 1) + i ≡ a + (i + 1) = omega arith in
+    let other : c + (i + 1) ≡ (c + 1) + i = omega arith in
+    ap f one ∙ h (i + 1) ∙ ap g other))
 
 run-later : (f : ℕ → Option Due) (a k : ℕ) → run f (a + 1) k ≡ run (λ i. f (i + 1)) a k
 run-later f a zero = refl
@@ -71,3 +60,13 @@ run-list (o ∷ os) f h =
     ap (λ p. lesser p (run f (0 + 1) (length os))) (h 0)
     ∙ ap (lesser o) (run-later f 0 (length os)
     ∙ run-list os (λ i. f (i + 1)) (λ i. ap f (add-one i) ∙ h (suc i)))
+
+least-none : (os : List (Option Due)) → ((i : ℕ) → leaf os i ≡ None) → least_leaf os ≡ None
+least-none [] h = refl
+least-none (o ∷ os) h = ap (λ p. lesser p (least_leaf os)) (h 0) ∙ least-none os (λ i. h (suc i))
+
+-- of those behind which nothing is due
+pub least-take : (n : ℕ) (os : List (Option Due)) → ((i : ℕ) → n ≤ i → leaf os i ≡ None) → least_leaf os ≡ least_leaf (take n os)
+least-take zero os h = least-none os (λ i. h i (omega arith))
+least-take (suc n) [] h = refl
+least-take (suc n) (o ∷ os) h = ap (lesser o) (least-take n os (λ i l. h (suc i) (omega (arith, l))))

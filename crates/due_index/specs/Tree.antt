@@ -1,30 +1,29 @@
--- A tree in a list: below place i stand the places 2 i + 1 and 2 i + 2. Past the end nothing is
--- due.
-use Rattle.std.specs.Prelude.{◌≡◌, ◌≢◌, ℕ, ◌+◌, ◌*◌, Option, None, List, map, slice_index_or}
+-- A tree in a list of twice `half`: node i is the lesser of the nodes 2 i and 2 i + 1, and from `half`
+-- on stand the leaves. Node 0 is not used; past the end nothing is due.
+use Rattle.std.specs.Prelude.{◌≡◌, ◌≢◌, ℕ, ◌+◌, ◌*◌, ◌<◌, ◌≤◌, Option, None, List, length, take, drop, slice_index_or}
 use Rattle.emu_model.specs.declared.sources.Due.{Due}
-use Rattle.due_index.specs.declared.tree.Node.{Node}
 use Rattle.due_index.specs.Least.{lesser}
 
-abbrev pub no_node : Node
-no_node = record { own = None; least = None }
+abbrev pub node_at : List (Option Due) → ℕ → Option Due
+node_at xs i = slice_index_or xs i None
 
-abbrev pub node_at : List Node → ℕ → Node
-node_at xs i = slice_index_or xs i no_node
+-- what the two below a node come to
+abbrev pub below : List (Option Due) → ℕ → Option Due
+below xs i = lesser (node_at xs (2 * i)) (node_at xs (2 * i + 1))
 
-abbrev pub owns_of : List Node → List (Option Due)
-owns_of xs = map (λ n. n.own) xs
+abbrev pub IsTree : List (Option Due) → Type 0
+IsTree xs = (i : ℕ) → 0 < i → 2 * i + 1 < length xs → node_at xs i ≡ below xs i
 
--- what a place's own due and those of the places below it come to
-abbrev pub gathered : List Node → ℕ → Option Due
-gathered xs i =
-    lesser (node_at xs i).own (lesser (node_at xs (2 * i + 1)).least (node_at xs (2 * i + 2)).least)
+-- each node but one
+abbrev pub IsTreeBut : ℕ → List (Option Due) → Type 0
+IsTreeBut k xs = (i : ℕ) → i ≢ k → 0 < i → 2 * i + 1 < length xs → node_at xs i ≡ below xs i
 
-abbrev pub IsMet : List Node → ℕ → Type 0
-IsMet xs i = (node_at xs i).least ≡ gathered xs i
+-- the leaves that are places; at the others nothing is due
+abbrev pub leaves_of : List (Option Due) → ℕ → ℕ → List (Option Due)
+leaves_of xs half places = take places (drop half xs)
 
-abbrev pub IsTree : List Node → Type 0
-IsTree xs = (i : ℕ) → IsMet xs i
-
--- each place but one
-abbrev pub IsTreeBut : ℕ → List Node → Type 0
-IsTreeBut k xs = (i : ℕ) → i ≢ k → IsMet xs i
+pub record IsIndex (xs : List (Option Due)) (half places : ℕ) : Type 0 where
+  pub tree : IsTree xs
+  pub long : length xs ≡ 2 * half
+  pub within : places ≤ half
+  pub rest : (i : ℕ) → places ≤ i → node_at (drop half xs) i ≡ None

@@ -1,9 +1,9 @@
 //! An index of dues by place.
 
-ghost use Rattle.std.specs.Prelude.{◌≡◌, ◌+◌, ◌-◌, ◌<◌, ◌≤◌, ◌++◌, ◌∷◌, [], length, slice_set, OnOk, OnErr, IsOk};
+ghost use Rattle.std.specs.Prelude.{◌≡◌, ◌+◌, ◌-◌, ◌<◌, ◌≤◌, ◌++◌, ◌∷◌, [], length, slice_set, IfOk, OnOk, OnErr, IsOk};
 ghost use Rattle.due_index.specs.Least.{least_of, dues_in};
 
-use crate::tree::{Node, is_same, put};
+use crate::tree::{is_same, put};
 use emu_model::Due;
 use std::alloc::{AllocError, Global};
 use std::marker::Model;
@@ -12,22 +12,25 @@ use std::marker::Model;
 /// more places there can be without memory.
 #[derive(Drop)]
 pub struct DueIndex {
-    nodes: Vec<Node>,
+    alloc: Global,
+    nodes: Vec<Option<Due>>,
+    half: usize,
+    places: usize,
 }
 
 impl Model for DueIndex {
-    ghost use Rattle.std.specs.Prelude.{◌-◌, vec_len, vec_capacity};
+    ghost use Rattle.std.specs.Prelude.{◌-◌};
     ghost use Rattle.due_index.specs.Places.{Places};
-    ghost use Rattle.due_index.specs.Tree.{owns_of, IsTree};
+    ghost use Rattle.due_index.specs.Tree.{leaves_of, IsIndex};
 
     ghost Value = { Places };
 
     ghost view = { λ d. record {
-      leaves = owns_of d.nodes.items;
-      spare = vec_capacity d.nodes - vec_len d.nodes;
+      leaves = leaves_of d.nodes.items d.half d.places;
+      spare = d.half - d.places;
     } };
 
-    ghost invariant = { λ d. IsTree d.nodes.items };
+    ghost invariant = { λ d. IsIndex d.nodes.items d.half d.places };
 }
 
 impl DueIndex {
@@ -36,15 +39,35 @@ impl DueIndex {
         ensures { result.leaves ≡ [] }
     {
         DueIndex {
+            alloc,
             nodes: Vec::new(alloc),
+            half: 0,
+            places: 0,
         }
+    }
+
+    // No places, and room for so many.
+    fn with_room(alloc: Global, room: usize) -> Result<Self, AllocError>
+        ensures { IfOk result (λ d. d ≡ record { leaves = []; spare = room }) }
+    {
+        let Some(both) = room.checked_mul(2) else {
+            return Err(AllocError);
+        };
+        let mut nodes = Vec::new(alloc);
+        nodes.resize(both, None)?;
+        Ok(DueIndex {
+            alloc,
+            nodes,
+            half: room,
+            places: 0,
+        })
     }
 
     /// How many places there are.
     pub fn len(&self) -> usize
         ensures { result ≡ length self.now.leaves }
     {
-        self.nodes.len()
+        self.places
     }
 
     /// Makes the growth of one `push`. Only room grows; refused, nothing has changed.
@@ -55,19 +78,25 @@ impl DueIndex {
         ensures refused { OnErr result (self.new ≡ self.old) }
         ensures succeeds { 0 < self.old.spare → IsOk result }
     {
-        self.nodes.reserve(1)
+        if self.places < self.half {
+            return Ok(());
+        }
+        let mut grown = DueIndex::with_room(self.alloc, self.nodes.len().max(1))?;
+        for place in 0..self.places {
+            grown.push(self.nodes[self.half + place]);
+        }
+        *self = grown;
+        Ok(())
     }
 
     /// One place more, behind all others, where there is room for it.
     pub fn push(&mut self, due: Option<Due>)
         requires { 0 < self.old.spare }
-        ensures { self.new ≡ record { leaves = self.old.leaves ++ due ∷ []; spare = self.old.spare - 1 } }
+        ensures { self.new
+            ≡ record { leaves = self.old.leaves ++ due ∷ []; spare = self.old.spare - 1 } }
     {
-        let place = self.nodes.len();
-        self.nodes.push_reserved(Node {
-            own: None,
-            least: None,
-        });
+        let place = self.places;
+        self.places = place + 1;
         self.set(place, due);
     }
 
@@ -76,10 +105,11 @@ impl DueIndex {
         requires { place < length self.old.leaves }
         ensures { self.new ≡ record self.old { leaves = slice_set self.old.leaves place due } }
     {
-        if is_same(&self.nodes[place].own, &due) {
+        let leaf = self.half + place;
+        if is_same(&self.nodes[leaf], &due) {
             return;
         }
-        put(self.nodes.as_mut_slice(), place, due);
+        put(self.nodes.as_mut_slice(), leaf, due);
     }
 
     /// No places any more; their room stays.
@@ -87,14 +117,21 @@ impl DueIndex {
         ensures leaves { self.new.leaves ≡ [] }
         ensures spare { self.new.spare ≡ self.old.spare + length self.old.leaves }
     {
+        let both = self.nodes.len();
         self.nodes.clear();
+        let Ok(()) = self.nodes.resize(both, None) else {
+            unreachable!();
+        };
+        self.places = 0;
     }
 
     /// The least of all dues, by moment, class and number; None where nothing is due.
     pub fn least(&self) -> Option<Due>
         ensures { result ≡ least_of (dues_in self.now.leaves) }
     {
-        let root = self.nodes.first()?;
-        root.least
+        if self.half == 0 {
+            return None;
+        }
+        self.nodes[1]
     }
 }

@@ -1,4 +1,4 @@
-//! Which of many places is due first: the least of dues that are set place by place (own).
+//! Which of many places is due first: the least of dues that are set place by place (our choice).
 #![tactic(auto)]
 
 mod index;

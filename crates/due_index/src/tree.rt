@@ -1,17 +1,11 @@
-//! A tree in a list: below place i stand the places 2 i + 1 and 2 i + 2, where there are such.
+//! A tree in a list: node i is the lesser of the nodes 2 i and 2 i + 1, and from half of the list on
+//! stand the leaves. Node 0 is not used.
 
-ghost use Rattle.std.specs.Prelude.{◌≡◌, ◌+◌, ◌<◌, length, slice_set, if◌then◌else◌, true};
+ghost use Rattle.std.specs.Prelude.{◌≡◌, ℕ, ◌+◌, ◌*◌, ◌/◌, ◌<◌, ◌≤◌, length, drop, slice_set, if◌then◌else◌, true};
 ghost use Rattle.due_index.specs.Least.{lesser};
-ghost use Rattle.due_index.specs.Tree.{node_at, gathered, owns_of, IsTree, IsTreeBut};
+ghost use Rattle.due_index.specs.Tree.{node_at, below, IsTree, IsTreeBut};
 
 use emu_model::Due;
-
-/// The due of a place, and the least of it and of all below it.
-#[derive(Clone, Copy)]
-pub(crate) struct Node {
-    pub(crate) own: Option<Due>,
-    pub(crate) least: Option<Due>,
-}
 
 /// They are the same.
 pub(crate) fn is_same(first: &Option<Due>, second: &Option<Due>) -> bool
@@ -44,72 +38,50 @@ fn is_less(first: &Option<Due>, second: &Option<Due>) -> bool
     }
 }
 
-// The least of two neighbours and of all below them, of which the second may be past the end.
-fn least_of_two(nodes: &[Node], first: usize) -> &Option<Due>
-    requires { first < length nodes.now }
-    ensures { result.now ≡ lesser (node_at nodes.now first).least (node_at nodes.now (first + 1)).least }
+// Which of the two below a node is the lesser; only one that moves up is copied.
+fn lesser_below(nodes: &[Option<Due>], at: usize) -> usize
+    requires { 2 * at + 1 < length nodes.now }
+    ensures inside { result < length nodes.now }
+    ensures least { node_at nodes.now result ≡ below nodes.now at }
 {
-    let left = &nodes[first].least;
-    if first + 1 >= nodes.len() {
-        return left;
+    let left = 2 * at;
+    let right = left + 1;
+    if is_less(&nodes[right], &nodes[left]) {
+        right
+    } else {
+        left
     }
-    let right = &nodes[first + 1].least;
-    if is_less(right, left) { right } else { left }
 }
 
-// What a place's own due and those of the places below it come to.
-fn gathered(nodes: &[Node], place: usize) -> Option<Due>
-    requires { place < length nodes.now }
-    ensures { result ≡ gathered nodes.now place }
-{
-    let own = &nodes[place].own;
-    let first = 2 * place + 1;
-    if first >= nodes.len() {
-        return *own;
-    }
-    let below = least_of_two(nodes, first);
-    if is_less(below, own) { *below } else { *own }
-}
-
-/// Gathers anew from a place up to the root, as far as anything changes.
-pub(crate) fn mend(nodes: &mut [Node], place: usize)
-    requires inside { place < length nodes.old }
-    requires met { IsTreeBut place nodes.old }
+// The nodes above one that changed are set anew, as far as anything changes.
+fn mend(nodes: &mut [Option<Due>], changed: usize)
+    requires inside { 2 * (changed / 2) + 1 < length nodes.old }
+    requires met { IsTreeBut (changed / 2) nodes.old }
     ensures met { IsTree nodes.new }
-    ensures owns { owns_of nodes.new ≡ owns_of nodes.old }
+    ensures leaves { (half : ℕ) → length nodes.old ≡ 2 * half →
+        drop half nodes.new ≡ drop half nodes.old }
 {
-    let mut at = place;
-    loop {
-        let least = gathered(nodes, at);
-        let node = &mut nodes[at];
-        if is_same(&node.least, &least) {
+    let mut at = changed / 2;
+    while at > 0 {
+        let least = lesser_below(nodes, at);
+        if is_same(&nodes[at], &nodes[least]) {
             return;
         }
-        node.least = least;
-        if at == 0 {
-            return;
-        }
-        at = (at - 1) / 2;
+        nodes[at] = nodes[least];
+        at = at / 2;
     }
 }
 
-/// A place's own due is this from now on.
-pub(crate) fn put(nodes: &mut [Node], place: usize, due: Option<Due>)
-    requires inside { place < length nodes.old }
+/// What is due at a leaf from now on.
+pub(crate) fn put(nodes: &mut [Option<Due>], leaf: usize, due: Option<Due>)
+    requires inside { leaf < length nodes.old }
+    requires lowest { length nodes.old ≤ 2 * leaf }
+    requires even { 2 * (leaf / 2) + 1 < length nodes.old }
     requires met { IsTree nodes.old }
     ensures met { IsTree nodes.new }
-    ensures owns { owns_of nodes.new ≡ slice_set (owns_of nodes.old) place due }
+    ensures leaves { (half place : ℕ) → length nodes.old ≡ 2 * half → leaf ≡ half + place →
+        drop half nodes.new ≡ slice_set (drop half nodes.old) place due }
 {
-    let places = nodes.len();
-    let node = &mut nodes[place];
-    node.own = due;
-    if 2 * place + 1 < places {
-        mend(nodes, place);
-        return;
-    }
-    // Nothing stands below it.
-    node.least = due;
-    if place > 0 {
-        mend(nodes, (place - 1) / 2);
-    }
+    nodes[leaf] = due;
+    mend(nodes, leaf);
 }

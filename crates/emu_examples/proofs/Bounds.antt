@@ -12,8 +12,8 @@ use Rattle.emu_model.specs.declared.pipes.Discipline.TheVariants.{ControlledDela
 use Rattle.emu_model.specs.Pipes.{same_discipline}
 use Rattle.emu_model.specs.Loss.{is_below_rate, stream_of}
 use Rattle.emu_model.specs.DropTail.{Waiting, accepts}
-use Rattle.emu_model.specs.Codel.{Times, Control, opening_control, is_short, is_droppable, opening_count, count_up, begin_dropping, drop_on, control_step, control_law, codel_dequeue, drop_first}
-use Rattle.emu_model.specs.Reno.{Sender, opening_sender, opening_window, bounded, expire, is_new, round_trip, new_estimate, estimated_timeout, ack, emit, grown_window, half_flight}
+use Rattle.emu_model.specs.Codel.{Times, CodelState, initial_control, is_short, ok_to_drop, initial_count, count_up, begin_dropping, drop_on, control_step, control_law, codel_dequeue, drop_first}
+use Rattle.emu_model.specs.Reno.{Sender, initial_sender, initial_window, bounded, expire, is_new, round_trip, new_estimate, estimated_timeout, ack, emit, grown_window, half_flight}
 
 -- 256 instances a pipe: the 256th has the number 255, and there is no 257th
 abbrev any_flow : FlowId
@@ -74,34 +74,34 @@ more_left : is_short times 5 (packet 40) (packet 1461 ∷ packet 40 ∷ []) ≡ 
 more_left = refl
 
 -- it may be dropped at first_above_time, and not 1 ns before
-abbrev above_since : ℕ → Control
-above_since moment = record opening_control { first_above = moment }
+abbrev above_since : ℕ → CodelState
+above_since moment = record initial_control { first_above_time = moment }
 
-at_the_moment : is_droppable times 105 (above_since 105) (packet 40) (left_behind 40) ≡ true
+at_the_moment : ok_to_drop times 105 (above_since 105) (packet 40) (left_behind 40) ≡ true
 at_the_moment = refl
 
-before_the_moment : is_droppable times 104 (above_since 105) (packet 40) (left_behind 40) ≡ false
+before_the_moment : ok_to_drop times 104 (above_since 105) (packet 40) (left_behind 40) ≡ false
 before_the_moment = refl
 
 -- dropping begins at the last count, count - lastcount, below drop_next + 16 intervals = 1600 if
 -- that is above 1; else at 1
-abbrev dropped_before : ℕ → ℕ → Control
-dropped_before count last = record opening_control { count = count; last_count = last }
+abbrev dropped_before : ℕ → ℕ → CodelState
+dropped_before count last = record initial_control { count = count; last_count = last }
 
-soon_after : opening_count times 1599 (dropped_before 5 2) ≡ 3
+soon_after : initial_count times 1599 (dropped_before 5 2) ≡ 3
 soon_after = refl
 
-long_after : opening_count times 1600 (dropped_before 5 2) ≡ 1
+long_after : initial_count times 1600 (dropped_before 5 2) ≡ 1
 long_after = refl
 
-barely_more : opening_count times 1599 (dropped_before 4 2) ≡ 2
+barely_more : initial_count times 1599 (dropped_before 4 2) ≡ 2
 barely_more = refl
 
 -- counters stay at their greatest value
-full_count : (count_up (record opening_control { count = 2 ^ 32 - 1 })).count ≡ 2 ^ 32 - 1
+full_count : (count_up (record initial_control { count = 2 ^ 32 - 1 })).count ≡ 2 ^ 32 - 1
 full_count = refl
 
-nearly_full_count : (count_up (record opening_control { count = 2 ^ 32 - 2 })).count ≡ 2 ^ 32 - 1
+nearly_full_count : (count_up (record initial_control { count = 2 ^ 32 - 2 })).count ≡ 2 ^ 32 - 1
 nearly_full_count = refl
 
 full_rule_counter : counted_up (2 ^ 64 - 1) 1500 ≡ 2 ^ 64 - 1
@@ -124,10 +124,10 @@ behind_the_one_before :
 behind_the_one_before = refl
 
 -- RFC 5681, section 3.1: four segments up to 1095 bytes, three above
-four_segments : opening_window 1095 ≡ 4380
+four_segments : initial_window 1095 ≡ 4380
 four_segments = refl
 
-three_segments : opening_window 1096 ≡ 3288
+three_segments : initial_window 1096 ≡ 3288
 three_segments = refl
 
 full_window : bounded (2 ^ 32) ≡ 2 ^ 32 - 1
@@ -147,12 +147,12 @@ flow = record {
 }
 
 -- 40 s doubled are 60 s at most
-longest_time : (expire flow 0 (opening_sender flow)).timeout ≡ 60000000000
+longest_time : (expire flow 0 (initial_sender flow)).rto ≡ 60000000000
 longest_time = refl
 
 -- an acknowledgement of all that was sent is new, one of more is not
 abbrev two_sent : Sender
-two_sent = record (opening_sender flow) { nxt = 2000; top = 2000 }
+two_sent = record (initial_sender flow) { snd_nxt = 2000; snd_max = 2000 }
 
 all_acknowledged : is_new flow 2000 two_sent ≡ true
 all_acknowledged = refl
@@ -187,12 +187,12 @@ longest_estimate = refl
 
 -- new data clears what a loss left: RFC 5681, section 3.2, step 6, and the count of duplicates
 abbrev troubled : Sender
-troubled = record two_sent { duplicates = 2; timed = true; recovery = true; resend = true; timer = Some 500; cwnd = 4; ssthresh = 1 }
+troubled = record two_sent { duplicates = 2; backed_off = true; recovery = true; resend = true; timer = Some 500; cwnd = 4; ssthresh = 1 }
 
 new_clears_duplicates : (ack flow 0 1000 troubled).duplicates ≡ 0
 new_clears_duplicates = refl
 
-new_clears_timed : (ack flow 0 1000 troubled).timed ≡ false
+new_clears_timed : (ack flow 0 1000 troubled).backed_off ≡ false
 new_clears_timed = refl
 
 -- an expiry ends recovery, and begins to count duplicates anew
@@ -211,7 +211,7 @@ one_byte_at_least : grown_window (record flow { smss = 1 }) 1 (record two_sent {
 one_byte_at_least = refl
 
 -- all that was sent is under way, also what is to be sent again: 8000 / 2
-flight_to_top : half_flight flow (record two_sent { nxt = 0; top = 8000 }) ≡ 4000
+flight_to_top : half_flight flow (record two_sent { snd_nxt = 0; snd_max = 8000 }) ≡ 4000
 flight_to_top = refl
 
 -- lastcount is the count that dropping begins with, 5 - 2
@@ -219,8 +219,8 @@ last_count_is_new : (begin_dropping times 1599 (dropped_before 5 2)).last_count 
 last_count_is_new = refl
 
 -- two drops at one dequeue: 200 + 100 / sqrt(2) = 270, 270 + 100 / sqrt(3) = 327
-abbrev dropping_on : Control
-dropping_on = record { first_above = 100; drop_next = 200; count = 1; last_count = 1; dropping = true }
+abbrev dropping_on : CodelState
+dropping_on = record { first_above_time = 100; drop_next = 200; count = 1; last_count = 1; dropping = true }
 
 two_at_once : (drop_on times 310 dropping_on (packet 1500) (replicate 4 (packet 1500))).control.drop_next ≡ 327
 unfolding control_step
@@ -245,7 +245,7 @@ dropping_ends : (codel_dequeue times 310 dropping_on (packet 40 ∷ [])).control
 dropping_ends = refl
 
 -- as dropping begins, the packet behind the one dropped is looked at: nothing is behind it
-next_is_looked_at : (drop_first times 310 dropping_on (packet 1500) (packet 40 ∷ [])).control.first_above ≡ 0
+next_is_looked_at : (drop_first times 310 dropping_on (packet 1500) (packet 40 ∷ [])).control.first_above_time ≡ 0
 next_is_looked_at = refl
 
 -- the control law with an interval of 100: 100 / sqrt(1) is 100, and 1 / sqrt(2) is rounded to 0
@@ -275,18 +275,18 @@ given_ends_dropping :
 given_ends_dropping = refl
 
 given_clears_above :
-    (drop_on times 310 dropping_on (packet 1500) (packet 40 ∷ [])).control.first_above ≡ 0
+    (drop_on times 310 dropping_on (packet 1500) (packet 40 ∷ [])).control.first_above_time ≡ 0
 given_clears_above = refl
 
 -- so does an empty queue
 empty_ends_dropping : (codel_dequeue {A = ℕ} times 310 dropping_on []).control.dropping ≡ false
 empty_ends_dropping = refl
 
-empty_clears_above : (codel_dequeue {A = ℕ} times 310 dropping_on []).control.first_above ≡ 0
+empty_clears_above : (codel_dequeue {A = ℕ} times 310 dropping_on []).control.first_above_time ≡ 0
 empty_clears_above = refl
 
 -- 16 intervals from drop_next on: 50 + 1600
-after_drop_next : opening_count times 1649 (record (dropped_before 5 2) { drop_next = 50 }) ≡ 3
+after_drop_next : initial_count times 1649 (record (dropped_before 5 2) { drop_next = 50 }) ≡ 3
 after_drop_next = refl
 
 -- dropping that begins again with a count of 6 - 2 has its next drop after 100 / sqrt(4)

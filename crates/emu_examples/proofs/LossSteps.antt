@@ -1,6 +1,6 @@
 -- LossSteps: single loss words. The words were computed apart, by the ChaCha20 of RFC 8439 with a counter and a nonce of 64
 -- bits each, over the key that begins with the seed, 1.
-use Rattle.std.specs.Prelude.{◌≡◌, refl, ℕ, ◌^◌, true, false, List, [], ◌∷◌, map}
+use Rattle.std.specs.Prelude.{◌≡◌, refl, ◌^◌, true, false, [], ◌∷◌, map}
 use Rattle.emu_model.specs.Loss.{loss_word, is_lost}
 use Rattle.rand_chacha.specs.Block.{block_word, double_rounds, column_round, diagonal_round, quarter_round}
 use Rattle.rand_core.specs.Steps.{u32_at}

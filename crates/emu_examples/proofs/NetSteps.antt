@@ -15,10 +15,10 @@ use Rattle.emu_model.specs.declared.sources.Timing.TheVariants.{Fixed}
 use Rattle.emu_model.specs.declared.records.Refusal.TheVariants.{FlowThere, TooManyFlows}
 use Rattle.emu_model.specs.FlowIds.{FlowId, protocol_number, flow_id, same_flow, same_mask, instance_of}
 use Rattle.emu_model.specs.Delay.{Line, leave, enter, exit_after}
-use Rattle.emu_model.specs.Reno.{opening_sender}
+use Rattle.emu_model.specs.Reno.{initial_sender}
 use Rattle.emu_model.specs.Dues.{due, is_before, train_dues}
-use Rattle.emu_model.specs.Pipes.{PipeState, opening_instance, instance_for}
-use Rattle.emu_model.specs.Net.{Net, TrainState, opening_net, arrivals}
+use Rattle.emu_model.specs.Pipes.{PipeState, initial_instance, instance_for}
+use Rattle.emu_model.specs.Net.{Net, TrainState, initial_net, arrivals}
 use Rattle.emu_model.specs.Commands.{shown_words, source_refusal, start_flow, start_train}
 
 -- at one moment commands come first, then exits, finishes, expiries and emissions, whatever their numbers are
@@ -100,7 +100,7 @@ pipe_with instances id = record {
     mask = masks;
     discipline = TailDrop;
   };
-  instances = replicate instances (opening_instance id);
+  instances = replicate instances (initial_instance id);
 }
 
 no_instance : instance_for any_packet (pipe_with 256 zeros) ≡ None
@@ -153,11 +153,11 @@ train = record {
 }
 
 abbrev with_sources : ℕ → ℕ → Net
-with_sources flows trains = record opening_net {
+with_sources flows trains = record initial_net {
   flows = replicate flows (record {
     number = 1;
     flow = flow;
-    sender = opening_sender flow;
+    sender = initial_sender flow;
     stopped = false;
     came = [];
   });
@@ -177,10 +177,10 @@ no_more_sources : source_refusal 3 (with_sources 100 156) ≡ Some TooManyFlows
 no_more_sources = refl
 
 -- a flow and a train as they begin
-begins : (start_flow 1 flow opening_net).flows ≡ (with_sources 1 0).flows
+begins : (start_flow 1 flow initial_net).flows ≡ (with_sources 1 0).flows
 begins = refl
 
-train_begins : (start_train 7 5 train opening_net).trains ≡ record { number = 5; train = train; start = 7; sent = 0 } ∷ []
+train_begins : (start_train 7 5 train initial_net).trains ≡ record { number = 5; train = train; start = 7; sent = 0 } ∷ []
 train_begins = refl
 
 -- its packets are due every 10 ns from its start on, three in all

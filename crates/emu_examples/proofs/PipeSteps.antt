@@ -1,6 +1,6 @@
 -- PipeSteps: single words of the definitions of pipes, and the counters, each number worked out by hand from the rule in its
 -- comment. The loss words were computed apart, as those of LossSteps.
-use Rattle.std.specs.Prelude.{◌≡◌, refl, ℕ, ◌-◌, ◌^◌, true, false, Some, None, List, [], ◌∷◌, replicate, map}
+use Rattle.std.specs.Prelude.{◌≡◌, refl, ℕ, ◌-◌, ◌^◌, true, false, Some, None, [], ◌∷◌, replicate, map}
 use Rattle.emu_model.specs.declared.packets.Protocol.TheVariants.{Udp}
 use Rattle.emu_model.specs.declared.packets.Load.TheVariants.{Plain}
 use Rattle.emu_model.specs.declared.packets.Packet.{Packet}
@@ -10,8 +10,8 @@ use Rattle.emu_model.specs.declared.pipes.PipeConfig.{PipeConfig}
 use Rattle.emu_model.specs.declared.records.DropCause.TheVariants.{Denied, NoPipe, NoInstance, Lost, Full, Codel, Deleted, Budget}
 use Rattle.emu_model.specs.FlowIds.{FlowId}
 use Rattle.emu_model.specs.DropTail.{Waiting}
-use Rattle.emu_model.specs.Codel.{Control, opening_control}
-use Rattle.emu_model.specs.Pipes.{Instance, PipeState, opening_instance, dequeue, enqueue, drawn_one, draw, pipe_arrive, instance_finish, instance_configure, instance_packets}
+use Rattle.emu_model.specs.Codel.{CodelState, initial_control}
+use Rattle.emu_model.specs.Pipes.{Instance, PipeState, initial_instance, dequeue, enqueue, drawn_one, draw, pipe_arrive, instance_finish, instance_configure, instance_packets}
 use Rattle.emu_model.specs.Net.{cause_number}
 use Rattle.rand_chacha.specs.Block.{block_word, double_rounds, column_round, diagonal_round, quarter_round}
 use Rattle.rand_core.specs.Steps.{u32_at}
@@ -32,8 +32,8 @@ packet number = record {
 abbrev waiting : ℕ → Waiting Packet
 waiting number = record { item = packet number; size = 1000; stamp = 5 }
 
-abbrev control : Control
-control = record { first_above = 1; drop_next = 2; count = 3; last_count = 4; dropping = true }
+abbrev control : CodelState
+control = record { first_above_time = 1; drop_next = 2; count = 3; last_count = 4; dropping = true }
 
 -- a byte takes 1000 ns
 abbrev config : PipeConfig
@@ -55,7 +55,7 @@ instance = record {
   id = flow_to 4;
   waiting = waiting 1 ∷ waiting 2 ∷ [];
   control = control;
-  service = Some (record { packet = packet 0; period = record { start = 4; sum = 1000; finish = 1000004 } });
+  service = Some (record { item = packet 0; period = record { start = 4; sum = 1000; finish = 1000004 } });
   line = record { flight = record { item = packet 9; exit = 70 } ∷ []; last = 70 };
   drawn = 2;
 }
@@ -66,7 +66,7 @@ first_of_two :
     ≡ record { dropped = []; given = Some (waiting 1); rest = waiting 2 ∷ []; control = control }
 first_of_two = refl
 
-first_of_none : dequeue TailDrop 9 control [] ≡ record { dropped = []; given = None; rest = []; control = control }
+first_of_none : dequeue {A = Packet} TailDrop 9 control [] ≡ record { dropped = []; given = None; rest = []; control = control }
 first_of_none = refl
 
 -- who comes waits behind the others, since now
@@ -97,7 +97,7 @@ not_the_next_word = refl
 
 -- where a pipe has 256 instances of others, a packet is dropped for that, and nothing else changes
 abbrev full_pipe : PipeState
-full_pipe = record { number = 2; config = config; instances = replicate 256 (opening_instance (flow_to 5)) }
+full_pipe = record { number = 2; config = config; instances = replicate 256 (initial_instance (flow_to 5)) }
 
 no_instance_for_it :
     pipe_arrive 7 9 (packet 3) full_pipe
@@ -110,7 +110,7 @@ goes_on_its_way :
     ≡ record {
       state = record instance {
         waiting = waiting 2 ∷ [];
-        service = Some (record { packet = packet 1; period = record { start = 4; sum = 2000; finish = 2000004 } });
+        service = Some (record { item = packet 1; period = record { start = 4; sum = 2000; finish = 2000004 } });
         line = record {
           flight = record { item = packet 9; exit = 70 } ∷ record { item = packet 0; exit = 11000004 } ∷ [];
           last = 11000004;
@@ -123,7 +123,7 @@ goes_on_its_way = refl
 -- configuring ends the period at the finish of the packet in service; another discipline begins with CoDel's state cleared
 abbrev cut : Instance
 cut = record instance {
-  service = Some (record { packet = packet 0; period = record { start = 1000004; sum = 0; finish = 1000004 } });
+  service = Some (record { item = packet 0; period = record { start = 1000004; sum = 0; finish = 1000004 } });
 }
 
 same_discipline_goes_on : instance_configure config (record config { bw = 1 }) instance ≡ cut
@@ -131,7 +131,7 @@ same_discipline_goes_on = refl
 
 another_discipline_clears :
     instance_configure config (record config { discipline = ControlledDelay 5 100 }) instance
-    ≡ record cut { control = opening_control }
+    ≡ record cut { control = initial_control }
 another_discipline_clears = refl
 
 -- what it holds, in the order of deletion: on its way, in service, waiting

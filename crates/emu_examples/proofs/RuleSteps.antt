@@ -10,7 +10,7 @@ use Rattle.emu_model.specs.declared.rules.ProtocolMatch.TheVariants.{OnlyTcp}
 use Rattle.emu_model.specs.declared.rules.Rule.{Rule}
 use Rattle.emu_model.specs.declared.rules.Verdict.TheVariants.{Allow, Deny, Pipe}
 use Rattle.emu_model.specs.declared.records.Refusal.TheVariants.{BadNumber, BadSkip, RulesFull, NoRule}
-use Rattle.emu_model.specs.Rules.{Counted, RuleBook, rule_matches, is_behind, start_behind, verdict_by, verdict_of_match, verdict, counted_rules, default_rule, opening_book, is_rule_number, is_bad_skip, add_refusal, delete_refusal}
+use Rattle.emu_model.specs.Rules.{Counted, RuleBook, rule_matches, is_behind, start_behind, verdict_by, verdict_of_match, verdict, counted_rules, default_rule, initial_book, is_rule_number, is_bad_skip, add_refusal, delete_refusal}
 
 -- from 10.0.0.1 1000 to 10.0.1.2 80
 abbrev packet : Packet
@@ -137,5 +137,5 @@ deletions :
 deletions = refl
 
 -- an experiment begins with the default alone, and nothing added
-at_the_opening : opening_book ≡ record { rules = default_rule ∷ []; added = 0 }
+at_the_opening : initial_book ≡ record { rules = default_rule ∷ []; added = 0 }
 at_the_opening = refl

@@ -3,7 +3,7 @@
 use Rattle.std.specs.Prelude.{◌≡◌, refl, ℕ, true, false, Some, None, List, [], ◌∷◌}
 use Rattle.emu_model.specs.declared.sources.FlowSpec.{FlowSpec}
 use Rattle.emu_model.specs.declared.sources.Timing.TheVariants.{Fixed, Adaptive}
-use Rattle.emu_model.specs.Reno.{Sender, opening_sender, may_emit, emitted, emit, ack, expire, with_segment, missing}
+use Rattle.emu_model.specs.Reno.{Sender, initial_sender, may_emit, emitted, emit, ack, expire, with_segment, missing}
 
 -- 20 segments of 1000 bytes, and a timeout of 40 s
 abbrev flow : FlowSpec
@@ -19,17 +19,17 @@ flow = record {
   timing = Fixed 40000;
 }
 
-opened : opening_sender flow ≡ record {
-  una = 0;
-  nxt = 0;
-  top = 0;
+opened : initial_sender flow ≡ record {
+  snd_una = 0;
+  snd_nxt = 0;
+  snd_max = 0;
   cwnd = 4000;
   ssthresh = 6000;
   duplicates = 0;
   recovery = false;
   resend = false;
-  timed = false;
-  timeout = 40000000000;
+  backed_off = false;
+  rto = 40000000000;
   timer = None;
   sample = None;
   estimate = None;
@@ -37,22 +37,22 @@ opened : opening_sender flow ≡ record {
 opened = refl
 
 -- an adaptive time begins at 1 s (RFC 6298, section 2.1)
-first_time : (opening_sender (record flow { timing = Adaptive })).timeout ≡ 1000000000
+first_time : (initial_sender (record flow { timing = Adaptive })).rto ≡ 1000000000
 first_time = refl
 
 -- a sender that sends again after an expiry, with two duplicates: no field is as at the opening
 abbrev busy : Sender
 busy = record {
-  una = 3000;
-  nxt = 5000;
-  top = 9000;
+  snd_una = 3000;
+  snd_nxt = 5000;
+  snd_max = 9000;
   cwnd = 7001;
   ssthresh = 8000;
   duplicates = 2;
   recovery = false;
   resend = true;
-  timed = true;
-  timeout = 9;
+  backed_off = true;
+  rto = 9;
   timer = Some 500;
   sample = Some (record { end = 6000; sent = 400 });
   estimate = Some (record { srtt = 800; rttvar = 100 });
@@ -66,22 +66,22 @@ starts_a_timer : emit flow 600 (record busy { timer = None }) ≡ record busy { 
 starts_a_timer = refl
 
 -- a segment below MAX isn't timed (Karn), and leaves MAX
-sent_below_top : emit flow 600 (record busy { resend = false; sample = None }) ≡ record busy { resend = false; sample = None; nxt = 6000 }
+sent_below_top : emit flow 600 (record busy { resend = false; sample = None }) ≡ record busy { resend = false; sample = None; snd_nxt = 6000 }
 sent_below_top = refl
 
 -- a first sending is timed where none is, and starts the timer where none runs: 600 + 9
 sent_first :
-    emit flow 600 (record busy { resend = false; nxt = 9000; sample = None; timer = None })
+    emit flow 600 (record busy { resend = false; snd_nxt = 9000; sample = None; timer = None })
     ≡ record busy {
       resend = false;
-      nxt = 10000;
-      top = 10000;
+      snd_nxt = 10000;
+      snd_max = 10000;
       sample = Some (record { end = 10000; sent = 600 });
       timer = Some 609;
     }
 sent_first = refl
 
-one_sample : emit flow 600 (record busy { resend = false; nxt = 9000 }) ≡ record busy { resend = false; nxt = 10000; top = 10000 }
+one_sample : emit flow 600 (record busy { resend = false; snd_nxt = 9000 }) ≡ record busy { resend = false; snd_nxt = 10000; snd_max = 10000 }
 one_sample = refl
 
 -- the first byte that is sent, and whether one is: 9000 + 1000 - 3000 = 7000 has to fit both windows
@@ -92,9 +92,9 @@ first_byte : emitted (record busy { resend = false }) ≡ 5000
 first_byte = refl
 
 abbrev at_top : ℕ → Sender
-at_top cwnd = record busy { resend = false; nxt = 9000; cwnd = cwnd }
+at_top cwnd = record busy { resend = false; snd_nxt = 9000; cwnd = cwnd }
 
-resend_needs_no_room : may_emit flow (record busy { nxt = 20000; cwnd = 0 }) ≡ true
+resend_needs_no_room : may_emit flow (record busy { snd_nxt = 20000; cwnd = 0 }) ≡ true
 resend_needs_no_room = refl
 
 just_room : may_emit flow (at_top 7000) ≡ true
@@ -109,40 +109,40 @@ just_the_receivers_window = refl
 past_the_receivers_window : may_emit (record flow { window = 6999 }) (at_top 8000) ≡ false
 past_the_receivers_window = refl
 
-last_segment : may_emit flow (record (at_top 30000) { nxt = 19000 }) ≡ true
+last_segment : may_emit flow (record (at_top 30000) { snd_nxt = 19000 }) ≡ true
 last_segment = refl
 
-nothing_left : may_emit flow (record (at_top 30000) { nxt = 20000 }) ≡ false
+nothing_left : may_emit flow (record (at_top 30000) { snd_nxt = 20000 }) ≡ false
 nothing_left = refl
 
 -- new data in slow start: 7001 + min(2000, 1000), the time restored, 700 + 40 s; the sample ends at 6000
 slow_start :
     ack flow 700 5000 busy
     ≡ record busy {
-      una = 5000;
+      snd_una = 5000;
       cwnd = 8001;
       duplicates = 0;
       resend = false;
-      timed = false;
-      timeout = 40000000000;
+      backed_off = false;
+      rto = 40000000000;
       timer = Some 40000000700;
     }
 slow_start = refl
 
 -- 500 new bytes let it grow by 500
-half_a_segment : (ack flow 700 4000 (record busy { una = 3500 })).cwnd ≡ 7501
+half_a_segment : (ack flow 700 4000 (record busy { snd_una = 3500 })).cwnd ≡ 7501
 half_a_segment = refl
 
 -- congestion avoidance at ssthresh itself: 1000 * 1000 / 8000 = 125
 avoidance :
     ack flow 700 5000 (record busy { cwnd = 8000 })
     ≡ record busy {
-      una = 5000;
+      snd_una = 5000;
       cwnd = 8125;
       duplicates = 0;
       resend = false;
-      timed = false;
-      timeout = 40000000000;
+      backed_off = false;
+      rto = 40000000000;
       timer = Some 40000000700;
     }
 avoidance = refl
@@ -161,20 +161,20 @@ full_duplicates : (ack flow 700 3000 (record busy { duplicates = 4294967295; rec
 full_duplicates = refl
 
 full_at_the_third :
-    (ack flow 700 3000 (record busy { top = 8589934592 })).cwnd ≡ 4294967295
+    (ack flow 700 3000 (record busy { snd_max = 8589934592 })).cwnd ≡ 4294967295
 full_at_the_third = refl
 
 -- past NXT; the sample of 300 is complete: (7 * 800 + 300) / 8 = 737, (3 * 100 + 500) / 4 = 200
 sampled :
     ack flow 700 6000 busy
     ≡ record busy {
-      una = 6000;
-      nxt = 6000;
+      snd_una = 6000;
+      snd_nxt = 6000;
       cwnd = 8001;
       duplicates = 0;
       resend = false;
-      timed = false;
-      timeout = 40000000000;
+      backed_off = false;
+      rto = 40000000000;
       timer = Some 40000000700;
       sample = None;
       estimate = Some (record { srtt = 737; rttvar = 200 });
@@ -189,13 +189,13 @@ slow = record busy { estimate = Some (record { srtt = 2000000000; rttvar = 10000
 adapted :
     ack (record flow { timing = Adaptive }) 3000000400 6000 slow
     ≡ record busy {
-      una = 6000;
-      nxt = 6000;
+      snd_una = 6000;
+      snd_nxt = 6000;
       cwnd = 8001;
       duplicates = 0;
       resend = false;
-      timed = false;
-      timeout = 3425000000;
+      backed_off = false;
+      rto = 3425000000;
       timer = Some 6425000400;
       sample = None;
       estimate = Some (record { srtt = 2125000000; rttvar = 325000000 });
@@ -203,12 +203,12 @@ adapted :
 adapted = refl
 
 -- without a complete sample it stays
-not_adapted : (ack (record flow { timing = Adaptive }) 700 5000 slow).timeout ≡ 9
+not_adapted : (ack (record flow { timing = Adaptive }) 700 5000 slow).rto ≡ 9
 not_adapted = refl
 
 -- the first round trip, of 3 s: 3 + 4 * 1.5 = 9 s
 first_trip :
-    (ack (record flow { timing = Adaptive }) 3000000400 6000 (record busy { estimate = None })).timeout ≡ 9000000000
+    (ack (record flow { timing = Adaptive }) 3000000400 6000 (record busy { estimate = None })).rto ≡ 9000000000
 first_trip = refl
 
 -- all that was sent is acknowledged: no timer runs
@@ -219,12 +219,12 @@ all_acknowledged = refl
 recovered :
     ack flow 700 5000 (record busy { recovery = true })
     ≡ record busy {
-      una = 5000;
+      snd_una = 5000;
       cwnd = 8000;
       duplicates = 0;
       resend = false;
-      timed = false;
-      timeout = 40000000000;
+      backed_off = false;
+      rto = 40000000000;
       timer = Some 40000000700;
     }
 recovered = refl
@@ -243,7 +243,7 @@ third :
 third = refl
 
 -- half of less than four segments is two
-two_segments : (ack flow 700 3000 (record busy { top = 6000 })).ssthresh ≡ 2000
+two_segments : (ack flow 700 3000 (record busy { snd_max = 6000 })).ssthresh ≡ 2000
 two_segments = refl
 
 second : ack flow 700 3000 (record busy { duplicates = 1 }) ≡ busy
@@ -268,7 +268,7 @@ beyond = refl
 within_a_segment : ack flow 700 4500 busy ≡ busy
 within_a_segment = refl
 
-nothing_sent : ack flow 700 3000 (record busy { top = 3000 }) ≡ record busy { top = 3000 }
+nothing_sent : ack flow 700 3000 (record busy { snd_max = 3000 }) ≡ record busy { snd_max = 3000 }
 nothing_sent = refl
 
 -- an expiry behind another holds ssthresh; the time is doubled
@@ -276,10 +276,10 @@ expired :
     expire flow 700 (record busy { recovery = true })
     ≡ record busy {
       cwnd = 1000;
-      nxt = 3000;
+      snd_nxt = 3000;
       duplicates = 0;
       resend = false;
-      timeout = 18;
+      rto = 18;
       timer = Some 718;
       sample = None;
     }
@@ -287,14 +287,14 @@ expired = refl
 
 -- a first one halves what is under way
 expired_first :
-    expire flow 700 (record busy { timed = false })
+    expire flow 700 (record busy { backed_off = false })
     ≡ record busy {
       ssthresh = 3000;
       cwnd = 1000;
-      nxt = 3000;
+      snd_nxt = 3000;
       duplicates = 0;
       resend = false;
-      timeout = 18;
+      rto = 18;
       timer = Some 718;
       sample = None;
     }

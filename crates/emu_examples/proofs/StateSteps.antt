@@ -9,7 +9,7 @@ use Rattle.emu_model.specs.declared.records.Record.TheVariants.{CommandDone, Ste
 use Rattle.emu_model.specs.FlowIds.{FlowId, different}
 use Rattle.emu_model.specs.Rate.{finishes, finish_at, follow}
 use Rattle.emu_model.specs.Delay.{exits}
-use Rattle.emu_model.specs.Net.{opening_net}
+use Rattle.emu_model.specs.Net.{initial_net}
 use Rattle.emu_model.specs.Alone.{alone}
 
 -- two commands, and a budget of two steps
@@ -26,7 +26,7 @@ before_the_first : alone spec commands 0 ≡ record {
   taken = 0;
   clock = 0;
   steps = 0;
-  net = opening_net;
+  net = initial_net;
   ending = None;
 }
 before_the_first = refl
@@ -38,7 +38,7 @@ after_the_first : alone spec commands 1 ≡ record {
   taken = 1;
   clock = 3;
   steps = 1;
-  net = record opening_net { one_pass = false; records = CommandDone 3 0 ∷ [] };
+  net = record initial_net { one_pass = false; records = CommandDone 3 0 ∷ [] };
   ending = None;
 }
 after_the_first = refl
@@ -49,7 +49,7 @@ after_the_last : alone spec commands 2 ≡ record {
   taken = 2;
   clock = 5;
   steps = 2;
-  net = record opening_net { one_pass = false; records = CommandDone 3 0 ∷ CommandDone 5 1 ∷ [] };
+  net = record initial_net { one_pass = false; records = CommandDone 3 0 ∷ CommandDone 5 1 ∷ [] };
   ending = Some Ended;
 }
 after_the_last = refl
@@ -66,7 +66,7 @@ spent_after_the_first :
       taken = 1;
       clock = 3;
       steps = 1;
-      net = record opening_net { one_pass = false; records = CommandDone 3 0 ∷ StepsSpent 3 ∷ [] };
+      net = record initial_net { one_pass = false; records = CommandDone 3 0 ∷ StepsSpent 3 ∷ [] };
       ending = Some Spent;
     }
 spent_after_the_first = refl

@@ -108,7 +108,7 @@ begin-ahead bw now size =
 cut-ahead : (m old bw : ℕ) (p : Period) → PeriodAhead m old p → PeriodAhead m bw (cut_period p)
 cut-ahead m old bw p h = record { from = h.from; at = finish_at-none bw p.finish }
 
-abbrev ServiceAhead : ℕ → ℕ → Option InService → Type 0
+abbrev ServiceAhead : ℕ → ℕ → Option (InService Packet) → Type 0
 ServiceAhead m bw None = Unit {0}
 ServiceAhead m bw (Some s) = PeriodAhead m bw s.period
 
@@ -119,7 +119,7 @@ record InstanceAhead (m bw : ℕ) (i : Instance) : Type 0 where
 abbrev PipeAhead : ℕ → PipeState → Type 0
 PipeAhead m p = AllByRecursion (InstanceAhead m p.config.bw) p.instances
 
-period_with-ahead : (bw now size : ℕ) (o : Option InService) → ServiceAhead now bw o →
+period_with-ahead : (bw now size : ℕ) (o : Option (InService Packet)) → ServiceAhead now bw o →
     PeriodAhead now bw (period_with bw now size o)
 period_with-ahead bw now size None h = begin-ahead bw now size
 period_with-ahead bw now size (Some s) h = follow-ahead now bw size s.period h
@@ -131,7 +131,7 @@ serve_next-ahead config now i h =
     record { line = h.line; service = go d.given }
   where
     go : (o : Option (Waiting Packet)) → ServiceAhead now config.bw (option_map (λ w. record {
-      packet = w.item;
+      item = w.item;
       period = period_with config.bw now w.size i.service;
     }) o)
     go None = tt
@@ -172,10 +172,10 @@ pipe_arrive-ahead seed now packet p h =
     (λ lost i q. instance_arrive-ahead p.config now packet lost (drawn_one i)
     (same-instance now p.config.bw i (drawn_one i) refl refl q)) h)
 
-send_off-ahead : (config : PipeConfig) (now : ℕ) (o : Option InService) (l : Line Packet) → LineAhead now l →
+send_off-ahead : (config : PipeConfig) (now : ℕ) (o : Option (InService Packet)) (l : Line Packet) → LineAhead now l →
     LineAhead now (send_off config now o l)
 send_off-ahead config now None l h = h
-send_off-ahead config now (Some s) l h = entered-ahead now (delay_ns config.delay) s.packet l h
+send_off-ahead config now (Some s) l h = entered-ahead now (delay_ns config.delay) s.item l h
 
 pipe_finish-ahead : (now k : ℕ) (p : PipeState) → PipeAhead now p → PipeAhead now (pipe_finish now k p).state
 pipe_finish-ahead now k p h =
@@ -196,7 +196,7 @@ pipe_configure-ahead m config p h =
     each_mapped (InstanceAhead m p.config.bw) (InstanceAhead m config.bw) (instance_configure p.config config)
     (λ i q. record { line = q.line; service = cut i.service q.service }) p.instances h
   where
-    cut : (o : Option InService) → ServiceAhead m p.config.bw o → ServiceAhead m config.bw (option_map cut_service o)
+    cut : (o : Option (InService Packet)) → ServiceAhead m p.config.bw o → ServiceAhead m config.bw (option_map cut_service o)
     cut None q = tt
     cut (Some s) q = cut-ahead m p.config.bw config.bw s.period q
 
@@ -209,7 +209,7 @@ FlowAhead m f = f.stopped ≡ false → TimerAhead m f.sender.timer
 ack-ahead : (f : FlowSpec) (now upto : ℕ) (s : Sender) → TimerAhead now s.timer → TimerAhead now (ack f now upto s).timer
 ack-ahead f now upto s h =
     either P (is_new f upto s) (ack_new f now upto s) (if is_duplicate upto s then ack_duplicate f s else s)
-    (either (TimerAhead now) (nat_lt upto s.top)
+    (either (TimerAhead now) (nat_lt upto s.snd_max)
     (Some (now + timeout_after f.timing (round_trip now upto s.sample) s)) None
     (omega arith) tt)
     (either P (is_duplicate upto s) (ack_duplicate f s) s duplicate h)
@@ -228,7 +228,7 @@ ack-ahead f now upto s h =
 
 started-ahead : (now : ℕ) (s : Sender) → TimerAhead now s.timer → TimerAhead now (started_timer now s)
 started-ahead now s h =
-    either (TimerAhead now) (is_none s.timer) (Some (now + s.timeout)) s.timer (omega arith) h
+    either (TimerAhead now) (is_none s.timer) (Some (now + s.rto)) s.timer (omega arith) h
 
 emit-ahead : (f : FlowSpec) (now : ℕ) (s : Sender) → TimerAhead now s.timer → TimerAhead now (emit f now s).timer
 emit-ahead f now s h =
@@ -294,14 +294,14 @@ instance-from : (low m bw : ℕ) (i : Instance) → InstanceAhead low bw i → I
 instance-from low m bw i h d =
     record { line = line-from low m i.line h.line d.line; service = go i.service h.service d.service }
   where
-    go : (o : Option InService) → ServiceAhead low bw o → FinishDue (λ x. m ≤ x) o → ServiceAhead m bw o
+    go : (o : Option (InService Packet)) → ServiceAhead low bw o → FinishDue (λ x. m ≤ x) o → ServiceAhead m bw o
     go None h d = tt
     go (Some s) h d = record { from = d; at = h.at }
 
 instance-due : (m bw : ℕ) (i : Instance) → InstanceAhead m bw i → InstanceDue (λ x. m ≤ x) i
 instance-due m bw i h = record { line = line-due m i.line h.line; service = go i.service h.service }
   where
-    go : (o : Option InService) → ServiceAhead m bw o → FinishDue (λ x. m ≤ x) o
+    go : (o : Option (InService Packet)) → ServiceAhead m bw o → FinishDue (λ x. m ≤ x) o
     go None h = tt
     go (Some s) h = h.from
 

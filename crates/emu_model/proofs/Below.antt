@@ -25,7 +25,7 @@ use Rattle.emu_model.proofs.Near.{reach, IsSmall, LeavesNear, LineNear, entered-
 
 -- a retransmission time within reach, and a timer that is near m
 record SenderNear (m : ℕ) (s : Sender) : Type 0 where
-  time : s.timeout ≤ reach
+  time : s.rto ≤ reach
   timer : TimerDue (λ t. t ≤ m + reach) s.timer
 
 record FlowNear (m : ℕ) (f : FlowState) : Type 0 where
@@ -41,7 +41,7 @@ first-time : (t : Timing) → IsTimingInRange t → timeout_at t ≤ reach
 first-time (Fixed ms) h = omega (arith, h)
 first-time Adaptive h = omega arith
 
-next-time : (t : Timing) (r : Option ℕ) (s : Sender) → IsTimingInRange t → s.timeout ≤ reach → timeout_after t r s ≤ reach
+next-time : (t : Timing) (r : Option ℕ) (s : Sender) → IsTimingInRange t → s.rto ≤ reach → timeout_after t r s ≤ reach
 next-time (Fixed ms) r s h p = omega (arith, h)
 next-time Adaptive None s h p = p
 next-time Adaptive (Some r) s h p = bound (new_estimate r s.estimate)
@@ -58,7 +58,7 @@ ack-near f now upto s t h =
     either (SenderNear now) (is_new f upto s) (ack_new f now upto s) (if is_duplicate upto s then ack_duplicate f s else s)
     (record {
       time = time;
-      timer = if-timer (now + reach) (nat_lt upto s.top)
+      timer = if-timer (now + reach) (nat_lt upto s.snd_max)
           (Some (now + timeout_after f.timing (round_trip now upto s.sample) s)) None (omega (arith, time)) tt;
     })
     (either (SenderNear now) (is_duplicate upto s) (ack_duplicate f s) s duplicate h)
@@ -66,7 +66,7 @@ ack-near f now upto s t h =
     time : timeout_after f.timing (round_trip now upto s.sample) s ≤ reach
     time = next-time f.timing (round_trip now upto s.sample) s t h.time
 
-    same : (x : Sender) → x.timeout ≡ s.timeout → x.timer ≡ s.timer → SenderNear now x
+    same : (x : Sender) → x.rto ≡ s.rto → x.timer ≡ s.timer → SenderNear now x
     same x p q = record {
       time = omega (arith, p, h.time);
       timer = subst (TimerDue (λ y. y ≤ now + reach)) (sym q) h.timer;
@@ -85,7 +85,7 @@ ack-near f now upto s t h =
 
 started-near : (now : ℕ) (s : Sender) → SenderNear now s → TimerDue (λ t. t ≤ now + reach) (started_timer now s)
 started-near now s h =
-    if-timer (now + reach) (is_none s.timer) (Some (now + s.timeout)) s.timer (omega (arith, h.time)) h.timer
+    if-timer (now + reach) (is_none s.timer) (Some (now + s.rto)) s.timer (omega (arith, h.time)) h.timer
 
 emit-near : (f : FlowSpec) (now : ℕ) (s : Sender) → SenderNear now s → SenderNear now (emit f now s)
 emit-near f now s h =
@@ -95,7 +95,7 @@ emit-near f now s h =
 expire-near : (f : FlowSpec) (now : ℕ) (s : Sender) → SenderNear now (expire f now s)
 expire-near f now s = record { time = doubled; timer = omega (arith, doubled) }
   where
-    doubled : min (2 * s.timeout) longest ≤ reach
+    doubled : min (2 * s.rto) longest ≤ reach
     doubled = omega arith
 
 record TrainNear (m : ℕ) (t : TrainState) : Type 0 where
@@ -196,7 +196,7 @@ line-due m l h = go l.flight h.flight
 instance-due : (m bw : ℕ) (i : Instance) → InstanceNear m bw i → InstanceDue (λ x. x ≤ m + reach) i
 instance-due m bw i h = record { line = line-due m i.line h.line; service = go i.service h.service }
   where
-    go : (o : Option InService) → ServiceNear m bw o → FinishDue (λ x. x ≤ m + reach) o
+    go : (o : Option (InService Packet)) → ServiceNear m bw o → FinishDue (λ x. x ≤ m + reach) o
     go None q = tt
     go (Some s) q = q.period.near
 
@@ -228,7 +228,7 @@ count_step-near s g =
 
 -- where the next event is due when its source is
 record IsTimely (class : Class) (m k : ℕ) (n : Net) : Type 0 where
-  served : class ≡ Finish → (p : PipeState) (i : Instance) (o : InService) → find_pipe (k / 256) n ≡ Some p →
+  served : class ≡ Finish → (p : PipeState) (i : Instance) (o : InService Packet) → find_pipe (k / 256) n ≡ Some p →
       slice_get p.instances (k % 256) ≡ Some i → i.service ≡ Some o → m ≡ o.period.finish
   sent : class ≡ Emission → (t : TrainState) → find_train k n ≡ Some t → nat_lt t.sent t.train.count ≡ true →
       m ≡ t.start + t.sent * t.train.gap

@@ -5,7 +5,7 @@ use Rattle.std.proofs.lemmas.Bool.{lt-ltb, ltb-true, ltb-false}
 use Rattle.std.proofs.lemmas.List.Elements.{All-nil, All-cons}
 use Rattle.emu_model.specs.Types.{Packet}
 use Rattle.emu_model.specs.DropTail.{Waiting}
-use Rattle.emu_model.specs.Codel.{Times, Control, Dequeued, is_droppable, look, look_empty, drop_on, drop_first, count_up, set_next, opening_count, after_drop, give, give_none, stop_dropping, control_law}
+use Rattle.emu_model.specs.Codel.{Times, CodelState, Dequeued, ok_to_drop, look, look_empty, drop_on, drop_first, count_up, set_next, initial_count, after_drop, give, give_none, stop_dropping, control_law}
 use Rattle.emu_model.specs.CodelLaws.{drop_moment, drop_moments, DropsAreOnTime, DroppingBeginsWithOne, ReentryGoesOn}
 
 -- a dequeue that drops what is due of the moments from one on
@@ -17,17 +17,17 @@ OnTime times now moment count d =
     (d.control.drop_next ≡ drop_moment times.interval moment count (length d.dropped))
     × (now < d.control.drop_next))
 
-given-on-time : (times : Times) (now : ℕ) (c : Control) (w : Waiting Packet) (rest : List (Waiting Packet)) →
+given-on-time : (times : Times) (now : ℕ) (c : CodelState) (w : Waiting Packet) (rest : List (Waiting Packet)) →
     now < c.drop_next → OnTime times now c.drop_next c.count (give c w rest)
 given-on-time times now c w rest h = (All-nil (λ m. m ≤ now), omega arith, λ e. (refl, h))
 
 -- one that stops drops nothing more
-stopped-on-time : (times : Times) (now moment count : ℕ) (c : Control) (w : Waiting Packet) (rest : List (Waiting Packet)) →
+stopped-on-time : (times : Times) (now moment count : ℕ) (c : CodelState) (w : Waiting Packet) (rest : List (Waiting Packet)) →
     c.count ≡ count → OnTime times now moment count (give (stop_dropping c) w rest)
 stopped-on-time times now moment count c w rest e =
     (All-nil (λ m. m ≤ now), omega (arith, e), λ g. absurd (cc g))
 
-emptied-on-time : (times : Times) (now moment count : ℕ) (c : Control) →
+emptied-on-time : (times : Times) (now moment count : ℕ) (c : CodelState) →
     c.count ≡ count → OnTime times now moment count (give_none (stop_dropping c))
 emptied-on-time times now moment count c e =
     (All-nil (λ m. m ≤ now), omega (arith, e), λ g. absurd (cc g))
@@ -39,11 +39,11 @@ dropped-on-time times now moment count w d h t =
     (All-cons (λ m. m ≤ now) moment _ h t.0, omega (arith, t.1), t.2)
 
 -- the state at the next head, once one more was dropped
-abbrev next : Times → ℕ → Control → Waiting Packet → List (Waiting Packet) → Control
+abbrev next : Times → ℕ → CodelState → Waiting Packet → List (Waiting Packet) → CodelState
 next times now c v rest =
     let counted = look times now (count_up c) v rest in set_next times counted.drop_next counted
 
-on-time : (times : Times) (now : ℕ) (rest : List (Waiting Packet)) (c : Control) (w : Waiting Packet) →
+on-time : (times : Times) (now : ℕ) (rest : List (Waiting Packet)) (c : CodelState) (w : Waiting Packet) →
     c.count + length (w ∷ rest) < 2 ^ 32 →
     OnTime times now c.drop_next c.count (drop_on times now c w rest)
 on-time times now [] c w room = go (nat_lt now c.drop_next) refl
@@ -58,7 +58,7 @@ on-time times now [] c w room = go (nat_lt now c.drop_next) refl
         (emptied-on-time times now _ (c.count + 1) (look_empty (count_up c)) (omega (arith, room)))
 on-time times now (v ∷ rest) c w room =
     let up : min (c.count + 1) (2 ^ 32 - 1) ≡ c.count + 1 = omega (arith, room) in
-    go up (nat_lt now c.drop_next) (is_droppable times now c v rest) refl
+    go up (nat_lt now c.drop_next) (ok_to_drop times now c v rest) refl
     (subst (λ k. OnTime times now (control_law times.interval c.drop_next k) k
     (drop_on times now (next times now c v rest) v rest)) up
     (on-time times now rest (next times now c v rest) v (omega (arith, room))))
@@ -80,7 +80,7 @@ on-time times now (v ∷ rest) c w room =
 
 pub drops_are_on_time : DropsAreOnTime
 drops_are_on_time times now c [] b room = emptied-on-time times now _ _ (look_empty c) refl
-drops_are_on_time times now c (w ∷ rest) b room = go (is_droppable times now c w rest) c.dropping b
+drops_are_on_time times now c (w ∷ rest) b room = go (ok_to_drop times now c w rest) c.dropping b
   where
     go : (d e : Bool) → e ≡ true → OnTime times now c.drop_next c.count
         (if not d then give (stop_dropping (look times now c w rest)) w rest
@@ -97,14 +97,14 @@ Begins times now d =
     × (length d.dropped ≡ 1 → (d.control.dropping ≡ true) × (d.control.last_count ≡ d.control.count)
     × (d.control.drop_next ≡ control_law times.interval now d.control.count))
 
-first-begins : (times : Times) (now : ℕ) (c : Control) (w : Waiting Packet) (rest : List (Waiting Packet)) →
+first-begins : (times : Times) (now : ℕ) (c : CodelState) (w : Waiting Packet) (rest : List (Waiting Packet)) →
     Begins times now (drop_first times now c w rest)
 first-begins times now c w [] = (omega arith, λ h. (refl, refl, refl))
 first-begins times now c w (v ∷ rest) = (omega arith, λ h. (refl, refl, refl))
 
 pub dropping_begins_with_one : DroppingBeginsWithOne
 dropping_begins_with_one times now c [] b = (omega arith, λ h. absurd (omega (arith, h)))
-dropping_begins_with_one times now c (w ∷ rest) b = rw b (go (is_droppable times now c w rest))
+dropping_begins_with_one times now c (w ∷ rest) b = rw b (go (ok_to_drop times now c w rest))
   where
     go : (d : Bool) → Begins times now
         (if not d then give (stop_dropping (look times now c w rest)) w rest
@@ -113,13 +113,13 @@ dropping_begins_with_one times now c (w ∷ rest) b = rw b (go (is_droppable tim
     go true = first-begins times now (look times now c w rest) w rest
 
 -- the count with which dropping begins, soon after the last and later
-abbrev Reenters : Times → ℕ → Control → ℕ → Type 0
+abbrev Reenters : Times → ℕ → CodelState → ℕ → Type 0
 Reenters times now c count =
     (now < c.drop_next + 16 * times.interval → 2 + c.last_count ≤ c.count →
     count ≡ c.count - c.last_count)
     × (c.drop_next + 16 * times.interval ≤ now → count ≡ 1)
 
-opened : (times : Times) (now : ℕ) (c : Control) → Reenters times now c (opening_count times now c)
+opened : (times : Times) (now : ℕ) (c : CodelState) → Reenters times now c (initial_count times now c)
 opened times now c = (
   λ soon more. rw (lt-ltb 1 (c.count - c.last_count) (omega (arith, more)))
       (rw (lt-ltb now (c.drop_next + 16 * times.interval) soon) refl),
@@ -133,14 +133,14 @@ opened times now c = (
     go late true false e = refl
     go late false false e = refl
 
-first-reenters : (times : Times) (now : ℕ) (c : Control) (w : Waiting Packet) (rest : List (Waiting Packet)) →
+first-reenters : (times : Times) (now : ℕ) (c : CodelState) (w : Waiting Packet) (rest : List (Waiting Packet)) →
     Reenters times now c (drop_first times now c w rest).control.count
 first-reenters times now c w [] = opened times now (look_empty c)
 first-reenters times now c w (v ∷ rest) = opened times now (look times now c v rest)
 
 pub reentry_goes_on : ReentryGoesOn
 reentry_goes_on times now c [] b = λ h. absurd (omega (arith, h))
-reentry_goes_on times now c (w ∷ rest) b = rw b (go (is_droppable times now c w rest))
+reentry_goes_on times now c (w ∷ rest) b = rw b (go (ok_to_drop times now c w rest))
   where
     go : (d : Bool) →
         let q = (if not d then give (stop_dropping (look times now c w rest)) w rest else drop_first times now (look times now c w rest) w rest) in

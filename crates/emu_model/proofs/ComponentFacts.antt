@@ -1,6 +1,6 @@
 -- The laws of the components.
 use Rattle.std.proofs.Common.{◌≡◌, ℕ, zero, suc, ◌+◌, ◌-◌, ◌^◌, ◌≤◌, ◌<◌, List, [], ◌∷◌, ◌++◌, Bool, true, false, refl, sym, ◌∙◌, ap, Some, append_assoc, append-nil, zero-add, add-one, length, take, arith}
-use Rattle.std.specs.Prelude.{if◌then◌else◌, not, ◌&&◌, ◌||◌, nat_lt, map, sum, All, slice_get, option_to_list}
+use Rattle.std.specs.Prelude.{if◌then◌else◌, not, ◌||◌, nat_lt, nat_le, map, sum, All, slice_get, option_to_list}
 use Rattle.std.proofs.lemmas.Bool.{leb-true, lt-ltb, ltb-true, ltb-false}
 use Rattle.std.proofs.lemmas.List.{length-append, map-append}
 use Rattle.std.proofs.lemmas.List.Elements.{All-nil, All-cons}
@@ -10,7 +10,7 @@ use Rattle.rand_chacha.specs.Block.{block_word}
 use Rattle.emu_model.specs.Types.{Packet, Slots, KBytes}
 use Rattle.emu_model.specs.Loss.{loss_word}
 use Rattle.emu_model.specs.DropTail.{Waiting, bytes_of}
-use Rattle.emu_model.specs.Codel.{Times, Control, Dequeued, is_droppable, look, look_empty, drop_on, drop_first, count_up, set_next, codel_dequeue, after_drop, give, give_none, stop_dropping}
+use Rattle.emu_model.specs.Codel.{Times, CodelState, Dequeued, dodequeue, ok_to_drop, look, look_empty, drop_on, drop_first, count_up, set_next, codel_dequeue, after_drop, give, give_none, stop_dropping}
 use Rattle.emu_model.specs.Rate.{finish_at, finishes}
 use Rattle.emu_model.specs.Delay.{enter, exit_after, exits}
 use Rattle.emu_model.specs.ComponentLaws.{served, FinishesAreFolded, FinishesRoundOnce, exits_of, ExitsAreFolded, ExitsNeverFall, LossHasItsExtremes, AcceptsWithinLimit, CodelKeepsOrder, CodelSparesTheQuick}
@@ -92,7 +92,7 @@ record Faithful (times : Times) (now : ℕ) (ws : List (Waiting Packet)) (d : De
   order : d.dropped ++ option_to_list d.given ++ d.rest ≡ ws
   late : All (λ w. times.target ≤ now - w.stamp) d.dropped
 
-given-faithful : (times : Times) (now : ℕ) (c : Control) (w : Waiting Packet) (rest : List (Waiting Packet)) →
+given-faithful : (times : Times) (now : ℕ) (c : CodelState) (w : Waiting Packet) (rest : List (Waiting Packet)) →
     Faithful times now (w ∷ rest) (give c w rest)
 given-faithful times now c w rest = record { order = refl; late = All-nil (λ v. times.target ≤ now - v.stamp) }
 
@@ -104,25 +104,25 @@ dropped-faithful times now w ws d h f = record {
   late = All-cons (λ v. times.target ≤ now - v.stamp) w d.dropped h f.late;
 }
 
-none-faithful : (times : Times) (now : ℕ) (c : Control) → Faithful times now [] (give_none c)
+none-faithful : (times : Times) (now : ℕ) (c : CodelState) → Faithful times now [] (give_none c)
 none-faithful times now c = record { order = refl; late = All-nil (λ v. times.target ≤ now - v.stamp) }
 
 -- a head that may be dropped stayed for the target at least
-long_stay : (target stay : ℕ) (few some past : Bool) →
-    (not (nat_lt stay target || few) && some && past) ≡ true → target ≤ stay
-long_stay target stay few some past e = go (nat_lt stay target) refl e
+long_stay : (times : Times) (now above stay : ℕ) (few : Bool) →
+    (dodequeue times now above (nat_lt stay times.target || few)).ok_to_drop ≡ true → times.target ≤ stay
+long_stay times now above stay few e = go (nat_lt stay times.target) refl e
   where
-    go : (b : Bool) → nat_lt stay target ≡ b → (not (b || few) && some && past) ≡ true →
-        target ≤ stay
+    go : (b : Bool) → nat_lt stay times.target ≡ b →
+        (dodequeue times now above (b || few)).ok_to_drop ≡ true → times.target ≤ stay
     go true h g = absurd (cc g)
     go false h g = ltb-false _ _ h
 
 -- the state at the next head, once one more was dropped
-abbrev next : Times → ℕ → Control → Waiting Packet → List (Waiting Packet) → Control
+abbrev next : Times → ℕ → CodelState → Waiting Packet → List (Waiting Packet) → CodelState
 next times now c v rest =
     let counted = look times now (count_up c) v rest in set_next times counted.drop_next counted
 
-on-faithful : (times : Times) (now : ℕ) (rest : List (Waiting Packet)) (c : Control) (w : Waiting Packet) →
+on-faithful : (times : Times) (now : ℕ) (rest : List (Waiting Packet)) (c : CodelState) (w : Waiting Packet) →
     times.target ≤ now - w.stamp → Faithful times now (w ∷ rest) (drop_on times now c w rest)
 on-faithful times now [] c w h =
     elim (nat_lt now c.drop_next) as (λ b. Faithful times now (w ∷ [])
@@ -131,10 +131,10 @@ on-faithful times now [] c w h =
       | false ↦ dropped-faithful times now w [] _ h (none-faithful times now _)
     ]
 on-faithful times now (v ∷ rest) c w h =
-    go (nat_lt now c.drop_next) (is_droppable times now c v rest) refl
+    go (nat_lt now c.drop_next) (ok_to_drop times now c v rest) refl
     (λ g. on-faithful times now rest (next times now c v rest) v g)
   where
-    go : (b d : Bool) → is_droppable times now c v rest ≡ d →
+    go : (b d : Bool) → ok_to_drop times now c v rest ≡ d →
         (times.target ≤ now - v.stamp →
         Faithful times now (v ∷ rest) (drop_on times now (next times now c v rest) v rest)) →
         Faithful times now (w ∷ v ∷ rest)
@@ -143,30 +143,30 @@ on-faithful times now (v ∷ rest) c w h =
         else after_drop w (give (stop_dropping (look times now (count_up c) v rest)) v rest)))
     go true d e ih = given-faithful times now c w (v ∷ rest)
     go false true e ih =
-        dropped-faithful times now w (v ∷ rest) _ h (ih (long_stay _ _ _ _ _ e))
+        dropped-faithful times now w (v ∷ rest) _ h (ih (long_stay times now c.first_above_time (now - v.stamp) (nat_le (bytes_of rest) 1500) e))
     go false false e ih =
         dropped-faithful times now w (v ∷ rest) _ h (given-faithful times now _ v rest)
 
-first-faithful : (times : Times) (now : ℕ) (c : Control) (w : Waiting Packet) (rest : List (Waiting Packet)) →
+first-faithful : (times : Times) (now : ℕ) (c : CodelState) (w : Waiting Packet) (rest : List (Waiting Packet)) →
     times.target ≤ now - w.stamp → Faithful times now (w ∷ rest) (drop_first times now c w rest)
 first-faithful times now c w [] h =
     dropped-faithful times now w [] _ h (none-faithful times now _)
 first-faithful times now c w (v ∷ rest) h =
     dropped-faithful times now w (v ∷ rest) _ h (given-faithful times now _ v rest)
 
-codel-faithful : (times : Times) (now : ℕ) (c : Control) (ws : List (Waiting Packet)) →
+codel-faithful : (times : Times) (now : ℕ) (c : CodelState) (ws : List (Waiting Packet)) →
     Faithful times now ws (codel_dequeue times now c ws)
 codel-faithful times now c [] = none-faithful times now _
-codel-faithful times now c (w ∷ rest) = go (is_droppable times now c w rest) c.dropping refl
+codel-faithful times now c (w ∷ rest) = go (ok_to_drop times now c w rest) c.dropping refl
   where
-    go : (d b : Bool) → is_droppable times now c w rest ≡ d →
+    go : (d b : Bool) → ok_to_drop times now c w rest ≡ d →
         Faithful times now (w ∷ rest)
         (if not d then give (stop_dropping (look times now c w rest)) w rest
         else (if b then drop_on times now (look times now c w rest) w rest
         else drop_first times now (look times now c w rest) w rest))
     go false b e = given-faithful times now (stop_dropping (look times now c w rest)) w rest
-    go true true e = on-faithful times now rest (look times now c w rest) w (long_stay _ _ _ _ _ e)
-    go true false e = first-faithful times now (look times now c w rest) w rest (long_stay _ _ _ _ _ e)
+    go true true e = on-faithful times now rest (look times now c w rest) w (long_stay times now c.first_above_time (now - w.stamp) (nat_le (bytes_of rest) 1500) e)
+    go true false e = first-faithful times now (look times now c w rest) w rest (long_stay times now c.first_above_time (now - w.stamp) (nat_le (bytes_of rest) 1500) e)
 
 pub codel_keeps_order : CodelKeepsOrder
 codel_keeps_order times now c ws = (codel-faithful times now c ws).order

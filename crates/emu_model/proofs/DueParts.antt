@@ -17,7 +17,7 @@ abbrev pub ExitDue : (ℕ → Type 0) → List (Leaving Packet) → Type 0
 ExitDue D [] = Unit {0}
 ExitDue D (x ∷ xs) = D x.exit
 
-abbrev pub FinishDue : (ℕ → Type 0) → Option InService → Type 0
+abbrev pub FinishDue : (ℕ → Type 0) → Option (InService Packet) → Type 0
 FinishDue D None = Unit {0}
 FinishDue D (Some s) = D s.period.finish
 
@@ -110,12 +110,12 @@ module _ (D : ℕ → Type 0) where
       go [] q = tt
       go (x ∷ xs) q = q.0
 
-  service-to : (k : ℕ) (o : Option InService) → FinishDue D o →
+  service-to : (k : ℕ) (o : Option (InService Packet)) → FinishDue D o →
       AllByRecursion IsDue (option_to_list (option_map (λ s. due Finish k s.period.finish) o))
   service-to k None h = tt
   service-to k (Some s) h = (h, tt)
 
-  service-from : (k : ℕ) (o : Option InService) →
+  service-from : (k : ℕ) (o : Option (InService Packet)) →
       AllByRecursion IsDue (option_to_list (option_map (λ s. due Finish k s.period.finish) o)) → FinishDue D o
   service-from k None d = tt
   service-from k (Some s) d = d.0

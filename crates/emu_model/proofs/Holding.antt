@@ -6,7 +6,7 @@ use Rattle.std.specs.List.{AllByRecursion}
 use Rattle.emu_model.specs.Types.{Class, NextCommand, Exit, Finish, Expiry, Emission, Place, Packet, Load, Plain, Seg, Ack, Verdict, Allow, Deny, Pipe, SendSpec, PipeConfig, NoPipe, Budget, Command, Add, Delete, Config, PipeDelete, PipeShow, Show, Inject, Train, Flow, Stop, OnePass, Trace, End, CommandDone, CommandRefused, PacketDelivered, PacketPassed}
 use Rattle.emu_model.specs.Rules.{verdict, start_behind, counted_book}
 use Rattle.emu_model.specs.Delay.{Line, first_item, enter, leave}
-use Rattle.emu_model.specs.Reno.{ack, expire, with_segment, missing, emitted, emit, opening_sender}
+use Rattle.emu_model.specs.Reno.{ack, expire, with_segment, missing, emitted, emit, initial_sender}
 use Rattle.emu_model.specs.Pipes.{InService, PipeState, After, pipe_arrive, pipe_finish, pipe_exit, pipe_configure}
 use Rattle.emu_model.specs.Net.{Net, Setting, FlowState, TrainState, note, note_traced, note_arrival, enter_pipe, make_record, held, drop_packet, find_pipe, put_pipe, put_after, to_pipe, by_verdict, pass_rules_from, pass_rules, go_on, packet_of, make, data_send, ack_send, put_flow, put_train, find_flow, find_train, note_ack, take_segment, take_ack, take_load, deliver}
 use Rattle.emu_model.specs.Commands.{with_pipe, new_pipe, delete_pipe, stop_flow, refusal_of, effect_of, obey}
@@ -54,7 +54,7 @@ Fits h now (Config k config) =
 Fits h now (Inject send) = (l : Load) (k : ℕ) → h.packet (packet_of l send k)
 Fits h now (Train k t) = h.train (record { number = k; train = t; start = now; sent = 0 })
 Fits h now (Flow k f) =
-    h.flow (record { number = k; flow = f; sender = opening_sender f; stopped = false; came = [] })
+    h.flow (record { number = k; flow = f; sender = initial_sender f; stopped = false; came = [] })
 Fits h now _ = Unit {0}
 
 -- what holds of each part by two other facts of it
@@ -151,7 +151,7 @@ module _ (h : Facts) (at : Setting) (keeps : Keeps h at) where
   make-holds l send n fits s =
       let p : Packet = packet_of l send n.made in
       let m : Net = note_traced (make_record at.now p ∷ []) (record n { made = n.made + 1 }) in
-      either (Holds h) (nat_lt (held n) at.room) (pass_rules at p m) (drop_packet at.now Budget p m)
+      either (Holds h) (nat_lt (held n) at.packet_budget) (pass_rules at p m) (drop_packet at.now Budget p m)
       (pass_rules_from-holds 0 p m fits (same_parts h n m refl refl refl refl s))
       (same_parts h n (drop_packet at.now Budget p m) refl refl refl refl s)
 
@@ -206,7 +206,7 @@ module _ (h : Facts) (at : Setting) (keeps : Keeps h at) where
       some_or (Holds h) (λ q. leave_pipe at pipe k q m) (flying_in k p) m
       (λ q e. leave_pipe-holds pipe k q m (keeps.pipe_leaving k q p e fits) left) left
 
-  note_finish-holds : (pipe k : ℕ) (o : Option InService) (n : Net) → Holds h n →
+  note_finish-holds : (pipe k : ℕ) (o : Option (InService Packet)) (n : Net) → Holds h n →
       Holds h (note_finish at.now pipe k o n)
   note_finish-holds pipe k None n s = s
   note_finish-holds pipe k (Some i) n s = same_parts h n (note_finish at.now pipe k (Some i) n) refl refl refl refl s

@@ -4,7 +4,7 @@ use Rattle.std.proofs.lemmas.List.{map-append}
 use Rattle.std.specs.Prelude.{if◌then◌else◌, is_some, map, option_map, option_to_list}
 use Rattle.emu_model.specs.Types.{Packet, PipeConfig, Discipline, TailDrop, ControlledDelay, Lost, Full}
 use Rattle.emu_model.specs.DropTail.{Waiting, accepts}
-use Rattle.emu_model.specs.Codel.{Times, Control, Dequeued, codel_dequeue}
+use Rattle.emu_model.specs.Codel.{Times, CodelState, Dequeued, codel_dequeue}
 use Rattle.emu_model.specs.Delay.{Line, Leaving, first_item, leave}
 use Rattle.emu_model.specs.Pipes.{Instance, InService, After, dequeue, period_with, serve_next, no_drop, drop_one, enqueue, accept, instance_arrive, instance_finish, instance_configure, cut_service, send_off}
 use Rattle.emu_model.specs.TraceLaws.{IsSublist}
@@ -15,8 +15,8 @@ use Rattle.emu_model.proofs.ComponentFacts.{codel_keeps_order}
 abbrev pub waiting_numbers : List (Waiting Packet) → List ℕ
 waiting_numbers ws = map (λ w. w.item.number) ws
 
-abbrev pub served_numbers : Option InService → List ℕ
-served_numbers o = map (λ s. s.packet.number) (option_to_list o)
+abbrev pub served_numbers : Option (InService Packet) → List ℕ
+served_numbers o = map (λ s. s.item.number) (option_to_list o)
 
 abbrev pub flight_numbers : Instance → List ℕ
 flight_numbers i = map (λ x. x.item.number) i.line.flight
@@ -25,7 +25,7 @@ flight_numbers i = map (λ x. x.item.number) i.line.flight
 abbrev pub inside_numbers : Instance → List ℕ
 inside_numbers i = served_numbers i.service ++ waiting_numbers i.waiting
 
-dequeue-order : (d : Discipline) (now : ℕ) (c : Control) (ws : List (Waiting Packet)) →
+dequeue-order : (d : Discipline) (now : ℕ) (c : CodelState) (ws : List (Waiting Packet)) →
     let q = dequeue d now c ws in q.dropped ++ (option_to_list q.given ++ q.rest) ≡ ws
 dequeue-order TailDrop now c [] = refl
 dequeue-order TailDrop now c (w ∷ ws) = refl
@@ -34,7 +34,7 @@ dequeue-order (ControlledDelay target interval) now c ws =
     let d : Dequeued Packet = codel_dequeue times now c ws in
     sym (append_assoc d.dropped (option_to_list d.given) d.rest) ∙ codel_keeps_order times now c ws
 
-given-numbers : (f : Waiting Packet → InService) → ((w : Waiting Packet) → (f w).packet.number ≡ w.item.number) →
+given-numbers : (f : Waiting Packet → InService Packet) → ((w : Waiting Packet) → (f w).item.number ≡ w.item.number) →
     (o : Option (Waiting Packet)) → served_numbers (option_map f o) ≡ waiting_numbers (option_to_list o)
 given-numbers f h None = refl
 given-numbers f h (Some w) = ap (λ k. k ∷ []) (h w)
@@ -44,8 +44,8 @@ serve_next-order : (config : PipeConfig) (now : ℕ) (i : Instance) →
     IsSublist (inside_numbers (serve_next config now i).state) (waiting_numbers i.waiting)
 serve_next-order config now i =
     let d : Dequeued Packet = dequeue config.discipline now i.control i.waiting in
-    let served : Waiting Packet → InService =
-    λ w. record { packet = w.item; period = period_with config.bw now w.size i.service } in
+    let served : Waiting Packet → InService Packet =
+    λ w. record { item = w.item; period = period_with config.bw now w.size i.service } in
     let kept : List (Waiting Packet) = option_to_list d.given ++ d.rest in
     sub-trans (inside_numbers (serve_next config now i).state) (waiting_numbers kept) (waiting_numbers i.waiting)
     (sub-same (inside_numbers (serve_next config now i).state) (waiting_numbers kept)
@@ -72,7 +72,7 @@ enqueued now p i = map-append (λ w. w.item.number) i.waiting (record { item = p
 accept-came : (config : PipeConfig) (now : ℕ) (p : Packet) (i : Instance) → Came p i (accept config now p i).state
 accept-came config now p i = go i.service refl
   where
-    go : (o : Option InService) → i.service ≡ o →
+    go : (o : Option (InService Packet)) → i.service ≡ o →
         Came p i (if is_some o then no_drop (enqueue now p i) else serve_next config now (enqueue now p i)).state
     go None e = record {
       flight = refl;
@@ -108,7 +108,7 @@ pub record Served (i j : Instance) : Type 0 where
   pub flight : flight_numbers i ++ served_numbers i.service ≡ flight_numbers j
   pub inside : IsSublist (served_numbers i.service ++ inside_numbers j) (inside_numbers i)
 
-sent_off-numbers : (config : PipeConfig) (now : ℕ) (o : Option InService) (l : Line Packet) →
+sent_off-numbers : (config : PipeConfig) (now : ℕ) (o : Option (InService Packet)) (l : Line Packet) →
     map (λ x. x.item.number) l.flight ++ served_numbers o ≡ map (λ x. x.item.number) (send_off config now o l).flight
 sent_off-numbers config now None l = append-nil (map (λ x. x.item.number) l.flight)
 sent_off-numbers config now (Some s) l = sym (map-append (λ x. x.item.number) l.flight _)
@@ -142,6 +142,6 @@ pub configured-inside : (old new : PipeConfig) (i : Instance) →
     inside_numbers (instance_configure old new i) ≡ inside_numbers i
 configured-inside old new i = ap (λ x. x ++ waiting_numbers i.waiting) (cut i.service)
   where
-    cut : (o : Option InService) → served_numbers (option_map cut_service o) ≡ served_numbers o
+    cut : (o : Option (InService Packet)) → served_numbers (option_map cut_service o) ≡ served_numbers o
     cut None = refl
     cut (Some s) = refl

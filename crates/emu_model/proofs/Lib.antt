@@ -1,5 +1,5 @@
 mod Later
-mod Walk
+mod ChangesWalk
 mod Growth
 mod ControlRoot
 mod ComponentFacts
@@ -7,7 +7,7 @@ mod Ends
 mod LossRate
 mod Prefixes
 mod Sums
-mod Keeping
+mod PacketsKept
 mod PipeKeeping
 mod Conserved
 mod OneByOne
@@ -16,12 +16,13 @@ mod Sublists
 mod InstanceOrder
 mod PipeOrder
 mod FoundPipes
-mod Order
+mod PassingOrder
 mod Numbers
 mod Single
 mod AllFacts
 mod Holding
 mod Ahead
+mod Cuts
 pub mod CallerLemmas
 mod PipeParts
 mod DueParts

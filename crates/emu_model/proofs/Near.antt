@@ -9,7 +9,7 @@ use Rattle.emu_model.specs.Lists.{tail}
 use Rattle.emu_model.specs.Rate.{finish_at, Period, follow, cut_period}
 use Rattle.emu_model.specs.Delay.{exit_after, Leaving, Line, enter, leave, first_item, delay_ns}
 use Rattle.emu_model.specs.DropTail.{Waiting, accepts}
-use Rattle.emu_model.specs.Codel.{Control, Dequeued}
+use Rattle.emu_model.specs.Codel.{CodelState, Dequeued}
 use Rattle.emu_model.specs.Pipes.{InService, Instance, PipeState, After, dequeue, period_with, serve_next, no_drop, drop_one, enqueue, accept, drawn_one, instance_arrive, pipe_arrive, send_off, instance_finish, pipe_finish, pipe_exit, instance_configure, pipe_configure, cut_service}
 use Rattle.emu_model.specs.Events.{flying_in}
 use Rattle.emu_model.proofs.AllFacts.{either, each_joined, each_front, each_back, each_weaker, each_mapped, each_got, each_changed}
@@ -91,11 +91,11 @@ follow-near now (suc bw) size p small f e = record {
 cut-near : (m old bw : ℕ) (p : Period) → PeriodNear m old p → PeriodNear m bw (cut_period p)
 cut-near m old bw p h = record { near = h.near; at = finish_at-none bw p.finish }
 
-pub record ServedNear (m bw : ℕ) (s : InService) : Type 0 where
-  pub packet : IsSmall s.packet
+pub record ServedNear (m bw : ℕ) (s : InService Packet) : Type 0 where
+  pub packet : IsSmall s.item
   pub period : PeriodNear m bw s.period
 
-abbrev pub ServiceNear : ℕ → ℕ → Option InService → Type 0
+abbrev pub ServiceNear : ℕ → ℕ → Option (InService Packet) → Type 0
 ServiceNear m bw None = Unit {0}
 ServiceNear m bw (Some s) = ServedNear m bw s
 
@@ -112,11 +112,11 @@ pub record PipeNear (m : ℕ) (p : PipeState) : Type 0 where
   pub each : AllByRecursion (InstanceNear m p.config.bw) p.instances
 
 -- a server that rests, or has finished by now
-abbrev IsReady : ℕ → ℕ → Option InService → Type 0
+abbrev IsReady : ℕ → ℕ → Option (InService Packet) → Type 0
 IsReady now bw None = Unit {0}
 IsReady now bw (Some s) = (s.period.finish ≤ now) × (s.period.finish ≡ finish_at bw s.period.start s.period.sum)
 
-period_with-near : (bw now size : ℕ) (o : Option InService) → size ≤ 1500 → IsReady now bw o →
+period_with-near : (bw now size : ℕ) (o : Option (InService Packet)) → size ≤ 1500 → IsReady now bw o →
     PeriodNear now bw (period_with bw now size o)
 period_with-near bw now size None small h =
     follow-near now bw size (record { start = now; sum = 0; finish = now }) small (omega arith) (finish_at-none bw now)
@@ -138,7 +138,7 @@ in-order d ws e h =
       rest = each_back WaitsSmall (d.dropped ++ option_to_list d.given) d.rest all;
     }
 
-dequeue-small : (d : Discipline) (now : ℕ) (c : Control) (ws : List (Waiting Packet)) →
+dequeue-small : (d : Discipline) (now : ℕ) (c : CodelState) (ws : List (Waiting Packet)) →
     AllByRecursion WaitsSmall ws → GivesSmall (dequeue d now c ws)
 dequeue-small TailDrop now c [] h = record { given = tt; rest = tt }
 dequeue-small TailDrop now c (w ∷ ws) h = record { given = (h.0, tt); rest = h.1 }
@@ -156,7 +156,7 @@ serve_next-near config now i line ready waits =
   where
     go : (o : Option (Waiting Packet)) → AllByRecursion WaitsSmall (option_to_list o) →
         ServiceNear now config.bw (option_map (λ w. record {
-          packet = w.item;
+          item = w.item;
           period = period_with config.bw now w.size i.service;
         }) o)
     go None h = tt
@@ -179,7 +179,7 @@ instance_arrive-near config now p lost i small h =
         each_joined WaitsSmall i.waiting (record { item = p; size = p.size; stamp = now } ∷ []) h.waiting
         ((small, small), tt)
 
-    taken : (o : Option InService) → i.service ≡ o →
+    taken : (o : Option (InService Packet)) → i.service ≡ o →
         P (if is_some o then no_drop (enqueue now p i) else serve_next config now (enqueue now p i))
     taken None e =
         serve_next-near config now (enqueue now p i) h.line (subst (IsReady now config.bw) (sym e) tt) waits
@@ -201,15 +201,15 @@ pipe_arrive-near seed now packet p small h =
     (λ lost i q. instance_arrive-near p.config now packet lost (drawn_one i) small
     (record { line = q.line; service = q.service; waiting = q.waiting })) h.each)
 
-send_off-near : (config : PipeConfig) (now bw : ℕ) (o : Option InService) (l : Line Packet) → config.delay ≤ 60000 →
+send_off-near : (config : PipeConfig) (now bw : ℕ) (o : Option (InService Packet)) (l : Line Packet) → config.delay ≤ 60000 →
     ServiceNear now bw o → LineNear now l → LineNear now (send_off config now o l)
 send_off-near config now bw None l d s h = h
 send_off-near config now bw (Some x) l d s h =
-    entered-near now (delay_ns config.delay) x.packet l (omega (arith, d)) s.packet h
+    entered-near now (delay_ns config.delay) x.item l (omega (arith, d)) s.packet h
 
 -- where what instance k serves has finished by now
 pub pipe_finish-near : (now k : ℕ) (p : PipeState) →
-    ((i : Instance) (s : InService) → slice_get p.instances k ≡ Some i → i.service ≡ Some s → s.period.finish ≤ now) →
+    ((i : Instance) (s : InService Packet) → slice_get p.instances k ≡ Some i → i.service ≡ Some s → s.period.finish ≤ now) →
     PipeNear now p → PipeNear now (pipe_finish now k p).state
 pipe_finish-near now k p done h =
     pipe-near now p.config (pipe_finish now k p).state h.delay
@@ -219,7 +219,7 @@ pipe_finish-near now k p done h =
     (send_off-near p.config now p.config.bw i.service i.line h.delay q.service q.line)
     (ready i.service q.service (λ s g. done i s e g)) q.waiting))
   where
-    ready : (o : Option InService) → ServiceNear now p.config.bw o → ((s : InService) → o ≡ Some s → s.period.finish ≤ now) →
+    ready : (o : Option (InService Packet)) → ServiceNear now p.config.bw o → ((s : InService Packet) → o ≡ Some s → s.period.finish ≤ now) →
         IsReady now p.config.bw o
     ready None q g = tt
     ready (Some s) q g = (g s refl, q.period.at)
@@ -248,7 +248,7 @@ pipe_configure-near m config p d h = record {
       (λ i q. record { line = q.line; service = cut i.service q.service; waiting = q.waiting }) p.instances h.each;
 }
   where
-    cut : (o : Option InService) → ServiceNear m p.config.bw o → ServiceNear m config.bw (option_map cut_service o)
+    cut : (o : Option (InService Packet)) → ServiceNear m p.config.bw o → ServiceNear m config.bw (option_map cut_service o)
     cut None q = tt
     cut (Some s) q = record { packet = q.packet; period = cut-near m p.config.bw config.bw s.period q.period }
 
@@ -263,7 +263,7 @@ instance-later : (low m bw : ℕ) (i : Instance) → low ≤ m → InstanceNear 
 instance-later low m bw i e h =
     record { line = line-later low m i.line e h.line; service = go i.service h.service; waiting = h.waiting }
   where
-    go : (o : Option InService) → ServiceNear low bw o → ServiceNear m bw o
+    go : (o : Option (InService Packet)) → ServiceNear low bw o → ServiceNear m bw o
     go None q = tt
     go (Some s) q = record {
       packet = q.packet;

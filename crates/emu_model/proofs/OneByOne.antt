@@ -10,7 +10,7 @@ use Rattle.emu_model.specs.Alone.{alone}
 use Rattle.emu_model.specs.TraceLaws.{delivers, drops, held_packets, once_made, EachPacketOnce}
 use Rattle.emu_model.proofs.Sums.{sum_some, sum-of-map, sum-of-flat_map, sum-same}
 use Rattle.emu_model.proofs.Numbers.{one_if, count-cons}
-use Rattle.emu_model.proofs.Keeping.{flown}
+use Rattle.emu_model.proofs.PacketsKept.{flown}
 use Rattle.emu_model.proofs.PipeKeeping.{load, load_is}
 use Rattle.emu_model.proofs.Conserved.{total, weight, gone, balance, Balanced, balanced}
 

@@ -7,7 +7,7 @@ use Rattle.emu_model.specs.Lists.{change_at}
 use Rattle.emu_model.specs.Types.{Packet, PipeConfig, NoInstance, PacketArrived}
 use Rattle.emu_model.specs.FlowIds.{FlowId, flow_id}
 use Rattle.emu_model.specs.Delay.{first_item, leave}
-use Rattle.emu_model.specs.Pipes.{Instance, PipeState, opening_instance, no_drop, drop_one, drawn_one, draw, instance_arrive, instance_finish, instance_configure, put_instance, with_instance, instance_for, arrive_at, pipe_arrive, pipe_finish, pipe_exit, pipe_configure}
+use Rattle.emu_model.specs.Pipes.{Instance, PipeState, initial_instance, no_drop, drop_one, drawn_one, draw, instance_arrive, instance_finish, instance_configure, put_instance, with_instance, instance_for, arrive_at, pipe_arrive, pipe_finish, pipe_exit, pipe_configure}
 use Rattle.emu_model.specs.Net.{identify_record, arrive_records, arrivals}
 use Rattle.emu_model.specs.Events.{flying_in, served_in}
 use Rattle.emu_model.specs.TraceLaws.{IsSublist, arrives_in, flight_in}
@@ -93,14 +93,14 @@ arrives-here now p q k = go (nat_lt k (length q.instances))
     go true = one
     go false = one
 
-made-same : (g : Instance → List ℕ) (id : FlowId) (k j : ℕ) (q : PipeState) → g (opening_instance id) ≡ [] →
+made-same : (g : Instance → List ℕ) (id : FlowId) (k j : ℕ) (q : PipeState) → g (initial_instance id) ≡ [] →
     in_instance g j (with_instance id k q).instances ≡ in_instance g j q.instances
 made-same g id k j q h = go (nat_lt k (length q.instances))
   where
-    go : (b : Bool) → in_instance g j (if b then q else record q { instances = q.instances ++ opening_instance id ∷ [] }).instances
+    go : (b : Bool) → in_instance g j (if b then q else record q { instances = q.instances ++ initial_instance id ∷ [] }).instances
         ≡ in_instance g j q.instances
     go true = refl
-    go false = opened-same g (opening_instance id) h q.instances j
+    go false = opened-same g (initial_instance id) h q.instances j
 
 -- instance k of a pipe put in place of another, to which a packet came
 placed-came : (p : Packet) (j k : ℕ) (q r : PipeState) (i new : Instance) (come : List ℕ) →

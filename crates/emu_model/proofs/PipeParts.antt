@@ -4,7 +4,7 @@ use Rattle.std.specs.Prelude.{nat_lt, length, map, slice_get}
 use Rattle.std.specs.List.{AllByRecursion}
 use Rattle.emu_model.specs.Types.{Packet, PipeConfig, NoInstance}
 use Rattle.emu_model.specs.FlowIds.{FlowId, flow_id, instance_of}
-use Rattle.emu_model.specs.Pipes.{Instance, PipeState, After, opening_instance, no_drop, drop_one, drawn_one, instance_arrive, put_instance, change_one, with_instance, draw, arrive_at, pipe_arrive}
+use Rattle.emu_model.specs.Pipes.{Instance, PipeState, After, initial_instance, no_drop, drop_one, drawn_one, instance_arrive, put_instance, change_one, with_instance, draw, arrive_at, pipe_arrive}
 use Rattle.emu_model.proofs.AllFacts.{either, some_or, each_joined, each_got, each_changed}
 
 -- a pipe of this configuration, of each instance of which this holds
@@ -27,7 +27,7 @@ change_one-each P config k f p h keeps =
 
 -- a packet that comes, where it keeps what is said of an instance, and that holds of a new one
 pub pipe_arrive-each : (P : Instance → Type 0) (seed now : ℕ) (packet : Packet) (p : PipeState) →
-    ((id : FlowId) → P (opening_instance id)) →
+    ((id : FlowId) → P (initial_instance id)) →
     ((lost : Bool) (i : Instance) → P i → P (instance_arrive p.config now packet lost (drawn_one i)).state) →
     AllByRecursion P p.instances → InPipe P p.config (pipe_arrive seed now packet p).state
 pipe_arrive-each P seed now packet p opens comes h =
@@ -41,7 +41,7 @@ pipe_arrive-each P seed now packet p opens comes h =
     id = flow_id p.config.mask packet
 
     new : PipeState
-    new = record p { instances = p.instances ++ opening_instance id ∷ [] }
+    new = record p { instances = p.instances ++ initial_instance id ∷ [] }
 
     same : InPipe P p.config p
     same = record { config = refl; each = h }
@@ -49,4 +49,4 @@ pipe_arrive-each P seed now packet p opens comes h =
     opened : (k : ℕ) → InPipe P p.config (with_instance id k p)
     opened k =
         either (InPipe P p.config) (nat_lt k (length p.instances)) p new same
-        (record { config = refl; each = each_joined P p.instances (opening_instance id ∷ []) h (opens id, tt) })
+        (record { config = refl; each = each_joined P p.instances (initial_instance id ∷ []) h (opens id, tt) })

@@ -17,7 +17,7 @@ pub new_data_clears : NewDataClears
 new_data_clears f now a s h = rw h ((refl, refl, refl), refl, refl)
 
 pub new_data_sets_timer : NewDataSetsTimer
-new_data_sets_timer f now a s h = rw h (λ g. rw (lt-ltb _ _ g) refl, λ g. rw (timer-off a s.top g) refl)
+new_data_sets_timer f now a s h = rw h (λ g. rw (lt-ltb _ _ g) refl, λ g. rw (timer-off a s.snd_max g) refl)
   where
     timer-off : (a b : ℕ) → a ≡ b → nat_lt a b ≡ false
     timer-off a b g = grind arith
@@ -42,7 +42,7 @@ emission_keeps_timer f now s = (λ moment e. kept s.resend moment e, λ e. begun
 
     begun : (b : Bool) → s.timer ≡ None →
         (if b then record s { resend = false; timer = started_timer now s }
-        else record (emit f now (record s { resend = false })) { resend = b }).timer ≡ Some (now + s.timeout)
+        else record (emit f now (record s { resend = false })) { resend = b }).timer ≡ Some (now + s.rto)
     begun true e = rw e refl
     begun false e = rw e refl
 
@@ -64,28 +64,28 @@ new-above u a x y h = go (nat_lt u a) refl h
 
 pub window_grows_by_segments : WindowGrowsBySegments
 window_grows_by_segments f now a s h calm some least =
-    let n : s.una < a = new-above s.una a _ _ h in
-    rw h (rw calm (grown s.cwnd (a - s.una) f.smss (nat_lt s.cwnd s.ssthresh) (omega (arith, n)) some least))
+    let n : s.snd_una < a = new-above s.snd_una a _ _ h in
+    rw h (rw calm (grown s.cwnd (a - s.snd_una) f.smss (nat_lt s.cwnd s.ssthresh) (omega (arith, n)) some least))
 
 -- one segment more is new data
 one-more : (f : FlowSpec) (n : ℕ) (s : Sender) → 1 ≤ f.smss → IsUnderWay f (suc n) s →
-    is_new f (s.una + f.smss) s ≡ true
+    is_new f (s.snd_una + f.smss) s ≡ true
 one-more f n s some u =
-    let m : (s.una + f.smss) % f.smss ≡ 0 = add-mod_right s.una f.smss ∙ u.whole in
-    rw (lt-ltb s.una (s.una + f.smss) (omega (arith, some)))
-    (rw (le-leb (s.una + f.smss) s.top (omega (arith, u.sent))) (rw m refl))
+    let m : (s.snd_una + f.smss) % f.smss ≡ 0 = add-mod_right s.snd_una f.smss ∙ u.whole in
+    rw (lt-ltb s.snd_una (s.snd_una + f.smss) (omega (arith, some)))
+    (rw (le-leb (s.snd_una + f.smss) s.snd_max (omega (arith, u.sent))) (rw m refl))
 
 -- in slow start it makes the window a segment larger
 one-segment : (f : FlowSpec) (n now : ℕ) (s : Sender) → 1 ≤ f.smss → s.ssthresh ≤ greatest_word →
     IsUnderWay f (suc n) s →
-    (ack_new f now (s.una + f.smss) s).cwnd ≡ s.cwnd + f.smss
+    (ack_new f now (s.snd_una + f.smss) s).cwnd ≡ s.cwnd + f.smss
 one-segment f n now s some top u =
     rw u.calm (rw (lt-ltb s.cwnd s.ssthresh (omega (arith, u.below, some))) (omega (arith, top, u.below)))
 
 still-under-way : (f : FlowSpec) (n now : ℕ) (s : Sender) → 1 ≤ f.smss → s.ssthresh ≤ greatest_word →
-    IsUnderWay f (suc n) s → IsUnderWay f n (ack_new f now (s.una + f.smss) s)
+    IsUnderWay f (suc n) s → IsUnderWay f n (ack_new f now (s.snd_una + f.smss) s)
 still-under-way f n now s some top u = record {
-  whole = add-mod_right s.una f.smss ∙ u.whole;
+  whole = add-mod_right s.snd_una f.smss ∙ u.whole;
   sent = omega (arith, u.sent);
   calm = refl;
   below = omega (arith, one-segment f n now s some top u, u.below);
@@ -95,8 +95,8 @@ pub slow_start_grows : SlowStartGrows
 slow_start_grows f [] s some top u = omega arith
 slow_start_grows f (now ∷ ms) s some top u =
     ap (λ t. (acks_in_turn f ms t).cwnd)
-    (ack-new f now (s.una + f.smss) s (one-more f (length ms) s some u))
-    ∙ slow_start_grows f ms (ack_new f now (s.una + f.smss) s) some top
+    (ack-new f now (s.snd_una + f.smss) s (one-more f (length ms) s some u))
+    ∙ slow_start_grows f ms (ack_new f now (s.snd_una + f.smss) s) some top
     (still-under-way f (length ms) now s some top u)
     ∙ omega (arith, one-segment f (length ms) now s some top u)
 

@@ -3,7 +3,7 @@ use Rattle.std.proofs.Common.{◌≡◌, ℕ, zero, suc, ◌+◌, ◌*◌, ◌/�
 use Rattle.std.specs.Prelude.{if◌then◌else◌, ◌==◌, nat_lt, find, slice_get, count_by, flat_map, option_map, option_to_list}
 use Rattle.std.specs.List.{AllByRecursion}
 use Rattle.std.proofs.lemmas.Bool.{eqb-true, and_parts, and_from, both_ways}
-use Rattle.emu_model.specs.Types.{Timed, Finish, Emission, Source}
+use Rattle.emu_model.specs.Types.{Packet, Timed, Finish, Emission, Source}
 use Rattle.emu_model.specs.declared.sources.Due.{Due}
 use Rattle.emu_model.specs.Pipes.{InService, Instance, PipeState}
 use Rattle.emu_model.specs.Net.{Net, TrainState, find_pipe, find_train}
@@ -90,7 +90,7 @@ each-flat P dues (x ∷ xs) h =
     (each_front P (dues x) (flat_map dues xs) h, each-flat P dues xs (each_back P (dues x) (flat_map dues xs) h))
 
 -- what is said of all dues is said of the finish in instance j
-instance-finish : (P : Due → Type 0) (start j k : ℕ) (is : List Instance) (i : Instance) (s : InService) →
+instance-finish : (P : Due → Type 0) (start j k : ℕ) (is : List Instance) (i : Instance) (s : InService Packet) →
     k ≡ start + j → slice_get is j ≡ Some i → i.service ≡ Some s → AllByRecursion P (instances_dues start is) →
     P (due Finish k s.period.finish)
 instance-finish P start j k [] i s n e g h = absurd (cc e)
@@ -109,7 +109,7 @@ instance-finish P start (suc j) k (x ∷ xs) i s n e g h =
     (each_back P (line_dues start x.line ++ service_dues start x) (instances_dues (start + 1) xs) h)
 
 module _ (P : Due → Type 0) (clock k : ℕ) (n : Net) (h : AllByRecursion P (dues_of clock n)) where
-  finish-said : (p : PipeState) (i : Instance) (s : InService) → find_pipe (k / 256) n ≡ Some p →
+  finish-said : (p : PipeState) (i : Instance) (s : InService Packet) → find_pipe (k / 256) n ≡ Some p →
       slice_get p.instances (k % 256) ≡ Some i → i.service ≡ Some s → P (due Finish k s.period.finish)
   finish-said p i s e g f =
       let number : p.number ≡ k / 256 =
@@ -143,7 +143,7 @@ module _ (P : Due → Type 0) (clock k : ℕ) (n : Net) (h : AllByRecursion P (d
 
 -- a packet finishes at its finish
 pub finish_moment : (s : State) (c : Timed) → OneEach s → (next_event s c).source.class ≡ Finish →
-    (p : PipeState) (i : Instance) (o : InService) →
+    (p : PipeState) (i : Instance) (o : InService Packet) →
     find_pipe ((next_event s c).source.number / 256) s.net ≡ Some p →
     slice_get p.instances ((next_event s c).source.number % 256) ≡ Some i → i.service ≡ Some o →
     (next_event s c).moment ≡ o.period.finish

@@ -9,18 +9,18 @@ use Rattle.emu_model.specs.Types.{Spec, Timed, Packet, Load, SendSpec, DropCause
 use Rattle.emu_model.specs.FlowIds.{flow_id}
 use Rattle.emu_model.specs.Delay.{first_item, leave}
 use Rattle.emu_model.specs.Pipes.{Instance, InService, PipeState, After, Drop, pipe_packets, instance_for, pipe_arrive, pipe_finish, pipe_exit, pipe_configure}
-use Rattle.emu_model.specs.Net.{Net, Setting, opening_net, note, note_all, drop_record, drop_packet, note_traced, arrive_records, identify_record, arrivals, make_record, packet_of, find_pipe, put_pipe, put_after, to_direct}
+use Rattle.emu_model.specs.Net.{Net, Setting, initial_net, note, note_all, drop_record, drop_packet, note_traced, arrive_records, identify_record, arrivals, make_record, packet_of, find_pipe, put_pipe, put_after, to_direct}
 use Rattle.emu_model.specs.Commands.{new_pipe, delete_pipe, obey}
 use Rattle.emu_model.specs.Events.{flying_in, served_in, note_finish}
 use Rattle.emu_model.specs.Alone.{alone}
 use Rattle.emu_model.specs.TraceLaws.{IsTraced, makes, tells_of, EachMakeOnce, MakeComesFirst}
 use Rattle.emu_model.proofs.Sums.{sum_some, removed-sum}
 use Rattle.emu_model.proofs.Numbers.{one_if, count-cons}
-use Rattle.emu_model.proofs.Keeping.{flown, fallen, size}
+use Rattle.emu_model.proofs.PacketsKept.{flown, fallen, size}
 use Rattle.emu_model.proofs.PipeKeeping.{load}
 use Rattle.emu_model.proofs.Conserved.{total, weight, gone, balance, Balanced, balanced-keeps, drops-gone}
 use Rattle.emu_model.proofs.OneByOne.{one_at, here, none_below, one_below, once}
-use Rattle.emu_model.proofs.Walk.{IsSilent, Keeps, Fits as Suits, walks_on}
+use Rattle.emu_model.proofs.ChangesWalk.{IsSilent, Keeps, Fits as Suits, walks_on}
 
 -- a record behind m makes: a make is that of packet m, and what else tells of a packet tells of an
 -- earlier one
@@ -121,33 +121,33 @@ got-le f x (y ∷ ys) zero e =
 got-le f x (y ∷ ys) (suc k) e = omega (arith, sum_by-cons f y ys, got-le f x ys k e)
 
 -- the packet in service was made
-served-known : (pipe k : ℕ) (p : PipeState) (s : InService) (n : Net) → find_pipe pipe n ≡ Some p →
-    served_in k p ≡ Some s → ((w : ℕ → ℕ) → Balanced w None n) → s.packet.number < n.made
+served-known : (pipe k : ℕ) (p : PipeState) (s : InService Packet) (n : Net) → find_pipe pipe n ≡ Some p →
+    served_in k p ≡ Some s → ((w : ℕ → ℕ) → Balanced w None n) → s.item.number < n.made
 unfolding Balanced balance sum_some load size
 served-known pipe k p s n e g even = go (slice_get p.instances k) refl g
   where
     w : ℕ → ℕ
-    w = one_at s.packet.number
+    w = one_at s.item.number
 
     within : (i : Instance) → slice_get p.instances k ≡ Some i → i.service ≡ Some s →
-        (s.packet.number < n.made) ⊎ (n.made ≤ s.packet.number) → s.packet.number < n.made
+        (s.item.number < n.made) ⊎ (n.made ≤ s.item.number) → s.item.number < n.made
     within i h x (inl b) = b
     within i h x (inr b) =
-        let v : ℕ → ℕ = one_at s.packet.number in
-        let served : sum_some (λ y. v y.packet.number) i.service ≡ v s.packet.number = ap (sum_some (λ y. v y.packet.number)) x in
+        let v : ℕ → ℕ = one_at s.item.number in
+        let served : sum_some (λ y. v y.item.number) i.service ≡ v s.item.number = ap (sum_some (λ y. v y.item.number)) x in
         omega (
           arith,
           even v,
-          none_below s.packet.number n.made b,
-          here s.packet.number s.packet.number refl,
+          none_below s.item.number n.made b,
+          here s.item.number s.item.number refl,
           removed-sum (load v) (λ q. q.number == pipe) p n.pipes e,
           got-le (size v) i p.instances k h,
         )
 
     go : (o : Option Instance) → slice_get p.instances k ≡ o → option_and_then (λ i. i.service) o ≡ Some s →
-        s.packet.number < n.made
+        s.item.number < n.made
     go None h x = absurd (cc x)
-    go (Some i) h x = within i h x (cases_lt s.packet.number n.made)
+    go (Some i) h x = within i h x (cases_lt s.item.number n.made)
 
 -- what is dropped was made
 drops-known : (now : ℕ) (rs : List Record) (m : Net) (ds : List Drop) → m.records ≡ rs ++ map (drop_record now) ds →
@@ -221,16 +221,16 @@ finished-traced : (now pipe k : ℕ) (p : PipeState) (n : Net) → find_pipe pip
 unfolding Told Fits next
 finished-traced now pipe k p n e h = go (served_in k p) refl (λ w. (balanced-keeps w).finished now pipe k p n e (h.even w))
   where
-    go : (o : Option InService) → served_in k p ≡ o →
+    go : (o : Option (InService Packet)) → served_in k p ≡ o →
         ((w : ℕ → ℕ) → Balanced w None (put_after now pipe (pipe_finish now k p) (note_finish now pipe k o n))) →
         Traced None (put_after now pipe (pipe_finish now k p) (note_finish now pipe k o n))
     go None g even =
         dropping now (pipe_finish now k p).dropped None n (put_after now pipe (pipe_finish now k p) n) h refl refl refl even
     go (Some s) g even =
         let a : After PipeState = pipe_finish now k p in
-        let r : Record = PacketFinished now s.packet.number pipe k in
+        let r : Record = PacketFinished now s.item.number pipe k in
         let m : Net = note r n in
-        let one : Told n.made (r ∷ []) n.made = (λ j b. below s.packet.number j n.made (served-known pipe k p s n e g h.even) b, refl) in
+        let one : Told n.made (r ∷ []) n.made = (λ j b. below s.item.number j n.made (served-known pipe k p s n e g h.even) b, refl) in
         record {
           trace = h.trace;
           told = joined 0 n.made n.made m.records (map (drop_record now) a.dropped)
@@ -331,7 +331,7 @@ all-suit [] h = tt
 all-suit (t ∷ ts) h = (trace-suits t.command h.0, all-suit ts h.1)
 
 -- it begins with the first command
-begun : (at : Setting) → Traced None (obey at 0 (Trace true) opening_net)
+begun : (at : Setting) → Traced None (obey at 0 (Trace true) initial_net)
 unfolding Told Fits next Balanced balance gone flown sum_some total weight
 begun at = record { trace = refl; told = (λ k e. absurd (cc e), refl); even = λ w. refl }
 
@@ -343,7 +343,7 @@ all-told spec c zero h = refl
 all-told spec [] (suc n) h = absurd h
 all-told spec (t ∷ ts) (suc n) h =
     (walks_on Traced traced-keeps spec t ts n (all-suit ts h.1)
-    (λ at. subst (λ x. Traced None (obey at 0 x opening_net)) (sym h.0) (begun at))).told
+    (λ at. subst (λ x. Traced None (obey at 0 x initial_net)) (sym h.0) (begun at))).told
 
 one-make : (k m : ℕ) (r : Record) → Fits m r → total (one_at k) (next r m) ≡ total (one_at k) m + one_if (makes k r)
 unfolding Fits next total

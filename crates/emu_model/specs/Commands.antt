@@ -1,4 +1,4 @@
--- What a command does (own, in the words of ipfw(8)).
+-- What a command does (our choice, in the words of ipfw(8)).
 use Rattle.std.specs.Prelude.{ℕ, ◌+◌, ◌-◌, ◌^◌, min, Bool, true, false, ◌||◌, ◌==◌, nat_lt, if◌then◌else◌, Option, Some, None, is_some, List, [], ◌∷◌, ◌++◌, map, length, flat_map}
 use Rattle.std.specs.List.{list_any}
 use Rattle.std.specs.Option.{option_map_or}
@@ -6,7 +6,7 @@ use Rattle.emu_model.specs.Lists.{remove_first}
 use Rattle.emu_model.specs.Types.{Plain, PipeConfig, Command, Add, Delete, Config, PipeDelete, PipeShow, Show, Inject, Train, Flow, Stop, OnePass, Trace, End, TrainSpec, FlowSpec, Deleted, Refusal, NoSuchPipe, MaskFixed, FlowThere, NoFlow, TooManyPipes, TooManyFlows, Record, CommandDone, CommandRefused, RuleLine, PipeLine, InstanceLine}
 use Rattle.emu_model.specs.Rules.{add_refusal, delete_refusal, book_with, book_without}
 use Rattle.emu_model.specs.DropTail.{bytes_of}
-use Rattle.emu_model.specs.Reno.{opening_sender}
+use Rattle.emu_model.specs.Reno.{initial_sender}
 use Rattle.emu_model.specs.Pipes.{Instance, PipeState, is_fixed, pipe_configure, pipe_packets}
 use Rattle.emu_model.specs.Net.{Net, Setting, FlowState, note, note_all, note_drops, find_pipe, put_pipe, find_flow, put_flow, make}
 
@@ -76,7 +76,7 @@ start_flow k f n = record n {
   flows = n.flows ++ record {
     number = k;
     flow = f;
-    sender = opening_sender f;
+    sender = initial_sender f;
     stopped = false;
     came = [];
   } ∷ [];

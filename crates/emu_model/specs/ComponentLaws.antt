@@ -4,7 +4,7 @@ use Rattle.std.specs.Prelude.{◌≡◌, ℕ, ◌+◌, ◌-◌, ◌*◌, ◌^◌
 use Rattle.emu_model.specs.Types.{Packet, QueueLimit, Slots, KBytes}
 use Rattle.emu_model.specs.Loss.{is_lost}
 use Rattle.emu_model.specs.DropTail.{Waiting, bytes_of, accepts}
-use Rattle.emu_model.specs.Codel.{Times, Control, IsControlStep, control_step, codel_dequeue}
+use Rattle.emu_model.specs.Codel.{Times, CodelState, IsControlStep, control_step, codel_dequeue}
 use Rattle.emu_model.specs.Rate.{Period, follow, finish_at, finishes}
 use Rattle.emu_model.specs.Delay.{Line, enter, exits}
 
@@ -17,12 +17,12 @@ abbrev pub served : ℕ → Period → List ℕ → List ℕ
 served bw p [] = []
 served bw p (z ∷ zs) = (follow bw z p).finish ∷ served bw (follow bw z p) zs
 
--- the finishes of a whole busy period are those of its steps (own)
+-- the finishes of a whole busy period are those of its steps (our choice)
 abbrev pub FinishesAreFolded : Type 0
 FinishesAreFolded = (bw start : ℕ) (sizes : List ℕ) →
     served bw (idle_period start) sizes ≡ finishes bw start 0 sizes
 
--- a busy period is rounded once: each finish is by the sum of all sizes so far (own)
+-- a busy period is rounded once: each finish is by the sum of all sizes so far (our choice)
 abbrev pub FinishesRoundOnce : Type 0
 FinishesRoundOnce = (bw start : ℕ) (sizes : List ℕ) (k : ℕ) → k < length sizes →
     slice_get (finishes bw start 0 sizes) k ≡ Some (finish_at bw start (sum (take (k + 1) sizes)))
@@ -40,7 +40,7 @@ enter_all (e ∷ es) l = enter_all es (enter e.packet e.finish e.delay l)
 abbrev pub exits_of : Line Packet → List ℕ
 exits_of l = map (λ x. x.exit) l.flight
 
--- the exits of a whole list of entries are those of its steps (own)
+-- the exits of a whole list of entries are those of its steps (our choice)
 abbrev pub ExitsAreFolded : Type 0
 ExitsAreFolded = (es : List Entry) (l : Line Packet) →
     exits_of (enter_all es l) ≡ exits_of l ++ exits l.last (map (λ e. (e.finish, e.delay)) es)
@@ -50,12 +50,12 @@ abbrev pub NeverFalls : ℕ → List ℕ → Type 0
 NeverFalls least [] = Unit {0}
 NeverFalls least (x ∷ xs) = (least ≤ x) × NeverFalls x xs
 
--- exits never fall, so links don't reorder (own)
+-- exits never fall, so links don't reorder (our choice)
 abbrev pub ExitsNeverFall : Type 0
 ExitsNeverFall = (last : ℕ) (es : List (ℕ × ℕ)) → NeverFalls last (exits last es)
 
 -- the step of the control law is the greatest whole number d with d * d * count at most
--- interval * interval (RFC 8289, section 5: interval / sqrt(count); its rounding is own)
+-- interval * interval (RFC 8289, section 5: interval / sqrt(count); its rounding is our choice)
 abbrev pub ControlStepIsGreatest : Type 0
 ControlStepIsGreatest = (interval count : ℕ) → interval < 2 ^ 36 → 1 ≤ count →
     IsControlStep interval count (control_step interval count)
@@ -77,11 +77,11 @@ AcceptsWithinLimit = (limit : QueueLimit) (ws : List (Waiting Packet)) (w : Wait
 
 -- what CoDel drops, what it gives and what it leaves is what waited, in order (RFC 8289, section 5)
 abbrev pub CodelKeepsOrder : Type 0
-CodelKeepsOrder = (times : Times) (now : ℕ) (c : Control) (ws : List (Waiting Packet)) →
+CodelKeepsOrder = (times : Times) (now : ℕ) (c : CodelState) (ws : List (Waiting Packet)) →
     let d = codel_dequeue times now c ws in
     d.dropped ++ option_to_list d.given ++ d.rest ≡ ws
 
 -- CoDel drops nothing whose sojourn is below the target (RFC 8289, section 5)
 abbrev pub CodelSparesTheQuick : Type 0
-CodelSparesTheQuick = (times : Times) (now : ℕ) (c : Control) (ws : List (Waiting Packet)) →
+CodelSparesTheQuick = (times : Times) (now : ℕ) (c : CodelState) (ws : List (Waiting Packet)) →
     All (λ w. times.target ≤ now - w.stamp) (codel_dequeue times now c ws).dropped

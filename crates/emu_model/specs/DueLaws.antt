@@ -1,4 +1,4 @@
--- Laws on when dues can be (own), over the definitions alone.
+-- Laws on when dues can be (our choice), over the definitions alone.
 use Rattle.std.specs.Prelude.{ℕ, ◌*◌, ◌^◌, ◌≤◌, ◌<◌, List, [], ◌∷◌}
 use Rattle.std.specs.List.{AllByRecursion}
 use Rattle.emu_model.specs.Types.{Spec, Timed, Timing, Fixed, Adaptive, Command, Config, Inject, Train, Flow}

@@ -12,28 +12,28 @@ IsClear s = (s.duplicates ≡ 0) × (s.recovery ≡ false) × (s.resend ≡ fals
 -- and section 3.1, equation 4)
 abbrev pub NewDataClears : Type 0
 NewDataClears = (f : FlowSpec) (now a : ℕ) (s : Sender) → is_new f a s ≡ true →
-    IsClear (ack f now a s) × ((ack f now a s).timed ≡ false) × ((ack f now a s).una ≡ a)
+    IsClear (ack f now a s) × ((ack f now a s).backed_off ≡ false) × ((ack f now a s).snd_una ≡ a)
 
 -- the timer runs from now where something is left to be acknowledged, and else is off (RFC 6298,
 -- section 5.2 and 5.3)
 abbrev pub NewDataSetsTimer : Type 0
 NewDataSetsTimer = (f : FlowSpec) (now a : ℕ) (s : Sender) → is_new f a s ≡ true →
     let t = ack f now a s in
-    (a < s.top → t.timer ≡ Some (now + t.timeout)) × (a ≡ s.top → t.timer ≡ None)
+    (a < s.snd_max → t.timer ≡ Some (now + t.rto)) × (a ≡ s.snd_max → t.timer ≡ None)
 
 -- an expiry clears the same, falls back to one segment at the first byte that isn't acknowledged, and
 -- is timed by none (RFC 5681, section 3.1; RFC 6298, section 3)
 abbrev pub ExpiryClears : Type 0
 ExpiryClears = (f : FlowSpec) (now : ℕ) (s : Sender) →
     let t = expire f now s in
-    IsClear t × (t.timed ≡ true) × (t.una ≡ s.una) × (t.nxt ≡ s.una) × (t.cwnd ≡ f.smss)
+    IsClear t × (t.backed_off ≡ true) × (t.snd_una ≡ s.snd_una) × (t.snd_nxt ≡ s.snd_una) × (t.cwnd ≡ f.smss)
     × (t.sample ≡ None)
 
 -- an expiry starts the timer with a longer time, up to the longest (RFC 6298, sections 5.5 and 5.6)
 abbrev pub ExpiryBacksOff : Type 0
-ExpiryBacksOff = (f : FlowSpec) (now : ℕ) (s : Sender) → s.timeout ≤ longest →
+ExpiryBacksOff = (f : FlowSpec) (now : ℕ) (s : Sender) → s.rto ≤ longest →
     let t = expire f now s in
-    (t.timer ≡ Some (now + t.timeout)) × (s.timeout ≤ t.timeout) × (t.timeout ≤ longest)
+    (t.timer ≡ Some (now + t.rto)) × (s.rto ≤ t.rto) × (t.rto ≤ longest)
 
 -- one expiry behind another holds ssthresh (RFC 5681, section 3.1)
 abbrev pub SecondExpiryHolds : Type 0
@@ -45,7 +45,7 @@ SecondExpiryHolds = (f : FlowSpec) (now later : ℕ) (s : Sender) →
 abbrev pub EmissionKeepsTimer : Type 0
 EmissionKeepsTimer = (f : FlowSpec) (now : ℕ) (s : Sender) →
     ((moment : ℕ) → s.timer ≡ Some moment → (emit f now s).timer ≡ Some moment)
-    × (s.timer ≡ None → (emit f now s).timer ≡ Some (now + s.timeout))
+    × (s.timer ≡ None → (emit f now s).timer ≡ Some (now + s.rto))
 
 -- outside recovery new data lets the window grow by a byte at least, up to where it stays, and by a
 -- segment at most (RFC 5681, section 3.1, equations 2 and 3)
@@ -58,13 +58,13 @@ WindowGrowsBySegments = (f : FlowSpec) (now a : ℕ) (s : Sender) → is_new f a
 -- the sender after acknowledgements of a segment each, at these moments
 abbrev pub acks_in_turn : FlowSpec → List ℕ → Sender → Sender
 acks_in_turn f [] s = s
-acks_in_turn f (now ∷ ms) s = acks_in_turn f ms (ack f now (s.una + f.smss) s)
+acks_in_turn f (now ∷ ms) s = acks_in_turn f ms (ack f now (s.snd_una + f.smss) s)
 
 -- whole segments are acknowledged, n more were sent, and no loss shows; with n segments more the window
 -- is no greater than ssthresh
 pub record IsUnderWay (f : FlowSpec) (n : ℕ) (s : Sender) : Type 0 where
-  pub whole : s.una % f.smss ≡ 0
-  pub sent : s.una + n * f.smss ≤ s.top
+  pub whole : s.snd_una % f.smss ≡ 0
+  pub sent : s.snd_una + n * f.smss ≤ s.snd_max
   pub calm : s.recovery ≡ false
   pub below : s.cwnd + n * f.smss ≤ s.ssthresh
 

@@ -1,4 +1,4 @@
--- Laws of what becomes of each packet, and of what a trace says of it (own), over the definitions alone.
+-- Laws of what becomes of each packet, and of what a trace says of it (our choice), over the definitions alone.
 use Rattle.std.specs.Prelude.{◌≡◌, ◌≢◌, ℕ, ◌+◌, Bool, true, false, ◌&&◌, ◌⊎◌, ◌==◌, nat_lt, if◌then◌else◌, List, [], ◌∷◌, ◌++◌, map, slice_get, count_by, flat_map}
 use Rattle.std.specs.Option.{option_map_or}
 use Rattle.std.specs.List.{AllByRecursion}

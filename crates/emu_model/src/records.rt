@@ -1,4 +1,4 @@
-//! What a report records (own).
+//! What a report records (our choice).
 
 use crate::packets::{Load, Protocol};
 use crate::pipes::PipeConfig;

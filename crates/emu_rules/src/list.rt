@@ -1,7 +1,7 @@
 //! The rule list.
 
 ghost use Rattle.std.specs.Prelude.{◌≡◌, Some, None, IfOk, OnOk, OnErr, MatchResult};
-ghost use Rattle.emu_model.specs.Rules.{opening_book, add_refusal, book_with, delete_refusal, book_without, verdict, counted_book, start_behind, is_rule_number};
+ghost use Rattle.emu_model.specs.Rules.{initial_book, add_refusal, book_with, delete_refusal, book_without, verdict, counted_book, start_behind, is_rule_number};
 ghost use Rattle.emu_rules.specs.Errors.{refusal_of};
 
 use emu_model::{Packet, Place, Refusal, Rule, RuleNumber, Verdict};
@@ -45,7 +45,7 @@ impl Model for RuleList {
 impl RuleList {
     /// The default alone.
     pub fn new(alloc: Global) -> Result<Self, AllocError>
-        ensures { IfOk result (λ list. list ≡ opening_book) }
+        ensures { IfOk result (λ list. list ≡ initial_book) }
     {
         let mut rules = Vec::with_capacity(alloc, 1)?;
         let mut jumps = Vec::with_capacity(alloc, 1)?;

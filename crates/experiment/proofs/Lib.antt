@@ -1,6 +1,6 @@
 mod StepFacts
 mod ApplyFacts
-mod Keeping
+mod StepsKeep
 mod AloneFacts
 mod TouchFacts
 mod DueTimes

@@ -1,13 +1,12 @@
 //! An experiment: commands are applied one at a time, and events are made one at a time.
 
 ghost use Rattle.std.specs.Prelude.{◌≡◌, ◌≢◌, ℕ, ◌+◌, ◌^◌, ◌≤◌, ◌<◌, ◌++◌, ◌==◌, if◌then◌else◌, true, false, [], ◌∷◌, Option, Some, None, IsSome, IfSome, IsOk, IfOk, OnOk, OnErr, List, is_some};
-ghost use Rattle.emu_model.specs.declared.commands.Timed.{Timed as Command};
 ghost use Rattle.emu_model.specs.declared.sources.Class.TheVariants.{NextCommand};
 ghost use Rattle.emu_model.specs.declared.records.Ending.TheVariants.{Ended};
-ghost use Rattle.emu_model.specs.declared.records.Record.{Record as Entry};
-ghost use Rattle.emu_model.specs.Step.{opening, next_event};
+ghost use Rattle.emu_model.specs.declared.records.Record.{Record};
+ghost use Rattle.emu_model.specs.Step.{initial_state, next_event};
 ghost use Rattle.emu_model.specs.Commands.{is_end};
-ghost use Rattle.packet_store.specs.Pocket.{Pocket, empty_pocket};
+ghost use Rattle.packet_store.specs.Pocket.{Pocket, empty_pocket, OthersStay};
 ghost use Rattle.network.specs.Kept.{net_of, IsHoused};
 ghost use Rattle.network.specs.Due.{IsDue};
 ghost use Rattle.experiment.specs.Kept.{view, IsAlone, IsHousedIn, last_moment};
@@ -15,12 +14,12 @@ ghost use Rattle.experiment.specs.Moves.{Makes, Steps, Halts, Closes};
 
 use crate::told::command_due;
 use emu_model::{
-    Class, Command, Due, Ending, Spec, Timed, command_in_range, later_commands_wait, records_grow,
+    Class, Command, Due, Ending, Setting, Spec, Timed, command_in_range, later_commands_wait,
+    records_grow,
 };
-use network::{Moment, Network};
+use network::Network;
 use packet_store::{Owner, Shelf};
-use queue_disc::NoMemory;
-use std::alloc::Global;
+use std::alloc::{AllocError, Global};
 use std::marker::Model;
 
 /// Why a command was not taken in: the experiment has ended, its next command waits still, or the moment
@@ -98,16 +97,18 @@ impl Model for Experiment {
 
 impl Experiment {
     /// An experiment to which no command came.
-    pub fn new(alloc: Global, spec: Spec) -> Result<Self, NoMemory>
-        ensures opening { IfOk result (λ e. (p : Pocket) → view p e ≡ opening spec []) }
+    pub fn new(alloc: Global, spec: Spec) -> Result<Self, AllocError>
+        ensures opening { IfOk result (λ e. (p : Pocket) → view p e ≡ initial_state spec []) }
         ensures alone { IfOk result (λ e. (p : Pocket) → IsAlone p e) }
-        ensures given { IfOk result (λ e. (e.spec ≡ spec) × (e.next ≡ None) × (e.consumed ≡ []) × (e.steps ≡ 0) × (e.ending ≡ None) × (e.noted ≡ [])) }
-        ensures housed { IfOk result (λ e. (budget : ℕ) → spec.budget.packets ≤ budget → IsHousedIn (empty_pocket budget) e) }
+        ensures given { IfOk result
+            (λ e. (e.spec ≡ spec) × (e.next ≡ None) × (e.consumed ≡ []) × (e.steps ≡ 0)
+            × (e.ending ≡ None) × (e.noted ≡ [])) }
+        ensures housed { IfOk result
+            (λ e. (budget : ℕ) → spec.budget.packets ≤ budget →
+            IsHousedIn (empty_pocket budget) e) }
     {
         few_steps(&spec);
-        let Ok(net) = Network::new(alloc, spec.seed) else {
-            return Err(NoMemory);
-        };
+        let net = Network::new(alloc, spec.seed)?;
         Ok(Experiment {
             spec,
             net,
@@ -125,14 +126,12 @@ impl Experiment {
     }
 
     /// Makes room for one command more, and changes nothing else: the next `apply` needs no memory then.
-    pub fn apply_ready(&mut self) -> Result<(), NoMemory>
+    pub fn apply_ready(&mut self) -> Result<(), AllocError>
         ensures ready { OnOk result (0 < self.new.spare) }
         ensures same { self.new ≡ record self.old { spare = self.new.spare } }
         ensures succeeds { 0 < self.old.spare → IsOk result }
     {
-        if self.consumed.reserve(1).is_err() {
-            return Err(NoMemory);
-        }
+        self.consumed.reserve(1)?;
         Ok(())
     }
 
@@ -141,15 +140,29 @@ impl Experiment {
     /// for want of memory; nothing has changed then.
     pub fn apply(&mut self, command: &Timed) -> Result<(), ApplyError>
         requires { command.now.moment ≤ 10 ^ 15 }
-        ensures ok { OnOk result (self.new ≡ record self.old { next = Some command.now; consumed = self.old.consumed ++ command.now ∷ []; spare = self.new.spare }) }
-        ensures free { OnOk result ((self.old.ending ≡ None) × (self.old.next ≡ None) × (last_moment 0 self.old.consumed ≤ command.now.moment)) }
+        ensures ok { OnOk result
+            (self.new
+            ≡ record self.old {
+              next = Some command.now;
+              consumed = self.old.consumed
+                  ++ command.now ∷ [];
+              spare = self.new.spare;
+            }) }
+        ensures free { OnOk result
+            ((self.old.ending ≡ None) × (self.old.next ≡ None)
+            × (last_moment 0 self.old.consumed ≤ command.now.moment)) }
         ensures err { OnErr result (self.new ≡ self.old) }
         ensures housed { (p : Pocket) → IsHousedIn p self.old → IsHousedIn p self.new }
         ensures alone { (p : Pocket) → IsAlone p self.old → IsAlone p self.new }
         ensures over { result ≡ Err ApplyError.Over → IsSome self.old.ending }
-        ensures busy { result ≡ Err ApplyError.Busy → (self.old.ending ≡ None) × IsSome self.old.next }
-        ensures backward { result ≡ Err ApplyError.Backward → (self.old.ending ≡ None) × (self.old.next ≡ None) × (command.now.moment < last_moment 0 self.old.consumed) }
-        ensures memory { result ≡ Err ApplyError.NoMemory → (self.old.ending ≡ None) × (self.old.next ≡ None) × (last_moment 0 self.old.consumed ≤ command.now.moment) × (self.old.spare ≡ 0) }
+        ensures busy { result ≡ Err ApplyError.Busy →
+            (self.old.ending ≡ None) × IsSome self.old.next }
+        ensures backward { result ≡ Err ApplyError.Backward →
+            (self.old.ending ≡ None) × (self.old.next ≡ None)
+            × (command.now.moment < last_moment 0 self.old.consumed) }
+        ensures memory { result ≡ Err ApplyError.NoMemory →
+            (self.old.ending ≡ None) × (self.old.next ≡ None)
+            × (last_moment 0 self.old.consumed ≤ command.now.moment) × (self.old.spare ≡ 0) }
     {
         if self.ending.is_some() {
             return Err(ApplyError::Over);
@@ -178,16 +191,19 @@ impl Experiment {
     pub fn event<S: Shelf>(&mut self, shelf: &mut S, owner: Owner) -> Event
         requires { IsHousedIn (S.pocket shelf.old owner) self.old }
         ensures housed { IsHousedIn (S.pocket shelf.new owner) self.new }
-        ensures makes { Makes result (S.pocket shelf.old owner) self.old (S.pocket shelf.new owner) self.new }
+        ensures makes { Makes result (S.pocket shelf.old owner) self.old
+            (S.pocket shelf.new owner) self.new }
         ensures halted { result ≡ Event.Halted → (self.old.ending ≡ None) × IsSome self.old.next }
-        ensures alone { IsAlone (S.pocket shelf.old owner) self.old → IsAlone (S.pocket shelf.new owner) self.new }
-        ensures grows { IsAlone (S.pocket shelf.old owner) self.old → (more : List Entry) × (self.new.net.log.records ≡ self.old.net.log.records ++ more) }
+        ensures alone { IsAlone (S.pocket shelf.old owner) self.old →
+            IsAlone (S.pocket shelf.new owner) self.new }
+        ensures grows { IsAlone (S.pocket shelf.old owner) self.old →
+            (more : List Record) × (self.new.net.log.records ≡ self.old.net.log.records ++ more) }
         ensures consumed { self.new.consumed ≡ self.old.consumed }
         ensures spec { self.new.spec ≡ self.old.spec }
         ensures budget { (S.pocket shelf.new owner).budget ≡ (S.pocket shelf.old owner).budget }
         ensures steps { self.new.steps ≤ self.new.spec.budget.steps }
         ensures noted { self.new.noted ≡ self.old.noted }
-        ensures others { (o : ℕ) → o ≢ owner → S.pocket shelf.new o ≡ S.pocket shelf.old o }
+        ensures others { OthersStay owner (S.pocket shelf.old) (S.pocket shelf.new) }
     {
         records_grow();
         if self.ending.is_some() {
@@ -211,19 +227,22 @@ impl Experiment {
         shelf: &mut S,
         owner: Owner,
         command: &Timed,
-    ) -> Result<(), NoMemory>
+    ) -> Result<(), AllocError>
         requires early { command.now.moment ≤ 10 ^ 15 }
         requires next { self.old.next ≡ Some command.now }
         requires going { self.old.ending ≡ None }
         requires housed { IsHousedIn (S.pocket shelf.old owner) self.old }
-        ensures ok { OnOk result (Steps (next_event (view (S.pocket shelf.old owner) self.old) command.now) command.now (S.pocket shelf.old owner) self.old (S.pocket shelf.new owner) self.new) }
-        ensures halted { OnErr result (Halts (S.pocket shelf.old owner) self.old (S.pocket shelf.new owner) self.new) }
+        ensures ok { OnOk result
+            (Steps (next_event (view (S.pocket shelf.old owner) self.old) command.now) command.now
+            (S.pocket shelf.old owner) self.old (S.pocket shelf.new owner) self.new) }
+        ensures halted { OnErr result
+            (Halts (S.pocket shelf.old owner) self.old (S.pocket shelf.new owner) self.new) }
         ensures housed { IsHousedIn (S.pocket shelf.new owner) self.new }
         ensures noted { self.new.noted ≡ self.old.noted }
         ensures consumed { self.new.consumed ≡ self.old.consumed }
         ensures spec { self.new.spec ≡ self.old.spec }
         ensures budget { (S.pocket shelf.new owner).budget ≡ (S.pocket shelf.old owner).budget }
-        ensures others { (o : ℕ) → o ≢ owner → S.pocket shelf.new o ≡ S.pocket shelf.old o }
+        ensures others { OthersStay owner (S.pocket shelf.old) (S.pocket shelf.new) }
     {
         let due = self.least_due(command);
         if due.source.class == Class::NextCommand {
@@ -250,28 +269,31 @@ impl Experiment {
         owner: Owner,
         due: Due,
         command: &Timed,
-    ) -> Result<(), NoMemory>
+    ) -> Result<(), AllocError>
         requires early { due.moment ≤ 10 ^ 15 }
         requires class { due.source.class ≡ NextCommand }
         requires next { self.old.next ≡ Some command.now }
         requires going { self.old.ending ≡ None }
         requires housed { IsHousedIn (S.pocket shelf.old owner) self.old }
-        ensures ok { OnOk result (Steps due command.now (S.pocket shelf.old owner) self.old (S.pocket shelf.new owner) self.new) }
-        ensures halted { OnErr result (Halts (S.pocket shelf.old owner) self.old (S.pocket shelf.new owner) self.new) }
+        ensures ok { OnOk result
+            (Steps due command.now (S.pocket shelf.old owner) self.old
+            (S.pocket shelf.new owner) self.new) }
+        ensures halted { OnErr result
+            (Halts (S.pocket shelf.old owner) self.old (S.pocket shelf.new owner) self.new) }
         ensures housed { IsHousedIn (S.pocket shelf.new owner) self.new }
         ensures noted { self.new.noted ≡ self.old.noted }
         ensures consumed { self.new.consumed ≡ self.old.consumed }
         ensures spec { self.new.spec ≡ self.old.spec }
         ensures budget { (S.pocket shelf.new owner).budget ≡ (S.pocket shelf.old owner).budget }
-        ensures others { (o : ℕ) → o ≢ owner → S.pocket shelf.new o ≡ S.pocket shelf.old o }
+        ensures others { OthersStay owner (S.pocket shelf.old) (S.pocket shelf.new) }
     {
-        let at = moment_of(&self.spec, due.moment);
+        let at = setting_of(&self.spec, due.moment);
         let Ok(()) = self
             .net
             .obey(shelf, owner, at, self.taken, &command.command)
         else {
             self.ending = Some(Ending::Halted);
-            return Err(NoMemory);
+            return Err(AllocError);
         };
         let ending = ending_by(&command.command);
         self.next = None;
@@ -290,26 +312,29 @@ impl Experiment {
         owner: Owner,
         due: Due,
         command: &Timed,
-    ) -> Result<(), NoMemory>
+    ) -> Result<(), AllocError>
         requires early { due.moment ≤ 10 ^ 15 }
         requires class { due.source.class ≢ NextCommand }
         requires due { IsDue due self.old.net }
         requires next { self.old.next ≡ Some command.now }
         requires going { self.old.ending ≡ None }
         requires housed { IsHousedIn (S.pocket shelf.old owner) self.old }
-        ensures ok { OnOk result (Steps due command.now (S.pocket shelf.old owner) self.old (S.pocket shelf.new owner) self.new) }
-        ensures halted { OnErr result (Halts (S.pocket shelf.old owner) self.old (S.pocket shelf.new owner) self.new) }
+        ensures ok { OnOk result
+            (Steps due command.now (S.pocket shelf.old owner) self.old
+            (S.pocket shelf.new owner) self.new) }
+        ensures halted { OnErr result
+            (Halts (S.pocket shelf.old owner) self.old (S.pocket shelf.new owner) self.new) }
         ensures housed { IsHousedIn (S.pocket shelf.new owner) self.new }
         ensures noted { self.new.noted ≡ self.old.noted }
         ensures consumed { self.new.consumed ≡ self.old.consumed }
         ensures spec { self.new.spec ≡ self.old.spec }
         ensures budget { (S.pocket shelf.new owner).budget ≡ (S.pocket shelf.old owner).budget }
-        ensures others { (o : ℕ) → o ≢ owner → S.pocket shelf.new o ≡ S.pocket shelf.old o }
+        ensures others { OthersStay owner (S.pocket shelf.old) (S.pocket shelf.new) }
     {
-        let at = moment_of(&self.spec, due.moment);
+        let at = setting_of(&self.spec, due.moment);
         let Ok(()) = self.net.event(shelf, owner, at, due) else {
             self.ending = Some(Ending::Halted);
-            return Err(NoMemory);
+            return Err(AllocError);
         };
         self.clock = due.moment;
         self.steps += 1;
@@ -326,13 +351,17 @@ fn few_steps(spec: &Spec)
     let _high = spec.budget.steps.get();
 }
 
-// A moment of an experiment.
-fn moment_of(spec: &Spec, now: u64) -> Moment
-    ensures { result ≡ record { seed = spec.now.seed; room = spec.now.budget.packets; now = now } }
+// What an event knows besides, at a moment (ns).
+fn setting_of(spec: &Spec, now: u64) -> Setting
+    ensures { result ≡ record {
+      seed = spec.now.seed;
+      packet_budget = spec.now.budget.packets;
+      now = now;
+    } }
 {
-    Moment {
+    Setting {
         seed: spec.seed,
-        room: spec.budget.packets,
+        packet_budget: spec.budget.packets,
         now,
     }
 }

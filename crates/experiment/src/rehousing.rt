@@ -1,7 +1,7 @@
 //! An experiment's packets move from one shelf to another.
 
-ghost use Rattle.std.specs.Prelude.{◌≡◌, ◌≢◌, ℕ, ◌≤◌, length};
-ghost use Rattle.packet_store.specs.Pocket.{empty_pocket};
+ghost use Rattle.std.specs.Prelude.{◌≡◌, ◌≤◌, length};
+ghost use Rattle.packet_store.specs.Pocket.{empty_pocket, OthersStay};
 ghost use Rattle.network.specs.Kept.{net_keys};
 ghost use Rattle.experiment.specs.Kept.{view, IsAlone, IsHousedIn};
 
@@ -24,16 +24,18 @@ impl Experiment {
         requires room { length (net_keys self.old.net) ≤ T.room to.old other }
         requires budget { length (net_keys self.old.net) ≤ (T.pocket to.old other).budget }
         requires fits { self.old.spec.budget.packets ≤ (T.pocket to.old other).budget }
-        ensures view { view (T.pocket to.new other) self.new ≡ view (S.pocket from.old owner) self.old }
+        ensures view { view (T.pocket to.new other) self.new
+            ≡ view (S.pocket from.old owner) self.old }
         ensures housed { IsHousedIn (T.pocket to.new other) self.new }
-        ensures alone { IsAlone (S.pocket from.old owner) self.old → IsAlone (T.pocket to.new other) self.new }
+        ensures alone { IsAlone (S.pocket from.old owner) self.old →
+            IsAlone (T.pocket to.new other) self.new }
         ensures rest { self.new ≡ record self.old { net = self.new.net } }
         ensures records { self.new.net.log.records ≡ self.old.net.log.records }
         ensures count { (T.pocket to.new other).count ≡ (S.pocket from.old owner).count }
         ensures budget { (T.pocket to.new other).budget ≡ (T.pocket to.old other).budget }
         ensures gone { S.pocket from.new owner ≡ empty_pocket (S.pocket from.old owner).budget }
-        ensures others_from { (o : ℕ) → o ≢ owner → S.pocket from.new o ≡ S.pocket from.old o }
-        ensures others_to { (o : ℕ) → o ≢ other → T.pocket to.new o ≡ T.pocket to.old o }
+        ensures others_from { OthersStay owner (S.pocket from.old) (S.pocket from.new) }
+        ensures others_to { OthersStay other (T.pocket to.old) (T.pocket to.new) }
     {
         self.net.rehouse(from, owner, to, other);
     }

@@ -29,7 +29,8 @@ fn visits(
     requires housed { IsHousedIn (own_pocket own.old) experiment.old }
     requires empty { pocket_of store.old owner ≡ empty_pocket (own_pocket own.old).budget }
     ensures housed { IsSome result → IsHousedIn (own_pocket own.new) experiment.new }
-    ensures empty { IsSome result → pocket_of store.new owner ≡ empty_pocket (own_pocket own.new).budget }
+    ensures empty { IsSome result →
+        pocket_of store.new owner ≡ empty_pocket (own_pocket own.new).budget }
 {
     let _few = own.count(0);
     experiment.rehouse(own, 0, store, owner);
@@ -52,7 +53,8 @@ fn goes_on(
     requires housed { IsHousedIn (own_pocket own.old) experiment.old }
     requires empty { pocket_of store.old owner ≡ empty_pocket (own_pocket own.old).budget }
     ensures housed { IsSome result → IsHousedIn (own_pocket own.new) experiment.new }
-    ensures empty { IsSome result → pocket_of store.new owner ≡ empty_pocket (own_pocket own.new).budget }
+    ensures empty { IsSome result →
+        pocket_of store.new owner ≡ empty_pocket (own_pocket own.new).budget }
 {
     for _turn in 0..1000 {
         let event = experiment.event(own, 0);

@@ -2,6 +2,7 @@
 
 ghost use Rattle.std.specs.Prelude.{◌≡◌, ◌*◌, ◌^◌, ◌<◌, ◌≤◌, ◌++◌, [], is_some, option_to_list, IfOk, IfSome, OnOk, OnErr};
 ghost use Rattle.std.specs.List.{AllByRecursion};
+ghost use Rattle.emu_model.specs.declared.sources.Class.TheVariants.{NextCommand};
 ghost use Rattle.emu_model.specs.Net.{counters_of};
 ghost use Rattle.emu_model.specs.Dues.{dues_of};
 ghost use Rattle.packet_store.specs.Pocket.{Pocket};
@@ -11,11 +12,10 @@ ghost use Rattle.experiment.specs.Dues.{command_dues, dues_in, next_due_in};
 
 use crate::Experiment;
 use emu_model::{
-    Class, Counters, Due, Ending, Record, Source, Spec, Timed, dues_stay_ahead, dues_stay_below,
+    Counters, Due, Ending, Record, Source, Spec, Timed, dues_stay_ahead, dues_stay_below,
 };
 use network::Network;
-use queue_disc::NoMemory;
-use std::alloc::Global;
+use std::alloc::{AllocError, Global};
 
 impl Experiment {
     /// What was recorded.
@@ -34,7 +34,8 @@ impl Experiment {
 
     /// The packets that were made, delivered, are held, and were dropped by cause.
     pub fn counters(&self) -> Counters
-        ensures { (p : Pocket) → IsHousedIn p self.now → result ≡ counters_of (view p self.now).net }
+        ensures { (p : Pocket) → IsHousedIn p self.now →
+            result ≡ counters_of (view p self.now).net }
     {
         self.net.counters(self.held)
     }
@@ -92,7 +93,7 @@ impl Experiment {
 
     /// What is due: the next command, if there is one, and then all events, also where the experiment
     /// has ended.
-    pub fn dues(&self, alloc: Global) -> Result<Vec<Due>, NoMemory>
+    pub fn dues(&self, alloc: Global) -> Result<Vec<Due>, AllocError>
         ensures { IfOk result (λ dues. (p : Pocket) → dues.items ≡ dues_in (view p self.now)) }
     {
         let mut dues = Vec::new(alloc);
@@ -105,7 +106,8 @@ impl Experiment {
     pub fn next_due(&self) -> Option<Due>
         ensures due { (p : Pocket) → result ≡ next_due_in (view p self.now) }
         ensures early { IfSome result (λ d. d.moment ≤ 10 ^ 15) }
-        ensures ahead { (p : Pocket) → IsAlone p self.now → IfSome result (λ d. self.now.clock ≤ d.moment) }
+        ensures ahead { (p : Pocket) → IsAlone p self.now →
+            IfSome result (λ d. self.now.clock ≤ d.moment) }
     {
         self.dues_in_time();
         match &self.next {
@@ -116,7 +118,9 @@ impl Experiment {
 
     /// What is due lies not before the moment of the last event, and before 2 * 10^15 ns.
     pub fn dues_in_time(&self)
-        ensures { (p : Pocket) → IsAlone p self.now → AllByRecursion (λ d. (self.now.clock ≤ d.moment) × (d.moment < 2 * 10 ^ 15)) (dues_in (view p self.now)) }
+        ensures { (p : Pocket) → IsAlone p self.now →
+            AllByRecursion (λ d. (self.now.clock ≤ d.moment) × (d.moment < 2 * 10 ^ 15))
+            (dues_in (view p self.now)) }
     {
         let _ = &self.spec;
         dues_stay_ahead();
@@ -124,8 +128,9 @@ impl Experiment {
     }
 
     /// Appends what is due, or leaves `dues` as it was.
-    pub fn add_dues(&self, dues: &mut Vec<Due>) -> Result<(), NoMemory>
-        ensures ok { OnOk result ((p : Pocket) → dues.new.items ≡ dues.old.items ++ dues_in (view p self.now)) }
+    pub fn add_dues(&self, dues: &mut Vec<Due>) -> Result<(), AllocError>
+        ensures ok { OnOk result
+            ((p : Pocket) → dues.new.items ≡ dues.old.items ++ dues_in (view p self.now)) }
         ensures err { OnErr result (dues.new.items ≡ dues.old.items) }
     {
         append_dues(&self.net, self.next, self.clock, dues)
@@ -134,14 +139,14 @@ impl Experiment {
 
 /// The due of a command that is the next one.
 pub(crate) fn command_due(command: &Timed) -> Due
-    ensures { result ≡ record { moment = command.now.moment; source = record { class = Class.NextCommand; number = 0 } } }
+    ensures { result ≡ record {
+      moment = command.now.moment;
+      source = record { class = NextCommand; number = 0 };
+    } }
 {
     Due {
         moment: command.moment,
-        source: Source {
-            class: Class::NextCommand,
-            number: 0,
-        },
+        source: Source::next_command(),
     }
 }
 
@@ -152,20 +157,22 @@ pub(crate) fn append_dues(
     next: Option<Timed>,
     clock: u64,
     dues: &mut Vec<Due>,
-) -> Result<(), NoMemory>
-    ensures ok { OnOk result ((p : Pocket) → dues.new.items ≡ dues.old.items ++ (command_dues (option_to_list next) ++ dues_of clock (net_of p net.now))) }
+) -> Result<(), AllocError>
+    ensures ok { OnOk result
+        ((p : Pocket) →
+        dues.new.items
+        ≡ dues.old.items
+        ++ (command_dues (option_to_list next) ++ dues_of clock (net_of p net.now))) }
     ensures err { OnErr result (dues.new.items ≡ dues.old.items) }
 {
     let before = dues.len();
-    let Ok(()) = dues.reserve(1) else {
-        return Err(NoMemory);
-    };
+    dues.reserve(1)?;
     if let Some(command) = next {
         dues.push_reserved(command_due(&command));
     }
     let Ok(()) = net.add_dues(clock, dues) else {
         dues.truncate(before);
-        return Err(NoMemory);
+        return Err(AllocError);
     };
     Ok(())
 }

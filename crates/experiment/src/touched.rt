@@ -8,19 +8,21 @@ ghost use Rattle.experiment.specs.Dues.{dues_in, Covers, NamesNoOther, NamesUpTo
 use crate::Experiment;
 use crate::told::append_dues;
 use emu_model::{Due, Source};
-use queue_disc::NoMemory;
+use std::alloc::AllocError;
 use std::mem;
 
 impl Experiment {
     /// Notes what is due, and puts into `sources`, in place of what it held, each source whose dues differ
     /// from those that were noted before; none were in a new experiment. May name others that have dues, and
     /// one twice. Refused memory, it leaves all as it was.
-    pub fn touched(&mut self, sources: &mut Vec<Source>) -> Result<(), NoMemory>
+    pub fn touched(&mut self, sources: &mut Vec<Source>) -> Result<(), AllocError>
         ensures covers { OnOk result (Covers self.old.noted self.new.noted sources.new.items) }
-        ensures no_other { OnOk result (NamesNoOther self.old.noted self.new.noted sources.new.items) }
+        ensures no_other { OnOk result
+            (NamesNoOther self.old.noted self.new.noted sources.new.items) }
         ensures noted { OnOk result ((p : Pocket) → self.new.noted ≡ dues_in (view p self.old)) }
         ensures same { self.new ≡ record self.old { noted = self.new.noted } }
-        ensures err { OnErr result ((sources.new.items ≡ sources.old.items) × (self.new ≡ self.old)) }
+        ensures err { OnErr result
+            ((sources.new.items ≡ sources.old.items) × (self.new ≡ self.old)) }
     {
         self.fresh.clear();
         append_dues(&self.net, self.next, self.clock, &mut self.fresh)?;
@@ -38,15 +40,13 @@ impl Experiment {
 }
 
 // The sources of what differs between two lists, as both are gone through side by side.
-fn name_changed(old: &[Due], new: &[Due], sources: &mut Vec<Source>) -> Result<(), NoMemory>
+fn name_changed(old: &[Due], new: &[Due], sources: &mut Vec<Source>) -> Result<(), AllocError>
     ensures covers { OnOk result (Covers old.now new.now sources.new.items) }
     ensures no_other { OnOk result (NamesNoOther old.now new.now sources.new.items) }
     ensures err { OnErr result (sources.new.items ≡ sources.old.items) }
 {
     let wanted = old.len() + new.len();
-    let Ok(()) = sources.reserve(wanted.saturating_sub(sources.len())) else {
-        return Err(NoMemory);
-    };
+    sources.reserve(wanted.saturating_sub(sources.len()))?;
     sources.clear();
     let mut i = 0;
     let mut j = 0;

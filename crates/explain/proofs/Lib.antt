@@ -1,3 +1,3 @@
-pub mod Places
+pub mod FrontWords
 pub mod Numbers
 pub mod Rows

@@ -198,7 +198,8 @@ fn with_a_byte(line: &[u8]) -> Option<&[u8]>
 /// What there is to say of the fault of a text. It takes the fault's word for it, and takes no memory. One pass over
 /// the lines up to it, and one more where the fault goes by those before. Own.
 pub fn find<'a>(text: &'a [u8], fault: &Fault) -> Finding<'a>
-    ensures line { option_map (λ l. l.now) result.line ≡ nonempty (nth_line fault.now.line (lines text.now)) }
+    ensures line { option_map (λ l. l.now) result.line
+        ≡ nonempty (nth_line fault.now.line (lines text.now)) }
     ensures place { IsInLine result.inside.place (option_map (λ l. l.now) result.line) }
     ensures before { IsBefore (lines text.now) fault.now.line result.before }
 {

@@ -59,7 +59,8 @@ impl<'a> Past<'a> {
     }
 
     fn take(&mut self, earlier: Earlier<'a>, name: Option<&[u8]>)
-        ensures { (ls : List (List ℕ)) (n : ℕ) → IsBefore ls n (Some earlier.entry) → IsPastOf ls n self.old → IsPastOf ls n self.new }
+        ensures { (ls : List (List ℕ)) (n : ℕ) → IsBefore ls n (Some earlier.entry) →
+            IsPastOf ls n self.old → IsPastOf ls n self.new }
     {
         match read_line(earlier.line) {
             Ok(LineEntry::Begins { name: other, .. }) => {

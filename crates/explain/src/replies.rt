@@ -47,7 +47,8 @@ fn of_64_bits(n: u128) -> Option<u64>
 }
 
 fn number(words: &mut Words) -> Option<u64>
-    ensures { option_map (λ n. (n, words_of words.new.rest.now)) result ≡ value small_number (words_of words.old.rest.now) }
+    ensures { option_map (λ n. (n, words_of words.new.rest.now)) result
+        ≡ value small_number (words_of words.old.rest.now) }
 {
     of_64_bits(numbers::number(words.next_word()?)?)
 }
@@ -106,7 +107,8 @@ impl Replies {
     }
 
     fn take_line(&mut self) -> Result<(), AllocError>
-        ensures { OnOk result (heard self.new ≡ told (reply_in (words_of (heard self.old).line)) (heard self.old)) }
+        ensures { OnOk result
+            (heard self.new ≡ told (reply_in (words_of (heard self.old).line)) (heard self.old)) }
     {
         match reply_of(self.line.as_slice()) {
             Reply::Heading => self.headings = self.headings.saturating_add(1),

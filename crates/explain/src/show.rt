@@ -85,7 +85,8 @@ fn put_line(out: &mut Vec<u8>, line: &[u8], place: Option<Place>) -> Result<(), 
 
 // The line, if there is one, and marks beneath it.
 fn put_lines(out: &mut Vec<u8>, line: Option<&[u8]>, place: Option<Place>) -> Result<(), AllocError>
-    ensures { OnOk result (out.new.items ≡ out.old.items ++ line_rows (option_map (λ l. l.now) line.entry) place) }
+    ensures { OnOk result
+        (out.new.items ≡ out.old.items ++ line_rows (option_map (λ l. l.now) line.entry) place) }
 {
     match line {
         None => Ok(()),
@@ -94,7 +95,9 @@ fn put_lines(out: &mut Vec<u8>, line: Option<&[u8]>, place: Option<Place>) -> Re
 }
 
 fn put_optional(out: &mut Vec<u8>, label: &str, text: Option<&str>) -> Result<(), AllocError>
-    ensures { OnOk result (out.new.items ≡ out.old.items ++ optional_row label.now (option_map (λ t. t.now) text.entry)) }
+    ensures { OnOk result
+        (out.new.items
+        ≡ out.old.items ++ optional_row label.now (option_map (λ t. t.now) text.entry)) }
 {
     match text {
         None => Ok(()),
@@ -132,7 +135,13 @@ fn put_before(out: &mut Vec<u8>, before: Option<Earlier>) -> Result<(), AllocErr
 /// expected, an example, what to write instead, and the line before that it goes by. ASCII, each row with two spaces
 /// in front and a line feed behind. Own.
 pub fn show_finding(alloc: Global, finding: &Finding) -> Result<Vec<u8>, AllocError>
-    ensures { IfOk result (λ out. out.items ≡ finding_text (option_map (λ l. l.now) finding.now.line) finding.now.inside.place finding.now.inside.expected.now (option_map (λ t. t.now) finding.now.inside.example) (option_map (λ t. t.now) finding.now.inside.hint) finding.now.before) }
+    ensures { IfOk result
+        (λ out. out.items
+        ≡ finding_text
+        (option_map
+        (λ l. l.now) finding.now.line) finding.now.inside.place finding.now.inside.expected.now
+        (option_map (λ t. t.now) finding.now.inside.example)
+        (option_map (λ t. t.now) finding.now.inside.hint) finding.now.before) }
 {
     let mut out = Vec::new(alloc);
     put_lines(&mut out, finding.line, finding.inside.place)?;

@@ -58,7 +58,8 @@ impl<'a> Walk<'a> {
 
     /// Takes the next word, whatever it is. It is at fault where it is missing.
     pub fn take(&mut self, wanted: Wanted) -> Result<&'a [u8], Trouble>
-        ensures missing { IfErr result (λ t. t ≡ record { index = self.new.taken; wanted = wanted }) }
+        ensures missing { IfErr result
+            (λ t. t ≡ record { index = self.new.taken; wanted = wanted }) }
     {
         match self.optional() {
             Some(word) => Ok(word),
@@ -71,7 +72,8 @@ impl<'a> Walk<'a> {
 
     /// Whether the word that was taken last is what was wanted.
     pub fn judge(&self, word: &[u8], wanted: Wanted) -> Result<(), Trouble>
-        ensures blamed { IfErr result (λ t. t ≡ record { index = self.now.taken - 1; wanted = wanted }) }
+        ensures blamed { IfErr result
+            (λ t. t ≡ record { index = self.now.taken - 1; wanted = wanted }) }
     {
         match judge(wanted.form, word) {
             Verdict::Fine => Ok(()),

@@ -21,16 +21,34 @@ impl Model for FlowId {
 
     ghost Value = { Id };
 
-    ghost view = { λ i. record { proto = i.proto; src = i.src; dst = i.dst; sport = i.sport; dport = i.dport } };
+    ghost view = { λ i. record {
+      proto = i.proto;
+      src = i.src;
+      dst = i.dst;
+      sport = i.sport;
+      dport = i.dport;
+    } };
 
-    ghost inverse = { λ i. record { proto = i.proto; src = i.src; dst = i.dst; sport = i.sport; dport = i.dport } };
+    ghost inverse = { λ i. record {
+      proto = i.proto;
+      src = i.src;
+      dst = i.dst;
+      sport = i.sport;
+      dport = i.dport;
+    } };
 }
 
 impl FlowId {
     /// Its five fields, in the form of a mask.
     pub fn fields(&self) -> Mask
         ensures { let i = self.now in
-            result ≡ record { proto = i.proto; src = i.src; dst = i.dst; sport = i.sport; dport = i.dport } }
+            result ≡ record {
+              proto = i.proto;
+              src = i.src;
+              dst = i.dst;
+              sport = i.sport;
+              dport = i.dport;
+            } }
     {
         Mask {
             proto: self.proto,

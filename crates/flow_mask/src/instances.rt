@@ -88,7 +88,9 @@ impl Instances {
 
     /// Makes the growth that `find_or_make` of this identifier needs, and changes nothing else.
     pub fn find_or_make_ready(&mut self, id: FlowId) -> Result<(), AllocError>
-        ensures ready { OnOk result (list_any (same_flow id) self.old.ids ≡ false → length self.old.ids < 256 → 0 < self.new.spare) }
+        ensures ready { OnOk result
+            (list_any (same_flow id) self.old.ids ≡ false → length self.old.ids < 256 →
+            0 < self.new.spare) }
         ensures ids { self.new.ids ≡ self.old.ids }
         ensures spare { self.old.spare ≤ self.new.spare }
         ensures succeeds { 0 < self.old.spare → IsOk result }
@@ -105,7 +107,8 @@ impl Instances {
     pub fn find_or_make(&mut self, id: FlowId) -> Result<u8, InstanceError>
         ensures ok { IfOk result (λ index. instance_of self.old.ids id ≡ Some index) }
         ensures made { OnOk result (self.new.ids ≡ different self.old.ids (id ∷ [])) }
-        ensures too_many { (result ≡ Err InstanceError.TooMany) ↔ (instance_of self.old.ids id ≡ None) }
+        ensures too_many { (result ≡ Err InstanceError.TooMany) ↔
+            (instance_of self.old.ids id ≡ None) }
         ensures known { list_any (same_flow id) self.old.ids ≡ true → IsOk result }
         ensures succeeds { 0 < self.old.spare → IsSome (instance_of self.old.ids id) → IsOk result }
         ensures err { OnErr result (self.new.ids ≡ self.old.ids) }

@@ -1,5 +1,5 @@
 //! Masks of flow identifiers, and the numbers of a pipe's instances (ipfw(8), mask; at most 256
-//! instances is own).
+//! instances is our choice).
 #![tactic(auto)]
 
 mod ids;

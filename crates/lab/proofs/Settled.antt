@@ -6,7 +6,7 @@ use Rattle.std.proofs.lemmas.List.{take-append-drop}
 use Rattle.emu_model.specs.declared.commands.Spec.{Spec}
 use Rattle.emu_model.specs.declared.commands.Timed.{Timed}
 use Rattle.emu_model.specs.declared.records.Ending.{Ending}
-use Rattle.emu_model.specs.Step.{State, opening, step, step_with}
+use Rattle.emu_model.specs.Step.{State, initial_state, step, step_with}
 use Rattle.emu_model.specs.Alone.{after_steps, alone, trace_of}
 use Rattle.emu_model.specs.Laws.{with_more, TakesSteps, LaterCommandsWait}
 use Rattle.packet_store.specs.Pocket.{Pocket}
@@ -54,7 +54,7 @@ settled wait p e rest same few over =
     = wait e.spec e.consumed rest e.steps takes ∙ ap (with_more rest) (sym same) in
     let stands : step (alone e.spec (e.consumed ++ rest) e.steps) ≡ alone e.spec (e.consumed ++ rest) e.steps
     = ap step now ∙ at-end p e rest over ∙ sym now in
-    ap trace_of (still e.spec.budget.steps e.steps (opening e.spec (e.consumed ++ rest)) stands few ∙ now)
+    ap trace_of (still e.spec.budget.steps e.steps (initial_state e.spec (e.consumed ++ rest)) stands few ∙ now)
 
 -- what was played is what the definitions say
 pub left_alone : LaterCommandsWait → (spec : Spec) (commands : List Timed) (p q : Pocket) (old new : KeptExperiment) → old.spec ≡ spec → IsAlone p old →
@@ -74,4 +74,4 @@ ended_alone wait spec all commands n begins takes few ended =
     let stands : step (alone spec (commands ++ rest) n) ≡ alone spec (commands ++ rest) n
     = ap step now ∙ ended-still (with_more rest (alone spec commands n)) ended ∙ sym now in
     ap (λ (l : List Timed). trace_of (alone spec l spec.budget.steps)) whole
-    ∙ ap trace_of (still spec.budget.steps n (opening spec (commands ++ rest)) stands few ∙ now)
+    ∙ ap trace_of (still spec.budget.steps n (initial_state spec (commands ++ rest)) stands few ∙ now)

@@ -1,4 +1,4 @@
--- Laws of reports, over the definitions alone (own).
+-- Laws of reports, over the definitions alone (our choice).
 use Rattle.std.specs.Prelude.{◌≡◌, ℕ, List, flat_map}
 use Rattle.std.specs.List.{AllZip}
 use Rattle.control.specs.declared.scenario.Experiment.{Experiment}

@@ -15,8 +15,7 @@ use control::Experiment as Script;
 use emu_model::{Counters, Record, Spec, Timed, later_commands_wait};
 use experiment::{ApplyError, Event, Experiment};
 use packet_store::OwnShelf;
-use queue_disc::NoMemory;
-use std::alloc::Global;
+use std::alloc::{AllocError, Global};
 use std::marker::Model;
 
 /// After how many steps it is told again how many were made.
@@ -73,14 +72,15 @@ fn advance<P: Progress>(
     experiment: &mut Experiment,
     shelf: &mut OwnShelf,
     progress: &P,
-) -> Result<(), NoMemory>
+) -> Result<(), AllocError>
     requires { IsHousedIn (own_pocket shelf.old) experiment.old }
-    ensures { OnOk result (Advances (own_pocket shelf.old) experiment.old (own_pocket shelf.new) experiment.new) }
+    ensures { OnOk result
+        (Advances (own_pocket shelf.old) experiment.old (own_pocket shelf.new) experiment.new) }
 {
     loop {
         match experiment.event(shelf, 0) {
             Event::Ran => tell(experiment, progress),
-            Event::Halted => return Err(NoMemory),
+            Event::Halted => return Err(AllocError),
             Event::Ended | Event::Still => return Ok(()),
         }
     }
@@ -92,16 +92,18 @@ fn play<P: Progress>(
     shelf: &mut OwnShelf,
     commands: &[Timed],
     progress: &P,
-) -> Result<(), NoMemory>
+) -> Result<(), AllocError>
     requires housed { IsHousedIn (own_pocket shelf.old) experiment.old }
     requires new { IsNew experiment.old }
     requires in_order { AreInOrder 0 commands.now }
-    ensures { OnOk result (Plays commands.now (own_pocket shelf.old) experiment.old (own_pocket shelf.new) experiment.new) }
+    ensures { OnOk result
+        (Plays commands.now (own_pocket shelf.old) experiment.old
+        (own_pocket shelf.new) experiment.new) }
 {
     for command in commands {
         match experiment.apply(command) {
             Ok(()) => {}
-            Err(ApplyError::NoMemory) => return Err(NoMemory),
+            Err(ApplyError::NoMemory) => return Err(AllocError),
             Err(ApplyError::Over) => unreachable!(),
             Err(ApplyError::Busy) => unreachable!(),
             Err(ApplyError::Backward) => unreachable!(),
@@ -123,14 +125,14 @@ fn outcome_of(experiment: Experiment) -> Outcome
     Outcome { records, counters }
 }
 
-/// Runs an experiment by itself on these commands, whose moments (ns) don't fall. `NoMemory` where
+/// Runs an experiment by itself on these commands, whose moments (ns) don't fall. `AllocError` where
 /// memory was refused.
 pub fn run<P: Progress>(
     alloc: Global,
     spec: &Spec,
     commands: &[Timed],
     progress: &P,
-) -> Result<Outcome, NoMemory>
+) -> Result<Outcome, AllocError>
     requires { AreInOrder 0 commands.now }
     ensures { IfOk result (λ o. o ≡ trace_of (alone spec.now commands.now spec.now.budget.steps)) }
 {
@@ -141,23 +143,19 @@ pub fn run<P: Progress>(
     Ok(outcome_of(experiment))
 }
 
-/// Runs each experiment by itself, one after the other. `NoMemory` where memory was refused.
+/// Runs each experiment by itself, one after the other. `AllocError` where memory was refused.
 pub fn run_all<P: Progress>(
     alloc: Global,
     plans: &[Script],
     progress: &P,
-) -> Result<Vec<Outcome>, NoMemory>
+) -> Result<Vec<Outcome>, AllocError>
     requires { All (λ e. AreInOrder 0 e.commands) plans.now }
     ensures { IfOk result (λ os. os.items ≡ map trace_alone plans.now) }
 {
-    let Ok(mut outcomes) = Vec::with_capacity(alloc, plans.len()) else {
-        return Err(NoMemory);
-    };
+    let mut outcomes = Vec::with_capacity(alloc, plans.len())?;
     for plan in plans {
         let outcome = run(alloc, &plan.spec, plan.commands.as_slice(), progress)?;
-        let Ok(()) = outcomes.push(outcome) else {
-            return Err(NoMemory);
-        };
+        outcomes.push(outcome)?;
         progress.ended(outcomes.len() as u64, plans.len() as u64);
     }
     Ok(outcomes)

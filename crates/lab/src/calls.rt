@@ -45,7 +45,8 @@ pub fn run_alone<R: Inlet, W: Outlet>(
     reader: &mut R,
     writer: &mut W,
 ) -> Result<(), RunFault>
-    ensures calls { Calls reports (R.remaining reader.old) (W.contents writer.old) (W.contents writer.new) result }
+    ensures calls { Calls reports (R.remaining reader.old) (W.contents writer.old)
+        (W.contents writer.new) result }
     ensures taken { TakesFew (R.remaining reader.old) (R.remaining reader.new) }
     ensures read { R.failed reader.new ≡ reader_failed result }
     ensures write { W.failed writer.new ≡ writer_failed (W.failed writer.old) result }
@@ -63,7 +64,8 @@ pub fn run_alone_told<R: Inlet, W: Outlet, P: Progress>(
     writer: &mut W,
     progress: &P,
 ) -> Result<(), RunFault>
-    ensures calls { Calls reports (R.remaining reader.old) (W.contents writer.old) (W.contents writer.new) result }
+    ensures calls { Calls reports (R.remaining reader.old) (W.contents writer.old)
+        (W.contents writer.new) result }
     ensures taken { TakesFew (R.remaining reader.old) (R.remaining reader.new) }
     ensures read { R.failed reader.new ≡ reader_failed result }
     ensures write { W.failed writer.new ≡ writer_failed (W.failed writer.old) result }
@@ -99,7 +101,8 @@ pub fn run<H: Threads + Wait + Sync, R: Inlet, W: Outlet, G: Gate>(
     plan: Plan,
     gate: &G,
 ) -> Result<(), RunFault>
-    ensures calls { Calls reports (R.remaining reader.old) (W.contents writer.old) (W.contents writer.new) result }
+    ensures calls { Calls reports (R.remaining reader.old) (W.contents writer.old)
+        (W.contents writer.new) result }
     ensures taken { TakesFew (R.remaining reader.old) (R.remaining reader.new) }
     ensures read { R.failed reader.new ≡ reader_failed result }
     ensures write { W.failed writer.new ≡ writer_failed (W.failed writer.old) result }
@@ -120,7 +123,8 @@ pub fn run_told<H: Threads + Wait + Sync, R: Inlet, W: Outlet, G: Gate, P: Progr
     gate: &G,
     progress: &P,
 ) -> Result<(), RunFault>
-    ensures calls { Calls reports (R.remaining reader.old) (W.contents writer.old) (W.contents writer.new) result }
+    ensures calls { Calls reports (R.remaining reader.old) (W.contents writer.old)
+        (W.contents writer.new) result }
     ensures taken { TakesFew (R.remaining reader.old) (R.remaining reader.new) }
     ensures read { R.failed reader.new ≡ reader_failed result }
     ensures write { W.failed writer.new ≡ writer_failed (W.failed writer.old) result }
@@ -179,7 +183,8 @@ pub fn check<R: Inlet, W: Outlet>(
     reader: &mut R,
     writer: &mut W,
 ) -> Result<(), RunFault>
-    ensures calls { Calls tally (R.remaining reader.old) (W.contents writer.old) (W.contents writer.new) result }
+    ensures calls { Calls tally (R.remaining reader.old) (W.contents writer.old)
+        (W.contents writer.new) result }
     ensures taken { TakesFew (R.remaining reader.old) (R.remaining reader.new) }
     ensures read { R.failed reader.new ≡ reader_failed result }
     ensures write { W.failed writer.new ≡ writer_failed (W.failed writer.old) result }

@@ -69,8 +69,10 @@ impl<T: Drop> Device<T> {
     // Notes what an error says.
     fn note(&mut self, error: &Error) -> Trouble
         ensures same { self.new.inner ≡ self.old.inner }
-        ensures kind { (result ≡ Trouble.Interrupted) ↔ ((error_kind error.now ≡ ErrorKind.Interrupted) × (0 < self.old.patience)) }
-        ensures again { result ≡ Trouble.Interrupted → (self.new.failed ≡ self.old.failed) × (self.new.patience + 1 ≡ self.old.patience) }
+        ensures kind { (result ≡ Trouble.Interrupted) ↔
+            ((error_kind error.now ≡ ErrorKind.Interrupted) × (0 < self.old.patience)) }
+        ensures again { result ≡ Trouble.Interrupted →
+            (self.new.failed ≡ self.old.failed) × (self.new.patience + 1 ≡ self.old.patience) }
         ensures failed { result ≡ Trouble.Failed → self.new.failed ≡ true }
     {
         if self.patience == 0 || error.kind() != ErrorKind::Interrupted {

@@ -36,7 +36,8 @@ pub trait Inlet: Drop {
         ensures bytes { ReadConsumes (remaining self.old) (remaining self.new) result room.new }
         ensures failed { failed self.new ≡ has_failed result }
         ensures stays { failed self.old ≡ true → result ≡ Err Trouble.Failed }
-        ensures patience { result ≡ Err Trouble.Interrupted → patience self.new < patience self.old };
+        ensures patience { result ≡ Err Trouble.Interrupted →
+            patience self.new < patience self.old };
 }
 
 /// Takes bytes.
@@ -57,14 +58,16 @@ pub trait Outlet: Drop {
         ensures bytes { WriteAppends (contents self.old) (contents self.new) result bytes.now }
         ensures failed { failed self.new ≡ has_failed result }
         ensures stays { failed self.old ≡ true → result ≡ Err Trouble.Failed }
-        ensures patience { result ≡ Err Trouble.Interrupted → patience self.new < patience self.old };
+        ensures patience { result ≡ Err Trouble.Interrupted →
+            patience self.new < patience self.old };
 
     /// Hands on what it still keeps. One that has failed fails at every later call.
     fn flush(&mut self) -> Result<(), Trouble>
         ensures bytes { Keeps (contents self.old) (contents self.new) }
         ensures failed { failed self.new ≡ has_failed result }
         ensures stays { failed self.old ≡ true → result ≡ Err Trouble.Failed }
-        ensures patience { result ≡ Err Trouble.Interrupted → patience self.new < patience self.old };
+        ensures patience { result ≡ Err Trouble.Interrupted →
+            patience self.new < patience self.old };
 }
 
 /// Reads some bytes, none only at the end or where there is no room for any.
@@ -109,7 +112,8 @@ fn past(bytes: &[u8], count: usize) -> &[u8]
 /// Writes all of these bytes, or some first ones of them where the writer fails.
 #[tactic(auto, using(crate::proofs::Writing::writing_all, crate::proofs::Writing::writing_past, crate::proofs::Writing::writing_done_as, crate::proofs::Writing::writing_cut))]
 pub(crate) fn write_all<W: Outlet>(writer: &mut W, bytes: &[u8]) -> Result<(), Failed>
-    ensures bytes { OnOk result (Appends (W.contents writer.old) (W.contents writer.new) bytes.now) }
+    ensures bytes { OnOk result
+        (Appends (W.contents writer.old) (W.contents writer.new) bytes.now) }
     ensures cut { OnErr result (IsCut (W.contents writer.old) (W.contents writer.new) bytes.now) }
     ensures failed { OnErr result (W.failed writer.new ≡ true) }
 {

@@ -16,7 +16,8 @@ const CHUNK: usize = 65_536;
 /// The text up to its end, or, where it is too long for a scenario, so much of it that this shows.
 #[tactic(auto, using(crate::proofs::ReadFacts::few_left, crate::proofs::ReadFacts::few_kept))]
 pub fn read_text<R: Inlet>(alloc: Global, reader: &mut R) -> Result<Vec<u8>, RunFault>
-    ensures text { IfOk result (λ text. IsRead (R.remaining reader.old) (R.remaining reader.new) text.items) }
+    ensures text { IfOk result
+        (λ text. IsRead (R.remaining reader.old) (R.remaining reader.new) text.items) }
     ensures taken { TakesFew (R.remaining reader.old) (R.remaining reader.new) }
     ensures fault { IfErr result IsInputFault }
     ensures failed { R.failed reader.new ≡ reader_failed result }

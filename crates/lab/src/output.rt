@@ -54,9 +54,11 @@ impl Buffer {
     // Writes all that is kept.
     #[tactic(auto, using(crate::proofs::Writing::puts_out_as, crate::proofs::Writing::stops_out))]
     fn hand_on<W: Outlet>(&mut self, writer: &mut W) -> Result<(), Failed>
-        ensures ok { OnOk result (Puts (W.contents writer.old) self.old (W.contents writer.new) self.new []) }
+        ensures ok { OnOk result
+            (Puts (W.contents writer.old) self.old (W.contents writer.new) self.new []) }
         ensures empty { OnOk result (self.new ≡ []) }
-        ensures cut { OnErr result (Stops (W.contents writer.old) self.old (W.contents writer.new) []) }
+        ensures cut { OnErr result
+            (Stops (W.contents writer.old) self.old (W.contents writer.new) []) }
         ensures failed { OnErr result (W.failed writer.new ≡ true) }
     {
         write_all(writer, self.kept.as_slice())?;
@@ -68,9 +70,11 @@ impl Buffer {
     #[tactic(auto, using(crate::proofs::Writing::puts_none))]
     fn make_room<W: Outlet>(&mut self, writer: &mut W, room: usize) -> Result<(), Failed>
         requires { room ≤ 65536 }
-        ensures ok { OnOk result (Puts (W.contents writer.old) self.old (W.contents writer.new) self.new []) }
+        ensures ok { OnOk result
+            (Puts (W.contents writer.old) self.old (W.contents writer.new) self.new []) }
         ensures room { OnOk result (length self.new + room ≤ 65536) }
-        ensures cut { OnErr result (Stops (W.contents writer.old) self.old (W.contents writer.new) []) }
+        ensures cut { OnErr result
+            (Stops (W.contents writer.old) self.old (W.contents writer.new) []) }
         ensures failed { OnErr result (W.failed writer.new ≡ true) }
     {
         if self.kept.len() > CAPACITY - room {
@@ -82,8 +86,10 @@ impl Buffer {
     /// Puts bytes behind the others.
     #[tactic(auto, using(crate::proofs::Writing::puts_next, crate::proofs::Writing::puts_kept_as, crate::proofs::Writing::puts_straight_as, crate::proofs::Writing::puts_none, crate::proofs::Writing::stops_any, crate::proofs::Writing::stops_straight_as, crate::proofs::Writing::stops_next))]
     pub fn put<W: Outlet>(&mut self, writer: &mut W, bytes: &[u8]) -> Result<(), Failed>
-        ensures ok { OnOk result (Puts (W.contents writer.old) self.old (W.contents writer.new) self.new bytes.now) }
-        ensures cut { OnErr result (Stops (W.contents writer.old) self.old (W.contents writer.new) bytes.now) }
+        ensures ok { OnOk result
+            (Puts (W.contents writer.old) self.old (W.contents writer.new) self.new bytes.now) }
+        ensures cut { OnErr result
+            (Stops (W.contents writer.old) self.old (W.contents writer.new) bytes.now) }
         ensures failed { OnErr result (W.failed writer.new ≡ true) }
     {
         if bytes.len() > CAPACITY {
@@ -104,8 +110,12 @@ impl Buffer {
     fn put_run<W: Outlet>(&mut self, writer: &mut W, records: &[Record]) -> Result<usize, Failed>
         requires { 0 < length records.now }
         ensures count { IfOk result (λ n. (0 < n) × (n ≤ length records.now)) }
-        ensures ok { IfOk result (λ n. Puts (W.contents writer.old) self.old (W.contents writer.new) self.new (flat_map line_of (take n records.now))) }
-        ensures cut { OnErr result (Stops (W.contents writer.old) self.old (W.contents writer.new) (flat_map line_of records.now)) }
+        ensures ok { IfOk result
+            (λ n. Puts (W.contents writer.old) self.old (W.contents writer.new) self.new
+            (flat_map line_of (take n records.now))) }
+        ensures cut { OnErr result
+            (Stops (W.contents writer.old) self.old (W.contents writer.new)
+            (flat_map line_of records.now)) }
         ensures failed { OnErr result (W.failed writer.new ≡ true) }
     {
         self.make_room(writer, RUN * LONGEST_LINE)?;
@@ -120,8 +130,12 @@ impl Buffer {
     // Puts the line of the counters.
     #[tactic(auto, using(crate::proofs::Writing::puts_next, crate::proofs::Writing::puts_kept_as, crate::proofs::Writing::stops_any))]
     fn put_counters<W: Outlet>(&mut self, writer: &mut W, counters: &Counters) -> Result<(), Failed>
-        ensures ok { OnOk result (Puts (W.contents writer.old) self.old (W.contents writer.new) self.new (counters_of counters.now)) }
-        ensures cut { OnErr result (Stops (W.contents writer.old) self.old (W.contents writer.new) (counters_of counters.now)) }
+        ensures ok { OnOk result
+            (Puts (W.contents writer.old) self.old (W.contents writer.new) self.new
+            (counters_of counters.now)) }
+        ensures cut { OnErr result
+            (Stops (W.contents writer.old) self.old (W.contents writer.new)
+            (counters_of counters.now)) }
         ensures failed { OnErr result (W.failed writer.new ≡ true) }
     {
         self.make_room(writer, LONGEST_LINE)?;
@@ -134,8 +148,11 @@ impl Buffer {
     // Puts the line of an experiment's name.
     #[tactic(auto, using(crate::proofs::Reporting::heading_puts, crate::proofs::Reporting::heading_stops_first, crate::proofs::Reporting::heading_stops_second, crate::proofs::Reporting::heading_stops_third))]
     fn put_heading<W: Outlet>(&mut self, writer: &mut W, name: &[u8]) -> Result<(), Failed>
-        ensures ok { OnOk result (Puts (W.contents writer.old) self.old (W.contents writer.new) self.new (heading_of name.now)) }
-        ensures cut { OnErr result (Stops (W.contents writer.old) self.old (W.contents writer.new) (heading_of name.now)) }
+        ensures ok { OnOk result
+            (Puts (W.contents writer.old) self.old (W.contents writer.new) self.new
+            (heading_of name.now)) }
+        ensures cut { OnErr result
+            (Stops (W.contents writer.old) self.old (W.contents writer.new) (heading_of name.now)) }
         ensures failed { OnErr result (W.failed writer.new ≡ true) }
     {
         self.put(writer, b"experiment ")?;
@@ -146,8 +163,12 @@ impl Buffer {
     // Puts the lines of records.
     #[tactic(auto, using(crate::proofs::Writing::puts_none, crate::proofs::Reporting::run_puts, crate::proofs::Reporting::run_stops))]
     fn put_records<W: Outlet>(&mut self, writer: &mut W, records: &[Record]) -> Result<(), Failed>
-        ensures ok { OnOk result (Puts (W.contents writer.old) self.old (W.contents writer.new) self.new (flat_map line_of records.now)) }
-        ensures cut { OnErr result (Stops (W.contents writer.old) self.old (W.contents writer.new) (flat_map line_of records.now)) }
+        ensures ok { OnOk result
+            (Puts (W.contents writer.old) self.old (W.contents writer.new) self.new
+            (flat_map line_of records.now)) }
+        ensures cut { OnErr result
+            (Stops (W.contents writer.old) self.old (W.contents writer.new)
+            (flat_map line_of records.now)) }
         ensures failed { OnErr result (W.failed writer.new ≡ true) }
     {
         let mut done = 0;
@@ -165,8 +186,12 @@ impl Buffer {
         plan: &Plan,
         outcome: &Outcome,
     ) -> Result<(), Failed>
-        ensures ok { OnOk result (Puts (W.contents writer.old) self.old (W.contents writer.new) self.new (report_with plan.now outcome.now)) }
-        ensures cut { OnErr result (Stops (W.contents writer.old) self.old (W.contents writer.new) (report_with plan.now outcome.now)) }
+        ensures ok { OnOk result
+            (Puts (W.contents writer.old) self.old (W.contents writer.new) self.new
+            (report_with plan.now outcome.now)) }
+        ensures cut { OnErr result
+            (Stops (W.contents writer.old) self.old (W.contents writer.new)
+            (report_with plan.now outcome.now)) }
         ensures failed { OnErr result (W.failed writer.new ≡ true) }
     {
         self.put_heading(writer, plan.name.as_bytes())?;
@@ -183,8 +208,12 @@ impl Buffer {
         outcomes: &[Outcome],
     ) -> Result<(), Failed>
         requires { length outcomes.now ≡ length plans.now }
-        ensures ok { OnOk result (Puts (W.contents writer.old) self.old (W.contents writer.new) self.new (reports_with plans.now outcomes.now)) }
-        ensures cut { OnErr result (Stops (W.contents writer.old) self.old (W.contents writer.new) (reports_with plans.now outcomes.now)) }
+        ensures ok { OnOk result
+            (Puts (W.contents writer.old) self.old (W.contents writer.new) self.new
+            (reports_with plans.now outcomes.now)) }
+        ensures cut { OnErr result
+            (Stops (W.contents writer.old) self.old (W.contents writer.new)
+            (reports_with plans.now outcomes.now)) }
         ensures failed { OnErr result (W.failed writer.new ≡ true) }
     {
         for index in 0..plans.len() {
@@ -196,8 +225,12 @@ impl Buffer {
     /// Puts reports that were made before, one after the other.
     #[tactic(auto, using(crate::proofs::Writing::puts_none, crate::proofs::Reporting::texts_puts, crate::proofs::Reporting::texts_stops))]
     pub fn put_texts<W: Outlet>(&mut self, writer: &mut W, texts: &[Text]) -> Result<(), Failed>
-        ensures ok { OnOk result (Puts (W.contents writer.old) self.old (W.contents writer.new) self.new (flat_map (λ t. t) texts.now)) }
-        ensures cut { OnErr result (Stops (W.contents writer.old) self.old (W.contents writer.new) (flat_map (λ t. t) texts.now)) }
+        ensures ok { OnOk result
+            (Puts (W.contents writer.old) self.old (W.contents writer.new) self.new
+            (flat_map (λ t. t) texts.now)) }
+        ensures cut { OnErr result
+            (Stops (W.contents writer.old) self.old (W.contents writer.new)
+            (flat_map (λ t. t) texts.now)) }
         ensures failed { OnErr result (W.failed writer.new ≡ true) }
     {
         for text in texts {

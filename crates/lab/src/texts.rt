@@ -123,12 +123,14 @@ pub(crate) fn texts_together<R: Threads + Sync>(
         rt,
         move || -> Result<Vec<Text>, RunFault>
             requires { IsSync R.row × (later.items ≡ map trace_alone later_plans.now) }
-            ensures ok { IfOk result (λ texts. texts.items ≡ map report_alone later_plans.entry.now) }
+            ensures ok { IfOk result
+                (λ texts. texts.items ≡ map report_alone later_plans.entry.now) }
             ensures err { IfErr result IsMemory }
         { texts_together(rt, alloc, later_plans, later, others) },
         move || -> Result<Vec<Text>, RunFault>
             requires { IsSync R.row × (outcomes.items ≡ map trace_alone first_plans.now) }
-            ensures ok { IfOk result (λ texts. texts.items ≡ map report_alone first_plans.entry.now) }
+            ensures ok { IfOk result
+                (λ texts. texts.items ≡ map report_alone first_plans.entry.now) }
             ensures err { IfErr result IsMemory }
         { texts_together(rt, alloc, first_plans, outcomes, mine) },
     );

@@ -134,7 +134,8 @@ impl Joined {
     fn put<G: Gate>(&mut self, dossier: Dossier<RingMail>)
         requires { IfSome self.old.fault (IsTogetherFault G.may_refuse) }
         ensures fault { IfSome self.new.fault (IsTogetherFault G.may_refuse) }
-        ensures strange { option_and_then (λ d. d) (slice_get self.old.dossiers.items dossier.name) ≢ None → IsSome self.new.fault }
+        ensures strange { option_and_then (λ d. d)
+            (slice_get self.old.dossiers.items dossier.name) ≢ None → IsSome self.new.fault }
         ensures nobody { length self.old.dossiers.items ≤ dossier.name → IsSome self.new.fault }
     {
         let place = dossier.name() as usize;

@@ -1,2 +1,2 @@
 mod Quotients
-pub mod Places
+pub mod LinePlaces

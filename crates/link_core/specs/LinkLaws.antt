@@ -1,4 +1,4 @@
--- Laws of a link in its own words (own), over the definitions alone.
+-- Laws of a link in its own words (our choice), over the definitions alone.
 use Rattle.std.specs.Prelude.{◌≡◌, ℕ, ◌+◌, ◌-◌, ◌*◌, ◌^◌, ◌<◌, ◌≤◌}
 use Rattle.emu_model.specs.Rate.{Period, begin, follow, cut_period, finish_at}
 

@@ -1,4 +1,4 @@
-//! A delay line (own): what has finished leaves after its delay, in order.
+//! A delay line (our choice): what has finished leaves after its delay, in order.
 
 ghost use Rattle.std.specs.Prelude.{◌≡◌, ◌+◌, ◌*◌, ◌^◌, ◌<◌, ◌≤◌, length, map, slice_get, IsOk, OnOk, OnErr};
 ghost use Rattle.emu_model.specs.Delay.{enter as entered, leave as left, empty_line, first_exit, first_item, delay_ns};
@@ -57,7 +57,8 @@ impl<A: Drop> DelayLine<A> {
     /// stays.
     pub fn enter(&mut self, item: A, finish: u64, delay: Delay) -> Result<(), AllocError>
         requires { finish < 2 * 10 ^ 15 }
-        ensures ok { OnOk result (self.new.line ≡ entered item finish (delay_ns delay) self.old.line) }
+        ensures ok { OnOk result
+            (self.new.line ≡ entered item finish (delay_ns delay) self.old.line) }
         ensures err { OnErr result (self.new.line ≡ self.old.line) }
         ensures succeeds { 0 < self.old.spare → IsOk result }
         ensures room { self.old.spare ≤ self.new.spare + 1 }

@@ -1,4 +1,4 @@
-//! What makes a link slow: a server that sends at a rate, and a line that delays (own).
+//! What makes a link slow: a server that sends at a rate, and a line that delays (our choice).
 #![tactic(auto)]
 
 mod delay;

@@ -1,4 +1,4 @@
-//! A rate server (own): each busy period is rounded up once, as a whole.
+//! A rate server (our choice): each busy period is rounded up once, as a whole.
 
 ghost use Rattle.std.specs.Prelude.{◌≡◌, ℕ, ◌*◌, ◌^◌, ◌<◌, Some, None, option_map};
 ghost use Rattle.std.specs.Option.{ForSome};
@@ -106,7 +106,8 @@ impl RateServer {
     /// Takes the next packet into service at the finish of the one before. At rest it does nothing.
     pub fn follow(&mut self, size: Size)
         requires { ForSome self.old.busy (λ p. p.finish < 2 * 10 ^ 15) }
-        ensures { self.new ≡ record self.old { busy = option_map (followed self.old.bw size) self.old.busy } }
+        ensures { self.new
+            ≡ record self.old { busy = option_map (followed self.old.bw size) self.old.busy } }
     {
         if let Some(busy) = self.busy {
             self.busy = Some(busy.followed(self.bw, size));

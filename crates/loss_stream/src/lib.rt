@@ -1,4 +1,4 @@
-//! Seeded loss (own): which packets an instance of a pipe loses, by the words of ChaCha20.
+//! Seeded loss (our choice): which packets an instance of a pipe loses, by the words of ChaCha20.
 #![tactic(auto)]
 
 mod stream;

@@ -1,9 +1,9 @@
 //! The stream of loss words of one instance.
 
 ghost use Rattle.std.specs.Prelude.{◌≡◌, ◌+◌, ◌-◌, ◌^◌, min};
-ghost use Rattle.emu_model.specs.Loss.{is_lost};
+ghost use Rattle.emu_model.specs.Loss.{is_lost, loss_word};
 
-use emu_model::{LossRate, PipeNumber};
+use emu_model::{LossRate, PipeNumber, loss_has_its_extremes};
 use rand_chacha::ChaCha20Rng;
 use rand_core::SeedableRng;
 use rand_core::utils::NextWord;
@@ -20,6 +20,8 @@ pub struct LossStream {
     pipe: PipeNumber,
     instance: u8,
     drawn: u128,
+    // the place at which the generator stands: what is compared with no rate isn't computed
+    place: u128,
     words: ChaCha20Rng,
 }
 
@@ -29,9 +31,14 @@ impl Model for LossStream {
 
     ghost Value = { Draws };
 
-    ghost view = { λ s. record { seed = s.seed; pipe = s.pipe; instance = s.instance; drawn = s.drawn } };
+    ghost view = { λ s. record {
+      seed = s.seed;
+      pipe = s.pipe;
+      instance = s.instance;
+      drawn = s.drawn;
+    } };
 
-    ghost invariant = { λ s. s.words ≡ words_of s.seed s.pipe s.instance s.drawn };
+    ghost invariant = { λ s. s.words ≡ words_of s.seed s.pipe s.instance s.place };
 }
 
 impl LossStream {
@@ -51,22 +58,49 @@ impl LossStream {
             pipe,
             instance,
             drawn: 0,
+            place: 0,
             words,
         }
     }
 
+    // The word of a place (RFC 8439, ChaCha20).
+    fn word(&mut self, place: u128) -> u32
+        ensures word { result ≡ loss_word self.old.seed self.old.pipe self.old.instance place }
+        ensures same { self.new ≡ self.old }
+    {
+        if self.place != place {
+            self.words.set_word_pos(place);
+        }
+        let word = self.words.next_word();
+        match place.checked_add(1) {
+            Some(next) => self.place = next,
+            None => {
+                self.words.set_word_pos(place);
+                self.place = place;
+            }
+        }
+        word
+    }
+
     /// Draws the word of the next packet, at every rate, and answers whether it loses the packet.
-    /// The count stays at 2^128 - 1.
+    /// The count stays at 2^128 - 1. At the rates 0 and 1, which every word is above and below, none
+    /// is computed.
     pub fn lose(&mut self, plr: LossRate) -> bool
         ensures answer { result ≡ is_lost self.old.seed self.old.pipe self.old.instance self.old.drawn plr }
-        ensures drawn { self.new ≡ record self.old { drawn = min (self.old.drawn + 1) (2 ^ 128 - 1) } }
+        ensures drawn { self.new
+            ≡ record self.old { drawn = min (self.old.drawn + 1) (2 ^ 128 - 1) } }
     {
-        let word = u64::from(self.words.next_word());
-        match self.drawn.checked_add(1) {
-            Some(drawn) => self.drawn = drawn,
-            None => self.words.set_word_pos(self.drawn),
+        loss_has_its_extremes();
+        let place = self.drawn;
+        match place.checked_add(1) {
+            Some(next) => self.drawn = next,
+            None => {}
         }
-        word * 1_000_000 < u64::from(plr.get()) * 0x1_0000_0000
+        match plr.get() {
+            0 => false,
+            1_000_000 => true,
+            rate => u64::from(self.word(place)) * 1_000_000 < u64::from(rate) * 0x1_0000_0000,
+        }
     }
 
     /// How many words were drawn, which is the place of the next one.

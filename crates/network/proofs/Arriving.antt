@@ -20,7 +20,8 @@ use Rattle.emu_model.specs.declared.sources.SendSpec.{SendSpec}
 use Rattle.emu_model.specs.Rules.{Counted, verdict, verdict_of_match, matches_from, next_match, the_rules, least_match}
 use Rattle.emu_model.specs.Delay.{Line, Leaving, enter, delay_ns}
 use Rattle.emu_model.specs.Pipes.{PipeState, pipe_packets}
-use Rattle.emu_model.specs.Net.{Net, Setting, held, note_all, note_drops, note_traced, note_arrival, arrivals, find_pipe, make_record, drop_record, to_direct, enter_pipe, to_pipe, packet_of, make, pass_rules}
+use Rattle.emu_model.specs.declared.commands.Setting.{Setting}
+use Rattle.emu_model.specs.Net.{Net, held, note_all, note_drops, note_traced, note_arrival, arrivals, find_pipe, make_record, drop_record, to_direct, enter_pipe, to_pipe, packet_of, make, pass_rules}
 use Rattle.link_core.specs.Lane.{Lane}
 use Rattle.packet_store.specs.Pocket.{Pocket, with_packet}
 use Rattle.pipe_instance.specs.Keyed.{seen_leaving, seen_line}
@@ -175,10 +176,10 @@ module _ (named : PacketsAreNamed) (at : Setting) (p : Pocket) (n : KeptNet) (lo
   traced mid noted = notes-becomes p (if n.trace then make_record at.now x ∷ [] else []) one-more mid more-housed noted
 
   pub made-passes : (q : Pocket) (mid new : KeptNet) → Notes (if n.trace then make_record at.now x ∷ [] else []) one-more mid →
-      p.count < at.room → Becomes 0 (pass_rules at x (net_of p mid)) p q mid new →
+      p.count < at.packet_budget → Becomes 0 (pass_rules at x (net_of p mid)) p q mid new →
       Becomes 1 (make at load send (net_of p n)) p q n new
   made-passes q mid new noted fits passed =
-      let test : nat_lt (held (net_of p n)) at.room ≡ true = lt-ltb (held (net_of p n)) at.room (omega (arith, fits, held-is named p n h)) in
+      let test : nat_lt (held (net_of p n)) at.packet_budget ≡ true = lt-ltb (held (net_of p n)) at.packet_budget (omega (arith, fits, held-is named p n h)) in
       let b : Becomes 0 (pass_rules at x (traced-one x)) p q one-more new =
       follow (pass_rules at x) 0 0 0 (traced-one x) p p q one-more mid new (omega arith) (traced mid noted) passed in
       record {
@@ -190,10 +191,10 @@ module _ (named : PacketsAreNamed) (at : Setting) (p : Pocket) (n : KeptNet) (lo
       }
 
   pub made-dropped : (mid new : KeptNet) → Notes (if n.trace then make_record at.now x ∷ [] else []) one-more mid →
-      at.room ≤ p.count → Notes (drop_record at.now (record { packet = x; cause = Budget }) ∷ []) mid new →
+      at.packet_budget ≤ p.count → Notes (drop_record at.now (record { packet = x; cause = Budget }) ∷ []) mid new →
       Becomes 1 (make at load send (net_of p n)) p p n new
   made-dropped mid new noted full dropped =
-      let test : nat_lt (held (net_of p n)) at.room ≡ false = le-ltb (held (net_of p n)) at.room (omega (arith, full, held-is named p n h)) in
+      let test : nat_lt (held (net_of p n)) at.packet_budget ≡ false = le-ltb (held (net_of p n)) at.packet_budget (omega (arith, full, held-is named p n h)) in
       let ds : List Record = drop_record at.now (record { packet = x; cause = Budget }) ∷ [] in
       let m : Becomes 0 (traced-one x) p p one-more mid = traced mid noted in
       let b : Becomes 0 (note_all ds (traced-one x)) p p one-more new =

@@ -10,7 +10,7 @@ use Rattle.pipe_instance.specs.Keyed.{seen_leaving, seen_line}
 use Rattle.pipe_core.specs.Moves.{some_packet, packet_at, found, Keeps}
 use Rattle.pipe_table.specs.Table.{pipe_keys}
 use Rattle.network.specs.Kept.{KeptNet, line_keys, IsHoused}
-use Rattle.network.proofs.KeyCounts.{uses-cons, uses-append, at_same, at_other, one_at-same, found-le, found-some, Keeps-put, Keeps-take}
+use Rattle.network.proofs.KeyCounts.{uses-cons, uses-append, at_same, at_other, one_at-same, found-le, found-some, Keeps-put, Keeps-first}
 use Rattle.network.proofs.Frame.{line-agrees}
 
 item_of : Leaving ℕ → ℕ
@@ -24,7 +24,6 @@ module _ (p q : Pocket) (n : KeptNet) (key now : ℕ) (packet : Packet) (h : IsH
   pub enter-keeps : Keeps p q (line_keys n.direct.line) (line_keys (enter key now 0 n.direct.line))
   enter-keeps = Keeps-put p q key packet (line_keys n.direct.line) (line_keys (enter key now 0 n.direct.line)) none put
       (entered-keys key now n.direct.line)
-      (ap (λ ks. length ks) (entered-keys key now n.direct.line) ∙ length-append (line_keys n.direct.line) (key ∷ []))
 
   named-packet : packet_at q.find key ≡ packet
   named-packet = ap (λ (r : Pocket). packet_at r.find key) put ∙ ap (λ o. unwrap_or o some_packet) (at_same key (Some packet) (p.find key))
@@ -61,7 +60,7 @@ leaves-by p q n (x ∷ xs) key packet each counted first value taken =
     let there : p.find x.item ≡ Some packet = ap p.find here ∙ value in
     let away : q ≡ without p x.item = taken ∙ ap (without p) (sym here) in
     let keys : List ℕ = map (λ (y : Leaving ℕ). y.item) xs in (
-      Keeps-take p q x.item (x.item ∷ keys) keys (ap found there) away refl (omega (arith, counted)),
+      Keeps-first p q x.item keys (record { each = each; within = omega (arith, counted, length-map xs (λ (y : Leaving ℕ). y.item)) }) away,
       ap (λ o. Some (unwrap_or o some_packet)) there,
       line-agrees (packet_at p.find) (packet_at q.find) (record { flight = xs; last = n.direct.line.last }) (λ k within.
           ap (λ (r : Pocket). packet_at r.find k) away

@@ -1,6 +1,6 @@
 -- What is due first among several lists.
 use Rattle.std.proofs.Common.{◌≡◌, ℕ, ◌+◌, ◌*◌, Bool, true, false, nat_lt, cond, refl, sym, ap, ◌∙◌, subst, List, [], ◌∷◌, ◌++◌, map, length, take, Option, Some, None}
-use Rattle.std.specs.Prelude.{flat_map, option_map, option_to_list}
+use Rattle.std.specs.Prelude.{flat_map, option_map, option_to_list, IfSome}
 use Rattle.std.specs.List.{best_of}
 use Rattle.std.proofs.lemmas.List.{append_assoc}
 use Rattle.std.proofs.Math.Seq.{take-append_seam}
@@ -74,6 +74,15 @@ best-holds P a (x ∷ xs) h (b, k) = best-holds P (cond (is_before x a) x a) xs 
     either true = b
     either false = h
 
+-- what holds of a due, and of one that may be there, holds of the earlier
+pub option-holds : (P : Due → Type 0) (a : Due) (o : Option Due) → P a → IfSome o P → P (best_of is_before a (option_to_list o))
+option-holds P a None h k = h
+option-holds P a (Some d) h k = either (is_before d a)
+  where
+    either : (t : Bool) → P (cond t d a)
+    either true = k
+    either false = h
+
 module _ (P : Due → Type 0) where
   pub one-all : (d : Due) → P d → AllDues P (d ∷ [])
   unfolding AllDues
@@ -84,7 +93,7 @@ module _ (P : Due → Type 0) where
   option-all number class None h = tt
   option-all number class (Some m) h = (h m, tt)
 
-  service-all : (number : ℕ) (o : Option InService) → ((moment : ℕ) → P (due Finish number moment)) → AllDues P (option_to_list (option_map (λ s. due Finish number s.period.finish) o))
+  service-all : (number : ℕ) (o : Option (InService Packet)) → ((moment : ℕ) → P (due Finish number moment)) → AllDues P (option_to_list (option_map (λ s. due Finish number s.period.finish) o))
   unfolding AllDues
   service-all number None h = tt
   service-all number (Some s) h = (h s.period.finish, tt)

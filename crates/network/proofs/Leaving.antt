@@ -4,7 +4,8 @@ use Rattle.std.specs.Option.{option_map_or}
 use Rattle.emu_model.specs.declared.packets.Packet.{Packet}
 use Rattle.emu_model.specs.declared.records.Record.TheVariants.{PacketFinished}
 use Rattle.emu_model.specs.Delay.{Line, Leaving, leave, first_item}
-use Rattle.emu_model.specs.Net.{Net, Setting, note, note_all, note_drops, drop_record, find_pipe}
+use Rattle.emu_model.specs.declared.commands.Setting.{Setting}
+use Rattle.emu_model.specs.Net.{Net, note, note_all, note_drops, drop_record, find_pipe}
 use Rattle.emu_model.specs.Events.{leave_pipe, pipe_exits, pipe_finishes}
 use Rattle.link_core.specs.Lane.{Lane}
 use Rattle.packet_store.specs.Pocket.{Pocket, without}

@@ -1,6 +1,6 @@
 -- A command is done, or refused.
-use Rattle.std.proofs.Common.{◌≡◌, ℕ, zero, suc, ◌/◌, ◌%◌, Bool, true, false, cond, refl, sym, ap, ◌∙◌, subst, List, [], ◌∷◌, ◌++◌, length, map, Option, Some, None, IsSome, arith}
-use Rattle.std.specs.Prelude.{is_some}
+use Rattle.std.proofs.Common.{◌≡◌, ℕ, zero, suc, ◌/◌, ◌%◌, Bool, true, false, cond, refl, sym, ap, ◌∙◌, subst, List, [], ◌∷◌, ◌++◌, length, map, Option, Some, None, IsSome, arith, ◌<◌, ◌≤◌}
+use Rattle.std.specs.Prelude.{is_some, OnOk, Result}
 use Rattle.std.specs.Option.{option_map_or}
 use Rattle.emu_model.specs.declared.commands.Command.{Command}
 use Rattle.emu_model.specs.declared.commands.Command.TheVariants.{Add, Delete, Config, PipeDelete, Inject, OnePass, Trace, End}
@@ -14,17 +14,19 @@ use Rattle.emu_model.specs.declared.records.Refusal.TheVariants.{NoSuchPipe}
 use Rattle.emu_model.specs.declared.rules.Rule.{Rule}
 use Rattle.emu_model.specs.declared.sources.SendSpec.{SendSpec}
 use Rattle.emu_model.specs.Rules.{RuleBook, add_refusal, delete_refusal, book_with, book_without}
-use Rattle.emu_model.specs.Net.{Net, Setting, note, note_all, note_drops, drop_record, find_pipe, make}
+use Rattle.emu_model.specs.declared.commands.Setting.{Setting}
+use Rattle.emu_model.specs.Net.{Net, note, note_all, note_drops, drop_record, find_pipe, make}
 use Rattle.emu_model.specs.Commands.{refusal_of, effect_of, obey, config_refusal, configure, delete_pipe}
 use Rattle.emu_model.specs.declared.sources.Class.TheVariants.{Exit}
 use Rattle.emu_model.specs.Events.{event_of, pipe_exits}
 use Rattle.packet_store.specs.Pocket.{Pocket}
 use Rattle.pipe_core.specs.Moves.{Keeps}
-use Rattle.pipe_table.specs.Table.{Table, with_pipes, pipe_keys, drops_by_deletion}
+use Rattle.pipe_table.specs.Table.{Table, IsPipeNumber, with_pipes, pipe_keys, drops_by_deletion}
 use Rattle.traffic.specs.Kept.{KeptTraffic, with_traffic}
 use Rattle.pipe_instance.specs.Uses.{uses}
 use Rattle.network.specs.Kept.{KeptNet, net_of, line_keys, net_keys, IsHoused}
 use Rattle.network.specs.Changes.{Becomes, IsStill, Notes, Obeys}
+use Rattle.network.proofs.Sources.{on_ok}
 use Rattle.network.proofs.Steps.{shown-as, notes-becomes, follow, still-becomes, still-housed, noted-none, pipes-become}
 
 pub weaker : (m : Net) (p q : Pocket) (x y : KeptNet) → Becomes 0 m p q x y → Becomes 1 m p q x y
@@ -199,6 +201,32 @@ ready-shown o p old mid n still same is = (λ i. net_of (same i) (is i)) ∙ sti
 pub event-exit : (at : Setting) (k : ℕ) (m : Net) → (k ≡ 0 → ⊥) → event_of at Exit k m ≡ option_map_or (pipe_exits at (k / 256) (k % 256) m) (find_pipe (k / 256) m) m
 event-exit at zero m h = absurd (h refl)
 event-exit at (suc k) m h = refl
+
+-- an exit that is of no pipe is that of the link of `allow`
+pub no-pipe : (k : ℕ) → (0 < k → IsPipeNumber (k / 256)) → (IsPipeNumber (k / 256) → ⊥) → k ≡ 0
+no-pipe zero h none = refl
+no-pipe (suc k) h none = absurd (none (h (omega arith)))
+
+pub of-pipe : (k : ℕ) → 1 ≤ k / 256 → k ≡ 0 → ⊥
+of-pipe zero h e = absurd (omega (arith, h))
+of-pipe (suc k) h e = absurd (cc)
+
+-- an event that was made once room had grown was made from the first
+pub event-from_still : {E : Type 0} (f : Net → Net) (event : Net) (p q : Pocket) (old mid new : KeptNet) (r : Result (Unit {0}) E) →
+    f (net_of p old) ≡ event → IsHoused p old → IsStill old mid →
+    OnOk r (Becomes 1 (f (net_of p mid)) p q mid new) → OnOk r (Becomes 1 event p q old new)
+event-from_still f event p q old mid new r is housed still =
+    on_ok (Becomes 1 (f (net_of p mid)) p q mid new) (Becomes 1 event p q old new) r
+    (λ b. shown-as 1 (f (net_of p old)) event p q old new is (from_still f 1 p q old mid new housed still b))
+
+-- the same, of one that makes no packet
+pub finish-from_still : {E : Type 0} (f : Net → Net) (event : Net) (p q : Pocket) (old mid new : KeptNet) (r : Result (Unit {0}) E) →
+    f (net_of p old) ≡ event → IsHoused p old → IsStill old mid →
+    OnOk r (Becomes 0 (f (net_of p mid)) p q mid new) → OnOk r (Becomes 1 event p q old new)
+finish-from_still f event p q old mid new r is housed still =
+    on_ok (Becomes 0 (f (net_of p mid)) p q mid new) (Becomes 1 event p q old new) r
+    (λ b. shown-as 1 (f (net_of p old)) event p q old new is
+    (weaker (f (net_of p old)) p q old new (from_still f 0 p q old mid new housed still b)))
 
 -- what isn't there isn't some
 pub none-there : {X : Type 0} (o : Option X) → o ≡ None → IsSome o → ⊥

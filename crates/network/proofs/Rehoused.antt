@@ -1,17 +1,16 @@
 -- The packets of a net that move from one shelf to another.
-use Rattle.std.proofs.Common.{◌≡◌, ℕ, ◌+◌, ◌<◌, ◌≤◌, refl, sym, ap, ◌∙◌, subst, List, ◌++◌, length, Option, Some, None, arith}
+use Rattle.std.proofs.Common.{◌≡◌, ℕ, ◌+◌, ◌≤◌, ap, ◌∙◌, ◌++◌, length, None, arith}
 use Rattle.std.proofs.lemmas.List.{length-append}
-use Rattle.emu_model.specs.declared.packets.Packet.{Packet}
 use Rattle.emu_model.specs.Net.{Net}
 use Rattle.link_core.specs.Lane.{Lane}
 use Rattle.packet_store.specs.Pocket.{Pocket, empty_pocket}
-use Rattle.pipe_instance.specs.Uses.{uses}
 use Rattle.pipe_instance.specs.Keyed.{seen_line}
 use Rattle.pipe_core.specs.Moves.{packet_at, found, AreNamed}
 use Rattle.pipe_core.specs.Views.{ViewsAgree}
 use Rattle.pipe_core.specs.Rehousing.{Rehouses}
 use Rattle.pipe_table.specs.Table.{Table, seen_pipes, with_pipes, pipe_keys}
-use Rattle.pipe_table.proofs.Moving.{as-many, named-front, named-after, name-kept, shown-left, rehouses-then}
+use Rattle.pipe_core.proofs.CallerLemmas.{AreNamed-after, AreNamed-front, Rehouses-then}
+use Rattle.pipe_table.proofs.CallerLemmas.{as-many, name-kept, shown-left}
 use Rattle.network.specs.Kept.{KeptNet, net_of, line_keys, net_keys, IsHoused}
 use Rattle.network.proofs.KeyCounts.{not-found}
 use Rattle.network.proofs.Frame.{line-agrees}
@@ -26,7 +25,7 @@ net-named p n h = record {
 -- first the link's packets move
 module _ (p r : Pocket) (n : KeptNet) (h : IsHoused p n) (empty : r ≡ empty_pocket r.budget) (fits : length (net_keys n) ≤ r.budget) where
   pub line-named : AreNamed p (line_keys n.direct.line)
-  line-named = named-front p (line_keys n.direct.line) (pipe_keys n.table.pipes) (net-named p n h)
+  line-named = AreNamed-front p (line_keys n.direct.line) (pipe_keys n.table.pipes) (net-named p n h)
 
   pub line-fits : r.count + length (line_keys n.direct.line) ≤ r.budget
   line-fits =
@@ -35,7 +34,7 @@ module _ (p r : Pocket) (n : KeptNet) (h : IsHoused p n) (empty : r ≡ empty_po
   -- and then those of the pipes
   module _ (q s : Pocket) (l : Lane ℕ) (line : Rehouses p q r s (line_keys n.direct.line) (line_keys l.line)) where
     pub pipes-left : AreNamed q (pipe_keys n.table.pipes)
-    pipes-left = named-after p q (line_keys n.direct.line) (pipe_keys n.table.pipes) (net-named p n h) line.takes
+    pipes-left = AreNamed-after p q (line_keys n.direct.line) (pipe_keys n.table.pipes) (net-named p n h) line.takes
 
     pub pipes-fit : s.count + length (pipe_keys n.table.pipes) ≤ s.budget
     pipes-fit = omega (
@@ -50,7 +49,7 @@ module _ (p r : Pocket) (n : KeptNet) (h : IsHoused p n) (empty : r ≡ empty_po
 
     module _ (t u : Pocket) (tb : Table) (pipes : Rehouses q t s u (pipe_keys n.table.pipes) (pipe_keys tb.pipes)) where
       all : Rehouses p t r u (net_keys n) (line_keys l.line ++ pipe_keys tb.pipes)
-      all = rehouses-then p q t r s u (line_keys n.direct.line) (line_keys l.line) (pipe_keys n.table.pipes) (pipe_keys tb.pipes) (net-named p n h) line pipes
+      all = Rehouses-then p q t r s u (line_keys n.direct.line) (pipe_keys n.table.pipes) (line_keys l.line) (pipe_keys tb.pipes) (net-named p n h) line pipes
 
       pub net-housed : IsHoused u (record n { direct = l; table = tb })
       net-housed = record {

@@ -4,7 +4,7 @@ use Rattle.std.specs.Prelude.{Result, Ok, Err, OnOk, OnErr}
 use Rattle.emu_model.specs.declared.packets.Load.TheVariants.{Seg}
 use Rattle.emu_model.specs.declared.records.Record.{Record}
 use Rattle.emu_model.specs.declared.sources.SendSpec.{SendSpec}
-use Rattle.emu_model.specs.Net.{Net, opening_net, note_all}
+use Rattle.emu_model.specs.Net.{Net, initial_net, note_all}
 use Rattle.pipe_table.specs.Table.{pipe_keys}
 use Rattle.traffic.specs.Kept.{KeptTraffic, with_traffic, HasRoomFor}
 use Rattle.traffic.specs.Sends.{reply_send}
@@ -46,14 +46,14 @@ can-segment k first send n t is room reply ready =
     let P : KeptTraffic → Type 0 = λ u. HasRoomFor k u × ((s : SendSpec) → ((m : Net) → reply_send k (with_traffic u m) ≡ Some s) → CanMake s n) in
     subst P (sym is) (
       room,
-      (λ s there. only_one (λ x. CanMake x n) send (reply_send k (with_traffic t opening_net)) (reply opening_net) ready s (there opening_net)),
+      (λ s there. only_one (λ x. CanMake x n) send (reply_send k (with_traffic t initial_net)) (reply initial_net) ready s (there initial_net)),
     )
 
 pub can-nothing : (k first : ℕ) (n : KeptNet) → HasRoomFor k n.traffic →
     ((m : Net) → None ≡ reply_send k (with_traffic n.traffic m)) → CanDeliver (Seg k first) n
 can-nothing k first n room reply = (
   room,
-  (λ s there. none_there (λ x. CanMake x n) (reply_send k (with_traffic n.traffic opening_net)) (reply opening_net) s (there opening_net)),
+  (λ s there. none_there (λ x. CanMake x n) (reply_send k (with_traffic n.traffic initial_net)) (reply initial_net) s (there initial_net)),
 )
 
 -- a source changed, and records came

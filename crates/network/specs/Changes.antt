@@ -2,7 +2,8 @@
 use Rattle.std.specs.Prelude.{◌≡◌, ℕ, ◌+◌, ◌≤◌, List, ◌++◌, length}
 use Rattle.emu_model.specs.declared.records.Record.{Record}
 use Rattle.emu_model.specs.declared.commands.Command.{Command}
-use Rattle.emu_model.specs.Net.{Net, Setting}
+use Rattle.emu_model.specs.declared.commands.Setting.{Setting}
+use Rattle.emu_model.specs.Net.{Net}
 use Rattle.emu_model.specs.Commands.{obey}
 use Rattle.packet_store.specs.Pocket.{Pocket}
 use Rattle.pipe_table.specs.Table.{pipe_keys}

@@ -2,7 +2,8 @@
 use Rattle.std.specs.Prelude.{◌≡◌, ℕ, ◌*◌, ◌^◌, ◌<◌, ◌≤◌, Bool, List, ◌++◌, map, length}
 use Rattle.emu_model.specs.Rules.{RuleBook}
 use Rattle.emu_model.specs.Delay.{Line}
-use Rattle.emu_model.specs.Net.{Net, Setting}
+use Rattle.emu_model.specs.declared.commands.Setting.{Setting}
+use Rattle.emu_model.specs.Net.{Net}
 use Rattle.link_core.specs.Lane.{Lane}
 use Rattle.packet_store.specs.Pocket.{Pocket}
 use Rattle.pipe_instance.specs.Keyed.{seen_line}
@@ -11,7 +12,6 @@ use Rattle.pipe_core.specs.Moves.{packet_at, found}
 use Rattle.pipe_table.specs.Table.{Table, seen_pipes, pipe_keys}
 use Rattle.record_log.specs.Log.{Log}
 use Rattle.traffic.specs.Kept.{KeptTraffic, states_of}
-use Rattle.network.specs.declared.state.Moment.{Moment}
 
 -- the rules, the pipes, the link of `allow` with its packets' keys, the flows and trains, how many
 -- packets were made, whether one that leaves a pipe is delivered at once, whether packets are traced,
@@ -53,13 +53,9 @@ pub record IsHoused (p : Pocket) (n : KeptNet) : Type 0 where
   pub each : (k : ℕ) → uses k (net_keys n) ≡ found (p.find k)
   pub count : p.count ≡ length (net_keys n)
 
--- a moment as the definitions have it
-abbrev pub setting_of : Moment → Setting
-setting_of at = record { seed = at.seed; room = at.room; now = at.now }
-
 -- a net at a moment at which an event may come
-pub record Stands (at : Moment) (p : Pocket) (n : KeptNet) : Type 0 where
+pub record Stands (at : Setting) (p : Pocket) (n : KeptNet) : Type 0 where
   pub early : at.now < 2 * 10 ^ 15
   pub seed : at.seed ≡ n.table.seed
-  pub room : at.room ≤ p.budget
+  pub room : at.packet_budget ≤ p.budget
   pub housed : IsHoused p n

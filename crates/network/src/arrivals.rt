@@ -1,21 +1,22 @@
 //! How a packet is made, passes the rules, and comes to a pipe or to the link of `allow`.
 
-ghost use Rattle.std.specs.Prelude.{◌≡◌, ◌≢◌, ℕ, ◌+◌, ◌*◌, ◌^◌, ◌<◌, ◌≤◌, ◌∷◌, ◌++◌, [], if◌then◌else◌, OnOk};
+ghost use Rattle.std.specs.Prelude.{◌≡◌, ℕ, ◌+◌, ◌*◌, ◌^◌, ◌<◌, ◌≤◌, ◌∷◌, ◌++◌, [], if◌then◌else◌, OnOk};
 ghost use Rattle.std.specs.Option.{option_map_or};
-ghost use Rattle.packet_store.specs.Pocket.{Pocket};
+ghost use Rattle.packet_store.specs.Pocket.{Pocket, OthersStay, AllStay};
 ghost use Rattle.emu_model.specs.Net.{arrivals, by_verdict, drop_record, enter_pipe as enters_pipe, find_pipe, go_on as goes_on, make as made_of, make_record, packet_of, pass_rules as passes_rules, to_direct as comes_to_direct, to_pipe as comes_to_pipe};
-ghost use Rattle.network.specs.Kept.{net_of, setting_of, IsHoused, Stands};
+ghost use Rattle.network.specs.Kept.{net_of, IsHoused, Stands};
 ghost use Rattle.network.specs.Changes.{Becomes, IsStill, Notes};
 ghost use Rattle.network.specs.Ready.{IsReady, verdict_on, verdict_behind, CanMake};
 ghost use Rattle.pipe_table.specs.Table.{HasRoomIn};
 
-use crate::state::{Moment, Network};
+use crate::state::Network;
 use emu_model::{
-    Delay, DropCause, Load, Packet, PipeNumber, Place, Record, RuleNumber, SendSpec, Verdict,
+    Delay, DropCause, Load, Packet, PipeNumber, Place, Record, RuleNumber, SendSpec, Setting,
+    Verdict,
 };
 use packet_store::{Owner, Shelf};
 use pipe_core::keys_say_all;
-use queue_disc::NoMemory;
+use std::alloc::AllocError;
 use traffic::Sending;
 
 // A packet with this header.
@@ -54,18 +55,17 @@ impl Network {
         now: u64,
         verdict: Verdict,
         packet: &Packet,
-    ) -> Result<(), NoMemory>
+    ) -> Result<(), AllocError>
         ensures still { IsStill self.old self.new }
-        ensures rest { self.new ≡ record self.old { table = self.new.table; direct = self.new.direct } }
-        ensures pockets { (o : ℕ) → S.pocket shelf.new o ≡ S.pocket shelf.old o }
+        ensures rest { self.new
+            ≡ record self.old { table = self.new.table; direct = self.new.direct } }
+        ensures pockets { AllStay (S.pocket shelf.old) (S.pocket shelf.new) }
         ensures rooms { (o : ℕ) → S.room shelf.old o ≤ S.room shelf.new o }
         ensures ready { OnOk result (IsReady verdict packet.now self.new) }
     {
         match verdict {
             Verdict::Allow => {
-                if self.direct.enter_ready(now, no_delay()).is_err() {
-                    return Err(NoMemory);
-                }
+                self.direct.enter_ready(now, no_delay())?;
                 return Ok(());
             }
             Verdict::Deny => return Ok(()),
@@ -82,10 +82,11 @@ impl Network {
         owner: Owner,
         now: u64,
         send: &SendSpec,
-    ) -> Result<(), NoMemory>
+    ) -> Result<(), AllocError>
         ensures still { IsStill self.old self.new }
-        ensures rest { self.new ≡ record self.old { table = self.new.table; direct = self.new.direct } }
-        ensures pockets { (o : ℕ) → S.pocket shelf.new o ≡ S.pocket shelf.old o }
+        ensures rest { self.new
+            ≡ record self.old { table = self.new.table; direct = self.new.direct } }
+        ensures pockets { AllStay (S.pocket shelf.old) (S.pocket shelf.new) }
         ensures rooms { (o : ℕ) → S.room shelf.old o ≤ S.room shelf.new o }
         ensures ready { OnOk result (CanMake send.now self.new) }
     {
@@ -97,7 +98,8 @@ impl Network {
     // Records that a packet was dropped.
     pub(crate) fn drop_packet(&mut self, now: u64, packet: &Packet, cause: DropCause)
         requires { 0 < self.old.log.spare }
-        ensures { Notes (drop_record now (record { packet = packet.now; cause = cause }) ∷ []) self.old self.new }
+        ensures { Notes (drop_record now
+            (record { packet = packet.now; cause = cause }) ∷ []) self.old self.new }
     {
         self.note(&Record::PacketDropped {
             moment: now,
@@ -110,7 +112,8 @@ impl Network {
     // Records that a packet is made, where packets are traced.
     fn note_made(&mut self, now: u64, packet: &Packet)
         requires { 0 < self.old.log.spare }
-        ensures { Notes (if self.old.trace then make_record now packet.now ∷ [] else []) self.old self.new }
+        ensures { Notes (if self.old.trace then make_record now packet.now ∷ []
+            else []) self.old self.new }
     {
         if !self.trace {
             return;
@@ -149,10 +152,11 @@ impl Network {
         requires budget { (S.pocket shelf.old owner).count < (S.pocket shelf.old owner).budget }
         requires room { 0 < S.room shelf.old owner }
         requires ready { 0 < self.old.direct.spare }
-        ensures becomes { Becomes 0 (comes_to_direct now packet.now (net_of (S.pocket shelf.old owner) self.old))
+        ensures becomes { Becomes 0
+            (comes_to_direct now packet.now (net_of (S.pocket shelf.old owner) self.old))
             (S.pocket shelf.old owner) (S.pocket shelf.new owner) self.old self.new }
         ensures log { self.new.log ≡ self.old.log }
-        ensures others { (o : ℕ) → o ≢ owner → S.pocket shelf.new o ≡ S.pocket shelf.old o }
+        ensures others { OthersStay owner (S.pocket shelf.old) (S.pocket shelf.new) }
     {
         keys_say_all();
         let Ok(key) = shelf.put(owner, *packet) else {
@@ -168,7 +172,7 @@ impl Network {
         &mut self,
         shelf: &mut S,
         owner: Owner,
-        at: Moment,
+        at: Setting,
         number: PipeNumber,
         packet: &Packet,
     )
@@ -177,10 +181,11 @@ impl Network {
         requires room { 0 < S.room shelf.old owner }
         requires log { 0 < self.old.log.spare }
         requires ready { HasRoomIn number packet.now self.old.table.pipes }
-        ensures becomes { Becomes 0 (enters_pipe (setting_of at) number packet.now (net_of (S.pocket shelf.old owner) self.old))
+        ensures becomes { Becomes 0
+            (enters_pipe at number packet.now (net_of (S.pocket shelf.old owner) self.old))
             (S.pocket shelf.old owner) (S.pocket shelf.new owner) self.old self.new }
         ensures log { self.old.log.spare ≤ self.new.log.spare + 1 }
-        ensures others { (o : ℕ) → o ≢ owner → S.pocket shelf.new o ≡ S.pocket shelf.old o }
+        ensures others { OthersStay owner (S.pocket shelf.old) (S.pocket shelf.new) }
     {
         let answer = self.table.arrive(shelf, owner, at.now, number, packet);
         match answer {
@@ -197,7 +202,7 @@ impl Network {
         &mut self,
         shelf: &mut S,
         owner: Owner,
-        at: Moment,
+        at: Setting,
         number: PipeNumber,
         packet: &Packet,
     )
@@ -206,10 +211,11 @@ impl Network {
         requires room { 0 < S.room shelf.old owner }
         requires log { 2 < self.old.log.spare }
         requires ready { HasRoomIn number packet.now self.old.table.pipes }
-        ensures becomes { Becomes 0 (comes_to_pipe (setting_of at) number packet.now (net_of (S.pocket shelf.old owner) self.old))
+        ensures becomes { Becomes 0
+            (comes_to_pipe at number packet.now (net_of (S.pocket shelf.old owner) self.old))
             (S.pocket shelf.old owner) (S.pocket shelf.new owner) self.old self.new }
         ensures log { self.old.log.spare ≤ self.new.log.spare + 3 }
-        ensures others { (o : ℕ) → o ≢ owner → S.pocket shelf.new o ≡ S.pocket shelf.old o }
+        ensures others { OthersStay owner (S.pocket shelf.old) (S.pocket shelf.new) }
     {
         self.note_arrival(at.now, number, packet);
         self.enter_pipe(shelf, owner, at, number, packet);
@@ -220,7 +226,7 @@ impl Network {
         &mut self,
         shelf: &mut S,
         owner: Owner,
-        at: Moment,
+        at: Setting,
         verdict: Verdict,
         packet: &Packet,
     )
@@ -229,10 +235,11 @@ impl Network {
         requires room { 0 < S.room shelf.old owner }
         requires log { 2 < self.old.log.spare }
         requires ready { IsReady verdict packet.now self.old }
-        ensures becomes { Becomes 0 (by_verdict (setting_of at) verdict packet.now (net_of (S.pocket shelf.old owner) self.old))
+        ensures becomes { Becomes 0
+            (by_verdict at verdict packet.now (net_of (S.pocket shelf.old owner) self.old))
             (S.pocket shelf.old owner) (S.pocket shelf.new owner) self.old self.new }
         ensures log { self.old.log.spare ≤ self.new.log.spare + 3 }
-        ensures others { (o : ℕ) → o ≢ owner → S.pocket shelf.new o ≡ S.pocket shelf.old o }
+        ensures others { OthersStay owner (S.pocket shelf.old) (S.pocket shelf.new) }
     {
         match verdict {
             Verdict::Allow => {
@@ -252,16 +259,17 @@ impl Network {
     }
 
     // A packet passes the rules from the first on.
-    fn pass_rules<S: Shelf>(&mut self, shelf: &mut S, owner: Owner, at: Moment, packet: &Packet)
+    fn pass_rules<S: Shelf>(&mut self, shelf: &mut S, owner: Owner, at: Setting, packet: &Packet)
         requires stands { Stands at (S.pocket shelf.old owner) self.old }
         requires budget { (S.pocket shelf.old owner).count < (S.pocket shelf.old owner).budget }
         requires room { 0 < S.room shelf.old owner }
         requires log { 2 < self.old.log.spare }
         requires ready { IsReady (verdict_on packet.now self.old) packet.now self.old }
-        ensures becomes { Becomes 0 (passes_rules (setting_of at) packet.now (net_of (S.pocket shelf.old owner) self.old))
+        ensures becomes { Becomes 0
+            (passes_rules at packet.now (net_of (S.pocket shelf.old owner) self.old))
             (S.pocket shelf.old owner) (S.pocket shelf.new owner) self.old self.new }
         ensures log { self.old.log.spare ≤ self.new.log.spare + 3 }
-        ensures others { (o : ℕ) → o ≢ owner → S.pocket shelf.new o ≡ S.pocket shelf.old o }
+        ensures others { OthersStay owner (S.pocket shelf.old) (S.pocket shelf.new) }
     {
         let verdict = self.book.verdict(packet);
         self.hand_on(shelf, owner, at, verdict, packet);
@@ -272,7 +280,7 @@ impl Network {
         &mut self,
         shelf: &mut S,
         owner: Owner,
-        at: Moment,
+        at: Setting,
         packet: &Packet,
     )
         requires stands { Stands at (S.pocket shelf.old owner) self.old }
@@ -280,10 +288,11 @@ impl Network {
         requires room { 0 < S.room shelf.old owner }
         requires log { 2 < self.old.log.spare }
         requires ready { IsReady (verdict_behind packet.now self.old) packet.now self.old }
-        ensures becomes { Becomes 0 (goes_on (setting_of at) packet.now (net_of (S.pocket shelf.old owner) self.old))
+        ensures becomes { Becomes 0
+            (goes_on at packet.now (net_of (S.pocket shelf.old owner) self.old))
             (S.pocket shelf.old owner) (S.pocket shelf.new owner) self.old self.new }
         ensures log { self.old.log.spare ≤ self.new.log.spare + 3 }
-        ensures others { (o : ℕ) → o ≢ owner → S.pocket shelf.new o ≡ S.pocket shelf.old o }
+        ensures others { OthersStay owner (S.pocket shelf.old) (S.pocket shelf.new) }
     {
         let verdict = self.book.verdict_after(packet.place, packet);
         self.hand_on(shelf, owner, at, verdict, packet);
@@ -294,24 +303,27 @@ impl Network {
         &mut self,
         shelf: &mut S,
         owner: Owner,
-        at: Moment,
+        at: Setting,
         sending: &Sending,
     )
         requires stands { Stands at (S.pocket shelf.old owner) self.old }
         requires made { self.old.made < 2 ^ 63 }
-        requires room { (S.pocket shelf.old owner).count < (S.pocket shelf.old owner).budget → 0 < S.room shelf.old owner }
+        requires room { (S.pocket shelf.old owner).count < (S.pocket shelf.old owner).budget →
+            0 < S.room shelf.old owner }
         requires log { 3 < self.old.log.spare }
         requires ready { CanMake sending.now.send self.old }
-        ensures becomes { Becomes 1 (made_of (setting_of at) sending.now.load sending.now.send (net_of (S.pocket shelf.old owner) self.old))
+        ensures becomes { Becomes 1
+            (made_of at sending.now.load sending.now.send
+            (net_of (S.pocket shelf.old owner) self.old))
             (S.pocket shelf.old owner) (S.pocket shelf.new owner) self.old self.new }
         ensures log { self.old.log.spare ≤ self.new.log.spare + 4 }
-        ensures others { (o : ℕ) → o ≢ owner → S.pocket shelf.new o ≡ S.pocket shelf.old o }
+        ensures others { OthersStay owner (S.pocket shelf.old) (S.pocket shelf.new) }
     {
         keys_say_all();
         let packet = packet_of(sending.load, &sending.send, self.made);
         self.made += 1;
         self.note_made(at.now, &packet);
-        if shelf.count(owner) < at.room.get() as usize {
+        if shelf.count(owner) < at.packet_budget.get() as usize {
             self.pass_rules(shelf, owner, at, &packet);
             return;
         }

@@ -1,26 +1,26 @@
 //! What commands do.
 
-ghost use Rattle.std.specs.Prelude.{◌≡◌, ◌≢◌, ℕ, ◌+◌, ◌*◌, ◌^◌, ◌<◌, ◌≤◌, ◌++◌, ◌∷◌, [], Some, None, IsOk, IsSome, OnOk, OnErr, map, length};
+ghost use Rattle.std.specs.Prelude.{◌≡◌, ◌+◌, ◌*◌, ◌^◌, ◌<◌, ◌≤◌, ◌++◌, ◌∷◌, [], Some, None, IsOk, IsSome, OnOk, OnErr, map, length};
 ghost use Rattle.emu_model.specs.declared.commands.Command.TheVariants.{Add, Delete, Config, PipeDelete, PipeShow, Show, Inject, Train, Flow, Stop, OnePass, Trace, End};
 ghost use Rattle.emu_model.specs.declared.records.Record.TheVariants.{CommandDone, CommandRefused, RuleLine};
 ghost use Rattle.emu_model.specs.Commands.{obey as obeyed, config_refusal, refusal_of as obey_refusal, source_refusal};
 ghost use Rattle.emu_model.specs.Rules.{add_refusal};
-ghost use Rattle.packet_store.specs.Pocket.{Pocket};
-ghost use Rattle.network.specs.Kept.{net_of, setting_of, Stands};
+ghost use Rattle.packet_store.specs.Pocket.{Pocket, OthersStay};
+ghost use Rattle.network.specs.Kept.{net_of, Stands};
 ghost use Rattle.network.specs.Changes.{Becomes, IsStill, Notes, Obeys};
 ghost use Rattle.network.specs.Ready.{TakesNoMemory};
 
 use crate::events::MOST_RECORDS;
-use crate::state::{Moment, Network};
+use crate::state::Network;
 use emu_model::{
     Command, DropCause, FlowNumber, FlowSpec, Load, PipeConfig, PipeNumber, Record, Refusal, Rule,
-    RuleNumber, SendSpec, TrainSpec,
+    RuleNumber, SendSpec, Setting, TrainSpec,
 };
 use emu_rules::{AddError, CountedRule};
 use packet_store::{Owner, Shelf};
 use pipe_table::ConfigureError;
-use queue_disc::NoMemory;
 use record_log::RecordLog;
+use std::alloc::AllocError;
 use traffic::Sending;
 
 impl Network {
@@ -31,19 +31,22 @@ impl Network {
         &mut self,
         shelf: &mut S,
         owner: Owner,
-        at: Moment,
+        at: Setting,
         number: u64,
         command: &Command,
-    ) -> Result<(), NoMemory>
+    ) -> Result<(), AllocError>
         requires stands { Stands at (S.pocket shelf.old owner) self.old }
         requires made { self.old.made < 2 ^ 63 }
-        ensures ok { OnOk result (Becomes 1 (obeyed (setting_of at) number command.now (net_of (S.pocket shelf.old owner) self.old))
+        ensures ok { OnOk result
+            (Becomes 1 (obeyed at number command.now (net_of (S.pocket shelf.old owner) self.old))
             (S.pocket shelf.old owner) (S.pocket shelf.new owner) self.old self.new) }
         ensures room { OnOk result (0 < self.new.log.spare) }
         ensures refused { OnErr result (IsStill self.old self.new) }
-        ensures succeeds { TakesNoMemory command.now (net_of (S.pocket shelf.old owner) self.old) → 6 ≤ self.old.log.spare → IsOk result }
-        ensures refused_pocket { OnErr result (S.pocket shelf.new owner ≡ S.pocket shelf.old owner) }
-        ensures others { (o : ℕ) → o ≢ owner → S.pocket shelf.new o ≡ S.pocket shelf.old o }
+        ensures succeeds { TakesNoMemory command.now (net_of (S.pocket shelf.old owner) self.old) →
+            6 ≤ self.old.log.spare → IsOk result }
+        ensures refused_pocket { OnErr result
+            (S.pocket shelf.new owner ≡ S.pocket shelf.old owner) }
+        ensures others { OthersStay owner (S.pocket shelf.old) (S.pocket shelf.new) }
     {
         self.reserve(MOST_RECORDS)?;
         match *command {
@@ -95,9 +98,9 @@ impl Network {
     }
 
     // A rule is added.
-    fn add(&mut self, at: Moment, number: u64, rule: &Rule) -> Result<(), NoMemory>
+    fn add(&mut self, at: Setting, number: u64, rule: &Rule) -> Result<(), AllocError>
         requires { 1 < self.old.log.spare }
-        ensures ok { OnOk result (Obeys (setting_of at) number (Add rule.now) self.old self.new) }
+        ensures ok { OnOk result (Obeys at number (Add rule.now) self.old self.new) }
         ensures room { OnOk result (0 < self.new.log.spare) }
         ensures refused { OnErr result (IsStill self.old self.new) }
         ensures succeeds { IsSome (add_refusal rule.now self.old.book) → IsOk result }
@@ -111,14 +114,14 @@ impl Network {
                 self.refuse(at.now, number, refusal);
                 return Ok(());
             }
-            Err(AddError::NoMemory) => return Err(NoMemory),
+            Err(AddError::NoMemory) => return Err(AllocError),
         }
     }
 
     // The rules of a number are deleted.
-    fn delete(&mut self, at: Moment, number: u64, rule: RuleNumber) -> Result<(), NoMemory>
+    fn delete(&mut self, at: Setting, number: u64, rule: RuleNumber) -> Result<(), AllocError>
         requires { 1 < self.old.log.spare }
-        ensures ok { OnOk result (Obeys (setting_of at) number (Delete rule) self.old self.new) }
+        ensures ok { OnOk result (Obeys at number (Delete rule) self.old self.new) }
         ensures room { OnOk result (0 < self.new.log.spare) }
         ensures refused { OnErr result (IsStill self.old self.new) }
         ensures succeeds { IsOk result }
@@ -138,16 +141,17 @@ impl Network {
     // A pipe is configured.
     fn configure(
         &mut self,
-        at: Moment,
+        at: Setting,
         number: u64,
         pipe: PipeNumber,
         config: &PipeConfig,
-    ) -> Result<(), NoMemory>
+    ) -> Result<(), AllocError>
         requires { 1 < self.old.log.spare }
-        ensures ok { OnOk result (Obeys (setting_of at) number (Config pipe config.now) self.old self.new) }
+        ensures ok { OnOk result (Obeys at number (Config pipe config.now) self.old self.new) }
         ensures room { OnOk result (0 < self.new.log.spare) }
         ensures refused { OnErr result (IsStill self.old self.new) }
-        ensures succeeds { (p : Pocket) → IsSome (config_refusal pipe config.now (net_of p self.old)) → IsOk result }
+        ensures succeeds { (p : Pocket) →
+            IsSome (config_refusal pipe config.now (net_of p self.old)) → IsOk result }
     {
         match self.table.configure(pipe, config) {
             Ok(()) => {
@@ -158,7 +162,7 @@ impl Network {
                 self.refuse(at.now, number, refusal);
                 return Ok(());
             }
-            Err(ConfigureError::NoMemory) => return Err(NoMemory),
+            Err(ConfigureError::NoMemory) => return Err(AllocError),
         }
     }
 
@@ -167,19 +171,23 @@ impl Network {
         &mut self,
         shelf: &mut S,
         owner: Owner,
-        at: Moment,
+        at: Setting,
         number: u64,
         pipe: PipeNumber,
-    ) -> Result<(), NoMemory>
+    ) -> Result<(), AllocError>
         requires stands { Stands at (S.pocket shelf.old owner) self.old }
         requires log { 1 < self.old.log.spare }
-        ensures ok { OnOk result (Becomes 1 (obeyed (setting_of at) number (PipeDelete pipe) (net_of (S.pocket shelf.old owner) self.old))
+        ensures ok { OnOk result
+            (Becomes 1
+            (obeyed at number (PipeDelete pipe) (net_of (S.pocket shelf.old owner) self.old))
             (S.pocket shelf.old owner) (S.pocket shelf.new owner) self.old self.new) }
         ensures room { OnOk result (0 < self.new.log.spare) }
         ensures refused { OnErr result (IsStill self.old self.new) }
-        ensures succeeds { IsSome (obey_refusal (PipeDelete pipe) (net_of (S.pocket shelf.old owner) self.old)) → IsOk result }
-        ensures refused_pocket { OnErr result (S.pocket shelf.new owner ≡ S.pocket shelf.old owner) }
-        ensures others { (o : ℕ) → o ≢ owner → S.pocket shelf.new o ≡ S.pocket shelf.old o }
+        ensures succeeds { IsSome (obey_refusal (PipeDelete pipe)
+            (net_of (S.pocket shelf.old owner) self.old)) → IsOk result }
+        ensures refused_pocket { OnErr result
+            (S.pocket shelf.new owner ≡ S.pocket shelf.old owner) }
+        ensures others { OthersStay owner (S.pocket shelf.old) (S.pocket shelf.new) }
     {
         // A pipe that isn't there drops nothing, and needs no room for it.
         if !self.table.has(pipe) {
@@ -188,7 +196,7 @@ impl Network {
         }
         self.reserve_besides(shelf.count(owner))?;
         match self.table.delete(shelf, owner, pipe) {
-            Err(NoMemory) => return Err(NoMemory),
+            Err(AllocError) => return Err(AllocError),
             Ok(None) => {
                 self.refuse(at.now, number, Refusal::NoSuchPipe);
                 return Ok(());
@@ -202,8 +210,8 @@ impl Network {
     }
 
     // The pipes are listed.
-    fn show_pipes(&mut self, at: Moment, number: u64) -> Result<(), NoMemory>
-        ensures ok { OnOk result (Obeys (setting_of at) number PipeShow self.old self.new) }
+    fn show_pipes(&mut self, at: Setting, number: u64) -> Result<(), AllocError>
+        ensures ok { OnOk result (Obeys at number PipeShow self.old self.new) }
         ensures room { OnOk result (0 < self.new.log.spare) }
         ensures refused { OnErr result (IsStill self.old self.new) }
     {
@@ -215,8 +223,8 @@ impl Network {
     }
 
     // The rules are listed.
-    fn show_rules(&mut self, at: Moment, number: u64) -> Result<(), NoMemory>
-        ensures ok { OnOk result (Obeys (setting_of at) number Show self.old self.new) }
+    fn show_rules(&mut self, at: Setting, number: u64) -> Result<(), AllocError>
+        ensures ok { OnOk result (Obeys at number Show self.old self.new) }
         ensures room { OnOk result (0 < self.new.log.spare) }
         ensures refused { OnErr result (IsStill self.old self.new) }
     {
@@ -232,23 +240,24 @@ impl Network {
         &mut self,
         shelf: &mut S,
         owner: Owner,
-        at: Moment,
+        at: Setting,
         number: u64,
         send: &SendSpec,
-    ) -> Result<(), NoMemory>
+    ) -> Result<(), AllocError>
         requires stands { Stands at (S.pocket shelf.old owner) self.old }
         requires made { self.old.made < 2 ^ 63 }
         requires log { 5 < self.old.log.spare }
-        ensures ok { OnOk result (Becomes 1 (obeyed (setting_of at) number (Inject send.now) (net_of (S.pocket shelf.old owner) self.old))
+        ensures ok { OnOk result
+            (Becomes 1
+            (obeyed at number (Inject send.now) (net_of (S.pocket shelf.old owner) self.old))
             (S.pocket shelf.old owner) (S.pocket shelf.new owner) self.old self.new) }
         ensures room { OnOk result (0 < self.new.log.spare) }
         ensures refused { OnErr result (IsStill self.old self.new) }
-        ensures refused_pocket { OnErr result (S.pocket shelf.new owner ≡ S.pocket shelf.old owner) }
-        ensures others { (o : ℕ) → o ≢ owner → S.pocket shelf.new o ≡ S.pocket shelf.old o }
+        ensures refused_pocket { OnErr result
+            (S.pocket shelf.new owner ≡ S.pocket shelf.old owner) }
+        ensures others { OthersStay owner (S.pocket shelf.old) (S.pocket shelf.new) }
     {
-        let Ok(()) = shelf.put_ready(owner) else {
-            return Err(NoMemory);
-        };
+        shelf.put_ready(owner)?;
         self.make_ready(shelf, owner, at.now, send)?;
         self.done(at.now, number);
         let sending = plain_sending(send);
@@ -259,25 +268,24 @@ impl Network {
     // A train begins.
     fn start_train(
         &mut self,
-        at: Moment,
+        at: Setting,
         number: u64,
         source: FlowNumber,
         train: &TrainSpec,
-    ) -> Result<(), NoMemory>
+    ) -> Result<(), AllocError>
         requires early { at.now < 2 * 10 ^ 15 }
         requires log { 1 < self.old.log.spare }
-        ensures ok { OnOk result (Obeys (setting_of at) number (Train source train.now) self.old self.new) }
+        ensures ok { OnOk result (Obeys at number (Train source train.now) self.old self.new) }
         ensures room { OnOk result (0 < self.new.log.spare) }
         ensures refused { OnErr result (IsStill self.old self.new) }
-        ensures succeeds { (p : Pocket) → IsSome (source_refusal source (net_of p self.old)) → IsOk result }
+        ensures succeeds { (p : Pocket) → IsSome (source_refusal source (net_of p self.old)) →
+            IsOk result }
     {
         if let Some(refusal) = self.traffic.refusal(source) {
             self.refuse(at.now, number, refusal);
             return Ok(());
         }
-        let Ok(()) = self.traffic.start_train(at.now, source, train) else {
-            return Err(NoMemory);
-        };
+        self.traffic.start_train(at.now, source, train)?;
         self.done(at.now, number);
         Ok(())
     }
@@ -285,32 +293,31 @@ impl Network {
     // A flow begins.
     fn start_flow(
         &mut self,
-        at: Moment,
+        at: Setting,
         number: u64,
         source: FlowNumber,
         flow: &FlowSpec,
-    ) -> Result<(), NoMemory>
+    ) -> Result<(), AllocError>
         requires { 1 < self.old.log.spare }
-        ensures ok { OnOk result (Obeys (setting_of at) number (Flow source flow.now) self.old self.new) }
+        ensures ok { OnOk result (Obeys at number (Flow source flow.now) self.old self.new) }
         ensures room { OnOk result (0 < self.new.log.spare) }
         ensures refused { OnErr result (IsStill self.old self.new) }
-        ensures succeeds { (p : Pocket) → IsSome (source_refusal source (net_of p self.old)) → IsOk result }
+        ensures succeeds { (p : Pocket) → IsSome (source_refusal source (net_of p self.old)) →
+            IsOk result }
     {
         if let Some(reason) = self.traffic.refusal(source) {
             self.refuse(at.now, number, reason);
             return Ok(());
         }
-        let Ok(()) = self.traffic.start_flow(source, flow) else {
-            return Err(NoMemory);
-        };
+        self.traffic.start_flow(source, flow)?;
         self.done(at.now, number);
         Ok(())
     }
 
     // A flow is stopped.
-    fn stop(&mut self, at: Moment, number: u64, flow: FlowNumber) -> Result<(), NoMemory>
+    fn stop(&mut self, at: Setting, number: u64, flow: FlowNumber) -> Result<(), AllocError>
         requires { 1 < self.old.log.spare }
-        ensures ok { OnOk result (Obeys (setting_of at) number (Stop flow) self.old self.new) }
+        ensures ok { OnOk result (Obeys at number (Stop flow) self.old self.new) }
         ensures room { OnOk result (0 < self.new.log.spare) }
         ensures refused { OnErr result (IsStill self.old self.new) }
         ensures succeeds { IsOk result }
@@ -325,9 +332,9 @@ impl Network {
     }
 
     // Whether a packet that leaves a pipe is delivered at once is set.
-    fn set_one_pass(&mut self, at: Moment, number: u64, one_pass: bool) -> Result<(), NoMemory>
+    fn set_one_pass(&mut self, at: Setting, number: u64, one_pass: bool) -> Result<(), AllocError>
         requires { 1 < self.old.log.spare }
-        ensures ok { OnOk result (Obeys (setting_of at) number (OnePass one_pass) self.old self.new) }
+        ensures ok { OnOk result (Obeys at number (OnePass one_pass) self.old self.new) }
         ensures room { OnOk result (0 < self.new.log.spare) }
         ensures refused { OnErr result (IsStill self.old self.new) }
         ensures succeeds { IsOk result }
@@ -338,9 +345,9 @@ impl Network {
     }
 
     // Whether packets are traced is set.
-    fn set_trace(&mut self, at: Moment, number: u64, trace: bool) -> Result<(), NoMemory>
+    fn set_trace(&mut self, at: Setting, number: u64, trace: bool) -> Result<(), AllocError>
         requires { 1 < self.old.log.spare }
-        ensures ok { OnOk result (Obeys (setting_of at) number (Trace trace) self.old self.new) }
+        ensures ok { OnOk result (Obeys at number (Trace trace) self.old self.new) }
         ensures room { OnOk result (0 < self.new.log.spare) }
         ensures refused { OnErr result (IsStill self.old self.new) }
         ensures succeeds { IsOk result }
@@ -351,9 +358,9 @@ impl Network {
     }
 
     // The last command.
-    fn end(&mut self, at: Moment, number: u64) -> Result<(), NoMemory>
+    fn end(&mut self, at: Setting, number: u64) -> Result<(), AllocError>
         requires { 1 < self.old.log.spare }
-        ensures ok { OnOk result (Obeys (setting_of at) number End self.old self.new) }
+        ensures ok { OnOk result (Obeys at number End self.old self.new) }
         ensures room { OnOk result (0 < self.new.log.spare) }
         ensures refused { OnErr result (IsStill self.old self.new) }
         ensures succeeds { IsOk result }
@@ -376,7 +383,8 @@ fn plain_sending(send: &SendSpec) -> Sending
 // Records a line for each rule.
 fn note_rules(log: &mut RecordLog, rules: &[CountedRule])
     requires { length rules.now ≤ log.old.spare }
-    ensures records { log.new.records ≡ log.old.records ++ map (λ c. RuleLine c.rule c.packets c.bytes) rules.now }
+    ensures records { log.new.records
+        ≡ log.old.records ++ map (λ c. RuleLine c.rule c.packets c.bytes) rules.now }
     ensures room { log.old.spare ≤ log.new.spare + length rules.now }
 {
     for counted in rules {

@@ -1,17 +1,18 @@
 //! What a delivered packet does.
 
-ghost use Rattle.std.specs.Prelude.{◌≡◌, ◌≢◌, ℕ, ◌+◌, ◌*◌, ◌^◌, ◌<◌, ◌≤◌, ◌∷◌, [], OnOk};
+ghost use Rattle.std.specs.Prelude.{◌≡◌, ℕ, ◌+◌, ◌*◌, ◌^◌, ◌<◌, ◌≤◌, ◌∷◌, [], OnOk};
 ghost use Rattle.std.specs.Option.{option_map_or};
 ghost use Rattle.emu_model.specs.declared.packets.Load.TheVariants.{Plain, Seg, Ack};
 ghost use Rattle.emu_model.specs.Net.{deliver as delivered, find_flow, take_ack as acknowledged, take_load};
-ghost use Rattle.network.specs.Kept.{net_of, setting_of, Stands};
+ghost use Rattle.packet_store.specs.Pocket.{OthersStay, AllStay};
+ghost use Rattle.network.specs.Kept.{net_of, Stands};
 ghost use Rattle.network.specs.Changes.{Becomes, IsStill, Turns};
 ghost use Rattle.network.specs.Ready.{CanDeliver};
 
-use crate::state::{Moment, Network};
-use emu_model::{FlowNumber, Load, Packet, Record};
+use crate::state::Network;
+use emu_model::{FlowNumber, Load, Packet, Record, Setting};
 use packet_store::{Owner, Shelf};
-use queue_disc::NoMemory;
+use std::alloc::AllocError;
 
 impl Network {
     // Makes the growths of delivering this load.
@@ -21,10 +22,15 @@ impl Network {
         owner: Owner,
         now: u64,
         load: Load,
-    ) -> Result<(), NoMemory>
+    ) -> Result<(), AllocError>
         ensures still { IsStill self.old self.new }
-        ensures rest { self.new ≡ record self.old { table = self.new.table; direct = self.new.direct; traffic = self.new.traffic } }
-        ensures pockets { (o : ℕ) → S.pocket shelf.new o ≡ S.pocket shelf.old o }
+        ensures rest { self.new
+            ≡ record self.old {
+              table = self.new.table;
+              direct = self.new.direct;
+              traffic = self.new.traffic;
+            } }
+        ensures pockets { AllStay (S.pocket shelf.old) (S.pocket shelf.new) }
         ensures rooms { (o : ℕ) → S.room shelf.old o ≤ S.room shelf.new o }
         ensures ready { OnOk result (CanDeliver load self.new) }
     {
@@ -45,16 +51,19 @@ impl Network {
         now: u64,
         flow: FlowNumber,
         first: u64,
-    ) -> Result<(), NoMemory>
+    ) -> Result<(), AllocError>
         ensures still { IsStill self.old self.new }
-        ensures rest { self.new ≡ record self.old { table = self.new.table; direct = self.new.direct; traffic = self.new.traffic } }
-        ensures pockets { (o : ℕ) → S.pocket shelf.new o ≡ S.pocket shelf.old o }
+        ensures rest { self.new
+            ≡ record self.old {
+              table = self.new.table;
+              direct = self.new.direct;
+              traffic = self.new.traffic;
+            } }
+        ensures pockets { AllStay (S.pocket shelf.old) (S.pocket shelf.new) }
         ensures rooms { (o : ℕ) → S.room shelf.old o ≤ S.room shelf.new o }
         ensures ready { OnOk result (CanDeliver (Seg flow first) self.new) }
     {
-        let Ok(()) = self.traffic.take_ready(flow, first) else {
-            return Err(NoMemory);
-        };
+        self.traffic.take_ready(flow, first)?;
         let Some(send) = self.traffic.reply(flow) else {
             return Ok(());
         };
@@ -66,7 +75,7 @@ impl Network {
         &mut self,
         shelf: &mut S,
         owner: Owner,
-        at: Moment,
+        at: Setting,
         packet: &Packet,
     )
         requires stands { Stands at (S.pocket shelf.old owner) self.old }
@@ -74,10 +83,11 @@ impl Network {
         requires room { 0 < S.room shelf.old owner }
         requires log { 4 < self.old.log.spare }
         requires ready { CanDeliver packet.now.load self.old }
-        ensures becomes { Becomes 1 (delivered (setting_of at) packet.now (net_of (S.pocket shelf.old owner) self.old))
+        ensures becomes { Becomes 1
+            (delivered at packet.now (net_of (S.pocket shelf.old owner) self.old))
             (S.pocket shelf.old owner) (S.pocket shelf.new owner) self.old self.new }
         ensures log { self.old.log.spare ≤ self.new.log.spare + 5 }
-        ensures others { (o : ℕ) → o ≢ owner → S.pocket shelf.new o ≡ S.pocket shelf.old o }
+        ensures others { OthersStay owner (S.pocket shelf.old) (S.pocket shelf.new) }
     {
         self.note(&Record::PacketDelivered {
             moment: at.now,
@@ -88,16 +98,16 @@ impl Network {
     }
 
     // What a delivered load does.
-    fn take_load<S: Shelf>(&mut self, shelf: &mut S, owner: Owner, at: Moment, load: Load)
+    fn take_load<S: Shelf>(&mut self, shelf: &mut S, owner: Owner, at: Setting, load: Load)
         requires stands { Stands at (S.pocket shelf.old owner) self.old }
         requires made { self.old.made < 2 ^ 63 }
         requires room { 0 < S.room shelf.old owner }
         requires log { 3 < self.old.log.spare }
         requires ready { CanDeliver load self.old }
-        ensures becomes { Becomes 1 (take_load (setting_of at) load (net_of (S.pocket shelf.old owner) self.old))
+        ensures becomes { Becomes 1 (take_load at load (net_of (S.pocket shelf.old owner) self.old))
             (S.pocket shelf.old owner) (S.pocket shelf.new owner) self.old self.new }
         ensures log { self.old.log.spare ≤ self.new.log.spare + 4 }
-        ensures others { (o : ℕ) → o ≢ owner → S.pocket shelf.new o ≡ S.pocket shelf.old o }
+        ensures others { OthersStay owner (S.pocket shelf.old) (S.pocket shelf.new) }
     {
         match load {
             Load::Plain => return,
@@ -117,7 +127,7 @@ impl Network {
         &mut self,
         shelf: &mut S,
         owner: Owner,
-        at: Moment,
+        at: Setting,
         flow: FlowNumber,
         first: u64,
     )
@@ -126,10 +136,11 @@ impl Network {
         requires room { 0 < S.room shelf.old owner }
         requires log { 3 < self.old.log.spare }
         requires ready { CanDeliver (Seg flow first) self.old }
-        ensures becomes { Becomes 1 (take_load (setting_of at) (Seg flow first) (net_of (S.pocket shelf.old owner) self.old))
+        ensures becomes { Becomes 1
+            (take_load at (Seg flow first) (net_of (S.pocket shelf.old owner) self.old))
             (S.pocket shelf.old owner) (S.pocket shelf.new owner) self.old self.new }
         ensures log { self.old.log.spare ≤ self.new.log.spare + 4 }
-        ensures others { (o : ℕ) → o ≢ owner → S.pocket shelf.new o ≡ S.pocket shelf.old o }
+        ensures others { OthersStay owner (S.pocket shelf.old) (S.pocket shelf.new) }
     {
         let answer = self.traffic.take(flow, first);
         match answer {
@@ -145,7 +156,8 @@ impl Network {
     fn take_ack(&mut self, now: u64, flow: FlowNumber, upto: u64)
         requires early { now < 2 * 10 ^ 15 }
         requires log { 0 < self.old.log.spare }
-        ensures turns { Turns (λ n. option_map_or (acknowledged now upto n) (find_flow flow n) n) self.old self.new }
+        ensures turns { Turns (λ n. option_map_or (acknowledged now upto n)
+            (find_flow flow n) n) self.old self.new }
         ensures log { self.old.log.spare ≤ self.new.log.spare + 1 }
     {
         let answer = self.traffic.take_ack(now, flow, upto);

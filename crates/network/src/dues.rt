@@ -1,6 +1,6 @@
 //! What is due first, and what is told of a net.
 
-ghost use Rattle.std.specs.Prelude.{◌≡◌, ℕ, ◌<◌, ◌≤◌, ◌++◌, ◌∷◌, [], OnOk, OnErr};
+ghost use Rattle.std.specs.Prelude.{◌≡◌, ℕ, ◌<◌, ◌≤◌, ◌++◌, ◌∷◌, [], option_to_list, IfSome, OnOk, OnErr};
 ghost use Rattle.std.specs.List.{best_of};
 ghost use Rattle.emu_model.specs.declared.records.Record.TheVariants.{StepsSpent};
 ghost use Rattle.emu_model.specs.Net.{counters_of};
@@ -11,28 +11,16 @@ ghost use Rattle.network.specs.Changes.{Notes};
 ghost use Rattle.network.specs.Due.{IsDue};
 
 use crate::state::Network;
-use emu_model::{Class, Counters, Due, Record, Source};
+use emu_model::{Counters, Due, Record, Source};
 use pipe_core::keys_say_all;
-use queue_disc::NoMemory;
-
-// The due of an exit of the link of `allow`.
-fn exit_due(moment: u64) -> Due
-    ensures { result ≡ record { moment = moment; source = record { class = Class.Exit; number = 0 } } }
-{
-    Due {
-        moment,
-        source: Source {
-            class: Class::Exit,
-            number: 0,
-        },
-    }
-}
+use std::alloc::AllocError;
 
 impl Network {
     /// The least of a due and those of all events but the next command, where the last event was at
     /// the moment `clock` (ns); the first of equal ones.
     pub fn earliest(&self, clock: u64, best: Due) -> Due
-        ensures least { (p : Pocket) → result ≡ best_of is_before best (dues_of clock (net_of p self.now)) }
+        ensures least { (p : Pocket) →
+            result ≡ best_of is_before best (dues_of clock (net_of p self.now)) }
         ensures moment { result.moment ≤ best.moment }
         ensures due { IsDue best self.now → IsDue result self.now }
     {
@@ -41,52 +29,61 @@ impl Network {
         self.traffic.earliest(clock, best)
     }
 
+    // The due of the link of `allow`, where something is on its way there.
+    fn direct_due(&self) -> Option<Due>
+        ensures dues { (p : Pocket) →
+            option_to_list result ≡ line_dues 0 (net_of p self.now).direct }
+        ensures due { IfSome result (λ d. IsDue d self.now) }
+    {
+        match self.direct.due() {
+            Some(moment) => Some(Due {
+                moment,
+                source: Source::direct_exit(),
+            }),
+            None => None,
+        }
+    }
+
     // The lesser of a due and that of the link of `allow`.
     fn direct_earliest(&self, best: Due) -> Due
-        ensures least { (p : Pocket) → result ≡ best_of is_before best (line_dues 0 (net_of p self.now).direct) }
+        ensures least { (p : Pocket) →
+            result ≡ best_of is_before best (line_dues 0 (net_of p self.now).direct) }
         ensures moment { result.moment ≤ best.moment }
         ensures due { IsDue best self.now → IsDue result self.now }
     {
-        let Some(moment) = self.direct.due() else {
-            return best;
-        };
-        let exit = exit_due(moment);
-        if exit.is_before(&best) {
-            return exit;
-        }
-        best
+        best.or_earlier(self.direct_due())
     }
 
     // Appends the due of the link of `allow`.
-    fn add_direct(&self, dues: &mut Vec<Due>) -> Result<(), NoMemory>
-        ensures ok { OnOk result ((p : Pocket) → dues.new.items ≡ dues.old.items ++ line_dues 0 (net_of p self.now).direct) }
+    fn add_direct(&self, dues: &mut Vec<Due>) -> Result<(), AllocError>
+        ensures ok { OnOk result
+            ((p : Pocket) →
+            dues.new.items ≡ dues.old.items ++ line_dues 0 (net_of p self.now).direct) }
         ensures err { OnErr result (dues.new.items ≡ dues.old.items) }
     {
-        let Ok(()) = dues.reserve(1) else {
-            return Err(NoMemory);
-        };
-        let Some(moment) = self.direct.due() else {
-            return Ok(());
-        };
-        dues.push_reserved(exit_due(moment));
+        dues.reserve(1)?;
+        if let Some(due) = self.direct_due() {
+            dues.push_reserved(due);
+        }
         Ok(())
     }
 
     /// Appends the dues of all events but the next command, where the last event was at the moment
     /// `clock` (ns), or leaves `dues` as it was.
-    pub fn add_dues(&self, clock: u64, dues: &mut Vec<Due>) -> Result<(), NoMemory>
-        ensures ok { OnOk result ((p : Pocket) → dues.new.items ≡ dues.old.items ++ dues_of clock (net_of p self.now)) }
+    pub fn add_dues(&self, clock: u64, dues: &mut Vec<Due>) -> Result<(), AllocError>
+        ensures ok { OnOk result
+            ((p : Pocket) → dues.new.items ≡ dues.old.items ++ dues_of clock (net_of p self.now)) }
         ensures err { OnErr result (dues.new.items ≡ dues.old.items) }
     {
         let before = dues.len();
         self.add_direct(dues)?;
         let Ok(()) = self.table.add_dues(dues) else {
             dues.truncate(before);
-            return Err(NoMemory);
+            return Err(AllocError);
         };
         let Ok(()) = self.traffic.add_dues(clock, dues) else {
             dues.truncate(before);
-            return Err(NoMemory);
+            return Err(AllocError);
         };
         Ok(())
     }
@@ -100,7 +97,8 @@ impl Network {
 
     /// The counters, where so many packets are held: those that the owner has on the shelf.
     pub fn counters(&self, held: u64) -> Counters
-        ensures { (p : Pocket) → IsHoused p self.now → held ≡ p.count → result ≡ counters_of (net_of p self.now) }
+        ensures { (p : Pocket) → IsHoused p self.now → held ≡ p.count →
+            result ≡ counters_of (net_of p self.now) }
     {
         keys_say_all();
         Counters {

@@ -1,26 +1,25 @@
 //! The events but the next command: exits, finishes, expiries and emissions.
 
-ghost use Rattle.std.specs.Prelude.{◌≡◌, ◌≢◌, ℕ, ◌+◌, ◌*◌, ◌/◌, ◌%◌, ◌^◌, ◌<◌, ◌≤◌, ◌∷◌, [], Some, None, IsOk, OnOk, OnErr, IfSome, OnSome, option_and_then, map, length};
+ghost use Rattle.std.specs.Prelude.{◌≡◌, ◌+◌, ◌*◌, ◌/◌, ◌%◌, ◌^◌, ◌<◌, ◌≤◌, ◌∷◌, [], Some, None, IsOk, OnOk, OnErr, IfSome, OnSome, option_and_then, map, length};
 ghost use Rattle.std.specs.Option.{option_map_or};
-ghost use Rattle.emu_model.specs.declared.packets.Packet.{Packet as Letter};
 ghost use Rattle.emu_model.specs.declared.sources.Class.TheVariants.{Expiry};
-ghost use Rattle.emu_model.specs.declared.sources.SendSpec.{SendSpec as Header};
 ghost use Rattle.emu_model.specs.Delay.{first_item, leave};
 ghost use Rattle.emu_model.specs.Net.{Net, drop_record, find_flow, find_pipe};
 ghost use Rattle.emu_model.specs.Events.{direct_exit as exits_direct, emission as emitted, event_of, expire_flow, flying_in, leave_pipe as leaves_pipe, pipe_exits, pipe_finishes};
-ghost use Rattle.network.specs.Kept.{net_of, setting_of, IsHoused, Stands};
+ghost use Rattle.packet_store.specs.Pocket.{OthersStay, AllStay};
+ghost use Rattle.network.specs.Kept.{net_of, IsHoused, Stands};
 ghost use Rattle.network.specs.Changes.{Becomes, IsStill, Notes, Turns};
 ghost use Rattle.network.specs.Ready.{CanMake, CanDeliver, CanLeave};
 ghost use Rattle.network.specs.Due.{IsDue};
-ghost use Rattle.pipe_table.specs.Table.{IsFinishing, IsPipeNumber};
-ghost use Rattle.traffic.specs.Kept.{with_traffic, IsNumber};
+ghost use Rattle.pipe_table.specs.Table.{IsFinishing};
+ghost use Rattle.traffic.specs.Kept.{with_traffic};
 ghost use Rattle.traffic.specs.Sends.{IsEmitting, next_send};
 
-use crate::state::{Moment, Network};
-use emu_model::{Class, DropCause, Due, FlowNumber, Packet, PipeNumber, Record, SendSpec};
+use crate::state::Network;
+use emu_model::{Class, DropCause, Due, FlowNumber, Packet, PipeNumber, Record, SendSpec, Setting};
 use packet_store::{Owner, Shelf};
 use pipe_core::keys_say_all;
-use queue_disc::NoMemory;
+use std::alloc::AllocError;
 use std::mem;
 
 /// How many records an event makes at most, besides a line for each thing that is listed or dropped
@@ -34,44 +33,53 @@ impl Network {
         &mut self,
         shelf: &mut S,
         owner: Owner,
-        at: Moment,
+        at: Setting,
         due: Due,
-    ) -> Result<(), NoMemory>
+    ) -> Result<(), AllocError>
         requires stands { Stands at (S.pocket shelf.old owner) self.old }
         requires made { self.old.made < 2 ^ 63 }
         requires due { IsDue due self.old }
         requires now { due.moment ≡ at.now }
-        ensures ok { OnOk result (Becomes 1 (event_of (setting_of at) due.source.class due.source.number (net_of (S.pocket shelf.old owner) self.old))
+        ensures ok { OnOk result
+            (Becomes 1
+            (event_of at due.source.class due.source.number
+            (net_of (S.pocket shelf.old owner) self.old))
             (S.pocket shelf.old owner) (S.pocket shelf.new owner) self.old self.new) }
         ensures room { OnOk result (0 < self.new.log.spare) }
         ensures refused { OnErr result (IsStill self.old self.new) }
         ensures succeeds { due.source.class ≡ Expiry → 6 ≤ self.old.log.spare → IsOk result }
-        ensures refused_pocket { OnErr result (S.pocket shelf.new owner ≡ S.pocket shelf.old owner) }
-        ensures others { (o : ℕ) → o ≢ owner → S.pocket shelf.new o ≡ S.pocket shelf.old o }
+        ensures refused_pocket { OnErr result
+            (S.pocket shelf.new owner ≡ S.pocket shelf.old owner) }
+        ensures others { OthersStay owner (S.pocket shelf.old) (S.pocket shelf.new) }
     {
         self.reserve(MOST_RECORDS)?;
-        let number = due.source.number;
-        match due.source.class {
+        let source = due.source;
+        match source.class {
             Class::NextCommand => return Ok(()),
             Class::Exit => {
-                if number == 0 {
+                let Some(pipe) = source.pipe() else {
                     return self.direct_exit(shelf, owner, at);
-                }
-                let pipe = pipe_number(number);
-                return self.pipe_exit(shelf, owner, at, pipe, (number % 256) as u8);
+                };
+                return self.pipe_exit(shelf, owner, at, pipe, source.instance());
             }
             Class::Finish => {
-                let pipe = pipe_number(number);
-                return self.pipe_finish(shelf, owner, at, pipe, (number % 256) as u8);
+                let Some(pipe) = source.pipe() else {
+                    unreachable!();
+                };
+                return self.pipe_finish(shelf, owner, at, pipe, source.instance());
             }
             Class::Expiry => {
-                let flow = flow_number(number);
+                let Some(flow) = source.flow() else {
+                    unreachable!();
+                };
                 self.expire(at, flow);
                 return Ok(());
             }
             Class::Emission => {
-                let source = flow_number(number);
-                return self.emission(shelf, owner, at, source);
+                let Some(number) = source.flow() else {
+                    unreachable!();
+                };
+                return self.emission(shelf, owner, at, number);
             }
         }
     }
@@ -93,12 +101,20 @@ impl Network {
         shelf: &mut S,
         owner: Owner,
         now: u64,
-    ) -> Result<(), NoMemory>
+    ) -> Result<(), AllocError>
         requires { IsHoused (S.pocket shelf.old owner) self.old }
         ensures still { IsStill self.old self.new }
-        ensures rest { self.new ≡ record self.old { table = self.new.table; direct = self.new.direct; traffic = self.new.traffic } }
-        ensures pockets { (o : ℕ) → S.pocket shelf.new o ≡ S.pocket shelf.old o }
-        ensures ready { OnOk result ((p : Letter) → first_item (net_of (S.pocket shelf.old owner) self.old).direct.flight ≡ Some p → CanDeliver p.load self.new) }
+        ensures rest { self.new
+            ≡ record self.old {
+              table = self.new.table;
+              direct = self.new.direct;
+              traffic = self.new.traffic;
+            } }
+        ensures pockets { AllStay (S.pocket shelf.old) (S.pocket shelf.new) }
+        ensures ready { OnOk result
+            ((p : Packet) →
+            first_item (net_of (S.pocket shelf.old owner) self.old).direct.flight ≡ Some p →
+            CanDeliver p.load self.new) }
     {
         let Some(packet) = self.direct_front(shelf, owner) else {
             return Ok(());
@@ -109,13 +125,14 @@ impl Network {
     // The first packet under way leaves the link of `allow`.
     fn leave_direct<S: Shelf>(&mut self, shelf: &mut S, owner: Owner) -> Option<Packet>
         requires { IsHoused (S.pocket shelf.old owner) self.old }
-        ensures packet { result ≡ first_item (net_of (S.pocket shelf.old owner) self.old).direct.flight }
+        ensures packet { result ≡ first_item
+            (net_of (S.pocket shelf.old owner) self.old).direct.flight }
         ensures becomes { let n = net_of (S.pocket shelf.old owner) self.old in
             Becomes 0 (record n { direct = leave n.direct }) (S.pocket shelf.old owner) (S.pocket shelf.new owner) self.old self.new }
         ensures rest { self.new ≡ record self.old { direct = self.new.direct } }
         ensures spare { self.old.direct.spare ≤ self.new.direct.spare }
         ensures freed { OnSome result (0 < S.room shelf.new owner) }
-        ensures others { (o : ℕ) → o ≢ owner → S.pocket shelf.new o ≡ S.pocket shelf.old o }
+        ensures others { OthersStay owner (S.pocket shelf.old) (S.pocket shelf.new) }
     {
         keys_say_all();
         let key = self.direct.leave();
@@ -133,17 +150,19 @@ impl Network {
         &mut self,
         shelf: &mut S,
         owner: Owner,
-        at: Moment,
-    ) -> Result<(), NoMemory>
+        at: Setting,
+    ) -> Result<(), AllocError>
         requires stands { Stands at (S.pocket shelf.old owner) self.old }
         requires made { self.old.made < 2 ^ 63 }
         requires log { 5 < self.old.log.spare }
-        ensures ok { OnOk result (Becomes 1 (exits_direct (setting_of at) (net_of (S.pocket shelf.old owner) self.old))
+        ensures ok { OnOk result
+            (Becomes 1 (exits_direct at (net_of (S.pocket shelf.old owner) self.old))
             (S.pocket shelf.old owner) (S.pocket shelf.new owner) self.old self.new) }
         ensures room { OnOk result (0 < self.new.log.spare) }
         ensures refused { OnErr result (IsStill self.old self.new) }
-        ensures refused_pocket { OnErr result (S.pocket shelf.new owner ≡ S.pocket shelf.old owner) }
-        ensures others { (o : ℕ) → o ≢ owner → S.pocket shelf.new o ≡ S.pocket shelf.old o }
+        ensures refused_pocket { OnErr result
+            (S.pocket shelf.new owner ≡ S.pocket shelf.old owner) }
+        ensures others { OthersStay owner (S.pocket shelf.old) (S.pocket shelf.new) }
     {
         self.direct_ready(shelf, owner, at.now)?;
         let Some(packet) = self.leave_direct(shelf, owner) else {
@@ -160,10 +179,15 @@ impl Network {
         owner: Owner,
         now: u64,
         packet: &Packet,
-    ) -> Result<(), NoMemory>
+    ) -> Result<(), AllocError>
         ensures still { IsStill self.old self.new }
-        ensures rest { self.new ≡ record self.old { table = self.new.table; direct = self.new.direct; traffic = self.new.traffic } }
-        ensures pockets { (o : ℕ) → S.pocket shelf.new o ≡ S.pocket shelf.old o }
+        ensures rest { self.new
+            ≡ record self.old {
+              table = self.new.table;
+              direct = self.new.direct;
+              traffic = self.new.traffic;
+            } }
+        ensures pockets { AllStay (S.pocket shelf.old) (S.pocket shelf.new) }
         ensures ready { OnOk result (CanLeave packet.now self.new) }
     {
         if self.one_pass {
@@ -181,12 +205,21 @@ impl Network {
         now: u64,
         pipe: PipeNumber,
         instance: u8,
-    ) -> Result<(), NoMemory>
+    ) -> Result<(), AllocError>
         requires { IsHoused (S.pocket shelf.old owner) self.old }
         ensures still { IsStill self.old self.new }
-        ensures rest { self.new ≡ record self.old { table = self.new.table; direct = self.new.direct; traffic = self.new.traffic } }
-        ensures pockets { (o : ℕ) → S.pocket shelf.new o ≡ S.pocket shelf.old o }
-        ensures ready { OnOk result ((p : Letter) → option_and_then (flying_in instance) (find_pipe pipe (net_of (S.pocket shelf.old owner) self.old)) ≡ Some p → CanLeave p self.new) }
+        ensures rest { self.new
+            ≡ record self.old {
+              table = self.new.table;
+              direct = self.new.direct;
+              traffic = self.new.traffic;
+            } }
+        ensures pockets { AllStay (S.pocket shelf.old) (S.pocket shelf.new) }
+        ensures ready { OnOk result
+            ((p : Packet) →
+            option_and_then (flying_in instance)
+            (find_pipe pipe (net_of (S.pocket shelf.old owner) self.old)) ≡ Some p →
+            CanLeave p self.new) }
     {
         let Some(packet) = self.table.front(shelf, owner, pipe, instance) else {
             return Ok(());
@@ -199,7 +232,7 @@ impl Network {
         &mut self,
         shelf: &mut S,
         owner: Owner,
-        at: Moment,
+        at: Setting,
         pipe: PipeNumber,
         instance: u8,
         packet: &Packet,
@@ -210,10 +243,11 @@ impl Network {
         requires room { 0 < S.room shelf.old owner }
         requires log { 4 < self.old.log.spare }
         requires ready { CanLeave packet.now self.old }
-        ensures becomes { Becomes 1 (leaves_pipe (setting_of at) pipe instance packet.now (net_of (S.pocket shelf.old owner) self.old))
+        ensures becomes { Becomes 1
+            (leaves_pipe at pipe instance packet.now (net_of (S.pocket shelf.old owner) self.old))
             (S.pocket shelf.old owner) (S.pocket shelf.new owner) self.old self.new }
         ensures log { self.old.log.spare ≤ self.new.log.spare + 5 }
-        ensures others { (o : ℕ) → o ≢ owner → S.pocket shelf.new o ≡ S.pocket shelf.old o }
+        ensures others { OthersStay owner (S.pocket shelf.old) (S.pocket shelf.new) }
     {
         if self.one_pass {
             self.deliver(shelf, owner, at, packet);
@@ -233,20 +267,21 @@ impl Network {
         &mut self,
         shelf: &mut S,
         owner: Owner,
-        at: Moment,
+        at: Setting,
         pipe: PipeNumber,
         instance: u8,
-    ) -> Result<(), NoMemory>
+    ) -> Result<(), AllocError>
         requires stands { Stands at (S.pocket shelf.old owner) self.old }
         requires made { self.old.made < 2 ^ 63 }
         requires log { 5 < self.old.log.spare }
         ensures ok { let n = net_of (S.pocket shelf.old owner) self.old in
-            OnOk result (Becomes 1 (option_map_or (pipe_exits (setting_of at) pipe instance n) (find_pipe pipe n) n)
+            OnOk result (Becomes 1 (option_map_or (pipe_exits at pipe instance n) (find_pipe pipe n) n)
             (S.pocket shelf.old owner) (S.pocket shelf.new owner) self.old self.new) }
         ensures room { OnOk result (0 < self.new.log.spare) }
         ensures refused { OnErr result (IsStill self.old self.new) }
-        ensures refused_pocket { OnErr result (S.pocket shelf.new owner ≡ S.pocket shelf.old owner) }
-        ensures others { (o : ℕ) → o ≢ owner → S.pocket shelf.new o ≡ S.pocket shelf.old o }
+        ensures refused_pocket { OnErr result
+            (S.pocket shelf.new owner ≡ S.pocket shelf.old owner) }
+        ensures others { OthersStay owner (S.pocket shelf.old) (S.pocket shelf.new) }
     {
         self.exit_ready(shelf, owner, at.now, pipe, instance)?;
         let gone = self.table.exit(shelf, owner, pipe, instance);
@@ -262,19 +297,20 @@ impl Network {
         &mut self,
         shelf: &mut S,
         owner: Owner,
-        at: Moment,
+        at: Setting,
         pipe: PipeNumber,
         instance: u8,
-    ) -> Result<(), NoMemory>
+    ) -> Result<(), AllocError>
         requires stands { Stands at (S.pocket shelf.old owner) self.old }
         requires due { IsFinishing pipe instance at.now self.old.table.pipes }
         ensures ok { let n = net_of (S.pocket shelf.old owner) self.old in
-            OnOk result (Becomes 0 (option_map_or (pipe_finishes (setting_of at) pipe instance n) (find_pipe pipe n) n)
+            OnOk result (Becomes 0 (option_map_or (pipe_finishes at pipe instance n) (find_pipe pipe n) n)
             (S.pocket shelf.old owner) (S.pocket shelf.new owner) self.old self.new) }
         ensures room { OnOk result (0 < self.new.log.spare) }
         ensures refused { OnErr result (IsStill self.old self.new) }
-        ensures refused_pocket { OnErr result (S.pocket shelf.new owner ≡ S.pocket shelf.old owner) }
-        ensures others { (o : ℕ) → o ≢ owner → S.pocket shelf.new o ≡ S.pocket shelf.old o }
+        ensures refused_pocket { OnErr result
+            (S.pocket shelf.new owner ≡ S.pocket shelf.old owner) }
+        ensures others { OthersStay owner (S.pocket shelf.old) (S.pocket shelf.new) }
     {
         let mut drops = mem::replace(&mut self.drops, Vec::new(self.alloc));
         let finished = self.finish_into(shelf, owner, at, pipe, instance, &mut drops);
@@ -287,28 +323,26 @@ impl Network {
         &mut self,
         shelf: &mut S,
         owner: Owner,
-        at: Moment,
+        at: Setting,
         pipe: PipeNumber,
         instance: u8,
         drops: &mut Vec<Packet>,
-    ) -> Result<(), NoMemory>
+    ) -> Result<(), AllocError>
         requires stands { Stands at (S.pocket shelf.old owner) self.old }
         requires due { IsFinishing pipe instance at.now self.old.table.pipes }
         ensures ok { let n = net_of (S.pocket shelf.old owner) self.old in
-            OnOk result (Becomes 0 (option_map_or (pipe_finishes (setting_of at) pipe instance n) (find_pipe pipe n) n)
+            OnOk result (Becomes 0 (option_map_or (pipe_finishes at pipe instance n) (find_pipe pipe n) n)
             (S.pocket shelf.old owner) (S.pocket shelf.new owner) self.old self.new) }
         ensures room { OnOk result (0 < self.new.log.spare) }
         ensures refused { OnErr result (IsStill self.old self.new) }
-        ensures refused_pocket { OnErr result (S.pocket shelf.new owner ≡ S.pocket shelf.old owner) }
-        ensures others { (o : ℕ) → o ≢ owner → S.pocket shelf.new o ≡ S.pocket shelf.old o }
+        ensures refused_pocket { OnErr result
+            (S.pocket shelf.new owner ≡ S.pocket shelf.old owner) }
+        ensures others { OthersStay owner (S.pocket shelf.old) (S.pocket shelf.new) }
     {
         self.reserve_besides(shelf.count(owner))?;
-        let finished = self
+        let packet = self
             .table
-            .finish(shelf, owner, at.now, pipe, instance, drops);
-        let Ok(packet) = finished else {
-            return Err(NoMemory);
-        };
+            .finish(shelf, owner, at.now, pipe, instance, drops)?;
         self.note(&Record::PacketFinished {
             moment: at.now,
             packet: packet.number,
@@ -322,7 +356,8 @@ impl Network {
     // Records that packets were dropped, in order.
     pub(crate) fn drop_all(&mut self, now: u64, packets: &[Packet], cause: DropCause)
         requires { length packets.now ≤ self.old.log.spare }
-        ensures { Notes (map (drop_record now) (map (λ p. record { packet = p; cause = cause }) packets.now)) self.old self.new }
+        ensures { Notes (map (drop_record now)
+            (map (λ p. record { packet = p; cause = cause }) packets.now)) self.old self.new }
     {
         for packet in packets {
             self.drop_packet(now, packet, cause);
@@ -330,10 +365,11 @@ impl Network {
     }
 
     // A flow's timer came due.
-    fn expire(&mut self, at: Moment, flow: FlowNumber)
+    fn expire(&mut self, at: Setting, flow: FlowNumber)
         requires early { at.now < 2 * 10 ^ 15 }
         requires log { 0 < self.old.log.spare }
-        ensures turns { Turns (λ n. option_map_or (expire_flow (setting_of at) n) (find_flow flow n) n) self.old self.new }
+        ensures turns { Turns (λ n. option_map_or (expire_flow at n)
+            (find_flow flow n) n) self.old self.new }
         ensures log { self.old.log.spare ≤ self.new.log.spare + 1 }
     {
         let answer = self.traffic.expire(at.now, flow);
@@ -358,16 +394,20 @@ impl Network {
         owner: Owner,
         now: u64,
         source: FlowNumber,
-    ) -> Result<(), NoMemory>
+    ) -> Result<(), AllocError>
         ensures still { IsStill self.old self.new }
-        ensures rest { self.new ≡ record self.old { table = self.new.table; direct = self.new.direct } }
-        ensures pockets { (o : ℕ) → S.pocket shelf.new o ≡ S.pocket shelf.old o }
-        ensures room { OnOk result ((S.pocket shelf.old owner).count < (S.pocket shelf.old owner).budget → 0 < S.room shelf.new owner) }
-        ensures ready { OnOk result ((send : Header) → ((m : Net) → next_send source (with_traffic self.old.traffic m) ≡ Some send) → CanMake send self.new) }
+        ensures rest { self.new
+            ≡ record self.old { table = self.new.table; direct = self.new.direct } }
+        ensures pockets { AllStay (S.pocket shelf.old) (S.pocket shelf.new) }
+        ensures room { OnOk result
+            ((S.pocket shelf.old owner).count < (S.pocket shelf.old owner).budget →
+            0 < S.room shelf.new owner) }
+        ensures ready { OnOk result
+            ((send : SendSpec) →
+            ((m : Net) → next_send source (with_traffic self.old.traffic m) ≡ Some send) →
+            CanMake send self.new) }
     {
-        let Ok(()) = shelf.put_ready(owner) else {
-            return Err(NoMemory);
-        };
+        shelf.put_ready(owner)?;
         let Some(send) = self.traffic.next_send(source) else {
             return Ok(());
         };
@@ -379,19 +419,21 @@ impl Network {
         &mut self,
         shelf: &mut S,
         owner: Owner,
-        at: Moment,
+        at: Setting,
         source: FlowNumber,
-    ) -> Result<(), NoMemory>
+    ) -> Result<(), AllocError>
         requires stands { Stands at (S.pocket shelf.old owner) self.old }
         requires made { self.old.made < 2 ^ 63 }
         requires log { 5 < self.old.log.spare }
         requires may { IsEmitting source self.old.traffic }
-        ensures ok { OnOk result (Becomes 1 (emitted (setting_of at) source (net_of (S.pocket shelf.old owner) self.old))
+        ensures ok { OnOk result
+            (Becomes 1 (emitted at source (net_of (S.pocket shelf.old owner) self.old))
             (S.pocket shelf.old owner) (S.pocket shelf.new owner) self.old self.new) }
         ensures room { OnOk result (0 < self.new.log.spare) }
         ensures refused { OnErr result (IsStill self.old self.new) }
-        ensures refused_pocket { OnErr result (S.pocket shelf.new owner ≡ S.pocket shelf.old owner) }
-        ensures others { (o : ℕ) → o ≢ owner → S.pocket shelf.new o ≡ S.pocket shelf.old o }
+        ensures refused_pocket { OnErr result
+            (S.pocket shelf.new owner ≡ S.pocket shelf.old owner) }
+        ensures others { OthersStay owner (S.pocket shelf.old) (S.pocket shelf.new) }
     {
         self.emission_ready(shelf, owner, at.now, source)?;
         let answer = self.traffic.emit(at.now, source);
@@ -401,26 +443,4 @@ impl Network {
         self.make(shelf, owner, at, &sending);
         Ok(())
     }
-}
-
-// The pipe of an instance's number.
-fn pipe_number(number: u32) -> PipeNumber
-    requires { IsPipeNumber (number / 256) }
-    ensures { result ≡ number / 256 }
-{
-    let Some(pipe) = PipeNumber::new((number / 256) as u16) else {
-        unreachable!();
-    };
-    pipe
-}
-
-// The number of a flow or a train.
-fn flow_number(number: u32) -> FlowNumber
-    requires { IsNumber number }
-    ensures { result ≡ number }
-{
-    let Some(flow) = FlowNumber::new(number as u16) else {
-        unreachable!();
-    };
-    flow
 }

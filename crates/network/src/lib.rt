@@ -14,4 +14,4 @@ mod state;
 mod tests;
 
 pub use laws::still_is_housed;
-pub use state::{Moment, Network};
+pub use state::Network;

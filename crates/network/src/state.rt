@@ -1,30 +1,20 @@
 //! What an experiment holds.
 
 ghost use Rattle.std.specs.Prelude.{◌≡◌, ℕ, ◌+◌, ◌<◌, ◌≤◌, ◌∷◌, [], IfOk, IsOk, OnOk};
-ghost use Rattle.emu_model.specs.Net.{opening_net};
+ghost use Rattle.emu_model.specs.Net.{initial_net};
 ghost use Rattle.packet_store.specs.Pocket.{Pocket};
 ghost use Rattle.network.specs.Kept.{net_of, net_keys};
 ghost use Rattle.network.specs.Changes.{IsStill, Notes};
 
-use emu_model::{Packet, PacketBudget, Record};
+use emu_model::{Packet, Record};
 use emu_rules::RuleList;
 use link_core::DelayLine;
 use packet_store::Key;
 use pipe_table::PipeTable;
-use queue_disc::NoMemory;
 use record_log::RecordLog;
-use std::alloc::Global;
+use std::alloc::{AllocError, Global};
 use std::marker::Model;
 use traffic::Traffic;
-
-/// What an event knows besides: the experiment's seed, how many packets it may hold, and the
-/// moment (ns).
-#[derive(Clone, Copy)]
-pub struct Moment {
-    pub seed: u64,
-    pub room: PacketBudget,
-    pub now: u64,
-}
 
 /// Rules, pipes, the link of `allow`, flows and trains of one experiment, and what it recorded. Its
 /// packets stand on a shelf.
@@ -63,15 +53,13 @@ impl Model for Network {
 impl Network {
     /// The default rule alone, and no packet yet.
     #[tactic(auto, unfolding(pipe_table::specs::Table::pipe_keys))]
-    pub fn new(alloc: Global, seed: u64) -> Result<Self, NoMemory>
-        ensures shown { IfOk result (λ n. (p : Pocket) → net_of p n ≡ opening_net) }
+    pub fn new(alloc: Global, seed: u64) -> Result<Self, AllocError>
+        ensures shown { IfOk result (λ n. (p : Pocket) → net_of p n ≡ initial_net) }
         ensures keys { IfOk result (λ n. net_keys n ≡ []) }
         ensures seed { IfOk result (λ n. n.table.seed ≡ seed) }
         ensures made { IfOk result (λ n. n.made ≡ 0) }
     {
-        let Ok(book) = RuleList::new(alloc) else {
-            return Err(NoMemory);
-        };
+        let book = RuleList::new(alloc)?;
         Ok(Network {
             alloc,
             book,
@@ -97,28 +85,26 @@ impl Network {
 
 impl Network {
     // Makes room for so many records more.
-    pub(crate) fn reserve(&mut self, additional: usize) -> Result<(), NoMemory>
+    pub(crate) fn reserve(&mut self, additional: usize) -> Result<(), AllocError>
         ensures rest { self.new ≡ record self.old { log = self.new.log } }
         ensures records { self.new.log.records ≡ self.old.log.records }
         ensures still { IsStill self.old self.new }
         ensures ready { OnOk result (additional ≤ self.new.log.spare) }
         ensures succeeds { additional ≤ self.old.log.spare → IsOk result }
     {
-        if self.log.reserve(additional).is_err() {
-            return Err(NoMemory);
-        }
+        self.log.reserve(additional)?;
         Ok(())
     }
 
     // Makes room for three records besides so many.
-    pub(crate) fn reserve_besides(&mut self, lines: usize) -> Result<(), NoMemory>
+    pub(crate) fn reserve_besides(&mut self, lines: usize) -> Result<(), AllocError>
         ensures rest { self.new ≡ record self.old { log = self.new.log } }
         ensures records { self.new.log.records ≡ self.old.log.records }
         ensures still { IsStill self.old self.new }
         ensures ready { OnOk result (lines + 3 ≤ self.new.log.spare) }
     {
         let Some(additional) = lines.checked_add(3) else {
-            return Err(NoMemory);
+            return Err(AllocError);
         };
         self.reserve(additional)
     }

@@ -13,7 +13,8 @@ use emu_model::{
     Action, Amount, Bandwidth, Class, Command, Delay, Discipline, DropCause, Due, FlowNumber,
     FlowSpec, Gap, Load, LossRate, Mask, PacketBudget, PipeConfig, PipeNumber, Prefix,
     PrefixLength, Protocol, ProtocolMatch, QueueLimit, Record, Refusal, Rule, RuleNumber,
-    SegmentSize, SendSpec, Size, SlotLimit, Source, Threshold, Timed, Timing, TrainSpec, Window,
+    SegmentSize, SendSpec, Setting, Size, SlotLimit, Source, Threshold, Timed, Timing, TrainSpec,
+    Window,
 };
 use packet_store::{OwnShelf, Shelf};
 use std::alloc::Global;
@@ -29,10 +30,14 @@ struct Played {
     shelf: OwnShelf,
 }
 
-fn at(room: PacketBudget, now: u64) -> Moment
-    ensures { result ≡ record { seed = 0; room = room; now = now } }
+fn at(packet_budget: PacketBudget, now: u64) -> Setting
+    ensures { result ≡ record { seed = 0; packet_budget = packet_budget; now = now } }
 {
-    Moment { seed: 0, room, now }
+    Setting {
+        seed: 0,
+        packet_budget,
+        now,
+    }
 }
 
 /// The command behind which nothing comes that is due later.
@@ -53,7 +58,7 @@ fn next_command(moment: u64) -> Due
 fn obeys_once(
     net: &mut Network,
     shelf: &mut OwnShelf,
-    at: Moment,
+    at: Setting,
     number: u64,
     command: &Command,
 ) -> bool
@@ -117,7 +122,7 @@ fn obeys(
 
 /// An event comes, or memory is refused.
 #[tactic(auto, using(crate::proofs::Standing::refused_made))]
-fn happens(net: &mut Network, shelf: &mut OwnShelf, at: Moment, due: Due) -> bool
+fn happens(net: &mut Network, shelf: &mut OwnShelf, at: Setting, due: Due) -> bool
     requires stands { Stands at (own_pocket shelf.old) net.old }
     requires made { net.old.made < 2 ^ 63 }
     requires due { IsDue due net.old }

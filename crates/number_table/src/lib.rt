@@ -1,4 +1,4 @@
-//! From a number straight to a place (own).
+//! From a number straight to a place (our choice).
 #![tactic(auto)]
 
 mod table;

@@ -1,5 +1,5 @@
 -- What a contract sees of an `OwnShelf`.
-use Rattle.std.specs.Prelude.{ℕ, ◌==◌, ◌<◌, Bool, false, nat_lt, if◌then◌else◌, List, Option, Some, None, count_by, is_some, slice_index_or}
+use Rattle.std.specs.Prelude.{ℕ, ◌==◌, if◌then◌else◌, List, Option, Some, None, count_by, is_some, slice_index_or}
 use Rattle.emu_model.specs.declared.packets.Packet.{Packet}
 use Rattle.packet_store.specs.declared.own.Stored.{Stored}
 use Rattle.packet_store.specs.Pocket.{Pocket, empty_pocket}

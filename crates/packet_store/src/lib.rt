@@ -51,21 +51,26 @@ pub trait Shelf {
 
     /// Makes the growths of the owner's next `put`, and changes nothing else.
     fn put_ready(&mut self, owner: Owner) -> Result<(), AllocError>
-        ensures ready { OnOk result ((pocket self.old owner).count < (pocket self.old owner).budget → 0 < room self.new owner) }
+        ensures ready { OnOk result
+            ((pocket self.old owner).count < (pocket self.old owner).budget →
+            0 < room self.new owner) }
         ensures pockets { (o : ℕ) → pocket self.new o ≡ pocket self.old o }
         ensures room { (o : ℕ) → room self.old o ≤ room self.new o }
         ensures succeeds { 0 < room self.old owner → IsOk result }
-        ensures full { (pocket self.old owner).budget ≤ (pocket self.old owner).count → IsOk result };
+        ensures full { (pocket self.old owner).budget ≤ (pocket self.old owner).count →
+            IsOk result };
 
     /// Keeps a packet, and answers the key to it, which the owner had nothing at.
     fn put(&mut self, owner: Owner, packet: Packet) -> Result<Key, PutError>
         ensures vacant { IfOk result (λ key. (pocket self.old owner).find key ≡ None) }
-        ensures ok { IfOk result (λ key. pocket self.new owner ≡ with_packet (pocket self.old owner) key packet) }
+        ensures ok { IfOk result
+            (λ key. pocket self.new owner ≡ with_packet (pocket self.old owner) key packet) }
         ensures others { (o : ℕ) → o ≢ owner → pocket self.new o ≡ pocket self.old o }
         ensures over { (result ≡ Err PutError.OverBudget)
             ↔ ((pocket self.old owner).budget ≤ (pocket self.old owner).count) }
         ensures err { OnErr result (pocket self.new owner ≡ pocket self.old owner) }
-        ensures succeeds { 0 < room self.old owner → (pocket self.old owner).count < (pocket self.old owner).budget → IsOk result }
+        ensures succeeds { 0 < room self.old owner →
+            (pocket self.old owner).count < (pocket self.old owner).budget → IsOk result }
         ensures room { OnOk result (room self.old owner ≤ room self.new owner + 1) }
         ensures room_err { OnErr result (room self.old owner ≤ room self.new owner) }
         ensures room_others { (o : ℕ) → o ≢ owner → room self.old o ≤ room self.new o };
@@ -82,7 +87,8 @@ pub trait Shelf {
         ensures others { (o : ℕ) → o ≢ owner → pocket self.new o ≡ pocket self.old o }
         ensures room { (o : ℕ) → room self.old o ≤ room self.new o }
         ensures freed { OnSome result (0 < room self.new owner) }
-        ensures below { OnSome result ((pocket self.new owner).count < (pocket self.new owner).budget) };
+        ensures below { OnSome result
+            ((pocket self.new owner).count < (pocket self.new owner).budget) };
 
     /// How many packets the owner has, which are never more than its budget.
     fn count(&self, owner: Owner) -> usize

@@ -34,7 +34,8 @@ impl Model for OwnShelf {
       spare = s.slab.capacity - slab_len s.slab;
     } };
 
-    ghost invariant = { λ s. (slab_len s.slab ≤ s.slab.capacity) × (count_by is_some s.slab.slots ≤ s.budget) };
+    ghost invariant = { λ s. (slab_len s.slab ≤ s.slab.capacity)
+        × (count_by is_some s.slab.slots ≤ s.budget) };
 }
 
 impl OwnShelf {
@@ -50,7 +51,9 @@ impl OwnShelf {
 
     /// Makes room for so many packets more, or for as many as the budget has left.
     pub fn reserve(&mut self, additional: usize) -> Result<(), AllocError>
-        ensures ok { OnOk result (additional ≤ own_room self.new 0 ⊎ ((own_pocket self.old).budget - (own_pocket self.old).count ≤ own_room self.new 0)) }
+        ensures ok { OnOk result
+            (additional ≤ own_room self.new 0
+            ⊎ ((own_pocket self.old).budget - (own_pocket self.old).count ≤ own_room self.new 0)) }
         ensures pockets { own_pocket self.new ≡ own_pocket self.old }
         ensures room { own_room self.old 0 ≤ own_room self.new 0 }
         ensures succeeds { additional ≤ own_room self.old 0 → IsOk result }
@@ -61,7 +64,8 @@ impl OwnShelf {
 
     // The owner holds its budget.
     fn is_full(&self, owner: Owner) -> bool
-        ensures { IsTrue result ↔ ((pocket_of_own self.now owner).budget ≤ (pocket_of_own self.now owner).count) }
+        ensures { IsTrue result ↔
+            ((pocket_of_own self.now owner).budget ≤ (pocket_of_own self.now owner).count) }
     {
         owner != 0 || self.budget <= self.slab.len()
     }

@@ -58,7 +58,8 @@ impl Store {
     pub fn admit(&mut self, budget: PacketBudget) -> Result<Owner, AllocError>
         ensures stranger { IfOk result (λ owner. pocket_of self.old owner ≡ empty_pocket 0) }
         ensures empty { IfOk result (λ owner. pocket_of self.new owner ≡ empty_pocket budget) }
-        ensures others { IfOk result (λ owner. (o : ℕ) → o ≢ owner → pocket_of self.new o ≡ pocket_of self.old o) }
+        ensures others { IfOk result
+            (λ owner. (o : ℕ) → o ≢ owner → pocket_of self.new o ≡ pocket_of self.old o) }
         ensures err { OnErr result (self.new ≡ self.old) }
     {
         let budget = budget.get() as usize;

@@ -10,13 +10,13 @@ use Rattle.packet_store.specs.Pocket.{Pocket}
 use Rattle.pipe_core.specs.declared.slot.Slot.{Slot}
 use Rattle.pipe_core.specs.Moves.{packet_at, AreNamed, Keeps}
 use Rattle.pipe_core.specs.Keyed.{KeyedPipe, seen_pipe, view, ids_of, keys_of, IsSlot, IsPipe}
-use Rattle.pipe_core.specs.Steps.{Comes, ChangesAt, ComesAt, drops_of}
+use Rattle.pipe_core.specs.Steps.{Arrives, ChangesAt, ArrivesAt, drops_of}
 use Rattle.pipe_core.proofs.PipeFacts.{arrive-nowhere, arrive-there, view-stays, Keeps-lift}
-use Rattle.pipe_core.proofs.Places.{IsPlace, slot_at}
+use Rattle.pipe_core.proofs.InstancePlaces.{IsPlace, slot_at}
 
 pub comes_at : (k now : ℕ) (packet : Packet) (answer : Option DropCause) (p q : Pocket) (old : KeyedPipe) (x y : Slot) (ids : List FlowId) →
-    IsPlace k old.slots x → IsPipe old.config old.seed old.number ids old.slots → Comes old.config now packet answer p q x y →
-    ComesAt k now packet answer p q old (record old { slots = set old.slots k y })
+    IsPlace k old.slots x → IsPipe old.config old.seed old.number ids old.slots → Arrives old.config now packet answer p q x y →
+    ArrivesAt k now packet answer p q old (record old { slots = set old.slots k y })
 comes_at k now packet answer p q old x y ids at pipe came = record {
   slots = (
     at.before,
@@ -48,7 +48,7 @@ arrive_none now packet p old m id ide none slots same =
 
 module _ (now k : ℕ) (packet : Packet) (answer : Option DropCause) (p q : Pocket) (old m n : KeyedPipe) (id : FlowId)
     (same : m ≡ record old { slots = m.slots; spare = m.spare })
-    (came : ComesAt k now packet answer p q m n) where
+    (came : ArrivesAt k now packet answer p q m n) where
   pub arrive_some : AreNamed p (keys_of old.slots) → id ≡ flow_id old.config.mask packet → Some k ≡ instance_of (ids_of old.slots) id →
       ((f : ℕ → Packet) → with_instance id k (seen_pipe f old) ≡ seen_pipe f m) →
       pipe_arrive old.seed now packet (view p old) ≡ record { state = view q n; dropped = drops_of packet answer }
@@ -59,8 +59,8 @@ module _ (now k : ℕ) (packet : Packet) (answer : Option DropCause) (p q : Pock
       let x : Slot = came.slots.2 in
       let y : Slot = came.slots.3 in
       let change : ChangesAt k p q m n before behind x y = came.slots.4 in
-      let turn : Comes old.config now packet answer p q x y =
-      subst (λ (c : PipeConfig). Comes c now packet answer p q x y) (ap (λ (z : KeyedPipe). z.config) same) came.slots.5 in
+      let turn : Arrives old.config now packet answer p q x y =
+      subst (λ (c : PipeConfig). Arrives c now packet answer p q x y) (ap (λ (z : KeyedPipe). z.config) same) came.slots.5 in
       let slot : IsSlot old.config old.seed old.number k x =
       subst (λ (z : KeyedPipe). IsSlot z.config z.seed z.number k x) same change.slot in
       ap (pipe_arrive old.seed now packet) (sym (view-stays p q old named turn.stays))

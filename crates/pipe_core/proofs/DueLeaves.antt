@@ -11,11 +11,11 @@ use Rattle.emu_model.specs.declared.sources.Class.TheVariants.{Exit, Finish}
 use Rattle.emu_model.specs.Delay.{Leaving, first_exit}
 use Rattle.emu_model.specs.Dues.{due, line_dues, service_dues, instances_dues, pipe_dues}
 use Rattle.emu_model.specs.FlowIds.{FlowId}
-use Rattle.emu_model.specs.Pipes.{Instance, opening_instance}
+use Rattle.emu_model.specs.Pipes.{InService, Instance, initial_instance}
 use Rattle.due_index.specs.Least.{dues_in, least_of, lesser}
 use Rattle.due_index.specs.Places.{Places}
-use Rattle.due_index.proofs.LeastDues.{least_all, least_of-all, least_all-append, least_all-option, least_leaf, least_of-leaf}
-use Rattle.pipe_instance.specs.Keyed.{KeyInService, KeyedInstance, seen_instance, seen_service}
+use Rattle.due_index.proofs.CallerLemmas.{least_all, least_of-all, least_all-append, least_all-option, least_leaf, least_of-leaf}
+use Rattle.pipe_instance.specs.Keyed.{KeyedInstance, seen_instance, seen_service}
 use Rattle.pipe_instance.specs.Blanks.{blank_leaving, blank_service}
 use Rattle.pipe_core.specs.declared.slot.Slot.{Slot}
 use Rattle.pipe_core.specs.Moves.{some_packet}
@@ -51,10 +51,10 @@ leaves_same slots k x y d at same h =
     ∙ set-get_or (map slot_due slots) k (slot_due x))
 
 -- an instance more, to which nothing came
-opening_due : (id : FlowId) (i : KeyedInstance) →
-    ((f : ℕ → Packet) (id : FlowId) → seen_instance f id i ≡ opening_instance id) →
+initial_due : (id : FlowId) (i : KeyedInstance) →
+    ((f : ℕ → Packet) (id : FlowId) → seen_instance f id i ≡ initial_instance id) →
     slot_due (record { id = id; instance = i }) ≡ None
-opening_due id i opening =
+initial_due id i opening =
     let f : ℕ → Packet = λ k. some_packet in
     let s : Slot = record { id = id; instance = i } in
     let exit : first_exit i.lane.line.flight ≡ None =
@@ -67,11 +67,11 @@ opening_due id i opening =
 
 pub leaves_push : (slots : List Slot) (id : FlowId) (i : KeyedInstance) (x z : Places) (n : ℕ) →
     AreLeaves slots x →
-    ((f : ℕ → Packet) (id : FlowId) → seen_instance f id i ≡ opening_instance id) →
+    ((f : ℕ → Packet) (id : FlowId) → seen_instance f id i ≡ initial_instance id) →
     z ≡ record { leaves = x.leaves ++ None ∷ []; spare = n } →
     AreLeaves (slots ++ record { id = id; instance = i } ∷ []) z
 leaves_push slots id i x z n h opening e =
-    ap (λ (p : Places). p.leaves) e ∙ (λ t. h t ++ sym (opening_due id i opening) t ∷ [])
+    ap (λ (p : Places). p.leaves) e ∙ (λ t. h t ++ sym (initial_due id i opening) t ∷ [])
     ∙ sym (map-append slot_due slots (record { id = id; instance = i } ∷ []))
 
 -- keys have no part in what is due
@@ -79,7 +79,7 @@ exit-blank : (flight : List (Leaving ℕ)) → first_exit (map blank_leaving fli
 exit-blank [] = refl
 exit-blank (x ∷ xs) = refl
 
-finish-blank : (busy : Option KeyInService) →
+finish-blank : (busy : Option (InService ℕ)) →
     option_map (λ s. s.period.finish) (option_map blank_service busy)
     ≡ option_map (λ s. s.period.finish) busy
 finish-blank None = refl
@@ -119,7 +119,7 @@ numbers_at config seed number k (x ∷ xs) a (suc i) s e =
     let here : k + suc i ≡ (k + 1) + i = omega arith in
     (λ t. number * 256 + here t) ∙ numbers_at config seed number (k + 1) xs a.1 i s e
 
-service-due : (f : ℕ → Packet) (n : ℕ) (busy : Option KeyInService) →
+service-due : (f : ℕ → Packet) (n : ℕ) (busy : Option (InService ℕ)) →
     option_map (λ s. due Finish n s.period.finish) (option_map (seen_service f) busy)
     ≡ option_map (due Finish n) (option_map (λ s. s.period.finish) busy)
 service-due f n None = refl

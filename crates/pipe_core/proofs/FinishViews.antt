@@ -13,7 +13,7 @@ use Rattle.pipe_core.specs.Keyed.{KeyedPipe, seen_slot, seen_pipe, view, keys_of
 use Rattle.pipe_core.specs.Steps.{HasRoom, IsGrown, IsSamePlace, Finishes, drops_by_codel}
 use Rattle.pipe_core.proofs.KeyMoves.{AreNamed-kept, Keeps-same}
 use Rattle.pipe_core.proofs.PipeFacts.{changed, view-left}
-use Rattle.pipe_core.proofs.Places.{IsPlace, seen_at, keeps_at, seen_same, keys_same, room_same}
+use Rattle.pipe_core.proofs.InstancePlaces.{IsPlace, seen_at, keeps_at, seen_same, keys_same, room_same}
 
 -- what is due is there
 pub due_within : (is : List Instance) (k now : ℕ) →
@@ -70,9 +70,9 @@ module _ (k : ℕ) (old : KeyedPipe) (x y : Slot) (at : IsPlace k old.slots x) (
       ∙ (λ i. record { state = sym (view-left p q new named h.stays) i; dropped = drops_by_codel drops })
 
   pub served_view : (now : ℕ) (packet : Packet) (drops : List Packet) → Finishes old.config now packet drops p q x y →
-      option_map (λ s. s.packet) (served_in k (view p old)) ≡ Some packet
+      option_map (λ s. s.item) (served_in k (view p old)) ≡ Some packet
   served_view now packet drops h =
-      ap (λ o. option_map (λ s. s.packet) (option_and_then (λ (i : Instance). i.service) o)) (seen_at k old.slots x at (packet_at p.find)) ∙ h.served
+      ap (λ o. option_map (λ s. s.item) (option_and_then (λ (i : Instance). i.service) o)) (seen_at k old.slots x at (packet_at p.find)) ∙ h.served
 
   pub refused_grown : (n : ℕ) → y ≡ respaced n x → IsGrown old (record old { slots = set old.slots k y })
   refused_grown n e = record {

@@ -9,14 +9,14 @@ use Rattle.emu_model.specs.declared.pipes.Discipline.TheVariants.{TailDrop, Cont
 use Rattle.emu_model.specs.declared.records.DropCause.TheVariants.{Codel}
 use Rattle.emu_model.specs.FlowIds.{FlowId}
 use Rattle.emu_model.specs.DropTail.{Waiting}
-use Rattle.emu_model.specs.Codel.{Control, Dequeued}
-use Rattle.emu_model.specs.Pipes.{Drop, codel_drops}
+use Rattle.emu_model.specs.Codel.{CodelState, Dequeued}
+use Rattle.emu_model.specs.Pipes.{InService, dequeue, Drop, codel_drops}
 use Rattle.packet_store.specs.Pocket.{Pocket}
 use Rattle.pipe_instance.specs.Uses.{uses, one_at, one}
-use Rattle.pipe_instance.specs.Keyed.{KeyInService, KeyedInstance, taken, seen_waiting, seen_service, keys_in, IsTuned}
+use Rattle.pipe_instance.specs.Keyed.{KeyedInstance, seen_waiting, seen_service, keys_in, IsTuned}
 use Rattle.pipe_instance.specs.Turns.{IsFinish}
-use Rattle.pipe_instance.proofs.UseCounts.{total-one, total-three, one_at-same, total-length}
-use Rattle.pipe_instance.proofs.Dequeues.{IsCut, taken-cut}
+use Rattle.pipe_instance.proofs.CallerLemmas.{total-one, total-three, one_at-same, total-length}
+use Rattle.emu_model.proofs.CallerLemmas.{IsCut, dequeue-cut}
 use Rattle.pipe_core.specs.declared.slot.Slot.{Slot}
 use Rattle.pipe_core.specs.Moves.{some_packet, packet_at, found, AreNamed, Taking}
 use Rattle.pipe_core.specs.Keyed.{seen_slot}
@@ -29,32 +29,32 @@ cut_length : {A : Type 0} (ws : List (Waiting A)) (d : Dequeued A) → IsCut ws 
 cut_length ws d h =
     omega (arith, ap length h.whole, length-append d.dropped (option_to_list d.given ++ d.rest))
 
-pub dropped_within : (d : Discipline) (now : ℕ) (c : Control) (ws : List (Waiting ℕ)) →
-    length (taken d now c ws).dropped ≤ most_of d (length ws)
+pub dropped_within : (d : Discipline) (now : ℕ) (c : CodelState) (ws : List (Waiting ℕ)) →
+    length (dequeue d now c ws).dropped ≤ most_of d (length ws)
 dropped_within TailDrop now c [] = omega arith
 dropped_within TailDrop now c (w ∷ ws) = omega arith
 dropped_within (ControlledDelay target interval) now c ws =
-    cut_length ws (taken (ControlledDelay target interval) now c ws) (taken-cut (ControlledDelay target interval) now c ws)
+    cut_length ws (dequeue (ControlledDelay target interval) now c ws) (dequeue-cut (ControlledDelay target interval) now c ws)
 
 abbrev items : List (Waiting ℕ) → List ℕ
 items ws = map (λ w. w.item) ws
 
 -- the key that was served is named
-key_uses : (busy : Option KeyInService) (key : ℕ) → option_map (λ s. s.key) busy ≡ Some key →
-    uses key (option_to_list (option_map (λ s. s.key) busy)) ≡ 1
+key_uses : (busy : Option (InService ℕ)) (key : ℕ) → option_map (λ s. s.item) busy ≡ Some key →
+    uses key (option_to_list (option_map (λ s. s.item) busy)) ≡ 1
 key_uses None key e = absurd (cc)
 key_uses (Some s) key e =
-    let same : s.key ≡ key = cc in
-    omega (arith, total-one (one_at key) s.key, ap (one_at key) same, one_at-same key)
+    let same : s.item ≡ key = cc in
+    omega (arith, total-one (one_at key) s.item, ap (one_at key) same, one_at-same key)
 
 pub served_found : (p : Pocket) (i : KeyedInstance) (key : ℕ) → AreNamed p (keys_in i) →
-    option_map (λ s. s.key) i.service.busy ≡ Some key → p.find key ≡ None → ⊥
+    option_map (λ s. s.item) i.service.busy ≡ Some key → p.find key ≡ None → ⊥
 served_found p i key n served none =
     omega (
       arith,
       n.each key,
       key_uses i.service.busy key served,
-      total-three (one_at key) (map (λ x. x.item) i.lane.line.flight) (option_to_list (option_map (λ s. s.key) i.service.busy)) (items i.queue.waiting),
+      total-three (one_at key) (map (λ x. x.item) i.lane.line.flight) (option_to_list (option_map (λ s. s.item) i.service.busy)) (items i.queue.waiting),
       ap found none,
     )
 
@@ -70,10 +70,10 @@ drops-seen : (f : ℕ → Packet) (ws : List (Waiting ℕ)) → codel_drops (map
 drops-seen f [] = refl
 drops-seen f (w ∷ ws) = ap (λ (l : List Drop). record { packet = f w.item; cause = Codel } ∷ l) (drops-seen f ws)
 
-served-packet : (f : ℕ → Packet) (busy : Option KeyInService) (key : ℕ) → option_map (λ s. s.key) busy ≡ Some key →
-    option_map (λ s. s.packet) (option_map (seen_service f) busy) ≡ Some (f key)
+served-packet : (f : ℕ → Packet) (busy : Option (InService ℕ)) (key : ℕ) → option_map (λ s. s.item) busy ≡ Some key →
+    option_map (λ s. s.item) (option_map (seen_service f) busy) ≡ Some (f key)
 served-packet f None key e = absurd (cc)
-served-packet f (Some s) key e = let same : s.key ≡ key = cc in ap (λ k. Some (f k)) same
+served-packet f (Some s) key e = let same : s.item ≡ key = cc in ap (λ k. Some (f k)) same
 
 abbrev slot : FlowId → KeyedInstance → Slot
 slot id i = record { id = id; instance = i }

@@ -10,7 +10,7 @@ use Rattle.pipe_core.specs.declared.slot.Slot.{Slot}
 use Rattle.pipe_core.specs.Keyed.{KeyedPipe, ids_of}
 use Rattle.pipe_core.specs.Steps.{HasRoom, HasRoomAtSlot, HasRoomAt, IsGrown, IsSamePlace}
 use Rattle.pipe_core.proofs.Makings.{made_next, made_few}
-use Rattle.pipe_core.proofs.Places.{IsPlace, seen_same, keys_same, room_same, room_here}
+use Rattle.pipe_core.proofs.InstancePlaces.{IsPlace, seen_same, keys_same, room_same, room_here}
 
 abbrev pub with_capacity : ℕ → KeyedInstance → KeyedInstance
 with_capacity c i = record i { queue = record i.queue { capacity = c } }

@@ -1,11 +1,11 @@
 -- What a put and a take do to the packets that keys name.
-use Rattle.std.proofs.Common.{◌≡◌, ◌≢◌, ℕ, ◌+◌, ◌≤◌, ◌==◌, nat_eq, cond, true, false, refl, sym, ap, ◌∙◌, subst, List, [], ◌∷◌, ◌++◌, length, Option, Some, None, IsSome, inl, inr, arith}
+use Rattle.std.proofs.Common.{◌≡◌, ◌≢◌, ℕ, ◌+◌, ◌<◌, ◌≤◌, ◌==◌, nat_eq, cond, true, false, refl, sym, ap, ◌∙◌, subst, List, [], ◌∷◌, ◌++◌, length, Option, Some, None, IsSome, inl, inr, arith}
 use Rattle.std.proofs.lemmas.Bool.{cases_eq}
 use Rattle.std.proofs.lemmas.Bool.Decides.{nat_tests}
 use Rattle.emu_model.specs.declared.packets.Packet.{Packet}
 use Rattle.packet_store.specs.Pocket.{Pocket, with_packet, without}
 use Rattle.pipe_instance.specs.Uses.{total, uses, one_at, one}
-use Rattle.pipe_instance.proofs.UseCounts.{total-nil, total-cons, total-append, total-length, one_at-same}
+use Rattle.pipe_instance.proofs.CallerLemmas.{total-nil, total-cons, total-append, total-length, one_at-same}
 use Rattle.pipe_core.specs.Moves.{found, AreNamed, Keeps, Takes}
 
 pub at_other : {X : Type 0} (k key : ℕ) (x y : X) → k ≢ key → cond (k == key) x y ≡ y
@@ -17,8 +17,12 @@ at_same key x y = let t : nat_eq key key ≡ true = grind (arith, nat_tests) in 
 pub one_at-other : (k key : ℕ) → k ≢ key → one_at k key ≡ 0
 one_at-other k key h = let t : nat_eq key k ≡ false = grind (arith, nat_tests) in ap {B = ℕ} (λ b. cond b 1 0) t
 
-found-some : (o : Option Packet) → IsSome o → found o ≡ 1
-found-some None h = absurd (cc)
+pub found-le : (o : Option Packet) → found o ≤ 1
+found-le None = omega arith
+found-le (Some p) = omega arith
+
+pub found-some : (o : Option Packet) → 0 < found o → IsSome o
+found-some None h = absurd (omega (arith, h))
 found-some (Some p) h = refl
 
 -- a packet that was put, under a key that stands last or anywhere
@@ -63,6 +67,33 @@ AreNamed-kept p q old new n k = record {
   within = omega (arith, n.within, k.count);
 }
 
+-- a list of keys of which a part alone changed, beside what the rest weighs
+pub Keeps-part : (p q : Pocket) (x y old new : List ℕ) (rest : (ℕ → ℕ) → ℕ) →
+    ((g : ℕ → ℕ) → total g old ≡ total g x + rest g) → ((g : ℕ → ℕ) → total g new ≡ total g y + rest g) →
+    Keeps p q x y → Keeps p q old new
+Keeps-part p q x y old new rest was is k = record {
+  balance = λ j. omega (arith, k.balance j, was (one_at j), is (one_at j));
+  kept = λ j unused some. k.kept j (omega (arith, unused, was (one_at j))) some;
+  count = omega (
+    arith,
+    k.count,
+    was one,
+    is one,
+    total-length x,
+    total-length y,
+    total-length old,
+    total-length new,
+  );
+  budget = k.budget;
+}
+
+pub AreNamed-part : (p : Pocket) (x whole : List ℕ) (rest : (ℕ → ℕ) → ℕ) →
+    ((g : ℕ → ℕ) → total g whole ≡ total g x + rest g) → AreNamed p whole → AreNamed p x
+AreNamed-part p x whole rest is n = record {
+  each = λ j. omega (arith, n.each j, is (one_at j));
+  within = omega (arith, n.within, is one, total-length x, total-length whole);
+}
+
 -- a packet that was taken, of the key that stands first
 pub Takes-first : (p q : Pocket) (key : ℕ) (keys : List ℕ) → AreNamed p (key ∷ keys) → q ≡ without p key → Takes p q (key ∷ [])
 Takes-first p q key keys n taken =
@@ -95,10 +126,6 @@ Takes-first p q key keys n taken =
       count = omega (arith, n.within);
       budget = refl;
     })
-  where
-    found-le : (o : Option Packet) → found o ≤ 1
-    found-le None = omega arith
-    found-le (Some p) = omega arith
 
 -- what left a list was taken
 pub Keeps-taken : (p q : Pocket) (taken old new : List ℕ) → Takes p q taken →

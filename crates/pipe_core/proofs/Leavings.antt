@@ -6,7 +6,7 @@ use Rattle.emu_model.specs.FlowIds.{FlowId}
 use Rattle.emu_model.specs.Delay.{Leaving, leave, first_item}
 use Rattle.packet_store.specs.Pocket.{Pocket, without}
 use Rattle.pipe_instance.specs.Keyed.{KeyedInstance, seen_leaving, keys_in}
-use Rattle.pipe_instance.proofs.UseCounts.{total-cons, total-nil}
+use Rattle.pipe_instance.proofs.CallerLemmas.{total-cons, total-nil}
 use Rattle.pipe_core.specs.declared.slot.Slot.{Slot}
 use Rattle.pipe_core.specs.Moves.{some_packet, packet_at, AreNamed}
 use Rattle.pipe_core.specs.Steps.{Exits}

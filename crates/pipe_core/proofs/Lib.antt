@@ -1,16 +1,17 @@
-pub mod KeyMoves
-pub mod Comings
-pub mod Leavings
-pub mod Makings
-pub mod PipeFacts
-pub mod Places
-pub mod Growths
-pub mod Arrivals
-pub mod TakeFacts
-pub mod Finishings
-pub mod FinishViews
-pub mod BenchFacts
+mod KeyMoves
+mod SlotArrivals
+mod Leavings
+mod Makings
+mod PipeFacts
+mod InstancePlaces
+mod Growths
+mod Arrivals
+mod TakeFacts
+mod Finishings
+mod FinishViews
+mod BenchFacts
 mod Halves
 mod SlotMoves
-pub mod Rehousings
-pub mod DueLeaves
+mod Rehousings
+mod DueLeaves
+pub mod CallerLemmas

@@ -9,8 +9,8 @@ use Rattle.std.proofs.lemmas.List.Quantifiers.{position-Some}
 use Rattle.emu_model.specs.declared.packets.Packet.{Packet}
 use Rattle.emu_model.specs.declared.pipes.PipeConfig.{PipeConfig}
 use Rattle.emu_model.specs.FlowIds.{FlowId, same_flow, different, new_instance, instance_of}
-use Rattle.emu_model.specs.Pipes.{Instance, PipeState, opening_instance, with_instance}
-use Rattle.pipe_instance.specs.Keyed.{KeyInService, KeyedInstance, seen_service, seen_instance, keys_in}
+use Rattle.emu_model.specs.Pipes.{InService, Instance, PipeState, initial_instance, with_instance}
+use Rattle.pipe_instance.specs.Keyed.{KeyedInstance, seen_service, seen_instance, keys_in}
 use Rattle.pipe_core.specs.declared.slot.Slot.{Slot}
 use Rattle.pipe_core.specs.Moves.{some_packet}
 use Rattle.pipe_core.specs.Steps.{HasRoom}
@@ -69,16 +69,16 @@ with_known f id k pipe within =
     let shown : PipeState = seen_pipe f pipe in
     let t : nat_lt k (length shown.instances) ≡ true =
     ap (nat_lt k) (length-map pipe.slots (seen_slot f)) ∙ (let u : nat_lt k (length pipe.slots) ≡ true = grind (arith, nat_tests) in u) in
-    ap (λ b. if b then shown else record shown { instances = shown.instances ++ opening_instance id ∷ [] }) t
+    ap (λ b. if b then shown else record shown { instances = shown.instances ++ initial_instance id ∷ [] }) t
 
 pub with_new : (f : ℕ → Packet) (id : FlowId) (k : ℕ) (pipe : KeyedPipe) (s : Slot) → k ≡ length pipe.slots →
-    seen_slot f s ≡ opening_instance id →
+    seen_slot f s ≡ initial_instance id →
     with_instance id k (seen_pipe f pipe) ≡ seen_pipe f (record pipe { slots = pipe.slots ++ s ∷ [] })
 with_new f id k pipe s last opening =
     let shown : PipeState = seen_pipe f pipe in
     let same : length shown.instances ≡ length pipe.slots = length-map pipe.slots (seen_slot f) in
     let t : nat_lt k (length shown.instances) ≡ false = grind (arith, nat_tests) in
-    ap (λ b. if b then shown else record shown { instances = shown.instances ++ opening_instance id ∷ [] }) t
+    ap (λ b. if b then shown else record shown { instances = shown.instances ++ initial_instance id ∷ [] }) t
     ∙ (λ i. record shown {
       instances = (ap (λ x. map (seen_slot f) pipe.slots ++ x ∷ []) (sym opening)
           ∙ sym (map-append (seen_slot f) pipe.slots (s ∷ []))) i;
@@ -91,11 +91,11 @@ keys-push [] s e = ap (λ l. l ++ []) e
 keys-push (t ∷ ss) s e = ap (λ l. keys_in t.instance ++ l) (keys-push ss s e)
 
 -- a new instance is idle
-idle_by : (f : ℕ → Packet) (busy : Option KeyInService) → option_map (seen_service f) busy ≡ None → IsSome busy → ⊥
+idle_by : (f : ℕ → Packet) (busy : Option (InService ℕ)) → option_map (seen_service f) busy ≡ None → IsSome busy → ⊥
 idle_by f None e h = absurd (cc)
 idle_by f (Some s) e h = absurd (cc)
 
-new_idle : (id : FlowId) (i : KeyedInstance) → ((f : ℕ → Packet) (id : FlowId) → seen_instance f id i ≡ opening_instance id) →
+new_idle : (id : FlowId) (i : KeyedInstance) → ((f : ℕ → Packet) (id : FlowId) → seen_instance f id i ≡ initial_instance id) →
     IsSome i.service.busy → ⊥
 new_idle id i opening h =
     idle_by (λ k. some_packet) i.service.busy (ap (λ (s : Instance). s.service) (opening (λ k. some_packet) id)) h
@@ -106,7 +106,7 @@ last_is (b ∷ ss) s t e = last_is ss s t e
 
 pub new_room : (size k : ℕ) (ss new : List Slot) (id : FlowId) (i : KeyedInstance) (s : Slot) → k ≡ length ss →
     new ≡ ss ++ record { id = id; instance = i } ∷ [] →
-    ((f : ℕ → Packet) (id : FlowId) → seen_instance f id i ≡ opening_instance id) →
+    ((f : ℕ → Packet) (id : FlowId) → seen_instance f id i ≡ initial_instance id) →
     slice_get new k ≡ Some s → HasRoom size s.instance
 new_room size k ss new id i s last is opening e lets busy =
     let same : record { id = id; instance = i } ≡ s =

@@ -15,17 +15,16 @@ use Rattle.emu_model.specs.DropTail.{Waiting, bytes_of}
 use Rattle.emu_model.specs.Commands.{shown_words}
 use Rattle.emu_model.specs.FlowIds.{FlowId, flow_id, instance_of}
 use Rattle.emu_model.specs.Loss.{is_lost}
-use Rattle.emu_model.specs.Pipes.{Instance, PipeState, After, Drop, no_drop, drop_one, drawn_one, instance_arrive, put_instance, change_one, with_instance, draw, arrive_at, pipe_arrive, instance_configure, instance_packets, pipe_packets}
+use Rattle.emu_model.specs.Pipes.{InService, Instance, PipeState, After, Drop, no_drop, drop_one, drawn_one, instance_arrive, put_instance, change_one, with_instance, draw, arrive_at, pipe_arrive, instance_configure, instance_packets, pipe_packets}
 use Rattle.packet_store.specs.Pocket.{Pocket}
 use Rattle.pipe_instance.specs.Uses.{total, uses, one_at, one}
-use Rattle.pipe_instance.specs.Keyed.{KeyInService, seen_waiting, seen_leaving, seen_service, keys_in, IsTuned}
-use Rattle.pipe_instance.proofs.UseCounts.{total-nil, total-append, total-length}
-use Rattle.pipe_instance.proofs.Dequeues.{bytes-seen}
-use Rattle.pipe_instance.proofs.Shows.{seen_instance-agree, configure-shown, configure-keys}
+use Rattle.pipe_instance.specs.Keyed.{seen_waiting, seen_leaving, seen_service, keys_in, IsTuned}
+use Rattle.pipe_instance.proofs.CallerLemmas.{total-nil, total-append, total-length, bytes-seen, seen_instance-agree, configure-shown, configure-keys}
 use Rattle.pipe_core.specs.declared.slot.Slot.{Slot}
-use Rattle.pipe_core.specs.Moves.{packet_at, some_packet, found, AreNamed, Keeps}
+use Rattle.pipe_core.specs.Moves.{packet_at, some_packet, AreNamed, Keeps}
 use Rattle.pipe_core.specs.Keyed.{KeyedPipe, seen_slot, seen_pipe, view, shown_of, ids_of, keys_of, IsSlot, AreSlots, IsPipe}
 use Rattle.pipe_core.specs.Steps.{IsSamePlace, configured_slot}
+use Rattle.pipe_core.proofs.KeyMoves.{found-some, Keeps-part, AreNamed-part}
 
 -- a list at a place
 pub slice_get-at : {A B : Type 0} (h : A → B) (before : List A) (x : A) (behind : List A) →
@@ -63,36 +62,24 @@ total-split g [] x behind = omega (arith, total-slots g x behind, ap (total g) k
 total-split g (b ∷ before) x behind =
     omega (arith, total-slots g b (before ++ x ∷ behind), total-slots g b before, total-split g before x behind)
 
+beside : List Slot → List Slot → (ℕ → ℕ) → ℕ
+beside before behind g = total g (keys_of before) + total g (keys_of behind)
+
+split-beside : (before behind : List Slot) (x : Slot) (g : ℕ → ℕ) →
+    total g (keys_of (before ++ x ∷ behind)) ≡ total g (keys_in x.instance) + beside before behind g
+unfolding beside
+split-beside before behind x g = omega (arith, total-split g before x behind)
+
 pub Keeps-lift : (p q : Pocket) (before behind : List Slot) (x y : Slot) → Keeps p q (keys_in x.instance) (keys_in y.instance) →
     Keeps p q (keys_of (before ++ x ∷ behind)) (keys_of (before ++ y ∷ behind))
-Keeps-lift p q before behind x y k = record {
-  balance = λ j. omega (arith, k.balance j, total-split (one_at j) before x behind, total-split (one_at j) before y behind);
-  kept = λ j unused some. k.kept j (omega (arith, unused, total-split (one_at j) before x behind)) some;
-  count = omega (
-    arith,
-    k.count,
-    total-split one before x behind,
-    total-split one before y behind,
-    total-length (keys_in x.instance),
-    total-length (keys_in y.instance),
-    total-length (keys_of (before ++ x ∷ behind)),
-    total-length (keys_of (before ++ y ∷ behind)),
-  );
-  budget = k.budget;
-}
+Keeps-lift p q before behind x y =
+    Keeps-part p q (keys_in x.instance) (keys_in y.instance) (keys_of (before ++ x ∷ behind)) (keys_of (before ++ y ∷ behind))
+    (beside before behind) (split-beside before behind x) (split-beside before behind y)
 
-pub AreNamed-part : (p : Pocket) (before behind : List Slot) (x : Slot) →
+pub AreNamed-at : (p : Pocket) (before behind : List Slot) (x : Slot) →
     AreNamed p (keys_of (before ++ x ∷ behind)) → AreNamed p (keys_in x.instance)
-AreNamed-part p before behind x n = record {
-  each = λ j. omega (arith, n.each j, total-split (one_at j) before x behind);
-  within = omega (
-    arith,
-    n.within,
-    total-split one before x behind,
-    total-length (keys_in x.instance),
-    total-length (keys_of (before ++ x ∷ behind)),
-  );
-}
+AreNamed-at p before behind x =
+    AreNamed-part p (keys_in x.instance) (keys_of (before ++ x ∷ behind)) (beside before behind) (split-beside before behind x)
 
 -- names that agree on a pipe's keys show it alike
 pub seen-agree : (f g : ℕ → Packet) (ss : List Slot) → ((k : ℕ) → 0 < uses k (keys_of ss) → g k ≡ f k) →
@@ -102,10 +89,6 @@ seen-agree f g (s ∷ ss) same = λ i.
     seen_instance-agree f g s.id s.instance (λ k within. same k (omega (arith, within, total-slots (one_at k) s ss))) i
     ∷ seen-agree f g ss (λ k within. same k (omega (arith, within, total-slots (one_at k) s ss))) i
 
-pub is_found : (o : Option Packet) → 0 < found o → IsSome o
-is_found None h = absurd (omega (arith, h))
-is_found (Some p) h = refl
-
 -- where nothing is taken, what was shown before is shown still
 pub view-stays : (p q : Pocket) (pipe : KeyedPipe) → AreNamed p (keys_of pipe.slots) →
     ((k : ℕ) → IsSome (p.find k) → q.find k ≡ p.find k) → view q pipe ≡ view p pipe
@@ -114,7 +97,7 @@ view-stays p q pipe n stays =
       number = pipe.number;
       config = pipe.config;
       instances = seen-agree (packet_at p.find) (packet_at q.find) pipe.slots
-          (λ k within. ap (λ o. unwrap_or o some_packet) (stays k (is_found (p.find k) (omega (arith, within, n.each k))))) i;
+          (λ k within. ap (λ o. unwrap_or o some_packet) (stays k (found-some (p.find k) (omega (arith, within, n.each k))))) i;
     }
 
 -- the invariant, where one instance changed
@@ -221,7 +204,7 @@ view-left p q pipe n stays =
       number = pipe.number;
       config = pipe.config;
       instances = seen-agree (packet_at p.find) (packet_at q.find) pipe.slots
-          (λ k within. ap (λ o. unwrap_or o some_packet) (stays k (is_found (q.find k) (omega (arith, within, n.each k))))) i;
+          (λ k within. ap (λ o. unwrap_or o some_packet) (stays k (found-some (q.find k) (omega (arith, within, n.each k))))) i;
     }
 
 -- a pipe without instances
@@ -235,12 +218,12 @@ pub first_exit-seen : (f : ℕ → Packet) (flight : List (Leaving ℕ)) → fir
 first_exit-seen f [] = refl
 first_exit-seen f (x ∷ xs) = refl
 
-pub finish-seen : (f : ℕ → Packet) (busy : Option KeyInService) →
+pub finish-seen : (f : ℕ → Packet) (busy : Option (InService ℕ)) →
     option_map (λ s. s.period.finish) (option_map (seen_service f) busy) ≡ option_map (λ s. s.period.finish) busy
 finish-seen f None = refl
 finish-seen f (Some s) = refl
 
-is_some-seen : (f : ℕ → Packet) (busy : Option KeyInService) → is_some (option_map (seen_service f) busy) ≡ is_some busy
+is_some-seen : (f : ℕ → Packet) (busy : Option (InService ℕ)) → is_some (option_map (seen_service f) busy) ≡ is_some busy
 is_some-seen f None = refl
 is_some-seen f (Some s) = refl
 
@@ -282,15 +265,15 @@ line-seen : (f : ℕ → Packet) (xs : List (Leaving ℕ)) → map (λ x. x.item
 line-seen f [] = refl
 line-seen f (x ∷ xs) = ap (λ l. f x.item ∷ l) (line-seen f xs)
 
-served-seen : (f : ℕ → Packet) (busy : Option KeyInService) →
-    option_to_list (option_map (λ s. s.packet) (option_map (seen_service f) busy)) ≡ map f (option_to_list (option_map (λ s. s.key) busy))
+served-seen : (f : ℕ → Packet) (busy : Option (InService ℕ)) →
+    option_to_list (option_map (λ s. s.item) (option_map (seen_service f) busy)) ≡ map f (option_to_list (option_map (λ s. s.item) busy))
 served-seen f None = refl
 served-seen f (Some s) = refl
 
 instance-packets : (f : ℕ → Packet) (s : Slot) → instance_packets (seen_slot f s) ≡ map f (keys_in s.instance)
 instance-packets f s =
     let flight : List ℕ = map (λ x. x.item) s.instance.lane.line.flight in
-    let served : List ℕ = option_to_list (option_map (λ t. t.key) s.instance.service.busy) in
+    let served : List ℕ = option_to_list (option_map (λ t. t.item) s.instance.service.busy) in
     let ws : List ℕ = map (λ w. w.item) s.instance.queue.waiting in
     (λ i. line-seen f s.instance.lane.line.flight i ++ served-seen f s.instance.service.busy i ++ items-seen f s.instance.queue.waiting i)
     ∙ (λ i. sym (map-append f flight served) i ++ map f ws)

@@ -7,8 +7,7 @@ use Rattle.emu_model.specs.Delay.{Line}
 use Rattle.packet_store.specs.Pocket.{Pocket, with_packet, without}
 use Rattle.pipe_instance.specs.Uses.{one_at}
 use Rattle.pipe_instance.specs.Keyed.{seen_line}
-use Rattle.pipe_instance.proofs.UseCounts.{total-nil, total-cons, total-append}
-use Rattle.pipe_instance.proofs.Blanked.{seen_line-same}
+use Rattle.pipe_instance.proofs.CallerLemmas.{total-nil, total-cons, total-append, seen_line-same}
 use Rattle.pipe_core.specs.Moves.{packet_at, some_packet, AreNamed, Keeps, Takes}
 use Rattle.pipe_core.specs.Keyed.{KeyedPipe, view, keys_of}
 use Rattle.pipe_core.specs.Rehousing.{Gives, Rehouses}

@@ -6,10 +6,10 @@ use Rattle.emu_model.specs.declared.packets.Packet.{Packet}
 use Rattle.emu_model.specs.DropTail.{Waiting}
 use Rattle.packet_store.specs.Pocket.{Pocket, without}
 use Rattle.pipe_instance.specs.Uses.{total, uses, one_at, one}
-use Rattle.pipe_instance.proofs.UseCounts.{total-nil, total-cons, total-append, total-length, one_at-same}
+use Rattle.pipe_instance.proofs.CallerLemmas.{total-nil, total-cons, total-append, total-length, one_at-same}
 use Rattle.pipe_core.specs.Moves.{some_packet, packet_at, AreNamed, Keeps, Takes, Taking}
-use Rattle.pipe_core.proofs.KeyMoves.{Takes-none, Takes-then, Takes-first, Keeps-taken, named_first}
-use Rattle.pipe_core.proofs.PipeFacts.{is_found, drop_at}
+use Rattle.pipe_core.proofs.KeyMoves.{found-some, Takes-none, Takes-then, Takes-first, Keeps-taken, named_first}
+use Rattle.pipe_core.proofs.PipeFacts.{drop_at}
 
 -- nothing was taken yet
 pub taking_none : (p : Pocket) (all : List ℕ) (start : List Packet) → Taking p p all all start start
@@ -49,7 +49,7 @@ pub named_alike : (p q : Pocket) (ks : List ℕ) → AreNamed q ks → ((k : ℕ
     map (packet_at q.find) ks ≡ map (packet_at p.find) ks
 named_alike p q ks n stays =
     packets_agree (packet_at p.find) (packet_at q.find) ks
-    (λ k within. ap (λ o. unwrap_or o some_packet) (stays k (is_found (q.find k) (omega (arith, within, n.each k)))))
+    (λ k within. ap (λ o. unwrap_or o some_packet) (stays k (found-some (q.find k) (omega (arith, within, n.each k)))))
 
 -- and so is what stands first there
 pub first_named : (p q : Pocket) (all ks left : List ℕ) (start now : List Packet) → AreNamed p all →

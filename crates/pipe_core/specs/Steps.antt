@@ -10,9 +10,9 @@ use Rattle.emu_model.specs.Loss.{is_lost}
 use Rattle.emu_model.specs.FlowIds.{flow_id, instance_of}
 use Rattle.emu_model.specs.Delay.{first_item, leave}
 use Rattle.emu_model.specs.DropTail.{accepts}
-use Rattle.emu_model.specs.Pipes.{Drop, drawn_one, instance_arrive, instance_finish}
+use Rattle.emu_model.specs.Pipes.{dequeue, Drop, drawn_one, instance_arrive, instance_finish}
 use Rattle.packet_store.specs.Pocket.{Pocket}
-use Rattle.pipe_instance.specs.Keyed.{KeyedInstance, KeyedQueue, taken, keys_in}
+use Rattle.pipe_instance.specs.Keyed.{KeyedInstance, KeyedQueue, keys_in}
 use Rattle.pipe_instance.specs.Turns.{configured}
 use Rattle.pipe_core.specs.declared.slot.Slot.{Slot}
 use Rattle.pipe_core.specs.Moves.{packet_at, Keeps}
@@ -62,7 +62,7 @@ most_dropped q = most_of q.discipline (length q.waiting)
 -- a finish at this moment needs no memory, where the list of drops has this capacity
 pub record IsFree (now capacity : ℕ) (i : KeyedInstance) : Type 0 where
   pub line : 0 < i.lane.spare
-  pub none : (taken i.queue.discipline now i.queue.control i.queue.waiting).dropped ≡ []
+  pub none : (dequeue i.queue.discipline now i.queue.control i.queue.waiting).dropped ≡ []
   pub list : most_dropped i.queue ≤ capacity
 
 -- a finish of instance k needs no memory
@@ -80,7 +80,7 @@ pub record IsSamePlace (old new : Slot) : Type 0 where
   pub number : new.instance.draws.instance ≡ old.instance.draws.instance
 
 -- a packet came to an instance
-pub record Comes (config : PipeConfig) (now : ℕ) (packet : Packet) (answer : Option DropCause) (p q : Pocket) (old new : Slot) : Type 0 where
+pub record Arrives (config : PipeConfig) (now : ℕ) (packet : Packet) (answer : Option DropCause) (p q : Pocket) (old new : Slot) : Type 0 where
   pub shown : (let d = old.instance.draws in
       instance_arrive config now packet (is_lost d.seed d.pipe d.instance d.drawn config.plr)
       (drawn_one (seen_slot (packet_at q.find) old)))
@@ -91,7 +91,7 @@ pub record Comes (config : PipeConfig) (now : ℕ) (packet : Packet) (answer : O
 
 -- the packet in service finished, and these were dropped
 pub record Finishes (config : PipeConfig) (now : ℕ) (answer : Packet) (drops : List Packet) (p q : Pocket) (old new : Slot) : Type 0 where
-  pub served : option_map (λ s. s.packet) (seen_slot (packet_at p.find) old).service ≡ Some answer
+  pub served : option_map (λ s. s.item) (seen_slot (packet_at p.find) old).service ≡ Some answer
   pub shown : instance_finish config now (seen_slot (packet_at p.find) old)
       ≡ record { state = seen_slot (packet_at p.find) new; dropped = drops_by_codel drops }
   pub keys : Keeps p q (keys_in old.instance) (keys_in new.instance)
@@ -118,9 +118,9 @@ pub record ChangesAt (k : ℕ) (p q : Pocket) (old new : KeyedPipe) (before behi
   pub slot : IsSlot old.config old.seed old.number k x
 
 -- a packet came to instance k
-pub record ComesAt (k now : ℕ) (packet : Packet) (answer : Option DropCause) (p q : Pocket) (old new : KeyedPipe) : Type 0 where
+pub record ArrivesAt (k now : ℕ) (packet : Packet) (answer : Option DropCause) (p q : Pocket) (old new : KeyedPipe) : Type 0 where
   pub slots : (before : List Slot) × (behind : List Slot) × (x : Slot) × (y : Slot)
-      × ChangesAt k p q old new before behind x y × Comes old.config now packet answer p q x y
+      × ChangesAt k p q old new before behind x y × Arrives old.config now packet answer p q x y
 
 -- an instance that is configured anew
 abbrev pub configured_slot : PipeConfig → PipeConfig → Slot → Slot

@@ -1,20 +1,19 @@
 //! A pipe: its configuration, and its instances by flow identifier.
 
-ghost use Rattle.std.specs.Prelude.{◌≡◌, ◌≢◌, ℕ, ◌+◌, ◌-◌, ◌*◌, ◌^◌, ◌<◌, ◌≤◌, false, [], map, length, slice_get, Some, None, option_map, option_and_then, IfSome, OnSome, IfNone, IfOk, OnOk, OnErr, IsOk, vec_capacity};
+ghost use Rattle.std.specs.Prelude.{◌≡◌, ℕ, ◌+◌, ◌-◌, ◌*◌, ◌^◌, ◌<◌, ◌≤◌, false, [], map, length, slice_get, Some, None, option_map, option_and_then, IfSome, OnSome, IfNone, IfOk, OnOk, OnErr, IsOk, vec_capacity};
 ghost use Rattle.std.specs.List.{list_any, All};
-ghost use Rattle.emu_model.specs.declared.packets.Packet.{Packet as Letter};
 ghost use Rattle.emu_model.specs.FlowIds.{same_flow, flow_id, instance_of};
 ghost use Rattle.emu_model.specs.Delay.{first_exit};
 ghost use Rattle.emu_model.specs.Pipes.{instance_for, pipe_arrive, pipe_finish, pipe_exit, pipe_configure, pipe_packets, with_instance};
 ghost use Rattle.emu_model.specs.Events.{flying_in, served_in};
 ghost use Rattle.emu_model.specs.Commands.{mask_refusal};
+ghost use Rattle.packet_store.specs.Pocket.{OthersStay, AllStay};
 ghost use Rattle.pipe_instance.specs.Keyed.{IsTuned};
 ghost use Rattle.pipe_core.specs.Moves.{AreNamed, Keeps};
 ghost use Rattle.pipe_core.specs.Keyed.{seen_pipe, view, shown_of, ids_of, keys_of};
-ghost use Rattle.pipe_core.specs.declared.slot.Slot.{Slot as AnySlot};
 ghost use Rattle.pipe_core.specs.Leaves.{instance_number as number_of, slot_due, pipe_due};
 ghost use Rattle.pipe_core.specs.Rehousing.{Rehouses};
-ghost use Rattle.pipe_core.specs.Steps.{drops_of, drops_by_codel, IsGrown, HasRoomAt, HasRoomAtSlot, IsFreeAt, ComesAt, configured_slot};
+ghost use Rattle.pipe_core.specs.Steps.{drops_of, drops_by_codel, IsGrown, HasRoomAt, HasRoomAtSlot, IsFreeAt, ArrivesAt, configured_slot};
 
 use crate::rehouse::rehouse_all;
 use crate::slot::Slot;
@@ -24,8 +23,7 @@ use emu_model::{DropCause, Due, Mask, Packet, PipeConfig, PipeNumber, Refusal, S
 use flow_mask::{ApplyMask, FlowId, InstanceError, Instances};
 use packet_store::{Owner, Shelf};
 use pipe_instance::{Instance, InstanceDues, Shown};
-use queue_disc::NoMemory;
-use std::alloc::Global;
+use std::alloc::{AllocError, Global};
 use std::marker::Model;
 use std::mem;
 
@@ -56,13 +54,20 @@ impl Model for Pipe {
       spare = min (min (vec_capacity p.slots - vec_len p.slots) p.ids.spare) p.dues.spare;
     } };
 
-    ghost invariant = { λ p. IsPipe p.config p.seed p.number p.ids.ids p.slots.items × AreLeaves p.slots.items p.dues };
+    ghost invariant = { λ p. IsPipe p.config p.seed p.number p.ids.ids p.slots.items
+        × AreLeaves p.slots.items p.dues };
 }
 
 impl Pipe {
     /// A pipe without instances, of an experiment with this seed. Takes no memory.
     pub fn new(alloc: Global, seed: u64, number: PipeNumber, config: PipeConfig) -> Self
-        ensures { result ≡ record { seed = seed; number = number; config = config; slots = []; spare = result.spare } }
+        ensures { result ≡ record {
+          seed = seed;
+          number = number;
+          config = config;
+          slots = [];
+          spare = result.spare;
+        } }
     {
         let ids = Instances::new(alloc);
         let slots = Vec::new(alloc);
@@ -104,9 +109,10 @@ impl Pipe {
     /// When an instance has something to do (ns): its next exit, and its next finish.
     pub fn dues(&self, index: usize) -> InstanceDues
         requires { index < length self.now.slots }
-        ensures exit { (f : ℕ → Letter) → result.exit
-            ≡ option_and_then (λ i. first_exit i.line.flight) (slice_get (seen_pipe f self.now).instances index) }
-        ensures finish { (f : ℕ → Letter) → result.finish
+        ensures exit { (f : ℕ → Packet) → result.exit
+            ≡ option_and_then (λ i. first_exit i.line.flight)
+            (slice_get (seen_pipe f self.now).instances index) }
+        ensures finish { (f : ℕ → Packet) → result.finish
             ≡ option_map (λ s. s.period.finish) (served_in index (seen_pipe f self.now)) }
     {
         let slot = &self.slots[index];
@@ -116,7 +122,7 @@ impl Pipe {
     /// What it has due first of all exits and finishes; None where nothing is due. Tells the ranges of
     /// its number and of how many instances it has.
     pub fn least(&self) -> Option<Due>
-        ensures due { (f : ℕ → Letter) → result ≡ pipe_due f self.now }
+        ensures due { (f : ℕ → Packet) → result ≡ pipe_due f self.now }
         ensures number { (1 ≤ self.now.number) × (self.now.number ≤ 65535) }
         ensures few { length self.now.slots ≤ 256 }
     {
@@ -126,7 +132,8 @@ impl Pipe {
 
     /// The numbers of an instance, as a listing has them; None where there is no such instance.
     pub fn shown(&self, index: usize) -> Option<Shown>
-        ensures { (f : ℕ → Letter) → result ≡ option_map shown_of (slice_get (seen_pipe f self.now).instances index) }
+        ensures { (f : ℕ → Packet) →
+            result ≡ option_map shown_of (slice_get (seen_pipe f self.now).instances index) }
     {
         let slot = self.slots.get(index)?;
         Some(slot.instance.shown())
@@ -135,7 +142,7 @@ impl Pipe {
     /// The number of a packet's instance, also where it is still to be made. None where there are 256
     /// others.
     pub fn instance_for(&self, packet: &Packet) -> Option<u8>
-        ensures { (f : ℕ → Letter) → result ≡ instance_for packet.now (seen_pipe f self.now) }
+        ensures { (f : ℕ → Packet) → result ≡ instance_for packet.now (seen_pipe f self.now) }
     {
         let id = self.config.mask.apply(packet);
         self.ids.number_for(id)
@@ -144,7 +151,13 @@ impl Pipe {
     /// A packet's flow identifier, in the form of a mask.
     pub fn identifier(&self, packet: &Packet) -> Mask
         ensures { let i = flow_id self.now.config.mask packet.now in
-            result ≡ record { proto = i.proto; src = i.src; dst = i.dst; sport = i.sport; dport = i.dport } }
+            result ≡ record {
+              proto = i.proto;
+              src = i.src;
+              dst = i.dst;
+              sport = i.sport;
+              dport = i.dport;
+            } }
     {
         self.config.mask.apply(packet).fields()
     }
@@ -157,17 +170,18 @@ impl Pipe {
         owner: Owner,
         now: u64,
         packet: &Packet,
-    ) -> Result<(), NoMemory>
+    ) -> Result<(), AllocError>
         ensures grown { IsGrown self.old self.new }
-        ensures pockets { (o : ℕ) → S.pocket shelf.new o ≡ S.pocket shelf.old o }
+        ensures pockets { AllStay (S.pocket shelf.old) (S.pocket shelf.new) }
         ensures rooms { (o : ℕ) → S.room shelf.old o ≤ S.room shelf.new o }
-        ensures room { OnOk result ((S.pocket shelf.old owner).count < (S.pocket shelf.old owner).budget → 0 < S.room shelf.new owner) }
+        ensures room { OnOk result
+            ((S.pocket shelf.old owner).count < (S.pocket shelf.old owner).budget →
+            0 < S.room shelf.new owner) }
         ensures ready { OnOk result (HasRoomAt packet.now self.new) }
-        ensures succeeds { 0 < S.room shelf.old owner → HasRoomAt packet.now self.old → IsOk result }
+        ensures succeeds { 0 < S.room shelf.old owner → HasRoomAt packet.now self.old →
+            IsOk result }
     {
-        let Ok(()) = shelf.put_ready(owner) else {
-            return Err(NoMemory);
-        };
+        shelf.put_ready(owner)?;
         let id = self.config.mask.apply(packet);
         match self.ids.find(id) {
             Some(index) => self.accept_ready(index as usize, packet.size, now),
@@ -176,7 +190,7 @@ impl Pipe {
     }
 
     // Makes the growth that an instance needs to accept a packet of this size.
-    fn accept_ready(&mut self, index: usize, size: Size, now: u64) -> Result<(), NoMemory>
+    fn accept_ready(&mut self, index: usize, size: Size, now: u64) -> Result<(), AllocError>
         requires { index < length self.old.slots }
         ensures grown { IsGrown self.old self.new }
         ensures ids { ids_of self.new.slots ≡ ids_of self.old.slots }
@@ -188,38 +202,39 @@ impl Pipe {
     }
 
     // Makes the growth that one more instance needs, for an identifier that did not come.
-    fn make_ready(&mut self, id: FlowId) -> Result<(), NoMemory>
+    fn make_ready(&mut self, id: FlowId) -> Result<(), AllocError>
         ensures same { self.new ≡ record self.old { spare = self.new.spare } }
         ensures grows { self.old.spare ≤ self.new.spare }
-        ensures ready { OnOk result (list_any (same_flow id) (ids_of self.old.slots) ≡ false → length self.old.slots < 256 → 0 < self.new.spare) }
+        ensures ready { OnOk result
+            (list_any (same_flow id) (ids_of self.old.slots) ≡ false →
+            length self.old.slots < 256 → 0 < self.new.spare) }
         ensures succeeds { 0 < self.old.spare → IsOk result }
         ensures full { 256 ≤ length self.old.slots → IsOk result }
     {
-        let Ok(()) = self.ids.find_or_make_ready(id) else {
-            return Err(NoMemory);
-        };
+        self.ids.find_or_make_ready(id)?;
         if 256 <= self.slots.len() {
             return Ok(());
         }
-        let Ok(()) = self.slots.reserve(1) else {
-            return Err(NoMemory);
-        };
-        let Ok(()) = self.dues.push_ready() else {
-            return Err(NoMemory);
-        };
+        self.slots.reserve(1)?;
+        self.dues.push_ready()?;
         Ok(())
     }
 
     // The number of the identifier's instance, which is made where it did not come before. None where
     // there are 256 others. There is room for it.
     fn find_or_make(&mut self, id: FlowId) -> Option<usize>
-        requires { instance_of (ids_of self.old.slots) id ≡ Some (length self.old.slots) → 0 < self.old.spare }
+        requires { instance_of (ids_of self.old.slots) id ≡ Some (length self.old.slots) →
+            0 < self.old.spare }
         ensures number { result ≡ instance_of (ids_of self.old.slots) id }
-        ensures made { IfSome result (λ k. (f : ℕ → Letter) → with_instance id k (seen_pipe f self.old) ≡ seen_pipe f self.new) }
+        ensures made { IfSome result
+            (λ k. (f : ℕ → Packet) →
+            with_instance id k (seen_pipe f self.old) ≡ seen_pipe f self.new) }
         ensures there { IfSome result (λ k. k < length self.new.slots) }
-        ensures ready { IfSome result (λ k. (size : ℕ) → HasRoomAtSlot size k self.old → HasRoomAtSlot size k self.new) }
+        ensures ready { IfSome result
+            (λ k. (size : ℕ) → HasRoomAtSlot size k self.old → HasRoomAtSlot size k self.new) }
         ensures keys { keys_of self.new.slots ≡ keys_of self.old.slots }
-        ensures same { self.new ≡ record self.old { slots = self.new.slots; spare = self.new.spare } }
+        ensures same { self.new
+            ≡ record self.old { slots = self.new.slots; spare = self.new.spare } }
         ensures none { IfNone result (self.new.slots ≡ self.old.slots) }
     {
         if let Some(index) = self.ids.find(id) {
@@ -237,7 +252,7 @@ impl Pipe {
     }
 
     // A packet comes to an instance.
-    fn come<S: Shelf>(
+    fn arrive_at<S: Shelf>(
         &mut self,
         index: usize,
         shelf: &mut S,
@@ -250,13 +265,13 @@ impl Pipe {
         requires budget { (S.pocket shelf.old owner).count < (S.pocket shelf.old owner).budget }
         requires room { 0 < S.room shelf.old owner }
         requires ready { HasRoomAtSlot packet.now.size index self.old }
-        ensures came { ComesAt index now packet.now result (S.pocket shelf.old owner) (S.pocket shelf.new owner) self.old self.new }
-        ensures others { (o : ℕ) → o ≢ owner → S.pocket shelf.new o ≡ S.pocket shelf.old o }
+        ensures came { ArrivesAt index now packet.now result (S.pocket shelf.old owner)
+            (S.pocket shelf.new owner) self.old self.new }
+        ensures others { OthersStay owner (S.pocket shelf.old) (S.pocket shelf.new) }
     {
-        let number = instance_number(self.number, index);
         let slot = &mut self.slots[index];
-        let answer = slot.come(shelf, owner, now, packet, &self.config);
-        self.dues.set(index, slot.due(number));
+        let answer = slot.arrive(shelf, owner, now, packet, &self.config);
+        self.dues.set(index, slot.due(self.number, index as u8));
         answer
     }
 
@@ -275,17 +290,23 @@ impl Pipe {
         requires budget { (S.pocket shelf.old owner).count < (S.pocket shelf.old owner).budget }
         requires room { 0 < S.room shelf.old owner }
         requires ready { HasRoomAt packet.now self.old }
-        ensures arrived { pipe_arrive self.old.seed now packet.now (view (S.pocket shelf.old owner) self.old)
-            ≡ record { state = view (S.pocket shelf.new owner) self.new; dropped = drops_of packet.now result } }
-        ensures keys { Keeps (S.pocket shelf.old owner) (S.pocket shelf.new owner) (keys_of self.old.slots) (keys_of self.new.slots) }
-        ensures same { self.new ≡ record self.old { slots = self.new.slots; spare = self.new.spare } }
-        ensures others { (o : ℕ) → o ≢ owner → S.pocket shelf.new o ≡ S.pocket shelf.old o }
+        ensures arrived { pipe_arrive self.old.seed now packet.now
+            (view (S.pocket shelf.old owner) self.old)
+            ≡ record {
+              state = view (S.pocket shelf.new owner) self.new;
+              dropped = drops_of packet.now result;
+            } }
+        ensures keys { Keeps (S.pocket shelf.old owner) (S.pocket shelf.new owner)
+            (keys_of self.old.slots) (keys_of self.new.slots) }
+        ensures same { self.new
+            ≡ record self.old { slots = self.new.slots; spare = self.new.spare } }
+        ensures others { OthersStay owner (S.pocket shelf.old) (S.pocket shelf.new) }
     {
         let id = self.config.mask.apply(packet);
         let Some(index) = self.find_or_make(id) else {
             return Some(DropCause::NoInstance);
         };
-        self.come(index, shelf, owner, now, packet)
+        self.arrive_at(index, shelf, owner, now, packet)
     }
 
     /// The packet in service in an instance finishes at the moment `now` (ns), at which it is due, and is
@@ -300,28 +321,36 @@ impl Pipe {
         index: usize,
         now: u64,
         drops: &mut Vec<Packet>,
-    ) -> Result<Packet, NoMemory>
+    ) -> Result<Packet, AllocError>
         requires early { now < 2 * 10 ^ 15 }
-        requires due { option_map (λ s. s.period.finish) (served_in index (view (S.pocket shelf.old owner) self.old)) ≡ Some now }
+        requires due { option_map (λ s. s.period.finish)
+            (served_in index (view (S.pocket shelf.old owner) self.old)) ≡ Some now }
         requires named { AreNamed (S.pocket shelf.old owner) (keys_of self.old.slots) }
         ensures served { IfOk result (λ packet.
-            option_map (λ s. s.packet) (served_in index (view (S.pocket shelf.old owner) self.old)) ≡ Some packet) }
+            option_map (λ s. s.item) (served_in index (view (S.pocket shelf.old owner) self.old))
+            ≡ Some packet) }
         ensures ok { OnOk result (pipe_finish now index (view (S.pocket shelf.old owner) self.old)
-            ≡ record { state = view (S.pocket shelf.new owner) self.new; dropped = drops_by_codel drops.new.items }) }
-        ensures keys { Keeps (S.pocket shelf.old owner) (S.pocket shelf.new owner) (keys_of self.old.slots) (keys_of self.new.slots) }
+            ≡ record {
+              state = view (S.pocket shelf.new owner) self.new;
+              dropped = drops_by_codel drops.new.items;
+            }) }
+        ensures keys { Keeps (S.pocket shelf.old owner) (S.pocket shelf.new owner)
+            (keys_of self.old.slots) (keys_of self.new.slots) }
         ensures same { self.new ≡ record self.old { slots = self.new.slots } }
-        ensures others { (o : ℕ) → o ≢ owner → S.pocket shelf.new o ≡ S.pocket shelf.old o }
+        ensures others { OthersStay owner (S.pocket shelf.old) (S.pocket shelf.new) }
         ensures refused { OnErr result (IsGrown self.old self.new) }
-        ensures refused_pocket { OnErr result (S.pocket shelf.new owner ≡ S.pocket shelf.old owner) }
-        ensures count { OnOk result ((S.pocket shelf.new owner).count + length drops.new.items ≡ (S.pocket shelf.old owner).count) }
+        ensures refused_pocket { OnErr result
+            (S.pocket shelf.new owner ≡ S.pocket shelf.old owner) }
+        ensures count { OnOk result
+            ((S.pocket shelf.new owner).count + length drops.new.items
+            ≡ (S.pocket shelf.old owner).count) }
         ensures succeeds { IsFreeAt index now (vec_capacity drops.old) self.old → IsOk result }
         ensures capacity { vec_capacity drops.old ≤ vec_capacity drops.new }
     {
         let config = self.config;
-        let number = instance_number(self.number, index);
         let slot = &mut self.slots[index];
         let finished = slot.finish(shelf, owner, now, &config, drops);
-        self.dues.set(index, slot.due(number));
+        self.dues.set(index, slot.due(self.number, index as u8));
         finished
     }
 
@@ -341,26 +370,30 @@ impl Pipe {
         requires inside { index < length self.old.slots }
         requires named { AreNamed (S.pocket shelf.old owner) (keys_of self.old.slots) }
         ensures packet { result ≡ flying_in index (view (S.pocket shelf.old owner) self.old) }
-        ensures shown { view (S.pocket shelf.new owner) self.new ≡ pipe_exit index (view (S.pocket shelf.old owner) self.old) }
-        ensures keys { Keeps (S.pocket shelf.old owner) (S.pocket shelf.new owner) (keys_of self.old.slots) (keys_of self.new.slots) }
+        ensures shown { view (S.pocket shelf.new owner) self.new
+            ≡ pipe_exit index (view (S.pocket shelf.old owner) self.old) }
+        ensures keys { Keeps (S.pocket shelf.old owner) (S.pocket shelf.new owner)
+            (keys_of self.old.slots) (keys_of self.new.slots) }
         ensures same { self.new ≡ record self.old { slots = self.new.slots } }
-        ensures ready { (p : Letter) → HasRoomAt p self.old → HasRoomAt p self.new }
+        ensures ready { (p : Packet) → HasRoomAt p self.old → HasRoomAt p self.new }
         ensures freed { OnSome result (0 < S.room shelf.new owner) }
-        ensures below { OnSome result ((S.pocket shelf.new owner).count < (S.pocket shelf.new owner).budget) }
-        ensures others { (o : ℕ) → o ≢ owner → S.pocket shelf.new o ≡ S.pocket shelf.old o }
+        ensures below { OnSome result
+            ((S.pocket shelf.new owner).count < (S.pocket shelf.new owner).budget) }
+        ensures others { OthersStay owner (S.pocket shelf.old) (S.pocket shelf.new) }
     {
-        let number = instance_number(self.number, index);
         let slot = &mut self.slots[index];
         let packet = slot.exit(shelf, owner);
-        self.dues.set(index, slot.due(number));
+        self.dues.set(index, slot.due(self.number, index as u8));
         packet
     }
 
     /// A new configuration, which each instance takes over with all that it holds; or why it is refused:
     /// a mask stays as it is once there is an instance. Takes no memory.
     pub fn configure(&mut self, config: PipeConfig) -> Option<Refusal>
-        ensures refusal { (f : ℕ → Letter) → result ≡ mask_refusal config (seen_pipe f self.old) }
-        ensures done { IfNone result ((f : ℕ → Letter) → seen_pipe f self.new ≡ pipe_configure config (seen_pipe f self.old)) }
+        ensures refusal { (f : ℕ → Packet) → result ≡ mask_refusal config (seen_pipe f self.old) }
+        ensures done { IfNone result
+            ((f : ℕ → Packet) →
+            seen_pipe f self.new ≡ pipe_configure config (seen_pipe f self.old)) }
         ensures keys { keys_of self.new.slots ≡ keys_of self.old.slots }
         ensures seed { self.new.seed ≡ self.old.seed }
         ensures refused { OnSome result (self.new ≡ self.old) }
@@ -377,22 +410,28 @@ impl Pipe {
     /// Gives up all that the pipe holds: the packets by instance number, in each the delay line from its
     /// front, the packet in service, and what waits. They are taken from the shelf. The pipe is left
     /// without instances; refused, nothing has changed.
-    pub fn delete<S: Shelf>(&mut self, shelf: &mut S, owner: Owner) -> Result<Vec<Packet>, NoMemory>
+    pub fn delete<S: Shelf>(
+        &mut self,
+        shelf: &mut S,
+        owner: Owner,
+    ) -> Result<Vec<Packet>, AllocError>
         requires { AreNamed (S.pocket shelf.old owner) (keys_of self.old.slots) }
-        ensures gone { IfOk result (λ gone. gone.items ≡ pipe_packets (view (S.pocket shelf.old owner) self.old)) }
-        ensures empty { OnOk result (self.new ≡ record self.old { slots = []; spare = self.new.spare }) }
-        ensures keys { Keeps (S.pocket shelf.old owner) (S.pocket shelf.new owner) (keys_of self.old.slots) (keys_of self.new.slots) }
-        ensures others { (o : ℕ) → o ≢ owner → S.pocket shelf.new o ≡ S.pocket shelf.old o }
+        ensures gone { IfOk result
+            (λ gone. gone.items ≡ pipe_packets (view (S.pocket shelf.old owner) self.old)) }
+        ensures empty { OnOk result
+            (self.new ≡ record self.old { slots = []; spare = self.new.spare }) }
+        ensures keys { Keeps (S.pocket shelf.old owner) (S.pocket shelf.new owner)
+            (keys_of self.old.slots) (keys_of self.new.slots) }
+        ensures others { OthersStay owner (S.pocket shelf.old) (S.pocket shelf.new) }
         ensures refused { OnErr result (self.new ≡ self.old) }
-        ensures refused_pocket { OnErr result (S.pocket shelf.new owner ≡ S.pocket shelf.old owner) }
+        ensures refused_pocket { OnErr result
+            (S.pocket shelf.new owner ≡ S.pocket shelf.old owner) }
     {
         let Some(held) = self.held() else {
-            return Err(NoMemory);
+            return Err(AllocError);
         };
         let mut gone = Vec::new(self.alloc);
-        let Ok(()) = gone.reserve(held) else {
-            return Err(NoMemory);
-        };
+        gone.reserve(held)?;
         self.ids = Instances::new(self.alloc);
         let vacant = Vec::new(self.alloc);
         let slots = mem::replace(&mut self.slots, vacant);
@@ -411,14 +450,18 @@ impl Pipe {
         other: Owner,
     )
         requires named { AreNamed (S.pocket from.old owner) (keys_of self.old.slots) }
-        requires budget { (T.pocket to.old other).count + length (keys_of self.old.slots) ≤ (T.pocket to.old other).budget }
+        requires budget { (T.pocket to.old other).count + length (keys_of self.old.slots)
+            ≤ (T.pocket to.old other).budget }
         requires room { length (keys_of self.old.slots) ≤ T.room to.old other }
-        ensures shown { view (T.pocket to.new other) self.new ≡ view (S.pocket from.old owner) self.old }
-        ensures moved { Rehouses (S.pocket from.old owner) (S.pocket from.new owner) (T.pocket to.old other) (T.pocket to.new other) (keys_of self.old.slots) (keys_of self.new.slots) }
+        ensures shown { view (T.pocket to.new other) self.new
+            ≡ view (S.pocket from.old owner) self.old }
+        ensures moved { Rehouses (S.pocket from.old owner) (S.pocket from.new owner)
+            (T.pocket to.old other) (T.pocket to.new other) (keys_of self.old.slots)
+            (keys_of self.new.slots) }
         ensures same { self.new ≡ record self.old { slots = self.new.slots } }
         ensures room { T.room to.old other ≤ T.room to.new other + length (keys_of self.old.slots) }
-        ensures others_from { (o : ℕ) → o ≢ owner → S.pocket from.new o ≡ S.pocket from.old o }
-        ensures others_to { (o : ℕ) → o ≢ other → T.pocket to.new o ≡ T.pocket to.old o }
+        ensures others_from { OthersStay owner (S.pocket from.old) (S.pocket from.new) }
+        ensures others_to { OthersStay other (T.pocket to.old) (T.pocket to.new) }
     {
         rehouse_all(&mut self.slots, from, owner, to, other);
     }
@@ -435,24 +478,17 @@ impl Pipe {
     }
 }
 
-// The number of a pipe's instance among those of all pipes.
-fn instance_number(pipe: PipeNumber, index: usize) -> u32
-    requires { index < 256 }
-    ensures { result ≡ pipe * 256 + index }
-{
-    u32::from(pipe.get()) * 256 + index as u32
-}
-
 // Each instance's due is set anew.
 fn index_all(slots: &[Slot], number: PipeNumber, dues: &mut DueIndex)
     requires few { length slots.now ≤ 256 }
-    requires numbered { (i : ℕ) (s : AnySlot) → slice_get slots.now i ≡ Some s → number * 256 + i ≡ number_of s }
+    requires numbered { (i : ℕ) (s : Slot) → slice_get slots.now i ≡ Some s →
+        number * 256 + i ≡ number_of s }
     requires long { length dues.old.leaves ≡ length slots.now }
     ensures { dues.new ≡ record dues.old { leaves = map slot_due slots.now } }
 {
     for index in 0..slots.len() {
         let slot = &slots[index];
-        dues.set(index, slot.due(instance_number(number, index)));
+        dues.set(index, slot.due(number, index as u8));
     }
 }
 

@@ -1,6 +1,7 @@
 //! Packets that move from one shelf to another, as their holders do.
 
-ghost use Rattle.std.specs.Prelude.{◌≡◌, ◌≢◌, ℕ, ◌+◌, ◌<◌, ◌≤◌, [], ◌∷◌, map, length};
+ghost use Rattle.std.specs.Prelude.{◌≡◌, ◌+◌, ◌<◌, ◌≤◌, [], ◌∷◌, map, length};
+ghost use Rattle.packet_store.specs.Pocket.{OthersStay};
 ghost use Rattle.pipe_instance.specs.Keyed.{keys_in, seen_line};
 ghost use Rattle.pipe_instance.specs.Blanks.{blank};
 ghost use Rattle.pipe_core.specs.Moves.{packet_at, AreNamed};
@@ -23,10 +24,11 @@ fn rehouse_one<S: Shelf, T: Shelf>(
     requires named { AreNamed (S.pocket from.old owner) (key ∷ []) }
     requires budget { (T.pocket to.old other).count < (T.pocket to.old other).budget }
     requires room { 0 < T.room to.old other }
-    ensures moved { Rehouses (S.pocket from.old owner) (S.pocket from.new owner) (T.pocket to.old other) (T.pocket to.new other) (key ∷ []) (result ∷ []) }
+    ensures moved { Rehouses (S.pocket from.old owner) (S.pocket from.new owner)
+        (T.pocket to.old other) (T.pocket to.new other) (key ∷ []) (result ∷ []) }
     ensures room { T.room to.old other ≤ T.room to.new other + 1 }
-    ensures others_from { (o : ℕ) → o ≢ owner → S.pocket from.new o ≡ S.pocket from.old o }
-    ensures others_to { (o : ℕ) → o ≢ other → T.pocket to.new o ≡ T.pocket to.old o }
+    ensures others_from { OthersStay owner (S.pocket from.old) (S.pocket from.new) }
+    ensures others_to { OthersStay other (T.pocket to.old) (T.pocket to.new) }
 {
     let Some(packet) = from.take(owner, key) else {
         unreachable!();
@@ -47,15 +49,19 @@ pub fn rehouse_line<S: Shelf, T: Shelf>(
     other: Owner,
 )
     requires named { AreNamed (S.pocket from.old owner) (map (λ x. x.item) line.old.line.flight) }
-    requires budget { (T.pocket to.old other).count + length (map (λ x. x.item) line.old.line.flight) ≤ (T.pocket to.old other).budget }
+    requires budget { (T.pocket to.old other).count
+        + length (map (λ x. x.item) line.old.line.flight) ≤ (T.pocket to.old other).budget }
     requires room { length (map (λ x. x.item) line.old.line.flight) ≤ T.room to.old other }
-    ensures shown { seen_line (packet_at (T.pocket to.new other).find) line.new.line ≡ seen_line (packet_at (S.pocket from.old owner).find) line.old.line }
-    ensures moved { Rehouses (S.pocket from.old owner) (S.pocket from.new owner) (T.pocket to.old other) (T.pocket to.new other)
+    ensures shown { seen_line (packet_at (T.pocket to.new other).find) line.new.line
+        ≡ seen_line (packet_at (S.pocket from.old owner).find) line.old.line }
+    ensures moved { Rehouses (S.pocket from.old owner) (S.pocket from.new owner)
+        (T.pocket to.old other) (T.pocket to.new other)
         (map (λ x. x.item) line.old.line.flight) (map (λ x. x.item) line.new.line.flight) }
     ensures same { line.new.spare ≡ line.old.spare }
-    ensures room { T.room to.old other ≤ T.room to.new other + length (map (λ x. x.item) line.old.line.flight) }
-    ensures others_from { (o : ℕ) → o ≢ owner → S.pocket from.new o ≡ S.pocket from.old o }
-    ensures others_to { (o : ℕ) → o ≢ other → T.pocket to.new o ≡ T.pocket to.old o }
+    ensures room { T.room to.old other
+        ≤ T.room to.new other + length (map (λ x. x.item) line.old.line.flight) }
+    ensures others_from { OthersStay owner (S.pocket from.old) (S.pocket from.new) }
+    ensures others_to { OthersStay other (T.pocket to.old) (T.pocket to.new) }
 {
     for place in 0..line.flight() {
         let Some(key) = line.at(place) else {
@@ -75,13 +81,16 @@ fn rehouse_instance<S: Shelf, T: Shelf>(
     other: Owner,
 )
     requires named { AreNamed (S.pocket from.old owner) (keys_in instance.old) }
-    requires budget { (T.pocket to.old other).count + length (keys_in instance.old) ≤ (T.pocket to.old other).budget }
+    requires budget { (T.pocket to.old other).count + length (keys_in instance.old)
+        ≤ (T.pocket to.old other).budget }
     requires room { length (keys_in instance.old) ≤ T.room to.old other }
     ensures blank { blank instance.new ≡ blank instance.old }
-    ensures moved { Rehouses (S.pocket from.old owner) (S.pocket from.new owner) (T.pocket to.old other) (T.pocket to.new other) (keys_in instance.old) (keys_in instance.new) }
+    ensures moved { Rehouses (S.pocket from.old owner) (S.pocket from.new owner)
+        (T.pocket to.old other) (T.pocket to.new other) (keys_in instance.old)
+        (keys_in instance.new) }
     ensures room { T.room to.old other ≤ T.room to.new other + length (keys_in instance.old) }
-    ensures others_from { (o : ℕ) → o ≢ owner → S.pocket from.new o ≡ S.pocket from.old o }
-    ensures others_to { (o : ℕ) → o ≢ other → T.pocket to.new o ≡ T.pocket to.old o }
+    ensures others_from { OthersStay owner (S.pocket from.old) (S.pocket from.new) }
+    ensures others_to { OthersStay other (T.pocket to.old) (T.pocket to.new) }
 {
     for place in 0..instance.held() {
         let Some(key) = instance.key_at(place) else {
@@ -101,13 +110,15 @@ pub(crate) fn rehouse_all<S: Shelf, T: Shelf>(
     other: Owner,
 )
     requires named { AreNamed (S.pocket from.old owner) (keys_of slots.old) }
-    requires budget { (T.pocket to.old other).count + length (keys_of slots.old) ≤ (T.pocket to.old other).budget }
+    requires budget { (T.pocket to.old other).count + length (keys_of slots.old)
+        ≤ (T.pocket to.old other).budget }
     requires room { length (keys_of slots.old) ≤ T.room to.old other }
     ensures blank { map blank_slot slots.new ≡ map blank_slot slots.old }
-    ensures moved { Rehouses (S.pocket from.old owner) (S.pocket from.new owner) (T.pocket to.old other) (T.pocket to.new other) (keys_of slots.old) (keys_of slots.new) }
+    ensures moved { Rehouses (S.pocket from.old owner) (S.pocket from.new owner)
+        (T.pocket to.old other) (T.pocket to.new other) (keys_of slots.old) (keys_of slots.new) }
     ensures room { T.room to.old other ≤ T.room to.new other + length (keys_of slots.old) }
-    ensures others_from { (o : ℕ) → o ≢ owner → S.pocket from.new o ≡ S.pocket from.old o }
-    ensures others_to { (o : ℕ) → o ≢ other → T.pocket to.new o ≡ T.pocket to.old o }
+    ensures others_from { OthersStay owner (S.pocket from.old) (S.pocket from.new) }
+    ensures others_to { OthersStay other (T.pocket to.old) (T.pocket to.new) }
 {
     for slot in slots.iter_mut() {
         rehouse_instance(&mut slot.instance, from, owner, to, other);

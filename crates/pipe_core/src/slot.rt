@@ -1,31 +1,29 @@
 //! One instance of a pipe beside its flow identifier, and what a packet does there.
 
-ghost use Rattle.std.specs.Prelude.{◌≡◌, ◌≢◌, ℕ, ◌+◌, ◌-◌, ◌*◌, ◌^◌, ◌<◌, ◌≤◌, Some, None, length, option_map, IfSome, OnSome, IfOk, OnErr, IsOk, vec_capacity};
+ghost use Rattle.std.specs.Prelude.{◌≡◌, ◌+◌, ◌-◌, ◌*◌, ◌^◌, ◌<◌, ◌≤◌, Some, None, length, option_map, IfSome, OnSome, IfOk, OnErr, IsOk, vec_capacity};
 ghost use Rattle.pipe_instance.specs.Keyed.{IsTuned, keys_in};
-ghost use Rattle.pipe_core.specs.Steps.{Comes, Exits, Finishes, HasRoom, IsFree, most_dropped};
+ghost use Rattle.pipe_core.specs.Steps.{Arrives, Exits, Finishes, HasRoom, IsFree, most_dropped};
 ghost use Rattle.emu_model.specs.Delay.{first_item};
 ghost use Rattle.emu_model.specs.Dues.{due as due_of};
+ghost use Rattle.packet_store.specs.Pocket.{OthersStay};
 ghost use Rattle.pipe_core.specs.Keyed.{seen_slot};
 ghost use Rattle.pipe_core.specs.Leaves.{instance_number, slot_due};
 ghost use Rattle.pipe_core.specs.Moves.{packet_at, AreNamed};
 
 use crate::takes::take_dropped;
 use due_index::lesser;
-use emu_model::{Class, Discipline, DropCause, Due, Packet, PipeConfig, Source};
+use emu_model::{Discipline, DropCause, Due, Packet, PipeConfig, PipeNumber, Source};
 use flow_mask::FlowId;
 use packet_store::{Owner, Shelf};
 use pipe_instance::Instance;
-use queue_disc::NoMemory;
+use std::alloc::AllocError;
 
-// A due, where there is a moment.
-fn due_at(class: Class, number: u32, moment: Option<u64>) -> Option<Due>
-    ensures { result ≡ option_map (due_of class number) moment }
+// What a source has due, where there is a moment.
+fn due_at(source: Source, moment: Option<u64>) -> Option<Due>
+    ensures { result ≡ option_map (due_of source.class source.number) moment }
 {
     match moment {
-        Some(moment) => Some(Due {
-            moment,
-            source: Source { class, number },
-        }),
+        Some(moment) => Some(Due { moment, source }),
         None => None,
     }
 }
@@ -37,18 +35,18 @@ pub(crate) struct Slot {
 }
 
 impl Slot {
-    /// What it has due first, by its number among all instances.
-    pub(crate) fn due(&self, number: u32) -> Option<Due>
-        requires { number ≡ instance_number self.now }
+    /// What it has due first, by its pipe and its place there.
+    pub(crate) fn due(&self, pipe: PipeNumber, place: u8) -> Option<Due>
+        requires { pipe * 256 + place ≡ instance_number self.now }
         ensures { result ≡ slot_due self.now }
     {
         let dues = self.instance.dues();
-        let exit = due_at(Class::Exit, number, dues.exit);
-        lesser(exit, due_at(Class::Finish, number, dues.finish))
+        let exit = due_at(Source::exit(pipe, place), dues.exit);
+        lesser(exit, due_at(Source::finish(pipe, place), dues.finish))
     }
 
     /// A packet comes: its loss word is drawn, and then the limit decides.
-    pub(crate) fn come<S: Shelf>(
+    pub(crate) fn arrive<S: Shelf>(
         &mut self,
         shelf: &mut S,
         owner: Owner,
@@ -61,8 +59,9 @@ impl Slot {
         requires budget { (S.pocket shelf.old owner).count < (S.pocket shelf.old owner).budget }
         requires room { 0 < S.room shelf.old owner }
         requires ready { HasRoom packet.now.size self.old.instance }
-        ensures came { Comes config.now now packet.now result (S.pocket shelf.old owner) (S.pocket shelf.new owner) self.old self.new }
-        ensures others { (o : ℕ) → o ≢ owner → S.pocket shelf.new o ≡ S.pocket shelf.old o }
+        ensures came { Arrives config.now now packet.now result (S.pocket shelf.old owner)
+            (S.pocket shelf.new owner) self.old self.new }
+        ensures others { OthersStay owner (S.pocket shelf.old) (S.pocket shelf.new) }
     {
         let lost = self.instance.lose(config.plr);
         if lost {
@@ -89,28 +88,27 @@ impl Slot {
         now: u64,
         config: &PipeConfig,
         drops: &mut Vec<Packet>,
-    ) -> Result<Packet, NoMemory>
+    ) -> Result<Packet, AllocError>
         requires early { now < 2 * 10 ^ 15 }
         requires tuned { IsTuned config.now self.old.instance }
         requires due { option_map (λ s. s.period.finish) self.old.instance.service.busy ≡ Some now }
         requires named { AreNamed (S.pocket shelf.old owner) (keys_in self.old.instance) }
-        ensures finished { IfOk result (λ packet. Finishes config.now now packet drops.new.items (S.pocket shelf.old owner) (S.pocket shelf.new owner) self.old self.new) }
+        ensures finished { IfOk result
+            (λ packet. Finishes config.now now packet drops.new.items (S.pocket shelf.old owner)
+            (S.pocket shelf.new owner) self.old self.new) }
         ensures refused { OnErr result (self.new ≡ record self.old {
           instance = record self.old.instance { lane = record self.old.instance.lane { spare = self.new.instance.lane.spare } };
         }) }
-        ensures refused_pocket { OnErr result (S.pocket shelf.new owner ≡ S.pocket shelf.old owner) }
-        ensures others { (o : ℕ) → o ≢ owner → S.pocket shelf.new o ≡ S.pocket shelf.old o }
+        ensures refused_pocket { OnErr result
+            (S.pocket shelf.new owner ≡ S.pocket shelf.old owner) }
+        ensures others { OthersStay owner (S.pocket shelf.old) (S.pocket shelf.new) }
         ensures succeeds { IsFree now (vec_capacity drops.old) self.old.instance → IsOk result }
         ensures capacity { vec_capacity drops.old ≤ vec_capacity drops.new }
     {
         drops.clear();
         let most = self.most_dropped(config);
-        let Ok(()) = drops.reserve(most) else {
-            return Err(NoMemory);
-        };
-        let Ok(done) = self.instance.finish(now, config.delay) else {
-            return Err(NoMemory);
-        };
+        drops.reserve(most)?;
+        let done = self.instance.finish(now, config.delay)?;
         let Some(packet) = shelf.look(owner, done.key) else {
             unreachable!();
         };
@@ -135,7 +133,8 @@ impl Slot {
     /// The packet that leaves first, which stays; None where nothing is on its way.
     pub(crate) fn front<S: Shelf>(&self, shelf: &S, owner: Owner) -> Option<Packet>
         requires { AreNamed (S.pocket shelf.now owner) (keys_in self.now.instance) }
-        ensures { result ≡ first_item (seen_slot (packet_at (S.pocket shelf.now owner).find) self.now).line.flight }
+        ensures { result ≡ first_item
+            (seen_slot (packet_at (S.pocket shelf.now owner).find) self.now).line.flight }
     {
         let key = self.instance.front()?;
         let Some(packet) = shelf.look(owner, key) else {
@@ -148,10 +147,12 @@ impl Slot {
     /// way.
     pub(crate) fn exit<S: Shelf>(&mut self, shelf: &mut S, owner: Owner) -> Option<Packet>
         requires { AreNamed (S.pocket shelf.old owner) (keys_in self.old.instance) }
-        ensures left { Exits result (S.pocket shelf.old owner) (S.pocket shelf.new owner) self.old self.new }
+        ensures left { Exits result (S.pocket shelf.old owner)
+            (S.pocket shelf.new owner) self.old self.new }
         ensures freed { OnSome result (0 < S.room shelf.new owner) }
-        ensures below { OnSome result ((S.pocket shelf.new owner).count < (S.pocket shelf.new owner).budget) }
-        ensures others { (o : ℕ) → o ≢ owner → S.pocket shelf.new o ≡ S.pocket shelf.old o }
+        ensures below { OnSome result
+            ((S.pocket shelf.new owner).count < (S.pocket shelf.new owner).budget) }
+        ensures others { OthersStay owner (S.pocket shelf.old) (S.pocket shelf.new) }
     {
         let key = self.instance.exit()?;
         let Some(packet) = shelf.take(owner, key) else {

@@ -1,6 +1,7 @@
 //! Packets that are taken from a shelf by their keys.
 
-ghost use Rattle.std.specs.Prelude.{◌≡◌, ◌≢◌, ℕ, ◌+◌, ◌≤◌, ◌++◌, [], map, length, vec_len, vec_capacity};
+ghost use Rattle.std.specs.Prelude.{◌≡◌, ◌+◌, ◌≤◌, ◌++◌, [], map, length, vec_len, vec_capacity};
+ghost use Rattle.packet_store.specs.Pocket.{OthersStay};
 ghost use Rattle.pipe_core.specs.Moves.{AreNamed, Taking};
 ghost use Rattle.pipe_core.specs.Keyed.{keys_of};
 
@@ -20,8 +21,9 @@ pub(crate) fn take_dropped<S: Shelf>(
     requires named { AreNamed (S.pocket shelf.old owner) (map (λ w. w.item) dropped.now) }
     requires room { vec_len drops.old + length dropped.now ≤ vec_capacity drops.old }
     ensures capacity { vec_capacity drops.new ≡ vec_capacity drops.old }
-    ensures taken { Taking (S.pocket shelf.old owner) (S.pocket shelf.new owner) (map (λ w. w.item) dropped.now) [] drops.old.items drops.new.items }
-    ensures others { (o : ℕ) → o ≢ owner → S.pocket shelf.new o ≡ S.pocket shelf.old o }
+    ensures taken { Taking (S.pocket shelf.old owner) (S.pocket shelf.new owner)
+        (map (λ w. w.item) dropped.now) [] drops.old.items drops.new.items }
+    ensures others { OthersStay owner (S.pocket shelf.old) (S.pocket shelf.new) }
 {
     for waiting in dropped {
         let Some(packet) = shelf.take(owner, waiting.item) else {
@@ -40,10 +42,11 @@ pub(crate) fn take_leftovers<S: Shelf>(
 )
     requires named { AreNamed (S.pocket shelf.old owner) leftovers }
     requires room { vec_len gone.old + length leftovers ≤ vec_capacity gone.old }
-    ensures taken { Taking (S.pocket shelf.old owner) (S.pocket shelf.new owner) leftovers [] gone.old.items gone.new.items }
+    ensures taken { Taking (S.pocket shelf.old owner)
+        (S.pocket shelf.new owner) leftovers [] gone.old.items gone.new.items }
     ensures count { vec_len gone.new ≡ vec_len gone.old + length leftovers }
     ensures capacity { vec_capacity gone.new ≡ vec_capacity gone.old }
-    ensures others { (o : ℕ) → o ≢ owner → S.pocket shelf.new o ≡ S.pocket shelf.old o }
+    ensures others { OthersStay owner (S.pocket shelf.old) (S.pocket shelf.new) }
 {
     while let Some(key) = leftovers.next() {
         let Some(packet) = shelf.take(owner, key) else {
@@ -62,8 +65,9 @@ pub(crate) fn take_all<S: Shelf>(
 )
     requires named { AreNamed (S.pocket shelf.old owner) (keys_of slots.items) }
     requires room { vec_len gone.old + length (keys_of slots.items) ≤ vec_capacity gone.old }
-    ensures taken { Taking (S.pocket shelf.old owner) (S.pocket shelf.new owner) (keys_of slots.items) [] gone.old.items gone.new.items }
-    ensures others { (o : ℕ) → o ≢ owner → S.pocket shelf.new o ≡ S.pocket shelf.old o }
+    ensures taken { Taking (S.pocket shelf.old owner) (S.pocket shelf.new owner)
+        (keys_of slots.items) [] gone.old.items gone.new.items }
+    ensures others { OthersStay owner (S.pocket shelf.old) (S.pocket shelf.new) }
 {
     for slot in slots {
         let Slot { id: _, instance } = slot;

@@ -38,7 +38,8 @@ impl Model for Bench {
 
     ghost view = { λ b. b.pipe };
 
-    ghost invariant = { λ b. AreNamed (own_pocket b.shelf) (keys_of b.pipe.slots) × ((own_pocket b.shelf).budget ≡ b.budget) };
+    ghost invariant = { λ b. AreNamed (own_pocket b.shelf) (keys_of b.pipe.slots)
+        × ((own_pocket b.shelf).budget ≡ b.budget) };
 }
 
 /// The next thing that happens in a pipe.

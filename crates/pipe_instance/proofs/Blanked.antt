@@ -7,7 +7,8 @@ use Rattle.emu_model.specs.FlowIds.{FlowId}
 use Rattle.emu_model.specs.DropTail.{Waiting}
 use Rattle.emu_model.specs.Delay.{Leaving, Line}
 use Rattle.link_core.specs.Flight.{with_item as with_leaving}
-use Rattle.pipe_instance.specs.Keyed.{KeyInService, KeyedInstance, seen_waiting, seen_leaving, seen_line, seen_service, seen_instance, keys_in}
+use Rattle.emu_model.specs.Pipes.{InService}
+use Rattle.pipe_instance.specs.Keyed.{KeyedInstance, seen_waiting, seen_leaving, seen_line, seen_service, seen_instance, keys_in}
 use Rattle.pipe_instance.specs.Blanks.{blank, blank_line, blank_waiting, blank_leaving, blank_service}
 
 -- two lists after each other, of the same lengths
@@ -44,16 +45,16 @@ waiting-same f g (x ∷ xs) (y ∷ ys) same shown =
     let more : map g (map (λ x. x.item) ys) ≡ map f (map (λ x. x.item) xs) = cc in
     λ i. record { item = item i; size = (head i).size; stamp = (head i).stamp } ∷ waiting-same f g xs ys rest more i
 
-served-same : (f g : ℕ → Packet) (b d : Option KeyInService) → option_map blank_service d ≡ option_map blank_service b →
-    map g (option_to_list (option_map (λ s. s.key) d)) ≡ map f (option_to_list (option_map (λ s. s.key) b)) →
+served-same : (f g : ℕ → Packet) (b d : Option (InService ℕ)) → option_map blank_service d ≡ option_map blank_service b →
+    map g (option_to_list (option_map (λ s. s.item) d)) ≡ map f (option_to_list (option_map (λ s. s.item) b)) →
     option_map (seen_service g) d ≡ option_map (seen_service f) b
 served-same f g None None same shown = refl
 served-same f g None (Some t) same shown = absurd (cc)
 served-same f g (Some s) None same shown = absurd (cc)
 served-same f g (Some s) (Some t) same shown =
     let head : blank_service t ≡ blank_service s = cc in
-    let item : g t.key ≡ f s.key = cc in
-    λ i. Some (record { packet = item i; period = (head i).period })
+    let item : g t.item ≡ f s.item = cc in
+    λ i. Some (record { item = item i; period = (head i).period })
 
 -- a delay line that differs in its keys alone shows the same, where they name the same
 pub seen_line-same : (f g : ℕ → Packet) (old new : Line ℕ) → blank_line new ≡ blank_line old →
@@ -61,8 +62,8 @@ pub seen_line-same : (f g : ℕ → Packet) (old new : Line ℕ) → blank_line 
 seen_line-same f g old new same shown =
     λ i. record { flight = flight-same f g old.flight new.flight (ap (λ (l : Line ℕ). l.flight) same) shown i; last = (same i).last }
 
-served-long : (b d : Option KeyInService) → option_map blank_service d ≡ option_map blank_service b →
-    length (option_to_list (option_map (λ s. s.key) d)) ≡ length (option_to_list (option_map (λ s. s.key) b))
+served-long : (b d : Option (InService ℕ)) → option_map blank_service d ≡ option_map blank_service b →
+    length (option_to_list (option_map (λ s. s.item) d)) ≡ length (option_to_list (option_map (λ s. s.item) b))
 served-long None None same = refl
 served-long None (Some t) same = absurd (cc)
 served-long (Some s) None same = absurd (cc)
@@ -112,8 +113,8 @@ seen_instance-same f g id old new same shown =
     let busy : option_map blank_service new.service.busy ≡ option_map blank_service old.service.busy =
     ap (λ (i : KeyedInstance). i.service.busy) same in
     let ws : map blank_waiting new.queue.waiting ≡ map blank_waiting old.queue.waiting = ap (λ (i : KeyedInstance). i.queue.waiting) same in
-    let parts = three_alike f g (map (λ x. x.item) old.lane.line.flight) (option_to_list (option_map (λ s. s.key) old.service.busy)) (map (λ w. w.item) old.queue.waiting)
-    (map (λ x. x.item) new.lane.line.flight) (option_to_list (option_map (λ s. s.key) new.service.busy)) (map (λ w. w.item) new.queue.waiting)
+    let parts = three_alike f g (map (λ x. x.item) old.lane.line.flight) (option_to_list (option_map (λ s. s.item) old.service.busy)) (map (λ w. w.item) old.queue.waiting)
+    (map (λ x. x.item) new.lane.line.flight) (option_to_list (option_map (λ s. s.item) new.service.busy)) (map (λ w. w.item) new.queue.waiting)
     (flight-long old.lane.line.flight new.lane.line.flight (ap (λ (l : Line ℕ). l.flight) line)) (served-long old.service.busy new.service.busy busy) shown in
     λ i. record {
       id = id;
@@ -139,10 +140,10 @@ line-blank (x ∷ xs) (suc n) k = ap (λ (l : List (Leaving ℕ)). blank_leaving
 pub keys_in-long : (old new : KeyedInstance) → blank new ≡ blank old → length (keys_in new) ≡ length (keys_in old)
 keys_in-long old new same =
     let line : List ℕ = map (λ x. x.item) old.lane.line.flight in
-    let served : List ℕ = option_to_list (option_map (λ s. s.key) old.service.busy) in
+    let served : List ℕ = option_to_list (option_map (λ s. s.item) old.service.busy) in
     let ws : List ℕ = map (λ w. w.item) old.queue.waiting in
     let new_line : List ℕ = map (λ x. x.item) new.lane.line.flight in
-    let new_served : List ℕ = option_to_list (option_map (λ s. s.key) new.service.busy) in
+    let new_served : List ℕ = option_to_list (option_map (λ s. s.item) new.service.busy) in
     let new_ws : List ℕ = map (λ w. w.item) new.queue.waiting in
     omega (
       arith,

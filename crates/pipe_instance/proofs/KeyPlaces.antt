@@ -5,7 +5,8 @@ use Rattle.std.proofs.lemmas.List.{set-append_left, set-append_right, length-app
 use Rattle.emu_model.specs.DropTail.{Waiting}
 use Rattle.queue_disc.specs.Queues.{with_item as with_waiting}
 use Rattle.link_core.specs.Flight.{with_item as with_leaving}
-use Rattle.pipe_instance.specs.Keyed.{KeyInService, KeyedInstance, keys_in}
+use Rattle.emu_model.specs.Pipes.{InService}
+use Rattle.pipe_instance.specs.Keyed.{KeyedInstance, keys_in}
 use Rattle.pipe_instance.specs.Serving.{with_key}
 use Rattle.pipe_instance.proofs.Blanked.{line-items, line-blank}
 use Rattle.pipe_instance.specs.Blanks.{blank, blank_waiting}
@@ -50,16 +51,16 @@ pub keys-line : (i : KeyedInstance) (n k : ℕ) → n < length i.lane.line.fligh
     keys_in (line_with n k i) ≡ set (keys_in i) n k
 keys-line i n k within =
     let line : List ℕ = map (λ x. x.item) i.lane.line.flight in
-    let served : List ℕ = option_to_list (option_map (λ s. s.key) i.service.busy) in
+    let served : List ℕ = option_to_list (option_map (λ s. s.item) i.service.busy) in
     let ws : List ℕ = map (λ w. w.item) i.queue.waiting in
     let long : length line ≡ length i.lane.line.flight = length-map i.lane.line.flight (λ x. x.item) in
     ap (λ l. l ++ served ++ ws) (line-items i.lane.line.flight n k) ∙ set_first line served ws n k (omega (arith, within, long))
 
-served-by : (line ws : List ℕ) (busy : Option KeyInService) (n k : ℕ) → IsSome busy → n ≡ length line →
-    line ++ option_to_list (option_map (λ s. s.key) (option_map (with_key k) busy)) ++ ws
-    ≡ set (line ++ option_to_list (option_map (λ s. s.key) busy) ++ ws) n k
+served-by : (line ws : List ℕ) (busy : Option (InService ℕ)) (n k : ℕ) → IsSome busy → n ≡ length line →
+    line ++ option_to_list (option_map (λ s. s.item) (option_map (with_key k) busy)) ++ ws
+    ≡ set (line ++ option_to_list (option_map (λ s. s.item) busy) ++ ws) n k
 served-by line ws None n k h e = absurd (cc)
-served-by line ws (Some s) n k h e = set_second line ws s.key n k e
+served-by line ws (Some s) n k h e = set_second line ws s.item n k e
 
 pub keys-served : (i : KeyedInstance) (n k : ℕ) → IsSome i.service.busy → n ≡ length i.lane.line.flight →
     keys_in (served_with k i) ≡ set (keys_in i) n k
@@ -67,7 +68,7 @@ keys-served i n k busy e =
     let long : length (map (λ x. x.item) i.lane.line.flight) ≡ length i.lane.line.flight = length-map i.lane.line.flight (λ x. x.item) in
     served-by (map (λ x. x.item) i.lane.line.flight) (map (λ w. w.item) i.queue.waiting) i.service.busy n k busy (omega (arith, e, long))
 
-one_served : (busy : Option KeyInService) → IsSome busy → length (option_to_list (option_map (λ s. s.key) busy)) ≡ 1
+one_served : (busy : Option (InService ℕ)) → IsSome busy → length (option_to_list (option_map (λ s. s.item) busy)) ≡ 1
 one_served None h = absurd (cc)
 one_served (Some s) h = refl
 
@@ -75,7 +76,7 @@ pub keys-waiting : (i : KeyedInstance) (n m k : ℕ) → IsSome i.service.busy �
     keys_in (waiting_with m k i) ≡ set (keys_in i) n k
 keys-waiting i n m k busy e =
     let line : List ℕ = map (λ x. x.item) i.lane.line.flight in
-    let served : List ℕ = option_to_list (option_map (λ s. s.key) i.service.busy) in
+    let served : List ℕ = option_to_list (option_map (λ s. s.item) i.service.busy) in
     let ws : List ℕ = map (λ w. w.item) i.queue.waiting in
     let long : length line ≡ length i.lane.line.flight = length-map i.lane.line.flight (λ x. x.item) in
     ap (λ l. line ++ served ++ l) (waiting-items i.queue.waiting m k)

@@ -1,5 +1,6 @@
-pub mod UseCounts
-pub mod Dequeues
-pub mod Shows
-pub mod KeyPlaces
-pub mod Blanked
+mod UseCounts
+mod Dequeues
+mod Shows
+mod KeyPlaces
+mod Blanked
+pub mod CallerLemmas

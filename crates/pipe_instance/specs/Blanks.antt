@@ -2,7 +2,8 @@
 use Rattle.std.specs.Prelude.{ℕ, option_map, map}
 use Rattle.emu_model.specs.DropTail.{Waiting}
 use Rattle.emu_model.specs.Delay.{Leaving, Line}
-use Rattle.pipe_instance.specs.Keyed.{KeyInService, KeyedInstance}
+use Rattle.emu_model.specs.Pipes.{InService}
+use Rattle.pipe_instance.specs.Keyed.{KeyedInstance}
 
 abbrev pub blank_waiting : Waiting ℕ → Waiting ℕ
 blank_waiting w = record w { item = 0 }
@@ -10,8 +11,8 @@ blank_waiting w = record w { item = 0 }
 abbrev pub blank_leaving : Leaving ℕ → Leaving ℕ
 blank_leaving x = record x { item = 0 }
 
-abbrev pub blank_service : KeyInService → KeyInService
-blank_service s = record s { key = 0 }
+abbrev pub blank_service : InService ℕ → InService ℕ
+blank_service s = record s { item = 0 }
 
 abbrev pub blank_line : Line ℕ → Line ℕ
 blank_line l = record l { flight = map blank_leaving l.flight }

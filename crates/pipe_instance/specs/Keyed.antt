@@ -1,49 +1,36 @@
 -- An instance whose packets are kept elsewhere, under keys, and the instance that it shows once
 -- each key is named.
-use Rattle.std.specs.Prelude.{◌≡◌, ℕ, Option, option_map, option_to_list, List, [], ◌∷◌, ◌++◌, map}
+use Rattle.std.specs.Prelude.{◌≡◌, ℕ, Option, option_map, option_to_list, List, ◌++◌, map}
 use Rattle.emu_model.specs.declared.packets.Packet.{Packet}
 use Rattle.emu_model.specs.declared.pipes.PipeConfig.{PipeConfig}
 use Rattle.emu_model.specs.declared.pipes.QueueLimit.{QueueLimit}
 use Rattle.emu_model.specs.declared.pipes.Discipline.{Discipline}
-use Rattle.emu_model.specs.declared.pipes.Discipline.TheVariants.{TailDrop, ControlledDelay}
 use Rattle.emu_model.specs.FlowIds.{FlowId}
 use Rattle.emu_model.specs.DropTail.{Waiting}
-use Rattle.emu_model.specs.Codel.{Control, Dequeued, codel_dequeue, give, give_none}
-use Rattle.emu_model.specs.Rate.{Period}
+use Rattle.emu_model.specs.Codel.{CodelState}
 use Rattle.emu_model.specs.Delay.{Leaving, Line}
 use Rattle.emu_model.specs.Pipes.{InService, Instance}
 use Rattle.link_core.specs.Lane.{Lane}
 use Rattle.loss_stream.specs.Draws.{Draws}
 
-pub record KeyInService : Type 0 where
-  pub key : ℕ
-  pub period : Period
-
 -- the queue; up to `capacity` may wait before it has to grow
 pub record KeyedQueue : Type 0 where
   pub limit : QueueLimit
   pub discipline : Discipline
-  pub control : Control
+  pub control : CodelState
   pub waiting : List (Waiting ℕ)
   pub capacity : ℕ
 
 -- the rate, and what is in service
 pub record KeyedService : Type 0 where
   pub bw : ℕ
-  pub busy : Option KeyInService
+  pub busy : Option (InService ℕ)
 
 pub record KeyedInstance : Type 0 where
   pub queue : KeyedQueue
   pub service : KeyedService
   pub lane : Lane ℕ
   pub draws : Draws
-
--- a dequeue by the discipline, of whatever waits
-abbrev pub taken : {A : Type 0} → Discipline → ℕ → Control → List (Waiting A) → Dequeued A
-taken TailDrop now c [] = give_none c
-taken TailDrop now c (w ∷ ws) = give c w ws
-taken (ControlledDelay target interval) now c ws =
-    codel_dequeue (record { target = target; interval = interval }) now c ws
 
 abbrev pub seen_waiting : (ℕ → Packet) → Waiting ℕ → Waiting Packet
 seen_waiting f w = record { item = f w.item; size = w.size; stamp = w.stamp }
@@ -54,8 +41,8 @@ seen_leaving f x = record { item = f x.item; exit = x.exit }
 abbrev pub seen_line : (ℕ → Packet) → Line ℕ → Line Packet
 seen_line f l = record { flight = map (seen_leaving f) l.flight; last = l.last }
 
-abbrev pub seen_service : (ℕ → Packet) → KeyInService → InService
-seen_service f s = record { packet = f s.key; period = s.period }
+abbrev pub seen_service : (ℕ → Packet) → InService ℕ → InService Packet
+seen_service f s = record { item = f s.item; period = s.period }
 
 -- the instance that is shown, where f names the packet of each key
 abbrev pub seen_instance : (ℕ → Packet) → FlowId → KeyedInstance → Instance
@@ -71,7 +58,7 @@ seen_instance f id i = record {
 -- the keys that stand in an instance: on their way, in service, waiting
 abbrev pub keys_in : KeyedInstance → List ℕ
 keys_in i =
-    map (λ x. x.item) i.lane.line.flight ++ option_to_list (option_map (λ s. s.key) i.service.busy)
+    map (λ x. x.item) i.lane.line.flight ++ option_to_list (option_map (λ s. s.item) i.service.busy)
     ++ map (λ w. w.item) i.queue.waiting
 
 -- the instance works by this configuration

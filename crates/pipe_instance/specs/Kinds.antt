@@ -1,6 +1,6 @@
 -- What a queue shows, of either kind.
 use Rattle.emu_model.specs.declared.pipes.Discipline.TheVariants.{TailDrop, ControlledDelay}
-use Rattle.emu_model.specs.Codel.{opening_control}
+use Rattle.emu_model.specs.Codel.{initial_control}
 use Rattle.pipe_instance.specs.declared.queue.Kind.{Kind}
 use Rattle.pipe_instance.specs.declared.queue.Kind.TheVariants.{Tail, Controlled}
 use Rattle.pipe_instance.specs.Keyed.{KeyedQueue}
@@ -9,7 +9,7 @@ abbrev pub queue_of : Kind → KeyedQueue
 queue_of (Tail q) = record {
   limit = q.limit;
   discipline = TailDrop;
-  control = opening_control;
+  control = initial_control;
   waiting = q.waiting;
   capacity = q.capacity;
 }

@@ -3,16 +3,15 @@
 
 ghost use Rattle.std.specs.Prelude.{min, ◌≡◌, ℕ, ◌+◌, ◌-◌, ◌*◌, ◌^◌, ◌<◌, ◌≤◌, true, [], Some, None, option_map, is_some, IsSome, length, slice_get, slice_set, IfOk, OnOk, OnErr, IsOk, map};
 ghost use Rattle.emu_model.specs.declared.packets.Packet.{Packet};
-ghost use Rattle.emu_model.specs.declared.pipes.PipeConfig.{PipeConfig as Config};
 ghost use Rattle.emu_model.specs.FlowIds.{FlowId};
 ghost use Rattle.emu_model.specs.Loss.{is_lost};
 ghost use Rattle.emu_model.specs.DropTail.{bytes_of, accepts};
 ghost use Rattle.emu_model.specs.Delay.{leave, first_item, first_exit};
-ghost use Rattle.emu_model.specs.Pipes.{opening_instance, accept, no_drop, instance_configure};
+ghost use Rattle.emu_model.specs.Pipes.{dequeue, initial_instance, instance_configure};
 ghost use Rattle.emu_model.specs.Commands.{shown_words};
-ghost use Rattle.pipe_instance.specs.Keyed.{taken, seen_instance, keys_in, IsTuned};
+ghost use Rattle.pipe_instance.specs.Keyed.{seen_instance, keys_in, IsTuned};
 ghost use Rattle.pipe_instance.specs.Blanks.{blank};
-ghost use Rattle.pipe_instance.specs.Turns.{accepted, configured, IsFinish};
+ghost use Rattle.pipe_instance.specs.Turns.{configured, IsAccept, IsFinish};
 
 use crate::leftovers::Leftovers;
 use crate::queue::Queue;
@@ -21,8 +20,8 @@ use emu_model::{Delay, LossRate, PipeConfig, PipeNumber, Size};
 use link_core::DelayLine;
 use loss_stream::LossStream;
 use packet_store::Key;
-use queue_disc::{NoMemory, Waiting};
-use std::alloc::Global;
+use queue_disc::Waiting;
+use std::alloc::{AllocError, Global};
 use std::marker::Model;
 use std::mem;
 
@@ -42,7 +41,12 @@ impl Model for Instance {
 
     ghost Value = { KeyedInstance };
 
-    ghost view = { λ i. record { queue = i.queue; service = i.service; lane = i.line; draws = i.stream } };
+    ghost view = { λ i. record {
+      queue = i.queue;
+      service = i.service;
+      lane = i.line;
+      draws = i.stream;
+    } };
 
     ghost invariant = { λ i. i.service.busy ≡ None → i.queue.waiting ≡ [] };
 }
@@ -76,9 +80,11 @@ impl Instance {
     /// An instance to which nothing has come. Takes no memory.
     pub fn new(alloc: Global, config: &PipeConfig, seed: u64, pipe: PipeNumber, number: u8) -> Self
         ensures tuned { IsTuned config.now result }
-        ensures opening { (f : ℕ → Packet) (id : FlowId) → seen_instance f id result ≡ opening_instance id }
+        ensures opening { (f : ℕ → Packet) (id : FlowId) →
+            seen_instance f id result ≡ initial_instance id }
         ensures keys { keys_in result ≡ [] }
-        ensures draws { result.draws ≡ record { seed = seed; pipe = pipe; instance = number; drawn = 0 } }
+        ensures draws { result.draws
+            ≡ record { seed = seed; pipe = pipe; instance = number; drawn = 0 } }
     {
         Instance {
             alloc,
@@ -108,17 +114,22 @@ impl Instance {
     }
 
     /// Makes the growth that `accept` of these can need: none where nothing is in service.
-    pub fn accept_ready(&mut self, size: Size, now: u64) -> Result<(), NoMemory>
-        ensures ready { OnOk result (accepts self.old.queue.limit self.old.queue.waiting size ≡ true →
-            IsSome self.new.service.busy → length self.new.queue.waiting < self.new.queue.capacity) }
-        ensures same { self.new ≡ record self.old { queue = record self.old.queue { capacity = self.new.queue.capacity } } }
+    pub fn accept_ready(&mut self, size: Size, now: u64) -> Result<(), AllocError>
+        ensures ready { OnOk result
+            (accepts self.old.queue.limit self.old.queue.waiting size ≡ true →
+            IsSome self.new.service.busy →
+            length self.new.queue.waiting < self.new.queue.capacity) }
+        ensures same { self.new
+            ≡ record self.old { queue = record self.old.queue { capacity = self.new.queue.capacity } } }
         ensures grows { self.old.queue.capacity ≤ self.new.queue.capacity }
         ensures unchanged { OnErr result (self.new ≡ self.old) }
-        ensures refused { OnErr result ((accepts self.old.queue.limit self.old.queue.waiting size ≡ true)
-            × IsSome self.old.service.busy × (self.old.queue.capacity ≤ length self.old.queue.waiting)) }
+        ensures refused { OnErr result
+            ((accepts self.old.queue.limit self.old.queue.waiting size ≡ true)
+            × IsSome self.old.service.busy
+            × (self.old.queue.capacity ≤ length self.old.queue.waiting)) }
     {
         if self.service.is_busy() {
-            self.queue.push_ready(size, now)
+            self.queue.enqueue_ready(size, now)
         } else {
             Ok(())
         }
@@ -129,13 +140,12 @@ impl Instance {
     pub fn accept(&mut self, key: Key, size: Size, now: u64)
         requires early { now < 2 * 10 ^ 15 }
         requires accepted { accepts self.old.queue.limit self.old.queue.waiting size ≡ true }
-        requires ready { IsSome self.old.service.busy → length self.old.queue.waiting < self.old.queue.capacity }
-        ensures exact { self.new ≡ accepted now key size self.old }
-        ensures shown { (f : ℕ → Packet) (id : FlowId) (config : Config) → IsTuned config self.old → (f key).size ≡ size →
-            accept config now (f key) (seen_instance f id self.old) ≡ no_drop (seen_instance f id self.new) }
+        requires ready { IsSome self.old.service.busy →
+            length self.old.queue.waiting < self.old.queue.capacity }
+        ensures { IsAccept now key size self.old self.new }
     {
         if self.service.is_busy() {
-            self.queue.push(key, size, now);
+            self.queue.enqueue(key, size, now);
         } else {
             self.queue.pass(now);
             self.service.start(key, size, now);
@@ -145,20 +155,20 @@ impl Instance {
     /// The packet in service finishes at the moment `now` (ns), at which it is due: it goes on its way
     /// with this delay (ms), and the next is served. All growths come first; refused, the instance is
     /// as before.
-    pub fn finish(&mut self, now: u64, delay: Delay) -> Result<Finished, NoMemory>
+    pub fn finish(&mut self, now: u64, delay: Delay) -> Result<Finished, AllocError>
         requires early { now < 2 * 10 ^ 15 }
         requires due { option_map (λ s. s.period.finish) self.old.service.busy ≡ Some now }
         ensures ok { IfOk result (λ r. IsFinish now delay r.key r.dropped.items self.old self.new) }
-        ensures unchanged { OnErr result (self.new ≡ record self.old { lane = record self.old.lane { spare = self.new.lane.spare } }) }
+        ensures unchanged { OnErr result
+            (self.new
+            ≡ record self.old { lane = record self.old.lane { spare = self.new.lane.spare } }) }
         ensures succeeds { 0 < self.old.lane.spare →
-            (taken self.old.queue.discipline now self.old.queue.control self.old.queue.waiting).dropped ≡ [] → IsOk result }
+            (dequeue self.old.queue.discipline now self.old.queue.control self.old.queue.waiting).dropped ≡ [] → IsOk result }
     {
         let Some(key) = self.service.key() else {
             unreachable!();
         };
-        let Ok(()) = self.line.enter_ready(now, delay) else {
-            return Err(NoMemory);
-        };
+        self.line.enter_ready(now, delay)?;
         let dequeued = self.queue.dequeue(now)?;
         let Ok(()) = self.line.enter(key, now, delay) else {
             unreachable!();
@@ -180,7 +190,13 @@ impl Instance {
     /// Takes out what leaves first; None where nothing is on its way.
     pub fn exit(&mut self) -> Option<Key>
         ensures item { result ≡ first_item self.old.lane.line.flight }
-        ensures rest { self.new ≡ record self.old { lane = record { line = leave self.old.lane.line; spare = self.new.lane.spare } } }
+        ensures rest { self.new
+            ≡ record self.old {
+              lane = record {
+                line = leave self.old.lane.line;
+                spare = self.new.lane.spare;
+              };
+            } }
         ensures room { self.old.lane.spare ≤ self.new.lane.spare }
     {
         self.line.leave()
@@ -193,7 +209,8 @@ impl Instance {
         ensures exact { self.new ≡ configured old.now new.now self.old }
         ensures tuned { IsTuned new.now self.new }
         ensures shown { (f : ℕ → Packet) (id : FlowId) →
-            seen_instance f id self.new ≡ instance_configure old.now new.now (seen_instance f id self.old) }
+            seen_instance f id self.new
+            ≡ instance_configure old.now new.now (seen_instance f id self.old) }
         ensures keys { keys_in self.new ≡ keys_in self.old }
     {
         let vacant = Queue::new(self.alloc, new.queue, new.discipline);

@@ -21,12 +21,14 @@ impl Model for Leftovers {
 
     ghost Value = { List ℕ };
 
-    ghost view = { λ l. map (λ x. x.item) l.line.line.flight ++ option_to_list l.served ++ map (λ w. w.item) l.queue.waiting };
+    ghost view = { λ l. map (λ x. x.item) l.line.line.flight ++ option_to_list l.served
+        ++ map (λ w. w.item) l.queue.waiting };
 }
 
 impl Leftovers {
     pub(crate) fn new(line: DelayLine<Key>, served: Option<Key>, queue: Queue) -> Self
-        ensures { result ≡ map (λ x. x.item) line.line.flight ++ option_to_list served ++ map (λ w. w.item) queue.waiting }
+        ensures { result ≡ map (λ x. x.item) line.line.flight ++ option_to_list served
+            ++ map (λ w. w.item) queue.waiting }
     {
         Leftovers {
             line,
@@ -37,7 +39,8 @@ impl Leftovers {
 
     /// Takes the first key.
     pub fn next(&mut self) -> Option<Key>
-        ensures { MatchOption result ((self.old ≡ []) × (self.new ≡ [])) (λ key. self.old ≡ key ∷ self.new) }
+        ensures { MatchOption result ((self.old ≡ []) × (self.new ≡ []))
+            (λ key. self.old ≡ key ∷ self.new) }
     {
         if let Some(key) = self.line.leave() {
             return Some(key);

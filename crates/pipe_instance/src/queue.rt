@@ -2,16 +2,15 @@
 
 ghost use Rattle.std.specs.Prelude.{◌≡◌, ℕ, ◌*◌, ◌^◌, ◌<◌, ◌≤◌, true, if◌then◌else◌, [], ◌∷◌, drop, length, map, MatchOption, slice_get, IfOk, OnOk, OnErr, IsOk};
 ghost use Rattle.emu_model.specs.DropTail.{bytes_of, accepts};
-ghost use Rattle.emu_model.specs.Codel.{opening_control};
-ghost use Rattle.emu_model.specs.Pipes.{same_discipline};
+ghost use Rattle.emu_model.specs.Codel.{initial_control};
+ghost use Rattle.emu_model.specs.Pipes.{dequeue, same_discipline, configured_control};
 ghost use Rattle.queue_disc.specs.Queues.{with_item};
-ghost use Rattle.pipe_instance.specs.Keyed.{taken};
 ghost use Rattle.pipe_instance.specs.Turns.{put_last, passed};
 
 use emu_model::{Discipline, QueueLimit, Size};
 use packet_store::Key;
-use queue_disc::{Codel, Dequeued, DropTail, NoMemory};
-use std::alloc::Global;
+use queue_disc::{Codel, Dequeued, DropTail};
+use std::alloc::{AllocError, Global};
 use std::marker::Model;
 
 #[derive(Drop)]
@@ -43,7 +42,7 @@ impl Queue {
         ensures { result ≡ record {
           limit = limit;
           discipline = discipline;
-          control = opening_control;
+          control = initial_control;
           waiting = [];
           capacity = result.capacity;
         } }
@@ -70,13 +69,17 @@ impl Queue {
         }
     }
 
-    /// Makes the growth that `push` of these can need.
-    pub(crate) fn push_ready(&mut self, size: Size, now: u64) -> Result<(), NoMemory>
+    /// Makes the growth that `enqueue` of these can need.
+    pub(crate) fn enqueue_ready(&mut self, size: Size, now: u64) -> Result<(), AllocError>
         ensures same { self.new ≡ record self.old { capacity = self.new.capacity } }
-        ensures room { OnOk result (accepts self.old.limit self.old.waiting size ≡ true → length self.new.waiting < self.new.capacity) }
+        ensures room { OnOk result
+            (accepts self.old.limit self.old.waiting size ≡ true →
+            length self.new.waiting < self.new.capacity) }
         ensures grows { self.old.capacity ≤ self.new.capacity }
         ensures unchanged { OnErr result (self.new ≡ self.old) }
-        ensures full { OnErr result ((accepts self.old.limit self.old.waiting size ≡ true) × (self.old.capacity ≤ length self.old.waiting)) }
+        ensures full { OnErr result
+            ((accepts self.old.limit self.old.waiting size ≡ true)
+            × (self.old.capacity ≤ length self.old.waiting)) }
     {
         match &mut self.kind {
             Kind::Tail(queue) => queue.enqueue_ready(size, now),
@@ -85,7 +88,7 @@ impl Queue {
     }
 
     /// Puts a key last, where the limit lets it and there is room.
-    pub(crate) fn push(&mut self, key: Key, size: Size, now: u64)
+    pub(crate) fn enqueue(&mut self, key: Key, size: Size, now: u64)
         requires accepted { accepts self.old.limit self.old.waiting size ≡ true }
         requires room { length self.old.waiting < self.old.capacity }
         ensures { self.new ≡ put_last now key size self.old }
@@ -98,13 +101,20 @@ impl Queue {
 
     /// A dequeue at the moment `now` (ns). It takes memory only where CoDel drops; refused, the queue
     /// is as before.
-    pub(crate) fn dequeue(&mut self, now: u64) -> Result<Dequeued<Key>, NoMemory>
+    pub(crate) fn dequeue(&mut self, now: u64) -> Result<Dequeued<Key>, AllocError>
         requires { now < 2 * 10 ^ 15 }
-        ensures ok { IfOk result (λ d. record { dropped = d.dropped.items; given = d.given; rest = self.new.waiting; control = self.new.control }
-            ≡ taken self.old.discipline now self.old.control self.old.waiting) }
-        ensures same { self.new ≡ record self.old { control = self.new.control; waiting = self.new.waiting } }
+        ensures ok { IfOk result
+            (λ d. record {
+              dropped = d.dropped.items;
+              given = d.given;
+              rest = self.new.waiting;
+              control = self.new.control;
+            }
+            ≡ dequeue self.old.discipline now self.old.control self.old.waiting) }
+        ensures same { self.new
+            ≡ record self.old { control = self.new.control; waiting = self.new.waiting } }
         ensures unchanged { OnErr result (self.new ≡ self.old) }
-        ensures no_drop { (taken self.old.discipline now self.old.control self.old.waiting).dropped ≡ [] → IsOk result }
+        ensures no_drop { (dequeue self.old.discipline now self.old.control self.old.waiting).dropped ≡ [] → IsOk result }
     {
         match &mut self.kind {
             Kind::Tail(queue) => {
@@ -134,7 +144,8 @@ impl Queue {
 
     /// Takes the first that waits, past CoDel's law.
     pub(crate) fn take(&mut self) -> Option<Key>
-        ensures given { MatchOption result (self.old.waiting ≡ []) (λ key. map (λ w. w.item) self.old.waiting ≡ key ∷ map (λ w. w.item) self.new.waiting) }
+        ensures given { MatchOption result (self.old.waiting ≡ [])
+            (λ key. map (λ w. w.item) self.old.waiting ≡ key ∷ map (λ w. w.item) self.new.waiting) }
         ensures none { result ≡ None → self.new.waiting ≡ [] }
     {
         let given = match &mut self.kind {
@@ -194,7 +205,7 @@ impl Queue {
         ensures { result ≡ record self {
           limit = limit;
           discipline = new;
-          control = if same_discipline old new then self.control else opening_control;
+          control = configured_control old new self.control;
         } }
     {
         let Queue { alloc, kind } = self;
@@ -210,7 +221,7 @@ fn kind_configured(kind: Kind, old: &Discipline, limit: QueueLimit, new: &Discip
     ensures { queue_of result ≡ record (queue_of kind) {
       limit = limit;
       discipline = new.now;
-      control = if same_discipline old.now new.now then (queue_of kind).control else opening_control;
+      control = configured_control old.now new.now (queue_of kind).control;
     } }
 {
     match kind {
@@ -223,7 +234,14 @@ fn kind_configured(kind: Kind, old: &Discipline, limit: QueueLimit, new: &Discip
 }
 
 fn tail_configured(mut queue: DropTail<Key>, limit: QueueLimit, new: Discipline) -> Kind
-    ensures { queue_of result ≡ record { limit = limit; discipline = new; control = opening_control; waiting = queue.waiting; capacity = queue.capacity } }
+    ensures { queue_of result
+        ≡ record {
+          limit = limit;
+          discipline = new;
+          control = initial_control;
+          waiting = queue.waiting;
+          capacity = queue.capacity;
+        } }
 {
     queue.set_limit(limit);
     match new {
@@ -240,8 +258,17 @@ fn controlled_configured(
     new: Discipline,
     is_same: bool,
 ) -> Kind
-    requires { is_same ≡ same_discipline (Discipline.ControlledDelay queue.times.target queue.times.interval) new }
-    ensures { queue_of result ≡ record { limit = limit; discipline = new; control = if is_same then queue.control else opening_control; waiting = queue.waiting; capacity = queue.capacity } }
+    requires { is_same
+        ≡ same_discipline (Discipline.ControlledDelay queue.times.target queue.times.interval) new }
+    ensures { queue_of result
+        ≡ record {
+          limit = limit;
+          discipline = new;
+          control = if is_same then queue.control
+              else initial_control;
+          waiting = queue.waiting;
+          capacity = queue.capacity;
+        } }
 {
     queue.set_limit(limit);
     match new {

@@ -3,7 +3,8 @@
 ghost use Rattle.std.specs.Prelude.{◌≡◌, ℕ, ◌*◌, ◌^◌, ◌<◌, Some, None, option_map, is_some, IsSome};
 ghost use Rattle.std.specs.Option.{ForSome};
 ghost use Rattle.emu_model.specs.Rate.{begin};
-ghost use Rattle.pipe_instance.specs.Serving.{after_service, cut_key, with_key};
+ghost use Rattle.emu_model.specs.Pipes.{cut_service};
+ghost use Rattle.pipe_instance.specs.Serving.{after_service, with_key};
 
 use emu_model::{Bandwidth, Size};
 use link_core::RateServer;
@@ -44,7 +45,7 @@ impl Service {
 
     /// The key of the packet in service.
     pub(crate) fn key(&self) -> Option<Key>
-        ensures { result ≡ option_map (λ s. s.key) self.now.busy }
+        ensures { result ≡ option_map (λ s. s.item) self.now.busy }
     {
         self.key
     }
@@ -66,7 +67,11 @@ impl Service {
     /// Begins a busy period at `now` (ns).
     pub(crate) fn start(&mut self, key: Key, size: Size, now: u64)
         requires { now < 2 * 10 ^ 15 }
-        ensures { self.new ≡ record self.old { busy = Some (record { key = key; period = begin self.old.bw now size }) } }
+        ensures { self.new
+            ≡ record self.old {
+              busy = Some
+                  (record { item = key; period = begin self.old.bw now size });
+            } }
     {
         self.server.start(now, size);
         self.key = Some(key);
@@ -76,7 +81,8 @@ impl Service {
     pub(crate) fn follow(&mut self, given: Option<Waiting<Key>>)
         requires busy { IsSome self.old.busy }
         requires early { ForSome self.old.busy (λ s. s.period.finish < 2 * 10 ^ 15) }
-        ensures { self.new ≡ record self.old { busy = after_service self.old.bw self.old.busy given } }
+        ensures { self.new
+            ≡ record self.old { busy = after_service self.old.bw self.old.busy given } }
     {
         match given {
             Some(next) => {
@@ -100,7 +106,7 @@ impl Service {
 
     /// Changes the rate: the packet in service keeps its finish, at which the next begins a period.
     pub(crate) fn configure(&mut self, bw: Bandwidth)
-        ensures { self.new ≡ record { bw = bw; busy = option_map cut_key self.old.busy } }
+        ensures { self.new ≡ record { bw = bw; busy = option_map cut_service self.old.busy } }
     {
         self.server.configure(bw);
     }

@@ -9,7 +9,8 @@ use Rattle.emu_model.specs.Delay.{first_item, leave}
 use Rattle.emu_model.specs.declared.packets.Packet.{Packet}
 use Rattle.emu_model.specs.Pipes.{PipeState, Instance, InService, Drop, pipe_arrive, pipe_finish, pipe_exit, pipe_configure, pipe_packets}
 use Rattle.emu_model.specs.declared.records.Record.TheVariants.{PacketFinished}
-use Rattle.emu_model.specs.Net.{Net, Setting, find_pipe, put_pipe, note, note_drops, enter_pipe}
+use Rattle.emu_model.specs.declared.commands.Setting.{Setting}
+use Rattle.emu_model.specs.Net.{Net, find_pipe, put_pipe, note, note_drops, enter_pipe}
 use Rattle.emu_model.specs.Commands.{configure, config_refusal, mask_refusal, new_pipe, new_pipe_refusal, delete_pipe}
 use Rattle.emu_model.specs.declared.pipes.PipeConfig.{PipeConfig}
 use Rattle.emu_model.specs.declared.records.DropCause.TheVariants.{Deleted}
@@ -18,13 +19,12 @@ use Rattle.packet_store.specs.Pocket.{Pocket}
 use Rattle.pipe_core.specs.Moves.{some_packet, packet_at, AreNamed, Keeps}
 use Rattle.pipe_core.specs.Keyed.{KeyedPipe, seen_pipe, seen_slot, view, keys_of}
 use Rattle.pipe_core.specs.Views.{ViewsAgree, PacketsAreNamed}
-use Rattle.queue_disc.specs.declared.entries.NoMemory.{NoMemory}
 use Rattle.pipe_core.specs.Steps.{HasRoomAt, IsGrown, drops_by_codel}
 use Rattle.pipe_table.specs.Table.{Table, seen_pipes, with_pipes, pipe_keys, has_number, is_above, pipe_of, HasRoomIn, HasGrown, IsFinishing, IsTable}
 use Rattle.pipe_table.proofs.Splits.{position-within, position-passes, position-first, position-whole}
-use Rattle.pipe_table.proofs.TableFacts.{shows_number, found-here, seen-replace, seen-remove, seen-before, seen-behind, Keeps-lift, AreNamed-part}
+use Rattle.pipe_table.proofs.TableFacts.{shows_number, found-here, seen-replace, seen-remove, seen-before, seen-behind, Keeps-lift, AreNamed-at}
 use Rattle.pipe_table.proofs.NetFacts.{find-none, find-some, arrive-is, exit-is, finish-is}
-use Rattle.pipe_table.proofs.Order.{place, place-is, place-within, with_pipe-at, IsTable-change, IsTable-seed, IsTable-insert, IsTable-remove}
+use Rattle.pipe_table.proofs.NumberOrder.{place, place-is, place-within, with_pipe-at, IsTable-change, IsTable-seed, IsTable-insert, IsTable-remove}
 
 ready-split : (j : ℕ) (packet : Packet) (before behind : List KeyedPipe) (x y : KeyedPipe) → y.number ≡ x.number →
     (HasRoomAt packet x → HasRoomAt packet y) →
@@ -93,7 +93,7 @@ module _ (k i : ℕ) (ps : List KeyedPipe) (x : KeyedPipe) (at : Some i ≡ posi
   pipe-at = ap (pipe_of k) whole ∙ found-here k before behind x first passes
 
   pub named-at : (p : Pocket) → AreNamed p (pipe_keys ps) → AreNamed p (keys_of x.slots)
-  named-at p n = AreNamed-part p before behind x (subst (λ l. AreNamed p (pipe_keys l)) whole n)
+  named-at p n = AreNamed-at p before behind x (subst (λ l. AreNamed p (pipe_keys l)) whole n)
 
   pub keys-at : (p q : Pocket) (y : KeyedPipe) → Keeps p q (keys_of x.slots) (keys_of y.slots) → Keeps p q (pipe_keys ps) (pipe_keys (set ps i y))
   keys-at p q y keeps =
@@ -240,7 +240,7 @@ module _ (k i : ℕ) (ps : List KeyedPipe) (x : KeyedPipe) (at : Some i ≡ posi
         ∙ (λ i. leave_pipe_some at k j o (with_pipes q (record { seed = seed; pipes = sym (changed y) i }) n))
 
     pub finish-at : (at : Setting) (j : ℕ) (packet : Packet) (ds : List Drop) (n : Net) (seed : ℕ) →
-        option_map (λ (s : InService). s.packet) (served_in j (view p x)) ≡ Some packet →
+        option_map (λ (s : InService Packet). s.item) (served_in j (view p x)) ≡ Some packet →
         pipe_finish at.now j (view p x) ≡ record { state = view q y; dropped = ds } →
         (let m = with_pipes p (record { seed = seed; pipes = ps }) n in
         option_map_or (pipe_finishes at k j m) (find_pipe k m) m)
@@ -259,8 +259,8 @@ module _ (k i : ℕ) (ps : List KeyedPipe) (x : KeyedPipe) (at : Some i ≡ posi
 
   module _ (agree : ViewsAgree) (p q : Pocket) (y : KeyedPipe) (named : AreNamed p (pipe_keys ps)) (keeps : Keeps p q (keys_of x.slots) (keys_of y.slots)) where
     -- a finish that was made, over the table as it is seen
-    pub finish-ok : (j now seed : ℕ) (t : Table) → t ≡ record { seed = seed; pipes = ps } → (drops : List Packet) (r : Result Packet NoMemory) →
-        IfOk r (λ packet. option_map (λ (s : InService). s.packet) (served_in j (view p x)) ≡ Some packet) →
+    pub finish-ok : {E : Type 0} (j now seed : ℕ) (t : Table) → t ≡ record { seed = seed; pipes = ps } → (drops : List Packet) (r : Result Packet E) →
+        IfOk r (λ packet. option_map (λ (s : InService Packet). s.item) (served_in j (view p x)) ≡ Some packet) →
         OnOk r (pipe_finish now j (view p x) ≡ record { state = view q y; dropped = drops_by_codel drops }) →
         IfOk r (λ packet. (at : Setting) (n : Net) → at.now ≡ now → (let m = with_pipes p t n in
         option_map_or (pipe_finishes at k j m) (find_pipe k m) m)
@@ -275,14 +275,14 @@ module _ (k i : ℕ) (ps : List KeyedPipe) (x : KeyedPipe) (at : Some i ≡ posi
 pub not-finishing : (k j now : ℕ) (ps : List KeyedPipe) → pipe_of k ps ≡ None → IsFinishing k j now ps → ⊥
 not-finishing k j now ps none due =
     let other : None ≡ Some now =
-    sym (ap (λ o. option_and_then (λ p. option_map (λ (s : InService). s.period.finish) (served_in j (seen_pipe (λ key. some_packet) p))) o) none)
+    sym (ap (λ o. option_and_then (λ p. option_map (λ (s : InService Packet). s.period.finish) (served_in j (seen_pipe (λ key. some_packet) p))) o) none)
     ∙ due (λ key. some_packet) in
     absurd (cc)
 
 pub finishing-at : (k j now : ℕ) (ps : List KeyedPipe) (x : KeyedPipe) → pipe_of k ps ≡ Some x → IsFinishing k j now ps → (f : ℕ → Packet) →
-    option_map (λ (s : InService). s.period.finish) (served_in j (seen_pipe f x)) ≡ Some now
+    option_map (λ (s : InService Packet). s.period.finish) (served_in j (seen_pipe f x)) ≡ Some now
 finishing-at k j now ps x here due f =
-    sym (ap (λ o. option_and_then (λ p. option_map (λ (s : InService). s.period.finish) (served_in j (seen_pipe f p))) o) here) ∙ due f
+    sym (ap (λ o. option_and_then (λ p. option_map (λ (s : InService Packet). s.period.finish) (served_in j (seen_pipe f p))) o) here) ∙ due f
 
 pub ok-by : {T E : Type 0} {A B : Type 0} (r : Result T E) → (A → B) → OnOk r A → OnOk r B
 ok-by (Ok t) h a = h a

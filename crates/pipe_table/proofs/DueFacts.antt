@@ -17,7 +17,7 @@ use Rattle.emu_model.specs.Pipes.{Instance, InService}
 use Rattle.pipe_core.specs.Keyed.{KeyedPipe, seen_pipe, seen_slot}
 use Rattle.pipe_table.specs.Table.{pipe_of, IsFinishing, IsFinishDue, IsPiped, IsPipeNumber, IsTable, seen_pipes}
 use Rattle.pipe_table.proofs.TableFacts.{found-here}
-use Rattle.pipe_table.proofs.Order.{first-of-number}
+use Rattle.pipe_table.proofs.NumberOrder.{first-of-number}
 use Rattle.pipe_table.specs.Reach.{Reaches, instance_dues}
 
 best-append : (d : Due) (xs ys : List Due) → best_of is_before d (xs ++ ys) ≡ best_of is_before (best_of is_before d xs) ys
@@ -70,7 +70,7 @@ index-of n i h = omega (arith, h)
 pub Reaches-at : (ps : List KeyedPipe) (pipe : KeyedPipe) (index : ℕ) (best sooner last : Due) (exit finish : Option ℕ) → index < 256 → IsPipeNumber pipe.number →
     pipe_of pipe.number ps ≡ Some pipe →
     ((f : ℕ → Packet) → exit ≡ option_and_then (λ (i : Instance). first_exit i.line.flight) (slice_get (seen_pipe f pipe).instances index)) →
-    ((f : ℕ → Packet) → finish ≡ option_map (λ (s : InService). s.period.finish) (served_in index (seen_pipe f pipe))) →
+    ((f : ℕ → Packet) → finish ≡ option_map (λ (s : InService Packet). s.period.finish) (served_in index (seen_pipe f pipe))) →
     sooner ≡ best_of is_before best (option_to_list (option_map (due Exit (pipe.number * 256 + index)) exit)) →
     (sooner ≡ best) ⊎ (option_map (due Exit (pipe.number * 256 + index)) exit ≡ Some sooner) →
     last ≡ best_of is_before sooner (option_to_list (option_map (due Finish (pipe.number * 256 + index)) finish)) →
@@ -107,15 +107,15 @@ Reaches-at ps pipe index best sooner last exit finish few range here exits finis
     second (inr e) h = go finish finishes e
       where
         go : (o : Option ℕ) →
-            ((f : ℕ → Packet) → o ≡ option_map (λ (s : InService). s.period.finish) (served_in index (seen_pipe f pipe))) →
+            ((f : ℕ → Packet) → o ≡ option_map (λ (s : InService Packet). s.period.finish) (served_in index (seen_pipe f pipe))) →
             option_map (due Finish (pipe.number * 256 + index)) o ≡ Some last → IsFinishDue last ps
         go None is e = absurd (cc)
         go (Some m) is e = λ c.
             subst (λ (d : Due). IsFinishing (d.source.number / 256) (d.source.number % 256) d.moment ps) (ap (λ o. unwrap_or o last) e)
             (λ f.
-            (λ z. option_and_then (λ p. option_map (λ (s : InService). s.period.finish) (served_in (index-of pipe.number index few z) (seen_pipe f p)))
+            (λ z. option_and_then (λ p. option_map (λ (s : InService Packet). s.period.finish) (served_in (index-of pipe.number index few z) (seen_pipe f p)))
             (pipe_of (number-of pipe.number index few z) ps))
-            ∙ ap (option_and_then (λ p. option_map (λ (s : InService). s.period.finish) (served_in index (seen_pipe f p)))) here
+            ∙ ap (option_and_then (λ p. option_map (λ (s : InService Packet). s.period.finish) (served_in index (seen_pipe f p)))) here
             ∙ sym (is f))
 
     number_range : IsPipeNumber ((pipe.number * 256 + index) / 256)
@@ -145,10 +145,10 @@ Reaches-at ps pipe index best sooner last exit finish few range here exits finis
 abbrev one_dues : ℕ → Option Instance → List Due
 one_dues n o =
     option_to_list (option_map (due Exit n) (option_and_then (λ (i : Instance). first_exit i.line.flight) o))
-    ++ option_to_list (option_map (due Finish n) (option_map (λ (s : InService). s.period.finish) (option_and_then (λ (i : Instance). i.service) o)))
+    ++ option_to_list (option_map (due Finish n) (option_map (λ (s : InService Packet). s.period.finish) (option_and_then (λ (i : Instance). i.service) o)))
 
-finish-two : (n : ℕ) (o : Option InService) →
-    option_map (due Finish n) (option_map (λ (s : InService). s.period.finish) o) ≡ option_map (λ (s : InService). due Finish n s.period.finish) o
+finish-two : (n : ℕ) (o : Option (InService Packet)) →
+    option_map (due Finish n) (option_map (λ (s : InService Packet). s.period.finish) o) ≡ option_map (λ (s : InService Packet). due Finish n s.period.finish) o
 finish-two n None = refl
 finish-two n (Some s) = refl
 

@@ -8,21 +8,21 @@ use Rattle.emu_model.specs.declared.packets.Packet.{Packet}
 use Rattle.emu_model.specs.declared.sources.Due.{Due}
 use Rattle.emu_model.specs.declared.sources.Class.TheVariants.{Exit, Finish}
 use Rattle.emu_model.specs.Dues.{due, is_before, instances_dues, pipe_dues}
-use Rattle.emu_model.specs.Pipes.{PipeState}
+use Rattle.emu_model.specs.Pipes.{InService, PipeState}
 use Rattle.due_index.specs.Least.{dues_in, least_of, lesser}
 use Rattle.due_index.specs.Places.{Places}
-use Rattle.due_index.proofs.LeastDues.{least_all, least_of-all, least_all-append, least_all-option, least_leaf, least_of-leaf, best_of-same}
-use Rattle.pipe_instance.specs.Keyed.{KeyInService, seen_service}
+use Rattle.due_index.proofs.CallerLemmas.{least_all, least_of-all, least_all-append, least_all-option, least_leaf, least_of-leaf, best_of-same}
+use Rattle.pipe_instance.specs.Keyed.{seen_service}
 use Rattle.pipe_core.specs.declared.slot.Slot.{Slot}
 use Rattle.pipe_core.specs.Moves.{some_packet}
 use Rattle.pipe_core.specs.Keyed.{KeyedPipe, seen_slot, seen_pipe}
-use Rattle.pipe_core.proofs.PipeFacts.{first_exit-seen}
+use Rattle.pipe_core.proofs.CallerLemmas.{first_exit-seen}
 use Rattle.pipe_table.specs.Table.{seen_pipes, IsPipeNumber}
 use Rattle.pipe_table.specs.Leaves.{leaf_of, IsFit, IsIndexed, AreIndexed}
 
 -- the packets that keys name have no part in what is due
 module _ (f g : ℕ → Packet) where
-  service-alike : (n : ℕ) (busy : Option KeyInService) →
+  service-alike : (n : ℕ) (busy : Option (InService ℕ)) →
       option_map (λ s. due Finish n s.period.finish) (option_map (seen_service f) busy)
       ≡ option_map (λ s. due Finish n s.period.finish) (option_map (seen_service g) busy)
   service-alike n None = refl

@@ -2,10 +2,11 @@ mod Splits
 mod Sums
 mod TableFacts
 mod NetFacts
-mod Order
+mod NumberOrder
 mod At
 mod DueFacts
 mod LineFacts
-pub mod Moving
+mod Moving
 mod Indexes
 mod Reaching
+pub mod CallerLemmas

@@ -1,121 +1,32 @@
 -- Packets of many pipes that move from one shelf to another; also for the crates above.
-use Rattle.std.proofs.Common.{◌≡◌, ℕ, suc, ◌+◌, ◌<◌, ◌≤◌, true, nat_eq, cond, refl, sym, ap, ◌∙◌, subst, List, [], ◌∷◌, ◌++◌, map, length, take, drop, set, get_or, IsSome, append-nil, append_assoc, arith}
+use Rattle.std.proofs.Common.{◌≡◌, ℕ, suc, ◌+◌, ◌<◌, ◌≤◌, true, refl, sym, ap, ◌∙◌, subst, List, [], ◌∷◌, ◌++◌, map, length, take, drop, set, get_or, IsSome, append-nil, append_assoc, arith}
 use Rattle.std.specs.Prelude.{unwrap_or}
-use Rattle.std.proofs.lemmas.Bool.Decides.{nat_tests}
 use Rattle.std.proofs.lemmas.Grind.{drop_more_same}
 use Rattle.std.proofs.lemmas.List.{map-append, drop_more, take_more, take_more_set, drop-set-lt, set_split, set-get_or, length-append, length-map, length-set, take_all, take-append-drop}
 use Rattle.emu_model.specs.declared.packets.Packet.{Packet}
 use Rattle.packet_store.specs.Pocket.{Pocket}
-use Rattle.pipe_instance.specs.Uses.{uses, one_at}
+use Rattle.pipe_instance.specs.Uses.{uses}
+use Rattle.pipe_core.proofs.CallerLemmas.{AreNamed-after, AreNamed-front, found-some, Rehouses-none, Rehouses-then}
 use Rattle.pipe_core.specs.Moves.{some_packet, packet_at, found, AreNamed, Takes}
 use Rattle.pipe_core.specs.Keyed.{KeyedPipe, seen_pipe, view, keys_of}
 use Rattle.pipe_core.specs.Views.{ViewsAgree}
 use Rattle.pipe_core.specs.Rehousing.{Gives, Rehouses}
 use Rattle.pipe_table.specs.Table.{seen_pipes, pipe_keys, IsTable}
-use Rattle.pipe_table.proofs.Sums.{total-nil, total-cons, total-append}
-use Rattle.pipe_table.proofs.TableFacts.{seen-agree, is_found}
-use Rattle.pipe_table.proofs.Order.{IsTable-change}
-
--- nothing was taken or given
-takes-none : (p : Pocket) → Takes p p []
-takes-none p = record {
-  gone = λ k. omega (arith, total-nil (one_at k));
-  kept = λ k unused. refl;
-  stays = λ k some. refl;
-  count = omega arith;
-  budget = refl;
-}
-
-gives-none : (r : Pocket) → Gives r r []
-gives-none r = record {
-  came = λ k. omega (arith, total-nil (one_at k));
-  stays = λ k some. refl;
-  count = omega arith;
-  budget = refl;
-}
-
-pub rehouses-none : (p r : Pocket) → Rehouses p p r r [] []
-rehouses-none p r = record { takes = takes-none p; gives = gives-none r; same = refl }
-
--- some were taken, and then others
-takes-then : (p q t : Pocket) (a b : List ℕ) → Takes p q a → Takes q t b → Takes p t (a ++ b)
-takes-then p q t a b x y = record {
-  gone = λ k. omega (arith, x.gone k, y.gone k, total-append (one_at k) a b);
-  kept = λ k unused.
-      y.kept k (omega (arith, unused, total-append (one_at k) a b))
-      ∙ x.kept k (omega (arith, unused, total-append (one_at k) a b));
-  stays = λ k some. y.stays k some ∙ x.stays k (subst IsSome (y.stays k some) some);
-  count = omega (arith, x.count, y.count, length-append a b);
-  budget = y.budget ∙ x.budget;
-}
-
--- some were given, and then others
-gives-then : (r s u : Pocket) (a b : List ℕ) → Gives r s a → Gives s u b → Gives r u (a ++ b)
-gives-then r s u a b x y = record {
-  came = λ k. omega (arith, x.came k, y.came k, total-append (one_at k) a b);
-  stays = λ k some. y.stays k (subst IsSome (sym (x.stays k some)) some) ∙ x.stays k some;
-  count = omega (arith, x.count, y.count, length-append a b);
-  budget = y.budget ∙ x.budget;
-}
-
--- what is named besides what was taken is named still
-pub named-after : (p q : Pocket) (a b : List ℕ) → AreNamed p (a ++ b) → Takes p q a → AreNamed q b
-named-after p q a b n t = record {
-  each = λ k. omega (arith, n.each k, t.gone k, total-append (one_at k) a b);
-  within = omega (arith, n.within, t.count, length-append a b);
-}
-
-pub named-front : (p : Pocket) (a b : List ℕ) → AreNamed p (a ++ b) → AreNamed p a
-named-front p a b n = record {
-  each = λ k. omega (arith, n.each k, total-append (one_at k) a b);
-  within = omega (arith, n.within, length-append a b);
-}
-
-one_at-same : (k : ℕ) → 0 < uses k (k ∷ [])
-one_at-same k = omega (arith, total-cons (one_at k) k [], total-nil (one_at k), same k)
-  where
-    same : (j : ℕ) → one_at j j ≡ 1
-    same j = let t : nat_eq j j ≡ true = grind (arith, nat_tests) in ap {B = ℕ} (λ b. cond b 1 0) t
-
--- names that agree on keys name the same packets
-names-agree : (f g : ℕ → Packet) (ks : List ℕ) → ((k : ℕ) → 0 < uses k ks → g k ≡ f k) → map g ks ≡ map f ks
-names-agree f g [] same = refl
-names-agree f g (k ∷ ks) same = λ i.
-    same k (omega (arith, total-cons (one_at k) k ks, total-cons (one_at k) k [], total-nil (one_at k), one_at-same k)) i
-    ∷ names-agree f g ks (λ j within. same j (omega (arith, within, total-cons (one_at j) k ks))) i
+use Rattle.pipe_table.proofs.TableFacts.{seen-agree}
+use Rattle.pipe_table.proofs.NumberOrder.{IsTable-change}
 
 -- a key that is named in q names there what it named in p, where what is left stays
 pub name-left : (p q : Pocket) (keys : List ℕ) → Takes p q keys → (k : ℕ) → 0 < found (q.find k) → packet_at q.find k ≡ packet_at p.find k
-name-left p q keys t k there = ap (λ o. unwrap_or o some_packet) (t.stays k (is_found (q.find k) there))
+name-left p q keys t k there = ap (λ o. unwrap_or o some_packet) (t.stays k (found-some (q.find k) there))
 
 -- a key that is named in s names the same once others came
 pub name-kept : (s u : Pocket) (keys : List ℕ) → Gives s u keys → (k : ℕ) → 0 < found (s.find k) → packet_at u.find k ≡ packet_at s.find k
-name-kept s u keys g k there = ap (λ o. unwrap_or o some_packet) (g.stays k (is_found (s.find k) there))
+name-kept s u keys g k there = ap (λ o. unwrap_or o some_packet) (g.stays k (found-some (s.find k) there))
 
 -- as many keys as before
 pub as-many : (p q r s : Pocket) (old new : List ℕ) → Rehouses p q r s old new → length new ≡ length old
 as-many p q r s old new m =
     omega (arith, ap length m.same, length-map new (packet_at s.find), length-map old (packet_at p.find))
-
--- two moves one after the other are one
-pub rehouses-then : (p q t r s u : Pocket) (a a2 b b2 : List ℕ) → AreNamed p (a ++ b) →
-    Rehouses p q r s a a2 → Rehouses q t s u b b2 → Rehouses p t r u (a ++ b) (a2 ++ b2)
-rehouses-then p q t r s u a a2 b b2 n x y = record {
-  takes = takes-then p q t a b x.takes y.takes;
-  gives = gives-then r s u a2 b2 x.gives y.gives;
-  same =
-      map-append (packet_at u.find) a2 b2
-      ∙ (λ i. (kept ∙ x.same) i ++ (y.same ∙ left) i)
-      ∙ sym (map-append (packet_at p.find) a b);
-}
-  where
-    kept : map (packet_at u.find) a2 ≡ map (packet_at s.find) a2
-    kept = names-agree (packet_at s.find) (packet_at u.find) a2 (λ k within.
-        name-kept s u b2 y.gives k (omega (arith, within, x.gives.came k)))
-
-    left : map (packet_at q.find) b ≡ map (packet_at p.find) b
-    left = names-agree (packet_at p.find) (packet_at q.find) b (λ k within.
-        name-left p q a x.takes k (omega (arith, within, (named-after p q a b n x.takes).each k)))
 
 -- the keys of pipes with one more behind
 keys-push : (ps : List KeyedPipe) (x : KeyedPipe) → pipe_keys (ps ++ x ∷ []) ≡ pipe_keys ps ++ keys_of x.slots
@@ -158,7 +69,7 @@ pub none-moved : (p r : Pocket) (ps : List KeyedPipe) → AreMoved p p r r ps ps
 none-moved p r ps = record {
   left = refl;
   long = refl;
-  moved = subst (λ l. Rehouses p p r r l l) (sym keys-nil) (rehouses-none p r);
+  moved = subst (λ l. Rehouses p p r r l l) (sym keys-nil) (Rehouses-none p r);
   shown = refl;
 }
 
@@ -179,12 +90,12 @@ module _ (p q r s : Pocket) (old now : List KeyedPipe) (i : ℕ) (within : i < l
   named-more : AreNamed p (pipe_keys (take i old) ++ keys_of x.slots)
   named-more =
       subst (AreNamed p) old-keys
-      (named-front p (pipe_keys (take (i + 1) old)) (pipe_keys (drop (i + 1) old))
+      (AreNamed-front p (pipe_keys (take (i + 1) old)) (pipe_keys (drop (i + 1) old))
       (subst (AreNamed p) (ap pipe_keys (sym (take-append-drop (i + 1) old)) ∙ keys-append (take (i + 1) old) (drop (i + 1) old)) named))
 
   -- the next pipe's keys are named where they are
   pub named-next : AreNamed q (keys_of x.slots)
-  named-next = named-after p q (pipe_keys (take i old)) (keys_of x.slots) named-more m.moved.takes
+  named-next = AreNamed-after p q (pipe_keys (take i old)) (keys_of x.slots) named-more m.moved.takes
 
   -- how many keys were moved, with the next pipe's
   pub count-next : length (pipe_keys (take i old)) + length (keys_of x.slots) ≤ length (pipe_keys old)
@@ -209,7 +120,7 @@ module _ (p q r s : Pocket) (old now : List KeyedPipe) (i : ℕ) (within : i < l
     moved =
         subst (λ l. Rehouses p t r u l (pipe_keys (take (i + 1) (set now i y)))) (sym old-keys)
         (subst (λ l. Rehouses p t r u (pipe_keys (take i old) ++ keys_of x.slots) l) (sym new-keys)
-        (rehouses-then p q t r s u (pipe_keys (take i old)) (pipe_keys (take i now)) (keys_of x.slots) (keys_of y.slots) named-more m.moved more));
+        (Rehouses-then p q t r s u (pipe_keys (take i old)) (keys_of x.slots) (pipe_keys (take i now)) (keys_of y.slots) named-more m.moved more));
     shown =
         ap (seen_pipes (packet_at u.find)) new-more
         ∙ map-append (seen_pipe (packet_at u.find)) (take i now) (y ∷ [])

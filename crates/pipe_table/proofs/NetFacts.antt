@@ -6,7 +6,8 @@ use Rattle.emu_model.specs.declared.packets.Packet.{Packet}
 use Rattle.emu_model.specs.declared.records.DropCause.TheVariants.{NoPipe}
 use Rattle.emu_model.specs.declared.records.Record.TheVariants.{PacketFinished}
 use Rattle.emu_model.specs.Pipes.{PipeState, InService, Drop, After, pipe_arrive, pipe_finish, pipe_exit}
-use Rattle.emu_model.specs.Net.{Net, Setting, find_pipe, put_pipe, put_after, note, note_drops, drop_packet, enter_pipe}
+use Rattle.emu_model.specs.declared.commands.Setting.{Setting}
+use Rattle.emu_model.specs.Net.{Net, find_pipe, put_pipe, put_after, note, note_drops, drop_packet, enter_pipe}
 use Rattle.emu_model.specs.Events.{flying_in, served_in, leave_pipe_some, pipe_exits, pipe_finishes}
 use Rattle.packet_store.specs.Pocket.{Pocket}
 use Rattle.pipe_core.specs.Moves.{packet_at, AreNamed, Keeps}
@@ -67,7 +68,7 @@ module _ (agree : ViewsAgree) (p q : Pocket) (before behind : List KeyedPipe) (x
       ∙ (λ i. leave_pipe_some at k j (sym flying i) (put-is n i))
 
   pub finish-is : (at : Setting) (j : ℕ) (packet : Packet) (ds : List Drop) (n : Net) →
-      option_map (λ (s : InService). s.packet) (served_in j (view p x)) ≡ Some packet →
+      option_map (λ (s : InService Packet). s.item) (served_in j (view p x)) ≡ Some packet →
       pipe_finish at.now j (view p x) ≡ record { state = view q y; dropped = ds } →
       option_map_or (pipe_finishes at k j (net p (before ++ x ∷ behind) n)) (find_pipe k (net p (before ++ x ∷ behind) n)) (net p (before ++ x ∷ behind) n)
       ≡ note_drops at.now ds (net q (before ++ y ∷ behind) (note (PacketFinished at.now packet.number k j) n))
@@ -76,11 +77,11 @@ module _ (agree : ViewsAgree) (p q : Pocket) (before behind : List KeyedPipe) (x
       ∙ go (served_in j (view p x)) served
       ∙ ap (note_drops at.now ds) (put-is (note (PacketFinished at.now packet.number k j) n))
     where
-      go : (s : Option InService) → option_map (λ (i : InService). i.packet) s ≡ Some packet →
+      go : (s : Option (InService Packet)) → option_map (λ (i : InService Packet). i.item) s ≡ Some packet →
           put_after at.now k (pipe_finish at.now j (view p x))
-          (option_map_or (λ (i : InService). note (PacketFinished at.now i.packet.number k j) (net p (before ++ x ∷ behind) n)) s (net p (before ++ x ∷ behind) n))
+          (option_map_or (λ (i : InService Packet). note (PacketFinished at.now i.item.number k j) (net p (before ++ x ∷ behind) n)) s (net p (before ++ x ∷ behind) n))
           ≡ note_drops at.now ds (put_pipe k (view q y) (net p (before ++ x ∷ behind) (note (PacketFinished at.now packet.number k j) n)))
       go None e = absurd (cc)
       go (Some s) e =
-          let same : s.packet ≡ packet = cc in
+          let same : s.item ≡ packet = cc in
           λ i. put_after at.now k (done i) (note (PacketFinished at.now (same i).number k j) (net p (before ++ x ∷ behind) n))

@@ -15,7 +15,7 @@ use Rattle.emu_model.specs.Pipes.{Instance, InService}
 use Rattle.pipe_core.specs.declared.slot.Slot.{Slot}
 use Rattle.pipe_core.specs.Moves.{some_packet}
 use Rattle.pipe_core.specs.Keyed.{KeyedPipe, seen_slot, seen_pipe}
-use Rattle.pipe_core.proofs.PipeFacts.{first_exit-seen, finish-seen}
+use Rattle.pipe_core.proofs.CallerLemmas.{first_exit-seen, finish-seen}
 use Rattle.pipe_table.specs.Table.{pipe_of, seen_pipes, IsPipeNumber, IsTable}
 use Rattle.pipe_table.specs.Reach.{Reaches, instance_dues}
 use Rattle.pipe_table.specs.Leaves.{IsFit}
@@ -34,7 +34,7 @@ one-from b (Some d) = by (is_before d b)
 
 abbrev finish_of : Option Instance → Option ℕ
 finish_of o =
-    option_map (λ (s : InService). s.period.finish)
+    option_map (λ (s : InService Packet). s.period.finish)
     (option_and_then (λ (i : Instance). i.service) o)
 
 -- when an instance exits and finishes, however its keys are named
@@ -59,9 +59,9 @@ module _ (f g : ℕ → Packet) (slots : List Slot) (index : ℕ) where
           first_exit-seen f s.instance.lane.line.flight
           ∙ sym (first_exit-seen g s.instance.lane.line.flight)
 
-  finish-alike : option_map (λ (s : InService). s.period.finish)
+  finish-alike : option_map (λ (s : InService Packet). s.period.finish)
       (option_and_then (λ (i : Instance). i.service) (slice_get (map (seen_slot f) slots) index))
-      ≡ option_map (λ (s : InService). s.period.finish)
+      ≡ option_map (λ (s : InService Packet). s.period.finish)
       (option_and_then (λ (i : Instance). i.service) (slice_get (map (seen_slot g) slots) index))
   finish-alike =
       ap finish_of (slice_get-map (seen_slot f) slots index) ∙ by (slice_get slots index)
@@ -86,7 +86,7 @@ reach_instance ps pipe index best few range here =
     option_and_then (λ (i : Instance). first_exit i.line.flight)
     (slice_get (seen_pipe g pipe).instances index) in
     let finish : Option ℕ =
-    option_map (λ (s : InService). s.period.finish) (served_in index (seen_pipe g pipe)) in
+    option_map (λ (s : InService Packet). s.period.finish) (served_in index (seen_pipe g pipe)) in
     let exit_due : Option Due = option_map (due Exit (pipe.number * 256 + index)) exit in
     let finish_due : Option Due = option_map (due Finish (pipe.number * 256 + index)) finish in
     let sooner : Due = best_of is_before best (option_to_list exit_due) in

@@ -1,25 +1,9 @@
 -- How often a key stands in the pipes.
 use Rattle.std.proofs.Common.{◌≡◌, ℕ, ◌+◌, refl, ap, ◌∙◌, List, [], ◌∷◌, ◌++◌, length, arith}
-use Rattle.pipe_instance.specs.Uses.{total, one}
+use Rattle.pipe_instance.specs.Uses.{total}
+use Rattle.pipe_instance.proofs.CallerLemmas.{total-nil, total-append}
 use Rattle.pipe_core.specs.Keyed.{KeyedPipe, keys_of}
 use Rattle.pipe_table.specs.Table.{pipe_keys}
-
-pub total-nil : (g : ℕ → ℕ) → total g [] ≡ 0
-unfolding total
-total-nil g = refl
-
-pub total-cons : (g : ℕ → ℕ) (x : ℕ) (xs : List ℕ) → total g (x ∷ xs) ≡ g x + total g xs
-unfolding total
-total-cons g x xs = refl
-
-pub total-append : (g : ℕ → ℕ) (xs ys : List ℕ) → total g (xs ++ ys) ≡ total g xs + total g ys
-total-append g [] ys = omega (arith, total-nil g)
-total-append g (x ∷ xs) ys =
-    omega (arith, total-cons g x (xs ++ ys), total-cons g x xs, total-append g xs ys)
-
-pub total-length : (xs : List ℕ) → total one xs ≡ length xs
-total-length [] = total-nil one
-total-length (x ∷ xs) = omega (arith, total-cons one x xs, total-length xs)
 
 keys-nil : pipe_keys [] ≡ []
 unfolding pipe_keys

@@ -6,13 +6,15 @@ use Rattle.emu_model.specs.declared.packets.Packet.{Packet}
 use Rattle.emu_model.specs.Lists.{replace_first, remove_first}
 use Rattle.emu_model.specs.Pipes.{PipeState}
 use Rattle.packet_store.specs.Pocket.{Pocket}
-use Rattle.pipe_instance.specs.Uses.{uses, one_at, one}
+use Rattle.pipe_instance.specs.Uses.{uses, one_at}
 use Rattle.pipe_core.specs.Moves.{some_packet, packet_at, found, AreNamed, Keeps}
 use Rattle.pipe_core.specs.Keyed.{KeyedPipe, seen_pipe, view, keys_of}
 use Rattle.pipe_core.specs.Views.{ViewsAgree}
 use Rattle.pipe_table.specs.Table.{seen_pipes, pipe_keys, has_number, pipe_of}
 use Rattle.pipe_table.proofs.Splits.{find-behind, replace-behind, remove-behind, find-map}
-use Rattle.pipe_table.proofs.Sums.{total-pipes, total-split, total-length}
+use Rattle.pipe_instance.specs.Uses.{total}
+use Rattle.pipe_core.proofs.CallerLemmas.{found-le, found-some, Keeps-part, AreNamed-part}
+use Rattle.pipe_table.proofs.Sums.{total-pipes, total-split}
 
 abbrev pub shows_number : ℕ → PipeState → Bool
 shows_number k p = p.number == k
@@ -44,36 +46,24 @@ module _ (k : ℕ) (before behind : List KeyedPipe) (x : KeyedPipe) (first : pip
       ∙ remove-behind (shows_number k) (seen_pipes f before) (seen_pipes f (x ∷ behind)) (seen-first f)
       ∙ ap (λ b. seen_pipes f before ++ cond b (seen_pipes f behind) (seen_pipe f x ∷ remove_first (shows_number k) (seen_pipes f behind))) passes
 
+beside : List KeyedPipe → List KeyedPipe → (ℕ → ℕ) → ℕ
+beside before behind g = total g (pipe_keys before) + total g (pipe_keys behind)
+
+split-beside : (before behind : List KeyedPipe) (x : KeyedPipe) (g : ℕ → ℕ) →
+    total g (pipe_keys (before ++ x ∷ behind)) ≡ total g (keys_of x.slots) + beside before behind g
+unfolding beside
+split-beside before behind x g = omega (arith, total-split g before x behind)
+
 pub Keeps-lift : (p q : Pocket) (before behind : List KeyedPipe) (x y : KeyedPipe) → Keeps p q (keys_of x.slots) (keys_of y.slots) →
     Keeps p q (pipe_keys (before ++ x ∷ behind)) (pipe_keys (before ++ y ∷ behind))
-Keeps-lift p q before behind x y k = record {
-  balance = λ j. omega (arith, k.balance j, total-split (one_at j) before x behind, total-split (one_at j) before y behind);
-  kept = λ j unused some. k.kept j (omega (arith, unused, total-split (one_at j) before x behind)) some;
-  count = omega (
-    arith,
-    k.count,
-    total-split one before x behind,
-    total-split one before y behind,
-    total-length (keys_of x.slots),
-    total-length (keys_of y.slots),
-    total-length (pipe_keys (before ++ x ∷ behind)),
-    total-length (pipe_keys (before ++ y ∷ behind)),
-  );
-  budget = k.budget;
-}
+Keeps-lift p q before behind x y =
+    Keeps-part p q (keys_of x.slots) (keys_of y.slots) (pipe_keys (before ++ x ∷ behind)) (pipe_keys (before ++ y ∷ behind))
+    (beside before behind) (split-beside before behind x) (split-beside before behind y)
 
-pub AreNamed-part : (p : Pocket) (before behind : List KeyedPipe) (x : KeyedPipe) →
+pub AreNamed-at : (p : Pocket) (before behind : List KeyedPipe) (x : KeyedPipe) →
     AreNamed p (pipe_keys (before ++ x ∷ behind)) → AreNamed p (keys_of x.slots)
-AreNamed-part p before behind x n = record {
-  each = λ j. omega (arith, n.each j, total-split (one_at j) before x behind);
-  within = omega (
-    arith,
-    n.within,
-    total-split one before x behind,
-    total-length (keys_of x.slots),
-    total-length (pipe_keys (before ++ x ∷ behind)),
-  );
-}
+AreNamed-at p before behind x =
+    AreNamed-part p (keys_of x.slots) (pipe_keys (before ++ x ∷ behind)) (beside before behind) (split-beside before behind x)
 
 -- names that agree on the keys of pipes show them alike
 pub seen-agree : ViewsAgree → (f g : ℕ → Packet) (ps : List KeyedPipe) → ((k : ℕ) → 0 < uses k (pipe_keys ps) → g k ≡ f k) →
@@ -83,10 +73,6 @@ seen-agree agree f g (p ∷ ps) same = λ i.
     agree f g p (λ k within. same k (omega (arith, within, total-pipes (one_at k) p ps))) i
     ∷ seen-agree agree f g ps (λ k within. same k (omega (arith, within, total-pipes (one_at k) p ps))) i
 
-pub is_found : (o : Option Packet) → 0 < found o → IsSome o
-is_found None h = absurd (omega (arith, h))
-is_found (Some p) h = refl
-
 -- the pipes but the one that changed are shown as before
 module _ (agree : ViewsAgree) (p q : Pocket) (before behind : List KeyedPipe) (x y : KeyedPipe)
     (named : AreNamed p (pipe_keys (before ++ x ∷ behind))) (keeps : Keeps p q (keys_of x.slots) (keys_of y.slots)) where
@@ -95,11 +81,7 @@ module _ (agree : ViewsAgree) (p q : Pocket) (before behind : List KeyedPipe) (x
       ap (λ o. unwrap_or o some_packet)
       (keeps.kept k
       (omega (arith, within, named.each k, total-split (one_at k) before x behind, found-le (p.find k)))
-      (is_found (p.find k) (omega (arith, within, named.each k, total-split (one_at k) before x behind))))
-    where
-      found-le : (o : Option Packet) → found o ≤ 1
-      found-le None = omega arith
-      found-le (Some a) = omega arith
+      (found-some (p.find k) (omega (arith, within, named.each k, total-split (one_at k) before x behind))))
 
   pub seen-before : seen_pipes (packet_at q.find) before ≡ seen_pipes (packet_at p.find) before
   seen-before = seen-agree agree (packet_at p.find) (packet_at q.find) before (λ k within. same-name k (omega (arith, within)))

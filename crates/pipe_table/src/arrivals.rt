@@ -2,7 +2,6 @@
 
 ghost use Rattle.std.specs.Prelude.{◌≡◌, ℕ, ◌+◌, ◌≤◌, ◌++◌, [], length};
 ghost use Rattle.std.specs.Option.{option_map_or};
-ghost use Rattle.emu_model.specs.declared.packets.Packet.{Packet as Letter};
 ghost use Rattle.emu_model.specs.FlowIds.{flow_id};
 ghost use Rattle.emu_model.specs.Net.{Net, arrivals, find_pipe, identify_record};
 ghost use Rattle.packet_store.specs.Pocket.{Pocket};
@@ -16,7 +15,8 @@ use record_log::RecordLog;
 
 // The line of the instance that a packet makes.
 fn identified(pipe: &Pipe, now: u64, instance: u8, packet: &Packet) -> Record
-    ensures { result ≡ identify_record now pipe.now.number instance (flow_id pipe.now.config.mask packet.now) }
+    ensures { result ≡ identify_record now pipe.now.number instance
+        (flow_id pipe.now.config.mask packet.now) }
 {
     let Mask {
         proto,
@@ -40,7 +40,8 @@ fn identified(pipe: &Pipe, now: u64, instance: u8, packet: &Packet) -> Record
 // Records that a packet comes to an instance of a pipe, if there is one for it.
 fn note_at(pipe: &Pipe, log: &mut RecordLog, now: u64, packet: &Packet)
     requires { 2 ≤ log.old.spare }
-    ensures records { (f : ℕ → Letter) → log.new.records ≡ log.old.records ++ arrivals now packet.now (seen_pipe f pipe.now) }
+    ensures records { (f : ℕ → Packet) →
+        log.new.records ≡ log.old.records ++ arrivals now packet.now (seen_pipe f pipe.now) }
     ensures room { log.old.spare ≤ log.new.spare + 2 }
 {
     let Some(instance) = pipe.instance_for(packet) else {
@@ -67,7 +68,9 @@ impl PipeTable {
     pub fn note_arrival(&self, log: &mut RecordLog, now: u64, number: PipeNumber, packet: &Packet)
         requires { 2 ≤ log.old.spare }
         ensures records { (p : Pocket) (n : Net) → log.new.records
-            ≡ log.old.records ++ option_map_or (arrivals now packet.now) (find_pipe number (with_pipes p self.now n)) [] }
+            ≡ log.old.records
+            ++ option_map_or (arrivals now packet.now)
+            (find_pipe number (with_pipes p self.now n)) [] }
         ensures room { log.old.spare ≤ log.new.spare + 2 }
     {
         let Some(place) = self.place_of(number) else {

@@ -2,40 +2,22 @@
 
 ghost use Rattle.std.specs.Prelude.{◌≡◌, ℕ, ◌+◌, ◌*◌, ◌<◌, ◌≤◌, ◌++◌, ◌⊎◌, List, length, Some, option_map, option_and_then, option_to_list, flat_map, slice_get, vec_len, vec_capacity, OnOk, OnErr};
 ghost use Rattle.std.specs.List.{best_of, sum_by};
-ghost use Rattle.emu_model.specs.declared.packets.Packet.{Packet as Letter};
+ghost use Rattle.emu_model.specs.declared.packets.Packet.{Packet};
 ghost use Rattle.emu_model.specs.Delay.{first_exit};
 ghost use Rattle.emu_model.specs.Dues.{due, is_before, pipe_dues, line_dues, service_dues};
 ghost use Rattle.emu_model.specs.Events.{served_in};
 ghost use Rattle.emu_model.specs.Net.{Net};
 ghost use Rattle.packet_store.specs.Pocket.{Pocket};
 ghost use Rattle.pipe_core.specs.Keyed.{KeyedPipe, seen_pipe};
-ghost use Rattle.pipe_table.specs.Table.{with_pipes, pipe_of, IsFinishDue, IsPiped, IsPipeNumber};
+ghost use Rattle.pipe_table.specs.Table.{with_pipes, pipe_of, IsFinishDue, IsPiped};
 ghost use Rattle.pipe_table.specs.Leaves.{AreIndexed};
 ghost use Rattle.pipe_table.specs.Reach.{instance_dues};
 
 use crate::PipeTable;
 use due_index::DueIndex;
-use emu_model::{Class, Due, Source};
+use emu_model::{Due, Source};
 use pipe_core::Pipe;
 use std::alloc::AllocError;
-
-// The earlier of a due and another that may be there.
-fn earlier(best: Due, other: Option<Due>) -> Due
-    ensures { result ≡ best_of is_before best (option_to_list other) }
-{
-    match other {
-        Some(due) if due.is_before(&best) => due,
-        _ => best,
-    }
-}
-
-// The number of a pipe's first instance.
-fn first_number(pipe: &Pipe) -> u32
-    ensures number { result ≡ pipe.now.number * 256 }
-    ensures range { IsPipeNumber pipe.now.number }
-{
-    u32::from(pipe.number().get()) * 256
-}
 
 /// Each pipe's due is set anew.
 pub(crate) fn index_all(pipes: &[Pipe], dues: &mut DueIndex)
@@ -49,44 +31,44 @@ pub(crate) fn index_all(pipes: &[Pipe], dues: &mut DueIndex)
 }
 
 // Appends a due that may be there.
-fn append(dues: &mut Vec<Due>, class: Class, number: u32, moment: Option<u64>)
+fn append(dues: &mut Vec<Due>, source: Source, moment: Option<u64>)
     requires { vec_len dues.old + 1 ≤ vec_capacity dues.old }
-    ensures items { dues.new.items ≡ dues.old.items ++ option_to_list (option_map (due class number) moment) }
+    ensures items { dues.new.items
+        ≡ dues.old.items ++ option_to_list (option_map (due source.class source.number) moment) }
     ensures length { vec_len dues.new ≤ vec_len dues.old + 1 }
     ensures capacity { vec_capacity dues.new ≡ vec_capacity dues.old }
 {
     if let Some(moment) = moment {
-        dues.push_reserved(Due {
-            moment,
-            source: Source { class, number },
-        });
+        dues.push_reserved(Due { moment, source });
     }
 }
 
 // Appends the dues of one instance.
-fn add_at(pipe: &Pipe, index: usize, number: u32, dues: &mut Vec<Due>)
+fn add_at(pipe: &Pipe, index: usize, dues: &mut Vec<Due>)
     requires inside { index < length pipe.now.slots }
-    requires number { number ≡ pipe.now.number * 256 + index }
+    requires few { index < 256 }
     requires room { vec_len dues.old + 2 ≤ vec_capacity dues.old }
-    ensures items { (f : ℕ → Letter) → dues.new.items ≡ dues.old.items ++ instance_dues f pipe.now index }
+    ensures items { (f : ℕ → Packet) →
+        dues.new.items ≡ dues.old.items ++ instance_dues f pipe.now index }
     ensures length { vec_len dues.new ≤ vec_len dues.old + 2 }
     ensures capacity { vec_capacity dues.new ≡ vec_capacity dues.old }
 {
     let there = pipe.dues(index);
-    append(dues, Class::Exit, number, there.exit);
-    append(dues, Class::Finish, number, there.finish);
+    let place = index as u8;
+    append(dues, Source::exit(pipe.number(), place), there.exit);
+    append(dues, Source::finish(pipe.number(), place), there.finish);
 }
 
 // Appends the dues of one pipe.
 fn add_in(pipe: &Pipe, dues: &mut Vec<Due>)
     requires { vec_len dues.old + 2 * length pipe.now.slots ≤ vec_capacity dues.old }
-    ensures items { (f : ℕ → Letter) → dues.new.items ≡ dues.old.items ++ pipe_dues (seen_pipe f pipe.now) }
+    ensures items { (f : ℕ → Packet) →
+        dues.new.items ≡ dues.old.items ++ pipe_dues (seen_pipe f pipe.now) }
     ensures length { vec_len dues.new ≤ vec_len dues.old + 2 * length pipe.now.slots }
     ensures capacity { vec_capacity dues.new ≡ vec_capacity dues.old }
 {
-    let first = first_number(pipe);
     for index in 0..pipe.instances() {
-        add_at(pipe, index, first + index as u32, dues);
+        add_at(pipe, index, dues);
     }
 }
 
@@ -94,20 +76,25 @@ impl PipeTable {
     /// The least of a due and those of all pipes, by moment, class and number; the first of equal
     /// ones. Walks nothing.
     pub fn earliest(&self, best: Due) -> Due
-        ensures least { (p : Pocket) (n : Net) → result ≡ best_of is_before best (flat_map pipe_dues (with_pipes p self.now n).pipes) }
+        ensures least { (p : Pocket) (n : Net) →
+            result ≡ best_of is_before best (flat_map pipe_dues (with_pipes p self.now n).pipes) }
         ensures moment { result.moment ≤ best.moment }
         ensures finishing { IsFinishDue best self.now.pipes → IsFinishDue result self.now.pipes }
         ensures piped { IsPiped best → IsPiped result }
     {
-        earlier(best, self.dues.least())
+        best.or_earlier(self.dues.least())
     }
 
     /// Appends the dues of all pipes, pipe by pipe and instance by instance, or leaves `dues` as it
     /// was: that only where it has no room for two of each instance.
     pub fn add_dues(&self, dues: &mut Vec<Due>) -> Result<(), AllocError>
-        ensures ok { OnOk result ((p : Pocket) (n : Net) → dues.new.items ≡ dues.old.items ++ flat_map pipe_dues (with_pipes p self.now n).pipes) }
+        ensures ok { OnOk result
+            ((p : Pocket) (n : Net) →
+            dues.new.items ≡ dues.old.items ++ flat_map pipe_dues (with_pipes p self.now n).pipes) }
         ensures err { OnErr result (dues.new.items ≡ dues.old.items) }
-        ensures full { OnErr result (vec_capacity dues.old < vec_len dues.old + 2 * sum_by (λ p. length p.slots) self.now.pipes) }
+        ensures full { OnErr result
+            (vec_capacity dues.old
+            < vec_len dues.old + 2 * sum_by (λ p. length p.slots) self.now.pipes) }
     {
         dues.reserve(2 * self.instances())?;
         for pipe in &self.pipes {

@@ -1,7 +1,7 @@
 //! The lines of a listing.
 
 ghost use Rattle.std.specs.Prelude.{◌≡◌, ℕ, ◌+◌, ◌<◌, ◌≤◌, ◌++◌, length, flat_map};
-ghost use Rattle.emu_model.specs.declared.packets.Packet.{Packet as Letter};
+ghost use Rattle.emu_model.specs.declared.packets.Packet.{Packet};
 ghost use Rattle.emu_model.specs.Commands.{pipe_lines};
 ghost use Rattle.emu_model.specs.Net.{Net};
 ghost use Rattle.packet_store.specs.Pocket.{Pocket};
@@ -33,7 +33,8 @@ fn instance_line(pipe: PipeNumber, index: usize, shown: Shown) -> Record
 // Records the line of a pipe, and those of its instances.
 fn show_pipe(pipe: &Pipe, log: &mut RecordLog)
     requires { 1 + length pipe.now.slots ≤ log.old.spare }
-    ensures records { (f : ℕ → Letter) → log.new.records ≡ log.old.records ++ pipe_lines (seen_pipe f pipe.now) }
+    ensures records { (f : ℕ → Packet) →
+        log.new.records ≡ log.old.records ++ pipe_lines (seen_pipe f pipe.now) }
     ensures room { log.old.spare ≤ log.new.spare + 1 + length pipe.now.slots }
 {
     let number = pipe.number();
@@ -52,7 +53,8 @@ fn show_pipe(pipe: &Pipe, log: &mut RecordLog)
 impl PipeTable {
     /// How many lines `show` records: one for each pipe, and one for each instance.
     pub fn lines(&self) -> usize
-        ensures { (p : Pocket) (n : Net) → result ≡ length (flat_map pipe_lines (with_pipes p self.now n).pipes) }
+        ensures { (p : Pocket) (n : Net) →
+            result ≡ length (flat_map pipe_lines (with_pipes p self.now n).pipes) }
     {
         let mut lines = 0;
         for pipe in &self.pipes {
@@ -63,9 +65,14 @@ impl PipeTable {
 
     /// Records a line for each pipe, and for each of its instances, by number, where there is room.
     pub fn show(&self, log: &mut RecordLog)
-        requires { (p : Pocket) (n : Net) → length (flat_map pipe_lines (with_pipes p self.now n).pipes) ≤ log.old.spare }
-        ensures records { (p : Pocket) (n : Net) → log.new.records ≡ log.old.records ++ flat_map pipe_lines (with_pipes p self.now n).pipes }
-        ensures room { (p : Pocket) (n : Net) → log.old.spare ≤ log.new.spare + length (flat_map pipe_lines (with_pipes p self.now n).pipes) }
+        requires { (p : Pocket) (n : Net) →
+            length (flat_map pipe_lines (with_pipes p self.now n).pipes) ≤ log.old.spare }
+        ensures records { (p : Pocket) (n : Net) →
+            log.new.records
+            ≡ log.old.records ++ flat_map pipe_lines (with_pipes p self.now n).pipes }
+        ensures room { (p : Pocket) (n : Net) →
+            log.old.spare
+            ≤ log.new.spare + length (flat_map pipe_lines (with_pipes p self.now n).pipes) }
     {
         for pipe in &self.pipes {
             show_pipe(pipe, log);

@@ -1,14 +1,14 @@
 //! The table: pipes by number, and what a packet, a finish, an exit or a command does there.
 
-ghost use Rattle.std.specs.Prelude.{◌≡◌, ◌≢◌, ℕ, ◌+◌, ◌*◌, ◌^◌, ◌<◌, ◌≤◌, [], None, option_map, option_and_then, position, is_some, IsSome, OnSome, OnOk, OnErr, IsOk, IfOk, MatchResult, Err, length, vec_capacity};
+ghost use Rattle.std.specs.Prelude.{◌≡◌, ℕ, ◌+◌, ◌*◌, ◌^◌, ◌<◌, ◌≤◌, [], None, option_map, option_and_then, position, is_some, IsSome, OnSome, OnOk, OnErr, IsOk, IfOk, MatchResult, Err, length, vec_capacity};
 ghost use Rattle.std.specs.List.{position_or_len};
 ghost use Rattle.std.specs.Option.{option_map_or};
-ghost use Rattle.emu_model.specs.declared.packets.Packet.{Packet as Letter};
-ghost use Rattle.emu_model.specs.Net.{Net, Setting, find_pipe, note, note_drops, enter_pipe};
+ghost use Rattle.emu_model.specs.declared.commands.Setting.{Setting};
+ghost use Rattle.emu_model.specs.Net.{Net, find_pipe, note, note_drops, enter_pipe};
 ghost use Rattle.emu_model.specs.declared.records.Record.TheVariants.{PacketFinished};
 ghost use Rattle.emu_model.specs.Commands.{config_refusal, configure as configured, new_pipe, new_pipe_refusal, delete_pipe};
 ghost use Rattle.emu_model.specs.Events.{flying_in, leave_pipe_some, pipe_exits, pipe_finishes};
-ghost use Rattle.packet_store.specs.Pocket.{Pocket};
+ghost use Rattle.packet_store.specs.Pocket.{Pocket, OthersStay, AllStay};
 ghost use Rattle.pipe_core.specs.Moves.{AreNamed, Keeps};
 ghost use Rattle.pipe_core.specs.Steps.{drops_of, drops_by_codel};
 ghost use Rattle.pipe_table.specs.Table.{with_pipes, pipe_keys, pipe_of, has_number, HasRoomIn, HasGrown, IsFinishing, IsFreeIn, is_above, drops_by_deletion, refusal_in};
@@ -18,8 +18,7 @@ use due_index::DueIndex;
 use emu_model::{DropCause, Packet, PipeConfig, PipeNumber, Refusal};
 use packet_store::{Owner, Shelf};
 use pipe_core::{Pipe, keys_say_all};
-use queue_disc::NoMemory;
-use std::alloc::Global;
+use std::alloc::{AllocError, Global};
 use std::marker::Model;
 
 /// The pipes of an experiment with one seed, by number.
@@ -47,7 +46,8 @@ impl Model for PipeTable {
 
     ghost view = { λ t. record { seed = t.seed; pipes = t.pipes.items } };
 
-    ghost invariant = { λ t. (IsTable t.seed 0 t.pipes.items × (length t.pipes.items ≤ 64)) × AreIndexed t.pipes.items t.dues };
+    ghost invariant = { λ t. (IsTable t.seed 0 t.pipes.items × (length t.pipes.items ≤ 64))
+        × AreIndexed t.pipes.items t.dues };
 }
 
 impl PipeTable {
@@ -73,7 +73,8 @@ impl PipeTable {
 
     /// There is a pipe of this number.
     pub fn has(&self, number: PipeNumber) -> bool
-        ensures { (p : Pocket) (n : Net) → result ≡ is_some (find_pipe number (with_pipes p self.now n)) }
+        ensures { (p : Pocket) (n : Net) →
+            result ≡ is_some (find_pipe number (with_pipes p self.now n)) }
     {
         let Some(_place) = self.place_of(number) else {
             return false;
@@ -90,14 +91,18 @@ impl PipeTable {
         now: u64,
         number: PipeNumber,
         packet: &Packet,
-    ) -> Result<(), NoMemory>
+    ) -> Result<(), AllocError>
         ensures seed { self.new.seed ≡ self.old.seed }
         ensures grown { HasGrown self.old.pipes self.new.pipes }
-        ensures pockets { (o : ℕ) → S.pocket shelf.new o ≡ S.pocket shelf.old o }
+        ensures pockets { AllStay (S.pocket shelf.old) (S.pocket shelf.new) }
         ensures rooms { (o : ℕ) → S.room shelf.old o ≤ S.room shelf.new o }
-        ensures room { OnOk result (IsSome (pipe_of number self.new.pipes) → (S.pocket shelf.old owner).count < (S.pocket shelf.old owner).budget → 0 < S.room shelf.new owner) }
+        ensures room { OnOk result
+            (IsSome (pipe_of number self.new.pipes) →
+            (S.pocket shelf.old owner).count < (S.pocket shelf.old owner).budget →
+            0 < S.room shelf.new owner) }
         ensures ready { OnOk result (HasRoomIn number packet.now self.new.pipes) }
-        ensures succeeds { (IsSome (pipe_of number self.old.pipes) → 0 < S.room shelf.old owner) → HasRoomIn number packet.now self.old.pipes → IsOk result }
+        ensures succeeds { (IsSome (pipe_of number self.old.pipes) → 0 < S.room shelf.old owner) →
+            HasRoomIn number packet.now self.old.pipes → IsOk result }
     {
         let Some(place) = self.place_of(number) else {
             return Ok(());
@@ -123,9 +128,11 @@ impl PipeTable {
         ensures seed { self.new.seed ≡ self.old.seed }
         ensures arrived { (at : Setting) (n : Net) → at.seed ≡ self.old.seed → at.now ≡ now →
             enter_pipe at number packet.now (with_pipes (S.pocket shelf.old owner) self.old n)
-            ≡ note_drops now (drops_of packet.now result) (with_pipes (S.pocket shelf.new owner) self.new n) }
-        ensures keys { Keeps (S.pocket shelf.old owner) (S.pocket shelf.new owner) (pipe_keys self.old.pipes) (pipe_keys self.new.pipes) }
-        ensures others { (o : ℕ) → o ≢ owner → S.pocket shelf.new o ≡ S.pocket shelf.old o }
+            ≡ note_drops now (drops_of packet.now result)
+            (with_pipes (S.pocket shelf.new owner) self.new n) }
+        ensures keys { Keeps (S.pocket shelf.old owner) (S.pocket shelf.new owner)
+            (pipe_keys self.old.pipes) (pipe_keys self.new.pipes) }
+        ensures others { OthersStay owner (S.pocket shelf.old) (S.pocket shelf.new) }
     {
         keys_say_all();
         let Some(place) = self.place_of(number) else {
@@ -145,7 +152,9 @@ impl PipeTable {
         instance: u8,
     ) -> Option<Packet>
         requires { AreNamed (S.pocket shelf.now owner) (pipe_keys self.now.pipes) }
-        ensures { (n : Net) → result ≡ option_and_then (flying_in instance) (find_pipe number (with_pipes (S.pocket shelf.now owner) self.now n)) }
+        ensures { (n : Net) →
+            result ≡ option_and_then (flying_in instance)
+            (find_pipe number (with_pipes (S.pocket shelf.now owner) self.now n)) }
     {
         let Some(place) = self.place_of(number) else {
             return None;
@@ -169,15 +178,22 @@ impl PipeTable {
     ) -> Option<Packet>
         requires named { AreNamed (S.pocket shelf.old owner) (pipe_keys self.old.pipes) }
         ensures seed { self.new.seed ≡ self.old.seed }
-        ensures gone { (at : Setting) (n : Net) → let m = with_pipes (S.pocket shelf.old owner) self.old n in
+        ensures gone { (at : Setting) (n : Net) →
+            let m = with_pipes (S.pocket shelf.old owner) self.old n in
             option_map_or (pipe_exits at number instance m) (find_pipe number m) m
-            ≡ leave_pipe_some at number instance result (with_pipes (S.pocket shelf.new owner) self.new n) }
-        ensures packet { (n : Net) → result ≡ option_and_then (flying_in instance) (find_pipe number (with_pipes (S.pocket shelf.old owner) self.old n)) }
-        ensures keys { Keeps (S.pocket shelf.old owner) (S.pocket shelf.new owner) (pipe_keys self.old.pipes) (pipe_keys self.new.pipes) }
-        ensures ready { (k : ℕ) (p : Letter) → HasRoomIn k p self.old.pipes → HasRoomIn k p self.new.pipes }
+            ≡ leave_pipe_some at number instance result
+            (with_pipes (S.pocket shelf.new owner) self.new n) }
+        ensures packet { (n : Net) →
+            result ≡ option_and_then (flying_in instance)
+            (find_pipe number (with_pipes (S.pocket shelf.old owner) self.old n)) }
+        ensures keys { Keeps (S.pocket shelf.old owner) (S.pocket shelf.new owner)
+            (pipe_keys self.old.pipes) (pipe_keys self.new.pipes) }
+        ensures ready { (k : ℕ) (p : Packet) → HasRoomIn k p self.old.pipes →
+            HasRoomIn k p self.new.pipes }
         ensures freed { OnSome result (0 < S.room shelf.new owner) }
-        ensures below { OnSome result ((S.pocket shelf.new owner).count < (S.pocket shelf.new owner).budget) }
-        ensures others { (o : ℕ) → o ≢ owner → S.pocket shelf.new o ≡ S.pocket shelf.old o }
+        ensures below { OnSome result
+            ((S.pocket shelf.new owner).count < (S.pocket shelf.new owner).budget) }
+        ensures others { OthersStay owner (S.pocket shelf.old) (S.pocket shelf.new) }
     {
         keys_say_all();
         let Some(place) = self.place_of(number) else {
@@ -203,21 +219,28 @@ impl PipeTable {
         number: PipeNumber,
         instance: u8,
         drops: &mut Vec<Packet>,
-    ) -> Result<Packet, NoMemory>
+    ) -> Result<Packet, AllocError>
         requires early { now < 2 * 10 ^ 15 }
         requires due { IsFinishing number instance now self.old.pipes }
         requires named { AreNamed (S.pocket shelf.old owner) (pipe_keys self.old.pipes) }
         ensures seed { self.new.seed ≡ self.old.seed }
-        ensures ok { IfOk result (λ packet. (at : Setting) (n : Net) → at.now ≡ now → let m = with_pipes (S.pocket shelf.old owner) self.old n in
+        ensures ok { IfOk result
+            (λ packet. (at : Setting) (n : Net) → at.now ≡ now →
+            let m = with_pipes (S.pocket shelf.old owner) self.old n in
             option_map_or (pipe_finishes at number instance m) (find_pipe number m) m
             ≡ note_drops now (drops_by_codel drops.new.items)
             (with_pipes (S.pocket shelf.new owner) self.new (note (PacketFinished now packet.number number instance) n))) }
-        ensures keys { Keeps (S.pocket shelf.old owner) (S.pocket shelf.new owner) (pipe_keys self.old.pipes) (pipe_keys self.new.pipes) }
-        ensures others { (o : ℕ) → o ≢ owner → S.pocket shelf.new o ≡ S.pocket shelf.old o }
-        ensures count { OnOk result ((S.pocket shelf.new owner).count + length drops.new.items ≡ (S.pocket shelf.old owner).count) }
+        ensures keys { Keeps (S.pocket shelf.old owner) (S.pocket shelf.new owner)
+            (pipe_keys self.old.pipes) (pipe_keys self.new.pipes) }
+        ensures others { OthersStay owner (S.pocket shelf.old) (S.pocket shelf.new) }
+        ensures count { OnOk result
+            ((S.pocket shelf.new owner).count + length drops.new.items
+            ≡ (S.pocket shelf.old owner).count) }
         ensures refused { OnErr result (HasGrown self.old.pipes self.new.pipes) }
-        ensures refused_pocket { OnErr result (S.pocket shelf.new owner ≡ S.pocket shelf.old owner) }
-        ensures succeeds { IsFreeIn number instance now (vec_capacity drops.old) self.old.pipes → IsOk result }
+        ensures refused_pocket { OnErr result
+            (S.pocket shelf.new owner ≡ S.pocket shelf.old owner) }
+        ensures succeeds { IsFreeIn number instance now (vec_capacity drops.old) self.old.pipes →
+            IsOk result }
         ensures capacity { vec_capacity drops.old ≤ vec_capacity drops.new }
     {
         keys_say_all();
@@ -241,10 +264,13 @@ impl PipeTable {
         ensures ok { OnOk result ((p : Pocket) (n : Net) →
             configured number config.now (with_pipes p self.old n) ≡ with_pipes p self.new n) }
         ensures refusal { MatchResult result
-            (λ _. (p : Pocket) (n : Net) → config_refusal number config.now (with_pipes p self.old n) ≡ None)
-            (λ e. (p : Pocket) (n : Net) → config_refusal number config.now (with_pipes p self.old n) ≡ refusal_in e) }
+            (λ _. (p : Pocket) (n : Net) →
+            config_refusal number config.now (with_pipes p self.old n) ≡ None)
+            (λ e. (p : Pocket) (n : Net) →
+            config_refusal number config.now (with_pipes p self.old n) ≡ refusal_in e) }
         ensures keys { pipe_keys self.new.pipes ≡ pipe_keys self.old.pipes }
-        ensures memory { result ≡ Err ConfigureError.NoMemory → pipe_of number self.old.pipes ≡ None }
+        ensures memory { result ≡ Err ConfigureError.NoMemory →
+            pipe_of number self.old.pipes ≡ None }
         ensures err { OnErr result (self.new ≡ self.old) }
     {
         let Some(place) = self.place_of(number) else {
@@ -261,10 +287,13 @@ impl PipeTable {
     fn make(&mut self, number: PipeNumber, config: &PipeConfig) -> Result<(), ConfigureError>
         requires { pipe_of number self.old.pipes ≡ None }
         ensures seed { self.new.seed ≡ self.old.seed }
-        ensures ok { OnOk result ((p : Pocket) (n : Net) → new_pipe number config.now (with_pipes p self.old n) ≡ with_pipes p self.new n) }
+        ensures ok { OnOk result
+            ((p : Pocket) (n : Net) →
+            new_pipe number config.now (with_pipes p self.old n) ≡ with_pipes p self.new n) }
         ensures refusal { MatchResult result
             (λ _. (p : Pocket) (n : Net) → new_pipe_refusal (with_pipes p self.old n) ≡ None)
-            (λ e. (p : Pocket) (n : Net) → new_pipe_refusal (with_pipes p self.old n) ≡ refusal_in e) }
+            (λ e. (p : Pocket) (n : Net) →
+            new_pipe_refusal (with_pipes p self.old n) ≡ refusal_in e) }
         ensures keys { pipe_keys self.new.pipes ≡ pipe_keys self.old.pipes }
         ensures err { OnErr result (self.new ≡ self.old) }
     {
@@ -314,19 +343,29 @@ impl PipeTable {
         shelf: &mut S,
         owner: Owner,
         number: PipeNumber,
-    ) -> Result<Option<Vec<Packet>>, NoMemory>
+    ) -> Result<Option<Vec<Packet>>, AllocError>
         requires { AreNamed (S.pocket shelf.old owner) (pipe_keys self.old.pipes) }
         ensures seed { self.new.seed ≡ self.old.seed }
-        ensures ok { IfOk result (λ gone. (now : ℕ) (n : Net) → let m = with_pipes (S.pocket shelf.old owner) self.old n in
+        ensures ok { IfOk result
+            (λ gone. (now : ℕ) (n : Net) →
+            let m = with_pipes (S.pocket shelf.old owner) self.old n in
             option_map_or (delete_pipe now number m) (find_pipe number m) m
-            ≡ note_drops now (drops_by_deletion (option_map (λ v. v.items) gone)) (with_pipes (S.pocket shelf.new owner) self.new n)) }
-        ensures there { IfOk result (λ gone. (n : Net) → is_some gone ≡ is_some (find_pipe number (with_pipes (S.pocket shelf.old owner) self.old n))) }
-        ensures count { IfOk result (λ gone. length (drops_by_deletion (option_map (λ v. v.items) gone)) ≤ (S.pocket shelf.old owner).count) }
-        ensures keys { Keeps (S.pocket shelf.old owner) (S.pocket shelf.new owner) (pipe_keys self.old.pipes) (pipe_keys self.new.pipes) }
-        ensures others { (o : ℕ) → o ≢ owner → S.pocket shelf.new o ≡ S.pocket shelf.old o }
+            ≡ note_drops now (drops_by_deletion (option_map (λ v. v.items) gone))
+            (with_pipes (S.pocket shelf.new owner) self.new n)) }
+        ensures there { IfOk result
+            (λ gone. (n : Net) →
+            is_some gone
+            ≡ is_some (find_pipe number (with_pipes (S.pocket shelf.old owner) self.old n))) }
+        ensures count { IfOk result
+            (λ gone. length (drops_by_deletion (option_map (λ v. v.items) gone))
+            ≤ (S.pocket shelf.old owner).count) }
+        ensures keys { Keeps (S.pocket shelf.old owner) (S.pocket shelf.new owner)
+            (pipe_keys self.old.pipes) (pipe_keys self.new.pipes) }
+        ensures others { OthersStay owner (S.pocket shelf.old) (S.pocket shelf.new) }
         ensures memory { OnErr result (IsSome (pipe_of number self.old.pipes)) }
         ensures refused { OnErr result (self.new ≡ self.old) }
-        ensures refused_pocket { OnErr result (S.pocket shelf.new owner ≡ S.pocket shelf.old owner) }
+        ensures refused_pocket { OnErr result
+            (S.pocket shelf.new owner ≡ S.pocket shelf.old owner) }
     {
         keys_say_all();
         let Some(place) = self.place_of(number) else {

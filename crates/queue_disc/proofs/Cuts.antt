@@ -1,52 +1,12 @@
 -- A dequeue cuts what waits in three: what is dropped, what is given, and what still waits.
-use Rattle.std.proofs.Common.{◌≡◌, ℕ, ◌+◌, ◌<◌, ◌≤◌, ◌∙◌, ap, sym, refl, Bool, true, false, Option, Some, None, List, [], ◌∷◌, ◌++◌, length, take, drop, get_or, arith}
-use Rattle.std.specs.Prelude.{nat_lt, not, if◌then◌else◌, option_to_list, MatchOption}
+use Rattle.std.proofs.Common.{◌≡◌, ℕ, ◌+◌, ◌<◌, ◌≤◌, ◌∙◌, ap, sym, refl, Option, Some, None, List, [], ◌∷◌, ◌++◌, length, take, drop, get_or, arith}
+use Rattle.std.specs.Prelude.{option_to_list, MatchOption}
 use Rattle.std.proofs.lemmas.List.{take_more, take_at, drop_at, get_or-drop, length-drop, length-append, append_assoc, drop-drop}
 use Rattle.emu_model.specs.declared.pipes.QueueLimit.{QueueLimit}
 use Rattle.queue_disc.specs.Queues.{TailQueue}
 use Rattle.emu_model.specs.DropTail.{Waiting}
-use Rattle.emu_model.specs.Codel.{Times, Control, Dequeued, is_droppable, look, stop_dropping, count_up, set_next, give, give_none, after_drop, drop_on, drop_first, codel_dequeue}
-
-pub record IsCut {A : Type 0} (ws : List (Waiting A)) (d : Dequeued A) : Type 0 where
-  pub whole : ws ≡ d.dropped ++ (option_to_list d.given ++ d.rest)
-  pub last : d.given ≡ None → d.rest ≡ []
-
-give-cut : {A : Type 0} (c : Control) (w : Waiting A) (rest : List (Waiting A)) → IsCut (w ∷ rest) (give c w rest)
-give-cut c w rest = record { whole = refl; last = λ e. absurd (cc) }
-
-give_none-cut : {A : Type 0} (c : Control) → IsCut {A = A} [] (give_none c)
-give_none-cut c = record { whole = refl; last = λ e. refl }
-
-after_drop-cut : {A : Type 0} (w : Waiting A) (ws : List (Waiting A)) (d : Dequeued A) → IsCut ws d → IsCut (w ∷ ws) (after_drop w d)
-after_drop-cut w ws d h = record { whole = ap (λ vs. w ∷ vs) h.whole; last = h.last }
-
-either-cut : {A : Type 0} (b : Bool) (ws : List (Waiting A)) (d e : Dequeued A) → IsCut ws d → IsCut ws e → IsCut ws (if b then d else e)
-either-cut true ws d e h k = h
-either-cut false ws d e h k = k
-
-drop_on-cut : {A : Type 0} (times : Times) (now : ℕ) (c : Control) (w : Waiting A) (rest : List (Waiting A)) →
-    IsCut (w ∷ rest) (drop_on times now c w rest)
-drop_on-cut times now c w [] =
-    either-cut (nat_lt now c.drop_next) (w ∷ []) _ _ (give-cut c w []) (after_drop-cut w [] _ (give_none-cut _))
-drop_on-cut times now c w (v ∷ rest) =
-    let counted = look times now (count_up c) v rest in
-    either-cut (nat_lt now c.drop_next) (w ∷ v ∷ rest) _ _ (give-cut c w (v ∷ rest))
-    (either-cut (is_droppable times now c v rest) (w ∷ v ∷ rest) _ _
-    (after_drop-cut w (v ∷ rest) _ (drop_on-cut times now (set_next times counted.drop_next counted) v rest))
-    (after_drop-cut w (v ∷ rest) _ (give-cut _ v rest)))
-
-drop_first-cut : {A : Type 0} (times : Times) (now : ℕ) (c : Control) (w : Waiting A) (rest : List (Waiting A)) →
-    IsCut (w ∷ rest) (drop_first times now c w rest)
-drop_first-cut times now c w [] = after_drop-cut w [] _ (give_none-cut _)
-drop_first-cut times now c w (v ∷ rest) = after_drop-cut w (v ∷ rest) _ (give-cut _ v rest)
-
-pub codel_dequeue-cut : {A : Type 0} (times : Times) (now : ℕ) (c : Control) (ws : List (Waiting A)) →
-    IsCut ws (codel_dequeue times now c ws)
-codel_dequeue-cut times now c [] = give_none-cut _
-codel_dequeue-cut times now c (w ∷ rest) =
-    let seen = look times now c w rest in
-    either-cut (not (is_droppable times now c w rest)) (w ∷ rest) _ _ (give-cut (stop_dropping seen) w rest)
-    (either-cut c.dropping (w ∷ rest) _ _ (drop_on-cut times now seen w rest) (drop_first-cut times now seen w rest))
+use Rattle.emu_model.specs.Codel.{CodelState, Dequeued}
+use Rattle.emu_model.proofs.CallerLemmas.{IsCut}
 
 -- no more is dropped than waits
 pub dropped-le : {A : Type 0} (ws : List (Waiting A)) (d : Dequeued A) → IsCut ws d → length d.dropped ≤ length ws
@@ -64,7 +24,7 @@ left-is (Some v) None rest ends left e none m r = let nil = none refl in absurd 
 left-is (Some v) (Some w) rest ends left e none m r = (cc, cc)
 
 -- to take as many as are dropped, and then the head, is the dequeue
-pub taken-is : {A : Type 0} (ws : List (Waiting A)) (d : Dequeued A) (n : ℕ) (control : Control) (dropped : List (Waiting A)) (given : Option (Waiting A)) (rest left : List (Waiting A)) →
+pub taken-is : {A : Type 0} (ws : List (Waiting A)) (d : Dequeued A) (n : ℕ) (control : CodelState) (dropped : List (Waiting A)) (given : Option (Waiting A)) (rest left : List (Waiting A)) →
     IsCut ws d → n ≡ length d.dropped → control ≡ d.control → dropped ≡ take n ws → left ≡ drop n ws →
     MatchOption given (left ≡ []) (λ w. left ≡ w ∷ rest) → rest ≡ drop 1 left →
     (let r : Dequeued A = record { dropped = dropped; given = given; rest = rest; control = control } in r) ≡ d

@@ -1,13 +1,13 @@
 -- The judge goes along what waits, and says what the definition's recursion drops.
 use Rattle.std.proofs.Common.{◌≡◌, ℕ, ◌+◌, ◌-◌, ◌<◌, ◌∙◌, ap, sym, refl, Bool, true, false, List, [], ◌∷◌, length, drop, arith}
-use Rattle.std.specs.Prelude.{nat_lt, nat_le, not, ◌&&◌, ◌||◌, ◌==◌, if◌then◌else◌}
+use Rattle.std.specs.Prelude.{nat_lt, nat_le, not, ◌||◌, if◌then◌else◌}
 use Rattle.emu_model.specs.DropTail.{Waiting, bytes_of}
-use Rattle.emu_model.specs.Codel.{Times, Control, Dequeued, is_short, is_droppable, look, look_empty, stop_dropping, count_up, set_next, give, give_none, after_drop, drop_on, drop_first, codel_dequeue}
+use Rattle.emu_model.specs.Codel.{Times, CodelState, Dequeued, Found, dodequeue, dodequeue_of, is_short, ok_to_drop, look, look_empty, stop_dropping, count_up, set_next, give, give_none, after_drop, drop_on, drop_first, codel_dequeue}
 use Rattle.queue_disc.specs.declared.verdict.Verdict.{Verdict}
 use Rattle.queue_disc.specs.Judged.{verdict, verdict_of, after, drops_on}
 
 -- so many were judged to go, and these bytes are behind the next
-pub record IsJudged {A : Type 0} (times : Times) (now : ℕ) (seen : Control) (ws : List (Waiting A)) (drops left : ℕ) (control : Control) : Type 0 where
+pub record IsJudged {A : Type 0} (times : Times) (now : ℕ) (seen : CodelState) (ws : List (Waiting A)) (drops left : ℕ) (control : CodelState) : Type 0 where
   pub inside : drops < length ws
   pub behind : left ≡ bytes_of (drop (drops + 1) ws)
   pub so_far : drops_on times now seen (drop 1 ws)
@@ -20,7 +20,7 @@ after_drop-is w d =
     ap (λ n. verdict n d.control) more
 
 -- the judge's rule is the definition's, whatever the head
-drops_on-is : {A : Type 0} (times : Times) (now : ℕ) (c : Control) (w : Waiting A) (rest : List (Waiting A)) →
+drops_on-is : {A : Type 0} (times : Times) (now : ℕ) (c : CodelState) (w : Waiting A) (rest : List (Waiting A)) →
     verdict_of (drop_on times now c w rest) ≡ drops_on times now c rest
 drops_on-is {A = A} times now c w [] = by (nat_lt now c.drop_next)
   where
@@ -30,10 +30,10 @@ drops_on-is {A = A} times now c w [] = by (nat_lt now c.drop_next)
     by true = refl
     by false = refl
 drops_on-is {A = A} times now c w (v ∷ rest) =
-    by (nat_lt now c.drop_next) (is_droppable times now c v rest) _ _
+    by (nat_lt now c.drop_next) (ok_to_drop times now c v rest) _ _
     (drops_on-is times now (set_next times counted.drop_next counted) v rest)
   where
-    counted : Control
+    counted : CodelState
     counted = look times now (count_up c) v rest
 
     by : (b d : Bool) (later : Dequeued A) (judged : Verdict) → verdict_of later ≡ judged →
@@ -45,13 +45,13 @@ drops_on-is {A = A} times now c w (v ∷ rest) =
     by false false later judged e = refl
 
 -- a head that may be dropped, while dropping
-codel_dequeue-dropping : {A : Type 0} (times : Times) (now : ℕ) (c : Control) (w : Waiting A) (rest : List (Waiting A)) →
-    is_droppable times now c w rest ≡ true → c.dropping ≡ true →
+codel_dequeue-dropping : {A : Type 0} (times : Times) (now : ℕ) (c : CodelState) (w : Waiting A) (rest : List (Waiting A)) →
+    ok_to_drop times now c w rest ≡ true → c.dropping ≡ true →
     verdict_of (codel_dequeue times now c (w ∷ rest)) ≡ drops_on times now (look times now c w rest) rest
 codel_dequeue-dropping {A = A} times now c w rest may on =
-    by (is_droppable times now c w rest) c.dropping may on
+    by (ok_to_drop times now c w rest) c.dropping may on
   where
-    seen : Control
+    seen : CodelState
     seen = look times now c w rest
 
     by : (b d : Bool) → b ≡ true → d ≡ true →
@@ -63,13 +63,13 @@ codel_dequeue-dropping {A = A} times now c w rest may on =
     by false d e f = absurd (cc)
 
 -- one step of the judge: the moment hasn't come
-drops_on-not_due : {A : Type 0} (times : Times) (now : ℕ) (c : Control) (ws : List (Waiting A)) →
+drops_on-not_due : {A : Type 0} (times : Times) (now : ℕ) (c : CodelState) (ws : List (Waiting A)) →
     nat_lt now c.drop_next ≡ true → drops_on times now c ws ≡ verdict 0 c
 drops_on-not_due times now c [] e = rw e
 drops_on-not_due times now c (v ∷ rest) e = rw e
 
 -- the judge's end
-pub drops_on-all : {A : Type 0} (times : Times) (now : ℕ) (seen c : Control) (ws : List (Waiting A)) (drops left : ℕ) →
+pub drops_on-all : {A : Type 0} (times : Times) (now : ℕ) (seen c : CodelState) (ws : List (Waiting A)) (drops left : ℕ) →
     IsJudged times now seen ws drops left c → nat_lt now c.drop_next ≡ true →
     verdict drops c ≡ drops_on times now seen (drop 1 ws)
 drops_on-all times now seen c ws drops left h e =
@@ -77,16 +77,18 @@ drops_on-all times now seen c ws drops left h e =
     sym (h.so_far ∙ ap (λ v. after drops v) (drops_on-not_due times now c _ e) ∙ ap (λ n. verdict n c) none)
 
 -- the judge's beginning
-pub judged_dropping : {A : Type 0} (times : Times) (now : ℕ) (c : Control) (head : Waiting A) (ws rest : List (Waiting A)) (left : ℕ) (short : Bool) (seen : Control) →
+pub judged_dropping : {A : Type 0} (times : Times) (now : ℕ) (c : CodelState) (head : Waiting A) (ws rest : List (Waiting A)) (left : ℕ) (short : Bool) (found : Found) (seen : CodelState) →
     ws ≡ head ∷ rest → left ≡ bytes_of rest →
     short ≡ (nat_lt (now - head.stamp) times.target || nat_le left 1500) →
-    seen ≡ record c { first_above = if short then 0 else (if c.first_above == 0 then now + times.interval else c.first_above) } →
-    (not short && nat_lt 0 c.first_above && nat_le c.first_above now) ≡ true → c.dropping ≡ true →
+    found ≡ dodequeue times now c.first_above_time short → seen ≡ record c { first_above_time = found.first_above_time } →
+    found.ok_to_drop ≡ true → c.dropping ≡ true →
     drops_on times now seen rest ≡ verdict_of (codel_dequeue times now c ws)
-judged_dropping times now c head ws rest left short seen e l s f may on =
+judged_dropping times now c head ws rest left short found seen e l s looked f may on =
     let stay : short ≡ is_short times now head rest =
     s ∙ ap (λ n. nat_lt (now - head.stamp) times.target || nat_le n 1500) l in
-    rw (e, f, stay) (sym (codel_dequeue-dropping times now c head rest (rw stay at may) on))
+    let is : found ≡ dodequeue_of times now c head rest =
+    looked ∙ ap (λ b. dodequeue times now c.first_above_time b) stay in
+    rw (e, f, is) (sym (codel_dequeue-dropping times now c head rest (sym (ap (λ (x : Found). x.ok_to_drop) is) ∙ may) on))
 
 -- a test that failed
 pub not_true : (b : Bool) → false ≡ not b → b ≡ true

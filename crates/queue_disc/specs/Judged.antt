@@ -2,17 +2,17 @@
 -- rests on what is behind it, so the head itself isn't named.
 use Rattle.std.specs.Prelude.{ℕ, ◌+◌, List, [], ◌∷◌, length, nat_lt, if◌then◌else◌}
 use Rattle.emu_model.specs.DropTail.{Waiting}
-use Rattle.emu_model.specs.Codel.{Times, Control, Dequeued, is_droppable, look, look_empty, stop_dropping, count_up, set_next, begin_dropping}
+use Rattle.emu_model.specs.Codel.{Times, CodelState, Dequeued, ok_to_drop, look, look_empty, stop_dropping, count_up, set_next, begin_dropping}
 use Rattle.queue_disc.specs.declared.verdict.Verdict.{Verdict}
 
-abbrev pub verdict : ℕ → Control → Verdict
+abbrev pub verdict : ℕ → CodelState → Verdict
 verdict n c = record { drops = n; control = c }
 
 abbrev pub verdict_of : {A : Type 0} → Dequeued A → Verdict
 verdict_of d = verdict (length d.dropped) d.control
 
 -- as dropping begins
-abbrev pub drops_first : {A : Type 0} → Times → ℕ → Control → List (Waiting A) → Verdict
+abbrev pub drops_first : {A : Type 0} → Times → ℕ → CodelState → List (Waiting A) → Verdict
 drops_first times now c [] = verdict 1 (begin_dropping times now (look_empty c))
 drops_first times now c (v ∷ rest) = verdict 1 (begin_dropping times now (look times now c v rest))
 
@@ -21,7 +21,7 @@ abbrev pub after : ℕ → Verdict → Verdict
 after n v = verdict (n + v.drops) v.control
 
 -- while dropping
-abbrev pub drops_on : {A : Type 0} → Times → ℕ → Control → List (Waiting A) → Verdict
+abbrev pub drops_on : {A : Type 0} → Times → ℕ → CodelState → List (Waiting A) → Verdict
 drops_on times now c [] =
     if nat_lt now c.drop_next then verdict 0 c
     else verdict 1 (stop_dropping (look_empty (count_up c)))
@@ -29,5 +29,5 @@ drops_on times now c (v ∷ rest) =
     let counted = look times now (count_up c) v rest in
     let later = drops_on times now (set_next times counted.drop_next counted) rest in
     if nat_lt now c.drop_next then verdict 0 c
-    else (if is_droppable times now c v rest then after 1 later
+    else (if ok_to_drop times now c v rest then after 1 later
     else verdict 1 (stop_dropping counted))

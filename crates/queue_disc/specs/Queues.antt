@@ -2,7 +2,7 @@
 use Rattle.std.specs.Prelude.{◌≡◌, ℕ, zero, suc, ◌≤◌, List, [], ◌∷◌, All}
 use Rattle.emu_model.specs.declared.pipes.QueueLimit.{QueueLimit}
 use Rattle.emu_model.specs.DropTail.{Waiting, bytes_of}
-use Rattle.emu_model.specs.Codel.{Times, Control}
+use Rattle.emu_model.specs.Codel.{Times, CodelState}
 
 -- a drop-tail queue; up to `capacity` may wait before it has to grow
 pub record TailQueue (A : Type 0) : Type 0 where
@@ -14,7 +14,7 @@ pub record TailQueue (A : Type 0) : Type 0 where
 pub record CodelQueue (A : Type 0) : Type 0 where
   pub times : Times
   pub limit : QueueLimit
-  pub control : Control
+  pub control : CodelState
   pub waiting : List (Waiting A)
   pub capacity : ℕ
 

@@ -2,15 +2,15 @@
 
 ghost use Rattle.std.specs.Prelude.{◌≡◌, ◌≢◌, ◌+◌, ◌*◌, ◌^◌, ◌<◌, ◌≤◌, true, false, [], ◌∷◌, ◌++◌, length, map, drop, IfErr, IfOk, OnOk, OnErr, IsOk, MatchOption, slice_get};
 ghost use Rattle.emu_model.specs.DropTail.{bytes_of, accepts};
-ghost use Rattle.emu_model.specs.Codel.{codel_dequeue, opening_control};
+ghost use Rattle.emu_model.specs.Codel.{codel_dequeue, initial_control};
 ghost use Rattle.queue_disc.specs.Queues.{with_item};
 
-use crate::entries::{EnqueueError, NoMemory, Refused, Waiting};
-use crate::state::{Control, Times};
+use crate::entries::{EnqueueError, Refused, Waiting};
+use crate::state::{CodelState, Times};
 use crate::tail::DropTail;
 use crate::verdict::{Verdict, judge};
 use emu_model::{CodelTime, QueueLimit, Size};
-use std::alloc::Global;
+use std::alloc::{AllocError, Global};
 use std::marker::Model;
 
 /// A queue with a limit, whose head is dropped while what waits has waited for long.
@@ -18,7 +18,7 @@ use std::marker::Model;
 pub struct Codel<A> {
     queue: DropTail<A>,
     times: Times,
-    control: Control,
+    control: CodelState,
 }
 
 impl<A> Model for Codel<A> {
@@ -26,7 +26,13 @@ impl<A> Model for Codel<A> {
 
     ghost Value = { CodelQueue A };
 
-    ghost view = { λ q. record { times = q.times; limit = q.queue.limit; control = q.control; waiting = q.queue.waiting; capacity = q.queue.capacity } };
+    ghost view = { λ q. record {
+      times = q.times;
+      limit = q.queue.limit;
+      control = q.control;
+      waiting = q.queue.waiting;
+      capacity = q.queue.capacity;
+    } };
 }
 
 /// What a dequeue dropped, in order, and what it gave to the server.
@@ -42,7 +48,7 @@ impl<A> Codel<A> {
     pub fn new(alloc: Global, limit: QueueLimit, target: CodelTime, interval: CodelTime) -> Self
         ensures times { result.times ≡ record { target = target; interval = interval } }
         ensures limit { result.limit ≡ limit }
-        ensures control { result.control ≡ opening_control }
+        ensures control { result.control ≡ initial_control }
         ensures empty { result.waiting ≡ [] }
     {
         Codel::over(DropTail::new(alloc, limit), target, interval)
@@ -53,7 +59,7 @@ impl<A> Codel<A> {
         ensures { result ≡ record {
           times = record { target = target; interval = interval };
           limit = queue.limit;
-          control = opening_control;
+          control = initial_control;
           waiting = queue.waiting;
           capacity = queue.capacity;
         } }
@@ -61,13 +67,17 @@ impl<A> Codel<A> {
         Codel {
             queue,
             times: Times { target, interval },
-            control: Control::opening(),
+            control: CodelState::initial(),
         }
     }
 
     /// The same under its limit alone. Takes no memory.
     pub fn into_drop_tail(self) -> DropTail<A>
-        ensures { result ≡ record { limit = self.limit; waiting = self.waiting; capacity = self.capacity } }
+        ensures { result ≡ record {
+          limit = self.limit;
+          waiting = self.waiting;
+          capacity = self.capacity;
+        } }
     {
         let Codel {
             queue,
@@ -86,12 +96,16 @@ impl<A> Codel<A> {
         }) }
         ensures accepted { OnOk result (accepts self.old.limit self.old.waiting size ≡ true) }
         ensures grows { self.old.capacity ≤ self.new.capacity }
-        ensures in_place { OnOk result (length self.old.waiting < self.old.capacity → self.new.capacity ≡ self.old.capacity) }
+        ensures in_place { OnOk result
+            (length self.old.waiting < self.old.capacity → self.new.capacity ≡ self.old.capacity) }
         ensures unchanged { OnErr result (self.new ≡ self.old) }
         ensures returned { IfErr result (λ e. e.item ≡ item) }
-        ensures full { IfErr result (λ e. e.cause ≡ EnqueueError.Full → accepts self.old.limit self.old.waiting size ≡ false) }
+        ensures full { IfErr result
+            (λ e. e.cause ≡ EnqueueError.Full →
+            accepts self.old.limit self.old.waiting size ≡ false) }
         ensures no_memory { IfErr result (λ e. e.cause ≡ EnqueueError.NoMemory →
-            (accepts self.old.limit self.old.waiting size ≡ true) × (self.old.capacity ≤ length self.old.waiting)) }
+            (accepts self.old.limit self.old.waiting size ≡ true)
+            × (self.old.capacity ≤ length self.old.waiting)) }
     {
         self.queue.enqueue(item, size, now)
     }
@@ -100,37 +114,50 @@ impl<A> Codel<A> {
     pub fn enqueue_reserved(&mut self, item: A, size: Size, now: u64)
         requires accepted { accepts self.old.limit self.old.waiting size ≡ true }
         requires room { length self.old.waiting < self.old.capacity }
-        ensures { self.new ≡ record self.old { waiting = self.old.waiting ++ record { item = item; size = size; stamp = now } ∷ [] } }
+        ensures { self.new
+            ≡ record self.old {
+              waiting = self.old.waiting
+                  ++ record { item = item; size = size; stamp = now } ∷ [];
+            } }
     {
         self.queue.enqueue_reserved(item, size, now);
     }
 
     /// Makes the growth that `enqueue` of these can need.
-    pub fn enqueue_ready(&mut self, size: Size, now: u64) -> Result<(), NoMemory>
+    pub fn enqueue_ready(&mut self, size: Size, now: u64) -> Result<(), AllocError>
         ensures ok { OnOk result (self.new ≡ record self.old { capacity = self.new.capacity }) }
-        ensures room { OnOk result (accepts self.old.limit self.old.waiting size ≡ true → length self.new.waiting < self.new.capacity) }
+        ensures room { OnOk result
+            (accepts self.old.limit self.old.waiting size ≡ true →
+            length self.new.waiting < self.new.capacity) }
         ensures grows { self.old.capacity ≤ self.new.capacity }
         ensures unchanged { OnErr result (self.new ≡ self.old) }
-        ensures full { OnErr result ((accepts self.old.limit self.old.waiting size ≡ true) × (self.old.capacity ≤ length self.old.waiting)) }
+        ensures full { OnErr result
+            ((accepts self.old.limit self.old.waiting size ≡ true)
+            × (self.old.capacity ≤ length self.old.waiting)) }
     {
         self.queue.enqueue_ready(size, now)
     }
 
     /// `dequeue` of RFC 8289 at the moment `now`, in nanoseconds. It takes memory only where it drops.
     /// Refused, the queue is as before.
-    pub fn dequeue(&mut self, now: u64) -> Result<Dequeued<A>, NoMemory>
+    pub fn dequeue(&mut self, now: u64) -> Result<Dequeued<A>, AllocError>
         requires { now < 2 * 10 ^ 15 }
-        ensures ok { IfOk result (λ d. record { dropped = d.dropped.items; given = d.given; rest = self.new.waiting; control = self.new.control }
+        ensures ok { IfOk result
+            (λ d. record {
+              dropped = d.dropped.items;
+              given = d.given;
+              rest = self.new.waiting;
+              control = self.new.control;
+            }
             ≡ codel_dequeue self.old.times now self.old.control self.old.waiting) }
-        ensures same { self.new ≡ record self.old { control = self.new.control; waiting = self.new.waiting } }
+        ensures same { self.new
+            ≡ record self.old { control = self.new.control; waiting = self.new.waiting } }
         ensures unchanged { OnErr result (self.new ≡ self.old) }
         ensures no_drop { (codel_dequeue self.old.times now self.old.control self.old.waiting).dropped ≡ [] → IsOk result }
         ensures lone { length self.old.waiting ≤ 1 → IsOk result }
     {
         let Verdict { drops, control } = judge(&self.queue, self.times, self.control, now);
-        let Ok(mut dropped) = Vec::with_capacity(self.queue.allocator(), drops) else {
-            return Err(NoMemory);
-        };
+        let mut dropped = Vec::with_capacity(self.queue.allocator(), drops)?;
         self.queue.take_into(drops, &mut dropped);
         let given = self.queue.dequeue();
         self.control = control;
@@ -139,7 +166,8 @@ impl<A> Codel<A> {
 
     /// Takes the head as it is, past CoDel's law. Takes no memory.
     pub fn take(&mut self) -> Option<Waiting<A>>
-        ensures given { MatchOption result (self.old.waiting ≡ []) (λ w. self.old.waiting ≡ w ∷ self.new.waiting) }
+        ensures given { MatchOption result (self.old.waiting ≡ [])
+            (λ w. self.old.waiting ≡ w ∷ self.new.waiting) }
         ensures rest { self.new ≡ record self.old { waiting = drop 1 self.old.waiting } }
     {
         self.queue.dequeue()
@@ -177,16 +205,17 @@ impl<A> Codel<A> {
 
     /// Changes the times, in nanoseconds. CoDel's state stays.
     pub fn set_times(&mut self, target: CodelTime, interval: CodelTime)
-        ensures { self.new ≡ record self.old { times = record { target = target; interval = interval } } }
+        ensures { self.new
+            ≡ record self.old { times = record { target = target; interval = interval } } }
     {
         self.times = Times { target, interval };
     }
 
     /// Puts CoDel back to its opening state. What waits stays.
     pub fn reset_control(&mut self)
-        ensures { self.new ≡ record self.old { control = opening_control } }
+        ensures { self.new ≡ record self.old { control = initial_control } }
     {
-        self.control = Control::opening();
+        self.control = CodelState::initial();
     }
 }
 

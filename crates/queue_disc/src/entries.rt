@@ -34,7 +34,3 @@ pub struct Refused<A> {
     pub item: A,
     pub cause: EnqueueError,
 }
-
-/// A growth was refused, and nothing changed.
-#[derive(Clone, Copy, Debug, PartialEq, Eq)]
-pub struct NoMemory;

@@ -13,6 +13,6 @@ mod tests;
 mod verdict;
 
 pub use controlled::{Codel, Dequeued};
-pub use entries::{EnqueueError, NoMemory, Refused, Waiting};
+pub use entries::{EnqueueError, Refused, Waiting};
 pub use law::control_law;
 pub use tail::DropTail;

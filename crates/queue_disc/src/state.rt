@@ -1,13 +1,13 @@
 //! CoDel's state, one small function for each step of RFC 8289's `dodequeue` and `dequeue`.
 
 ghost use Rattle.std.specs.Prelude.{◌≡◌, ◌+◌, ◌-◌, ◌*◌, ◌^◌, ◌<◌, ◌≤◌, ◌==◌, ◌&&◌, ◌||◌, not, nat_lt, nat_le, if◌then◌else◌};
-ghost use Rattle.emu_model.specs.Codel.{opening_control, look_empty, stop_dropping, count_up, set_next, begin_dropping};
+ghost use Rattle.emu_model.specs.Codel.{initial_control, dodequeue, look_empty, stop_dropping, count_up, set_next, begin_dropping};
 
 use crate::law::control_law;
 use emu_model::CodelTime;
 use std::marker::Model;
 
-/// The greatest packet, in bytes: no more than that left behind is a short queue (own).
+/// The greatest packet, in bytes: no more than that left behind is a short queue (our choice).
 const GREATEST_PACKET: u64 = 1500;
 
 /// Dropping began a short while ago within so many intervals.
@@ -38,34 +38,79 @@ impl Times {
     }
 }
 
+/// What is found of a head: whether it may be dropped, and the moment (ns) at which the stay has been
+/// long for an interval.
 #[derive(Clone, Copy)]
-pub(crate) struct Control {
-    first_above: u64,
+pub(crate) struct Found {
+    ok_to_drop: bool,
+    first_above_time: u64,
+}
+
+impl Model for Found {
+    ghost use Rattle.emu_model.specs.Codel.{Found as CodelFound};
+
+    ghost Value = { CodelFound };
+
+    ghost view = { λ f. record {
+      ok_to_drop = f.ok_to_drop;
+      first_above_time = f.first_above_time;
+    } };
+
+    ghost inverse = { λ f. record {
+      ok_to_drop = f.ok_to_drop;
+      first_above_time = f.first_above_time;
+    } };
+}
+
+impl Found {
+    /// Whether the head may be dropped: the stay has been long for an interval.
+    pub(crate) fn ok_to_drop(self) -> bool
+        ensures { result ≡ self.ok_to_drop }
+    {
+        self.ok_to_drop
+    }
+}
+
+#[derive(Clone, Copy)]
+pub(crate) struct CodelState {
+    first_above_time: u64,
     drop_next: u64,
     count: u32,
     last_count: u32,
     dropping: bool,
 }
 
-impl Model for Control {
+impl Model for CodelState {
     ghost use Rattle.std.specs.Prelude.{◌+◌, ◌*◌, ◌^◌, ◌≤◌};
-    ghost use Rattle.emu_model.specs.Codel.{Control as CodelControl};
+    ghost use Rattle.emu_model.specs.Codel.{CodelState as CodelControl};
 
     ghost Value = { CodelControl };
 
-    ghost view = { λ c. record { first_above = c.first_above; drop_next = c.drop_next; count = c.count; last_count = c.last_count; dropping = c.dropping } };
+    ghost view = { λ c. record {
+      first_above_time = c.first_above_time;
+      drop_next = c.drop_next;
+      count = c.count;
+      last_count = c.last_count;
+      dropping = c.dropping;
+    } };
 
     ghost invariant = { λ c. c.drop_next ≤ 2 * 10 ^ 15 + 6 * 10 ^ 10 };
 
-    ghost inverse = { λ c. record { first_above = c.first_above; drop_next = c.drop_next; count = c.count; last_count = c.last_count; dropping = c.dropping } };
+    ghost inverse = { λ c. record {
+      first_above_time = c.first_above_time;
+      drop_next = c.drop_next;
+      count = c.count;
+      last_count = c.last_count;
+      dropping = c.dropping;
+    } };
 }
 
-impl Control {
-    pub(crate) fn opening() -> Self
-        ensures { result ≡ opening_control }
+impl CodelState {
+    pub(crate) fn initial() -> Self
+        ensures { result ≡ initial_control }
     {
-        Control {
-            first_above: 0,
+        CodelState {
+            first_above_time: 0,
             drop_next: 0,
             count: 0,
             last_count: 0,
@@ -86,30 +131,35 @@ impl Control {
         self.drop_next <= now
     }
 
-    /// Whether a head may be dropped: the stay has been long for an interval.
-    pub(crate) fn is_droppable(self, now: u64, short: bool) -> bool
-        ensures { result ≡ (not short && nat_lt 0 self.first_above && nat_le self.first_above now) }
+    /// What is found of a head whose stay is short, or isn't (RFC 8289, section 5.4, `dodequeue`).
+    pub(crate) fn dodequeue(self, times: Times, now: u64, short: bool) -> Found
+        requires { now < 2 * 10 ^ 15 }
+        ensures { result ≡ dodequeue times now self.first_above_time short }
     {
-        !short && 0 < self.first_above && self.first_above <= now
+        if short {
+            return Found {
+                ok_to_drop: false,
+                first_above_time: 0,
+            };
+        }
+        if self.first_above_time == 0 {
+            return Found {
+                ok_to_drop: false,
+                first_above_time: now + times.interval.get(),
+            };
+        }
+        Found {
+            ok_to_drop: self.first_above_time <= now,
+            first_above_time: self.first_above_time,
+        }
     }
 
     /// Once a head was looked at.
-    pub(crate) fn look(self, times: Times, now: u64, short: bool) -> Self
-        requires { now < 2 * 10 ^ 15 }
-        ensures { result ≡ record self {
-          first_above = if short then 0
-              else (if self.first_above == 0 then now + times.interval else self.first_above);
-        } }
+    pub(crate) fn look(self, found: Found) -> Self
+        ensures { result ≡ record self { first_above_time = found.first_above_time } }
     {
-        let first_above = if short {
-            0
-        } else if self.first_above == 0 {
-            now + times.interval.get()
-        } else {
-            self.first_above
-        };
-        Control {
-            first_above,
+        CodelState {
+            first_above_time: found.first_above_time,
             ..self
         }
     }
@@ -118,8 +168,8 @@ impl Control {
     pub(crate) fn look_empty(self) -> Self
         ensures { result ≡ look_empty self }
     {
-        Control {
-            first_above: 0,
+        CodelState {
+            first_above_time: 0,
             ..self
         }
     }
@@ -127,7 +177,7 @@ impl Control {
     pub(crate) fn stop_dropping(self) -> Self
         ensures { result ≡ stop_dropping self }
     {
-        Control {
+        CodelState {
             dropping: false,
             ..self
         }
@@ -136,7 +186,7 @@ impl Control {
     pub(crate) fn count_up(self) -> Self
         ensures { result ≡ count_up self }
     {
-        Control {
+        CodelState {
             count: self.count.saturating_add(1),
             ..self
         }
@@ -148,7 +198,7 @@ impl Control {
         requires early { self.drop_next < 2 * 10 ^ 15 }
         ensures { result ≡ set_next times self.drop_next self }
     {
-        Control {
+        CodelState {
             drop_next: control_law(self.drop_next, self.count, times.interval),
             ..self
         }
@@ -162,7 +212,7 @@ impl Control {
         let since = self.count.saturating_sub(self.last_count);
         let recent = self.drop_next + RECENT_INTERVALS * times.interval.get();
         let count = if since > 1 && now < recent { since } else { 1 };
-        Control {
+        CodelState {
             dropping: true,
             count,
             last_count: count,

@@ -2,13 +2,13 @@
 
 ghost use Rattle.std.specs.Prelude.{◌≡◌, ◌+◌, ◌-◌, ◌*◌, ◌^◌, ◌<◌, ◌≤◌, true, false, [], ◌∷◌, ◌++◌, length, map, drop, IfErr, OnOk, OnErr, IsTrue, MatchOption, slice_get, take, vec_len, vec_capacity};
 ghost use Rattle.emu_model.specs.DropTail.{bytes_of, accepts};
-ghost use Rattle.emu_model.specs.Codel.{opening_control};
+ghost use Rattle.emu_model.specs.Codel.{initial_control};
 ghost use Rattle.queue_disc.specs.Queues.{with_item};
 
 use crate::controlled::Codel;
-use crate::entries::{EnqueueError, NoMemory, Refused, Waiting};
+use crate::entries::{EnqueueError, Refused, Waiting};
 use emu_model::{CodelTime, QueueLimit, Size};
-use std::alloc::Global;
+use std::alloc::{AllocError, Global};
 use std::collections::VecDeque;
 use std::marker::Model;
 
@@ -30,7 +30,11 @@ impl<A> Model for DropTail<A> {
 
     ghost Value = { TailQueue A };
 
-    ghost view = { λ q. record { limit = q.limit; waiting = q.waiting.items; capacity = deque_capacity q.waiting } };
+    ghost view = { λ q. record {
+      limit = q.limit;
+      waiting = q.waiting.items;
+      capacity = deque_capacity q.waiting;
+    } };
 
     ghost invariant = { λ q. IsCounted q.bytes q.waiting.items };
 }
@@ -57,12 +61,16 @@ impl<A> DropTail<A> {
         }) }
         ensures accepted { OnOk result (accepts self.old.limit self.old.waiting size ≡ true) }
         ensures grows { self.old.capacity ≤ self.new.capacity }
-        ensures in_place { OnOk result (length self.old.waiting < self.old.capacity → self.new.capacity ≡ self.old.capacity) }
+        ensures in_place { OnOk result
+            (length self.old.waiting < self.old.capacity → self.new.capacity ≡ self.old.capacity) }
         ensures unchanged { OnErr result (self.new ≡ self.old) }
         ensures returned { IfErr result (λ e. e.item ≡ item) }
-        ensures full { IfErr result (λ e. e.cause ≡ EnqueueError.Full → accepts self.old.limit self.old.waiting size ≡ false) }
+        ensures full { IfErr result
+            (λ e. e.cause ≡ EnqueueError.Full →
+            accepts self.old.limit self.old.waiting size ≡ false) }
         ensures no_memory { IfErr result (λ e. e.cause ≡ EnqueueError.NoMemory →
-            (accepts self.old.limit self.old.waiting size ≡ true) × (self.old.capacity ≤ length self.old.waiting)) }
+            (accepts self.old.limit self.old.waiting size ≡ true)
+            × (self.old.capacity ≤ length self.old.waiting)) }
     {
         if !self.accepts(size) {
             return Err(Refused {
@@ -84,7 +92,11 @@ impl<A> DropTail<A> {
     pub fn enqueue_reserved(&mut self, item: A, size: Size, now: u64)
         requires accepted { accepts self.old.limit self.old.waiting size ≡ true }
         requires room { length self.old.waiting < self.old.capacity }
-        ensures { self.new ≡ record self.old { waiting = self.old.waiting ++ record { item = item; size = size; stamp = now } ∷ [] } }
+        ensures { self.new
+            ≡ record self.old {
+              waiting = self.old.waiting
+                  ++ record { item = item; size = size; stamp = now } ∷ [];
+            } }
     {
         // Tells how many bytes can wait at most; nothing of it is left in the program.
         let _accepted = self.accepts(size);
@@ -97,12 +109,16 @@ impl<A> DropTail<A> {
     }
 
     /// Makes the growth that `enqueue` of these can need.
-    pub fn enqueue_ready(&mut self, size: Size, _now: u64) -> Result<(), NoMemory>
+    pub fn enqueue_ready(&mut self, size: Size, _now: u64) -> Result<(), AllocError>
         ensures ok { OnOk result (self.new ≡ record self.old { capacity = self.new.capacity }) }
-        ensures room { OnOk result (accepts self.old.limit self.old.waiting size ≡ true → length self.new.waiting < self.new.capacity) }
+        ensures room { OnOk result
+            (accepts self.old.limit self.old.waiting size ≡ true →
+            length self.new.waiting < self.new.capacity) }
         ensures grows { self.old.capacity ≤ self.new.capacity }
         ensures unchanged { OnErr result (self.new ≡ self.old) }
-        ensures full { OnErr result ((accepts self.old.limit self.old.waiting size ≡ true) × (self.old.capacity ≤ length self.old.waiting)) }
+        ensures full { OnErr result
+            ((accepts self.old.limit self.old.waiting size ≡ true)
+            × (self.old.capacity ≤ length self.old.waiting)) }
     {
         if self.accepts(size) {
             self.reserve()
@@ -113,7 +129,8 @@ impl<A> DropTail<A> {
 
     /// Takes the head. Takes no memory.
     pub fn dequeue(&mut self) -> Option<Waiting<A>>
-        ensures given { MatchOption result (self.old.waiting ≡ []) (λ w. self.old.waiting ≡ w ∷ self.new.waiting) }
+        ensures given { MatchOption result (self.old.waiting ≡ [])
+            (λ w. self.old.waiting ≡ w ∷ self.new.waiting) }
         ensures rest { self.new ≡ record self.old { waiting = drop 1 self.old.waiting } }
     {
         let head = self.waiting.pop_front()?;
@@ -162,7 +179,7 @@ impl<A> DropTail<A> {
         ensures { result ≡ record {
           times = record { target = target; interval = interval };
           limit = self.limit;
-          control = opening_control;
+          control = initial_control;
           waiting = self.waiting;
           capacity = self.capacity;
         } }
@@ -198,7 +215,7 @@ impl<A> DropTail<A> {
     }
 
     /// Makes room for one more: twice as many places where none is free.
-    fn reserve(&mut self) -> Result<(), NoMemory>
+    fn reserve(&mut self) -> Result<(), AllocError>
         ensures ok { OnOk result (self.new ≡ record self.old { capacity = self.new.capacity }) }
         ensures room { OnOk result (length self.new.waiting < self.new.capacity) }
         ensures grows { self.old.capacity ≤ self.new.capacity }
@@ -212,7 +229,7 @@ impl<A> DropTail<A> {
         }
         match self.waiting.reserve_exact(waiting.max(LEAST_GROWTH)) {
             Ok(()) => Ok(()),
-            Err(_) => Err(NoMemory),
+            Err(_) => Err(AllocError),
         }
     }
 }

@@ -201,9 +201,9 @@ fn memory_that_runs_out_changes_nothing(rt: HostRuntime) -> Result<(), Fail> {
     };
     let refused = Some(EnqueueError::NoMemory);
     assert_eq!(rt; cause(tail.enqueue(1, small, 0)), refused);
-    assert_eq!(rt; tail.enqueue_ready(small, 0), Err(NoMemory));
+    assert_eq!(rt; tail.enqueue_ready(small, 0), Err(AllocError));
     assert_eq!(rt; cause(fresh.enqueue(1, small, 0)), refused);
-    assert_eq!(rt; fresh.enqueue_ready(small, 0), Err(NoMemory));
+    assert_eq!(rt; fresh.enqueue_ready(small, 0), Err(AllocError));
     assert!(rt; dropping.dequeue(late).is_err());
     assert_eq!(rt; (dropping.waiting(), dropping.bytes()), (3, 3000));
     drop(blocks);

@@ -5,16 +5,16 @@ ghost use Rattle.emu_model.specs.DropTail.{bytes_of};
 ghost use Rattle.emu_model.specs.Codel.{codel_dequeue};
 ghost use Rattle.queue_disc.specs.Judged.{verdict_of, drops_first, drops_on};
 
-use crate::state::{Control, Times};
+use crate::state::{CodelState, Times};
 use crate::tail::DropTail;
 
 /// How many are dropped from the head, and the state after the dequeue.
 pub(crate) struct Verdict {
     pub(crate) drops: usize,
-    pub(crate) control: Control,
+    pub(crate) control: CodelState,
 }
 
-pub(crate) fn judge<A>(queue: &DropTail<A>, times: Times, control: Control, now: u64) -> Verdict
+pub(crate) fn judge<A>(queue: &DropTail<A>, times: Times, control: CodelState, now: u64) -> Verdict
     requires { now < 2 * 10 ^ 15 }
     ensures { result ≡ verdict_of (codel_dequeue times now control queue.now.waiting) }
 {
@@ -26,8 +26,9 @@ pub(crate) fn judge<A>(queue: &DropTail<A>, times: Times, control: Control, now:
     };
     let left = queue.bytes() - u64::from(head.size.get());
     let short = times.is_short(now, head.stamp, left);
-    let seen = control.look(times, now, short);
-    if !control.is_droppable(now, short) {
+    let found = control.dodequeue(times, now, short);
+    let seen = control.look(found);
+    if !found.ok_to_drop() {
         return Verdict {
             drops: 0,
             control: seen.stop_dropping(),
@@ -40,7 +41,13 @@ pub(crate) fn judge<A>(queue: &DropTail<A>, times: Times, control: Control, now:
 }
 
 /// Where the head may be dropped and dropping begins; `left` bytes are behind it.
-fn judge_first<A>(queue: &DropTail<A>, times: Times, seen: Control, now: u64, left: u64) -> Verdict
+fn judge_first<A>(
+    queue: &DropTail<A>,
+    times: Times,
+    seen: CodelState,
+    now: u64,
+    left: u64,
+) -> Verdict
     requires early { now < 2 * 10 ^ 15 }
     requires left { left ≡ bytes_of (drop 1 queue.now.waiting) }
     ensures { result ≡ drops_first times now seen (drop 1 queue.now.waiting) }
@@ -49,7 +56,7 @@ fn judge_first<A>(queue: &DropTail<A>, times: Times, seen: Control, now: u64, le
         Some(next) => {
             let behind = left - u64::from(next.size.get());
             let short = times.is_short(now, next.stamp, behind);
-            seen.look(times, now, short)
+            seen.look(seen.dodequeue(times, now, short))
         }
         None => seen.look_empty(),
     };
@@ -63,7 +70,7 @@ fn judge_first<A>(queue: &DropTail<A>, times: Times, seen: Control, now: u64, le
 fn judge_dropping<A>(
     queue: &DropTail<A>,
     times: Times,
-    seen: Control,
+    seen: CodelState,
     now: u64,
     mut left: u64,
 ) -> Verdict
@@ -86,8 +93,9 @@ fn judge_dropping<A>(
         };
         left -= u64::from(next.size.get());
         let short = times.is_short(now, next.stamp, left);
-        let looked = counted.look(times, now, short);
-        if !control.is_droppable(now, short) {
+        let found = counted.dodequeue(times, now, short);
+        let looked = counted.look(found);
+        if !found.ok_to_drop() {
             return Verdict {
                 drops,
                 control: looked.stop_dropping(),

@@ -8,7 +8,7 @@ use Rattle.emu_model.specs.declared.sources.Timing.{Timing}
 use Rattle.emu_model.specs.Reno.{Sender, Sample, timeout_at, emit, emitted, may_emit, ack, ack_new, ack_duplicate, expire, is_new, is_duplicate, round_trip, sample_after, half_flight, bounded}
 use Rattle.reno_core.specs.Sound.{IsFlow, IsSound, IsSent}
 use Rattle.reno_core.specs.RenoLaws.{Event, acknowledged, expired, allowed, moment_of, IsHistory, sender_with, sender_after, sent_with, firsts_sent, PositionsStayInOrder, WindowHoldsASegment, LossLeavesTwoSegments, SecondExpiryHolds, TimedIsSentOnce, AdaptiveTimeIsBounded}
-use Rattle.reno_core.proofs.Keeping.{ack_sound, expire_sound, emit_sound, opening_sound, multiple_after}
+use Rattle.reno_core.proofs.SoundnessKept.{ack_sound, expire_sound, emit_sound, initial_sound, multiple_after}
 
 with_sound : (f : FlowSpec) (e : Event) (s : Sender) → moment_of e < 2 * 10 ^ 15 → IsSound f s →
     IsSound f (sender_with f e s)
@@ -18,7 +18,7 @@ with_sound f (allowed now) s early h =
     cond_both (may_emit f s) _ _ (IsSound f) (λ may. emit_sound f now s h may) (λ _. h)
 
 sound_after : (f : FlowSpec) (es : List Event) → IsFlow f → IsHistory es → IsSound f (sender_after f es)
-sound_after f [] h past = opening_sound f h
+sound_after f [] h past = initial_sound f h
 sound_after f (e ∷ es) h past = with_sound f e (sender_after f es) past.0 (sound_after f es h past.1)
 
 pub positions_stay_in_order : PositionsStayInOrder
@@ -31,7 +31,7 @@ window_holds_a_segment f es h past = (sound_after f es h past).window
 pub adaptive_time_is_bounded : AdaptiveTimeIsBounded
 adaptive_time_is_bounded f es h past adaptive =
     let s = sound_after f es h past in
-    let P : Timing → Type 0 = λ t. timeout_at t ≤ (sender_after f es).timeout in
+    let P : Timing → Type 0 = λ t. timeout_at t ≤ (sender_after f es).rto in
     (subst P adaptive s.quick, s.slow)
 
 -- the third duplicate
@@ -45,7 +45,7 @@ third f s out two = cond_both s.recovery _ _ (λ (t : Sender). 2 * f.smss ≤ t.
 
 pub loss_leaves_two_segments : LossLeavesTwoSegments
 loss_leaves_two_segments f now a s = (
-  λ first. cond_both s.timed s.ssthresh (half_flight f s) (λ n. 2 * f.smss ≤ n)
+  λ first. cond_both s.backed_off s.ssthresh (half_flight f s) (λ n. 2 * f.smss ≤ n)
       (λ e. absurd (true≢false (sym e ∙ first))) (λ _. omega arith),
   λ same out two. cond_both (is_new f a s) _ _ (λ (t : Sender). 2 * f.smss ≤ t.ssthresh)
       (λ new. absurd (not_both new same))
@@ -55,25 +55,25 @@ loss_leaves_two_segments f now a s = (
   where
     not_both : is_new f a s ≡ true → is_duplicate a s ≡ true → ⊥
     not_both new same =
-        let newer = ltb-true s.una a ((and_parts (nat_lt s.una a) (nat_le a s.top) ((and_parts (nat_lt s.una a && nat_le a s.top) (a % f.smss == 0) new).0)).0) in
-        let equal = eqb-true a s.una ((and_parts (a == s.una) (nat_lt s.una s.top) same).0) in
+        let newer = ltb-true s.snd_una a ((and_parts (nat_lt s.snd_una a) (nat_le a s.snd_max) ((and_parts (nat_lt s.snd_una a && nat_le a s.snd_max) (a % f.smss == 0) new).0)).0) in
+        let equal = eqb-true a s.snd_una ((and_parts (a == s.snd_una) (nat_lt s.snd_una s.snd_max) same).0) in
         omega (arith, newer, equal)
 
-duplicate_timed : (f : FlowSpec) (s : Sender) → (ack_duplicate f s).timed ≡ s.timed
-duplicate_timed f s = cond_both s.recovery _ _ (λ (t : Sender). t.timed ≡ s.timed) (λ _. refl)
-    (λ _. cond_both (bounded (s.duplicates + 1) == 3) _ _ (λ (t : Sender). t.timed ≡ s.timed) (λ _. refl) (λ _. refl))
+duplicate_timed : (f : FlowSpec) (s : Sender) → (ack_duplicate f s).backed_off ≡ s.backed_off
+duplicate_timed f s = cond_both s.recovery _ _ (λ (t : Sender). t.backed_off ≡ s.backed_off) (λ _. refl)
+    (λ _. cond_both (bounded (s.duplicates + 1) == 3) _ _ (λ (t : Sender). t.backed_off ≡ s.backed_off) (λ _. refl) (λ _. refl))
 
 pub second_expiry_holds : SecondExpiryHolds
 second_expiry_holds f now a s = (
   refl,
-  cond_both s.resend _ _ (λ (t : Sender). t.timed ≡ s.timed) (λ _. refl) (λ _. refl),
-  λ old. cond_both (is_new f a s) _ _ (λ (t : Sender). t.timed ≡ s.timed) (λ new. absurd (true≢false (sym new ∙ old)))
-      (λ _. cond_both (is_duplicate a s) _ _ (λ (t : Sender). t.timed ≡ s.timed) (λ _. duplicate_timed f s) (λ _. refl)),
-  λ timed. cond_both s.timed s.ssthresh (half_flight f s) (λ n. n ≡ s.ssthresh) (λ _. refl)
+  cond_both s.resend _ _ (λ (t : Sender). t.backed_off ≡ s.backed_off) (λ _. refl) (λ _. refl),
+  λ old. cond_both (is_new f a s) _ _ (λ (t : Sender). t.backed_off ≡ s.backed_off) (λ new. absurd (true≢false (sym new ∙ old)))
+      (λ _. cond_both (is_duplicate a s) _ _ (λ (t : Sender). t.backed_off ≡ s.backed_off) (λ _. duplicate_timed f s) (λ _. refl)),
+  λ timed. cond_both s.backed_off s.ssthresh (half_flight f s) (λ n. n ≡ s.ssthresh) (λ _. refl)
       (λ e. absurd (true≢false (sym timed ∙ e))),
 )
 
--- each segment that was sent ends at `top` or below
+-- each segment that was sent ends at `snd_max` or below
 abbrev AreBelow : ℕ → ℕ → List ℕ → Type 0
 AreBelow top smss [] = ⊤
 AreBelow top smss (x ∷ xs) = (x + smss ≤ top) × AreBelow top smss xs
@@ -107,22 +107,22 @@ times_sent f firsts m = count_by (λ x. x + f.smss == m.end) firsts
 
 -- how often what is timed was sent
 record Timed (f : FlowSpec) (s : Sender) (firsts : List ℕ) : Type 0 where
-  below : AreBelow s.top f.smss firsts
+  below : AreBelow s.snd_max f.smss firsts
   once : (m : Sample) → s.sample ≡ Some m → count_by (λ x. x + f.smss == m.end) firsts ≡ 1
 
 -- t sent no more than s, and times nothing else
 record Keeps (s t : Sender) : Type 0 where
-  top : t.top ≡ s.top
+  snd_max : t.snd_max ≡ s.snd_max
   sample : (m : Sample) → t.sample ≡ Some m → s.sample ≡ Some m
 
 kept_timed : (f : FlowSpec) (s t : Sender) (firsts : List ℕ) → Keeps s t → Timed f s firsts → Timed f t firsts
 kept_timed f s t firsts k h = record {
-  below = still_below s.top t.top f.smss firsts (omega (arith, k.top)) h.below;
+  below = still_below s.snd_max t.snd_max f.smss firsts (omega (arith, k.snd_max)) h.below;
   once = λ m is. h.once m (k.sample m is);
 }
 
 new_keeps : (f : FlowSpec) (now a : ℕ) (s : Sender) → Keeps s (ack_new f now a s)
-new_keeps f now a s = record { top = refl; sample = λ m is. go (round_trip now a s.sample) m is }
+new_keeps f now a s = record { snd_max = refl; sample = λ m is. go (round_trip now a s.sample) m is }
   where
     go : (r : Option ℕ) (m : Sample) → sample_after r s.sample ≡ Some m → s.sample ≡ Some m
     go None m is = is
@@ -130,53 +130,53 @@ new_keeps f now a s = record { top = refl; sample = λ m is. go (round_trip now 
 
 duplicate_keeps : (f : FlowSpec) (s : Sender) → Keeps s (ack_duplicate f s)
 duplicate_keeps f s = cond_both s.recovery _ _ (Keeps s)
-    (λ _. record { top = refl; sample = λ m is. is })
+    (λ _. record { snd_max = refl; sample = λ m is. is })
     (λ _. cond_both (bounded (s.duplicates + 1) == 3) _ _ (Keeps s)
-    (λ _. record { top = refl; sample = λ m is. absurd (cc is) })
-    (λ _. record { top = refl; sample = λ m is. is }))
+    (λ _. record { snd_max = refl; sample = λ m is. absurd (cc is) })
+    (λ _. record { snd_max = refl; sample = λ m is. is }))
 
 ack_keeps : (f : FlowSpec) (now a : ℕ) (s : Sender) → Keeps s (ack f now a s)
 ack_keeps f now a s = cond_both (is_new f a s) _ _ (Keeps s) (λ _. new_keeps f now a s)
     (λ _. cond_both (is_duplicate a s) _ _ (Keeps s) (λ _. duplicate_keeps f s)
-    (λ _. record { top = refl; sample = λ m is. is }))
+    (λ _. record { snd_max = refl; sample = λ m is. is }))
 
 again_timed : (f : FlowSpec) (now : ℕ) (s : Sender) (firsts : List ℕ) → IsSound f s → s.resend ≡ true →
     Timed f s firsts → Timed f (emit f now s) (emitted s ∷ firsts)
 again_timed f now s firsts h again k = rw again (record {
-  below = (multiple_after s.una s.top f.smss h.una_whole h.top_whole (h.resends again), k.below);
+  below = (multiple_after s.snd_una s.snd_max f.smss h.una_whole h.top_whole (h.resends again), k.below);
   once = λ m is. absurd (cc (is, h.timed_once again));
 })
 
 first_timed : (f : FlowSpec) (now : ℕ) (s : Sender) (firsts : List ℕ) → IsSound f s → s.resend ≡ false →
     Timed f s firsts → Timed f (emit f now s) (emitted s ∷ firsts)
 first_timed f now s firsts h first k = rw first (record {
-  below = (omega arith, still_below s.top (max s.top (s.nxt + f.smss)) f.smss firsts (omega arith) k.below);
-  once = λ m. cond_both (is_none s.sample && (s.nxt == s.top)) _ s.sample (λ o. o ≡ Some m → times_sent f (s.nxt ∷ firsts) m ≡ 1)
+  below = (omega arith, still_below s.snd_max (max s.snd_max (s.snd_nxt + f.smss)) f.smss firsts (omega arith) k.below);
+  once = λ m. cond_both (is_none s.sample && (s.snd_nxt == s.snd_max)) _ s.sample (λ o. o ≡ Some m → times_sent f (s.snd_nxt ∷ firsts) m ≡ 1)
       (λ e is. starts m ((and_parts _ _ e).1) is) (λ _ is. goes_on m is);
 })
   where
-    starts : (m : Sample) → (s.nxt == s.top) ≡ true →
-        Some (record { end = s.nxt + f.smss; sent = now }) ≡ Some m → times_sent f (s.nxt ∷ firsts) m ≡ 1
+    starts : (m : Sample) → (s.snd_nxt == s.snd_max) ≡ true →
+        Some (record { end = s.snd_nxt + f.smss; sent = now }) ≡ Some m → times_sent f (s.snd_nxt ∷ firsts) m ≡ 1
     starts m e is =
-        let at : s.nxt + f.smss ≡ m.end = ap (λ o. end_of o) is in
-        let fresh : s.nxt ≡ s.top = eqb-true s.nxt s.top e in
+        let at : s.snd_nxt + f.smss ≡ m.end = ap (λ o. end_of o) is in
+        let fresh : s.snd_nxt ≡ s.snd_max = eqb-true s.snd_nxt s.snd_max e in
         let least = h.flow.least in
-        count-cons (λ x. x + f.smss == m.end) s.nxt firsts true (eq-eqb (s.nxt + f.smss) m.end at)
-        ∙ omega (arith, none_above s.top f.smss m.end firsts k.below (omega (arith, at, fresh, least)))
+        count-cons (λ x. x + f.smss == m.end) s.snd_nxt firsts true (eq-eqb (s.snd_nxt + f.smss) m.end at)
+        ∙ omega (arith, none_above s.snd_max f.smss m.end firsts k.below (omega (arith, at, fresh, least)))
 
-    goes_on : (m : Sample) → s.sample ≡ Some m → times_sent f (s.nxt ∷ firsts) m ≡ 1
+    goes_on : (m : Sample) → s.sample ≡ Some m → times_sent f (s.snd_nxt ∷ firsts) m ≡ 1
     goes_on m is =
-        let P : Option Sample → Type 0 = IsSent s.nxt in
-        let ended : m.end ≤ s.nxt = subst P is h.timed_sent in
+        let P : Option Sample → Type 0 = IsSent s.snd_nxt in
+        let ended : m.end ≤ s.snd_nxt = subst P is h.timed_sent in
         let least = h.flow.least in
-        count-cons (λ x. x + f.smss == m.end) s.nxt firsts false (ne_eqb (s.nxt + f.smss) m.end (λ e. absurd (omega (arith, e, ended, least))))
+        count-cons (λ x. x + f.smss == m.end) s.snd_nxt firsts false (ne_eqb (s.snd_nxt + f.smss) m.end (λ e. absurd (omega (arith, e, ended, least))))
         ∙ omega (arith, k.once m is)
 
 timed_with : (f : FlowSpec) (e : Event) (s : Sender) (firsts : List ℕ) → IsSound f s → Timed f s firsts →
     Timed f (sender_with f e s) (sent_with f e s firsts)
 timed_with f (acknowledged now a) s firsts h k = kept_timed f s (ack f now a s) firsts (ack_keeps f now a s) k
 timed_with f (expired now) s firsts h k =
-    kept_timed f s (expire f now s) firsts (record { top = refl; sample = λ m is. absurd (cc is) }) k
+    kept_timed f s (expire f now s) firsts (record { snd_max = refl; sample = λ m is. absurd (cc is) }) k
 timed_with f (allowed now) s firsts h k = go (may_emit f s)
   where
     go : (b : Bool) → Timed f (if b then emit f now s else s) (if b then emitted s ∷ firsts else firsts)

@@ -1,3 +1,3 @@
-pub mod Keeping
+pub mod SoundnessKept
 pub mod Receiving
 pub mod Histories

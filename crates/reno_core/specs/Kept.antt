@@ -30,7 +30,7 @@ Rises (x ∷ xs) = IsBelow x xs × Rises xs
 abbrev pub IsApart : ℕ → ℕ → List ℕ → Type 0
 IsApart smss n others = (k : ℕ) → k < n → contains (k * smss) others ≡ false
 
--- how many segments a receiver takes, far above what a flow sends (own)
+-- how many segments a receiver takes, far above what a flow sends (our choice)
 abbrev pub most_segments : ℕ
 most_segments = 2 ^ 32
 

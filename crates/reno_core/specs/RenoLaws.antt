@@ -3,7 +3,7 @@
 use Rattle.std.specs.Prelude.{◌≡◌, ℕ, ◌+◌, ◌*◌, ◌^◌, ◌<◌, ◌≤◌, ⊤, true, false, Some, List, [], ◌∷◌, ◌==◌, if◌then◌else◌, count_by}
 use Rattle.emu_model.specs.declared.sources.FlowSpec.{FlowSpec}
 use Rattle.emu_model.specs.declared.sources.Timing.TheVariants.{Adaptive}
-use Rattle.emu_model.specs.Reno.{Sender, Sample, total_bytes, longest, opening_sender, ack, expire, emit, emitted, may_emit, is_new, is_duplicate, with_segment, missing}
+use Rattle.emu_model.specs.Reno.{Sender, Sample, total_bytes, longest, initial_sender, ack, expire, emit, emitted, may_emit, is_new, is_duplicate, with_segment, missing}
 use Rattle.reno_core.specs.Sound.{IsFlow}
 
 -- what happens to a sender, at a moment: it is acknowledged all bytes below a number, its timer
@@ -30,7 +30,7 @@ sender_with f (expired now) s = expire f now s
 sender_with f (allowed now) s = if may_emit f s then emit f now s else s
 
 abbrev pub sender_after : FlowSpec → List Event → Sender
-sender_after f [] = opening_sender f
+sender_after f [] = initial_sender f
 sender_after f (e ∷ es) = sender_with f e (sender_after f es)
 
 abbrev pub sent_with : FlowSpec → Event → Sender → List ℕ → List ℕ
@@ -46,7 +46,7 @@ firsts_sent f (e ∷ es) = sent_with f e (sender_after f es) (firsts_sent f es)
 -- what is acknowledged was sent, and what was sent is of the flow (RFC 5681)
 abbrev pub PositionsStayInOrder : Type 0
 PositionsStayInOrder = (f : FlowSpec) (es : List Event) → IsFlow f → IsHistory es →
-    let s = sender_after f es in (s.una ≤ s.nxt) × (s.nxt ≤ s.top) × (s.top ≤ total_bytes f)
+    let s = sender_after f es in (s.snd_una ≤ s.snd_nxt) × (s.snd_nxt ≤ s.snd_max) × (s.snd_max ≤ total_bytes f)
 
 -- the window never falls below one segment (RFC 5681, section 3.1)
 abbrev pub WindowHoldsASegment : Type 0
@@ -56,17 +56,17 @@ WindowHoldsASegment = (f : FlowSpec) (es : List Event) → IsFlow f → IsHistor
 -- a third duplicate and a first expiry leave ssthresh at two segments at least (RFC 5681, equation 4)
 abbrev pub LossLeavesTwoSegments : Type 0
 LossLeavesTwoSegments = (f : FlowSpec) (now a : ℕ) (s : Sender) →
-    (s.timed ≡ false → 2 * f.smss ≤ (expire f now s).ssthresh)
+    (s.backed_off ≡ false → 2 * f.smss ≤ (expire f now s).ssthresh)
     × (is_duplicate a s ≡ true → s.recovery ≡ false → s.duplicates ≡ 2 → 2 * f.smss ≤ (ack f now a s).ssthresh)
 
 -- an expiry after another holds ssthresh, unless new data was acknowledged between them (RFC 5681,
 -- section 3.1)
 abbrev pub SecondExpiryHolds : Type 0
 SecondExpiryHolds = (f : FlowSpec) (now a : ℕ) (s : Sender) →
-    ((expire f now s).timed ≡ true)
-    × ((emit f now s).timed ≡ s.timed)
-    × (is_new f a s ≡ false → (ack f now a s).timed ≡ s.timed)
-    × (s.timed ≡ true → (expire f now s).ssthresh ≡ s.ssthresh)
+    ((expire f now s).backed_off ≡ true)
+    × ((emit f now s).backed_off ≡ s.backed_off)
+    × (is_new f a s ≡ false → (ack f now a s).backed_off ≡ s.backed_off)
+    × (s.backed_off ≡ true → (expire f now s).ssthresh ≡ s.ssthresh)
 
 -- what is timed was sent once (RFC 6298, section 3, Karn)
 abbrev pub TimedIsSentOnce : Type 0
@@ -78,14 +78,14 @@ TimedIsSentOnce = (f : FlowSpec) (es : List Event) (m : Sample) → IsFlow f →
 abbrev pub AdaptiveTimeIsBounded : Type 0
 AdaptiveTimeIsBounded = (f : FlowSpec) (es : List Event) → IsFlow f → IsHistory es →
     f.timing ≡ Adaptive →
-    (10 ^ 9 ≤ (sender_after f es).timeout) × ((sender_after f es).timeout ≤ longest)
+    (10 ^ 9 ≤ (sender_after f es).rto) × ((sender_after f es).rto ≤ longest)
 
 -- whatever comes, a receiver never takes back what it acknowledged (RFC 5681, section 2)
 abbrev pub NumberNeverFalls : Type 0
 NumberNeverFalls = (smss first : ℕ) (came : List ℕ) →
     missing smss came ≤ missing smss (with_segment first came)
 
--- the order in which segments come makes no difference, nor does one that comes again (own)
+-- the order in which segments come makes no difference, nor does one that comes again (our choice)
 abbrev pub SegmentsAreASet : Type 0
 SegmentsAreASet = (a b : ℕ) (came : List ℕ) →
     (with_segment a (with_segment b came) ≡ with_segment b (with_segment a came))

@@ -1,7 +1,7 @@
 -- What holds of every sender.
 use Rattle.std.specs.Prelude.{◌≡◌, ℕ, ◌*◌, ◌%◌, ◌^◌, ◌<◌, ◌≤◌, ⊤, Option, Some, None, true}
 use Rattle.emu_model.specs.declared.sources.FlowSpec.{FlowSpec}
-use Rattle.emu_model.specs.Reno.{Sender, Sample, Estimate, total_bytes, opening_timeout, longest, greatest_word}
+use Rattle.emu_model.specs.Reno.{Sender, Sample, Estimate, total_bytes, initial_rto, longest, greatest_word}
 
 -- the ranges of a flow
 pub record IsFlow (f : FlowSpec) : Type 0 where
@@ -10,8 +10,8 @@ pub record IsFlow (f : FlowSpec) : Type 0 where
   pub few : f.segments ≤ 1000000
   pub threshold : 1 ≤ f.ssthresh
   pub bounded : f.ssthresh ≤ 1000000000
-  pub quick : 1000000 ≤ opening_timeout f
-  pub slow : opening_timeout f ≤ longest
+  pub quick : 1000000 ≤ initial_rto f
+  pub slow : initial_rto f ≤ longest
 
 -- round trips are below 2 * 10^15 ns, as all moments are
 abbrev pub IsEstimate : Option Estimate → Type 0
@@ -26,12 +26,12 @@ IsSent nxt (Some m) = m.end ≤ nxt
 pub record IsSound (f : FlowSpec) (s : Sender) : Type 0 where
   pub flow : IsFlow f
   -- the bytes that are acknowledged were sent, and are whole segments
-  pub acknowledged : s.una ≤ s.nxt
-  pub sent : s.nxt ≤ s.top
-  pub within : s.top ≤ total_bytes f
-  pub una_whole : s.una % f.smss ≡ 0
-  pub nxt_whole : s.nxt % f.smss ≡ 0
-  pub top_whole : s.top % f.smss ≡ 0
+  pub acknowledged : s.snd_una ≤ s.snd_nxt
+  pub sent : s.snd_nxt ≤ s.snd_max
+  pub within : s.snd_max ≤ total_bytes f
+  pub una_whole : s.snd_una % f.smss ≡ 0
+  pub nxt_whole : s.snd_nxt % f.smss ≡ 0
+  pub top_whole : s.snd_max % f.smss ≡ 0
   -- the window holds a segment, and recovery ends with two
   pub window : f.smss ≤ s.cwnd
   pub window_fits : s.cwnd ≤ greatest_word
@@ -40,11 +40,11 @@ pub record IsSound (f : FlowSpec) (s : Sender) : Type 0 where
   pub recovers : s.recovery ≡ true → 2 * f.smss ≤ s.ssthresh
   pub duplicates_fit : s.duplicates ≤ greatest_word
   -- what is to be sent again wasn't acknowledged
-  pub resends : s.resend ≡ true → s.una < s.top
+  pub resends : s.resend ≡ true → s.snd_una < s.snd_max
   -- the time is never shorter than the first, nor above 60 s
-  pub quick : opening_timeout f ≤ s.timeout
-  pub slow : s.timeout ≤ longest
+  pub quick : initial_rto f ≤ s.rto
+  pub slow : s.rto ≤ longest
   pub estimated : IsEstimate s.estimate
   -- what is timed was sent once
-  pub timed_sent : IsSent s.nxt s.sample
+  pub timed_sent : IsSent s.snd_nxt s.sample
   pub timed_once : s.resend ≡ true → s.sample ≡ None

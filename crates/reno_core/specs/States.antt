@@ -13,16 +13,16 @@ estimate_of e = record { srtt = e.srtt; rttvar = e.rttvar }
 
 abbrev pub sender_of : State → Sender
 sender_of s = record {
-  una = s.una;
-  nxt = s.nxt;
-  top = s.top;
+  snd_una = s.snd_una;
+  snd_nxt = s.snd_nxt;
+  snd_max = s.snd_max;
   cwnd = s.cwnd;
   ssthresh = s.ssthresh;
   duplicates = s.duplicates;
   recovery = s.recovery;
   resend = s.resend;
-  timed = s.timed;
-  timeout = s.timeout;
+  backed_off = s.backed_off;
+  rto = s.rto;
   timer = s.timer;
   sample = option_map sample_of s.sample;
   estimate = option_map estimate_of s.estimate;

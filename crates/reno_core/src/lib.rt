@@ -1,5 +1,5 @@
 //! A Reno sender and its receiver (RFC 5681; adaptive retransmission times: RFC 6298; the reply to
-//! each segment: own).
+//! each segment: our choice).
 #![tactic(auto)]
 
 mod laws;

@@ -1,4 +1,4 @@
-//! A receiver (own): it acknowledges each segment at once, with the least byte that did not come.
+//! A receiver (our choice): it acknowledges each segment at once, with the least byte that did not come.
 
 ghost use Rattle.std.specs.Prelude.{◌≡◌, ℕ, ◌+◌, ◌<◌, ◌≤◌, ◌↔◌, [], length, IfOk, IsOk, IsTrue, OnOk, OnErr};
 ghost use Rattle.std.specs.VecDeque.{deque_capacity};
@@ -10,7 +10,7 @@ use std::alloc::{AllocError, Global};
 use std::collections::VecDeque;
 use std::marker::Model;
 
-/// How many segments a receiver takes, far above what a flow sends: then no position wraps (own).
+/// How many segments a receiver takes, far above what a flow sends: then no position wraps (our choice).
 const MOST_SEGMENTS: u64 = 4_294_967_296;
 
 /// Keeps which segments came: how many in order, and beside them only those past the first gap. A
@@ -64,7 +64,8 @@ impl Receiver {
 
         // Without room, only what is neither next nor there already can be refused.
         ensures succeeds { 0 < self.old.room → IsOk result }
-        ensures next { first ≡ missing self.old.smss self.old.came → length self.old.came < most_segments → IsOk result }
+        ensures next { first ≡ missing self.old.smss self.old.came →
+            length self.old.came < most_segments → IsOk result }
         ensures again { IsTrue (contains first self.old.came) → IsOk result }
     {
         let smss = u64::from(self.smss.get());

@@ -1,7 +1,7 @@
 //! A Reno sender.
 
 ghost use Rattle.std.specs.Prelude.{◌≡◌, ◌+◌, ◌*◌, ◌%◌, ◌^◌, ◌<◌, ◌≤◌, true};
-ghost use Rattle.emu_model.specs.Reno.{total_bytes, opening_sender, ack as acknowledged, expire as expired, emit as sent, emitted, may_emit};
+ghost use Rattle.emu_model.specs.Reno.{total_bytes, initial_sender, ack as acknowledged, expire as expired, emit as sent, emitted, may_emit};
 ghost use Rattle.reno_core.specs.Sound.{IsSound};
 
 use crate::state::State;
@@ -32,9 +32,9 @@ impl Model for Sender {
 impl Sender {
     /// A sender that sent nothing yet.
     pub fn new(flow: FlowSpec) -> Self
-        ensures { result ≡ record { flow = flow; sender = opening_sender flow } }
+        ensures { result ≡ record { flow = flow; sender = initial_sender flow } }
     {
-        let state = State::opening(&flow);
+        let state = State::initial(&flow);
         Sender { flow, state }
     }
 
@@ -49,7 +49,8 @@ impl Sender {
     /// Takes an acknowledgement of all bytes below `upto` at the moment `now`.
     pub fn ack(&mut self, now: u64, upto: u64)
         requires { now < 2 * 10 ^ 15 }
-        ensures { self.new ≡ record self.old { sender = acknowledged self.old.flow now upto self.old.sender } }
+        ensures { self.new
+            ≡ record self.old { sender = acknowledged self.old.flow now upto self.old.sender } }
     {
         self.state.ack(&self.flow, now, upto);
     }
@@ -57,7 +58,8 @@ impl Sender {
     /// Its timer came due at the moment `now`.
     pub fn expire(&mut self, now: u64)
         requires { now < 2 * 10 ^ 15 }
-        ensures { self.new ≡ record self.old { sender = expired self.old.flow now self.old.sender } }
+        ensures { self.new
+            ≡ record self.old { sender = expired self.old.flow now self.old.sender } }
     {
         self.state.expire(&self.flow, now);
     }
@@ -66,7 +68,8 @@ impl Sender {
     pub fn emit(&mut self, now: u64) -> u64
         requires now { now < 2 * 10 ^ 15 }
         requires may { may_emit self.old.flow self.old.sender ≡ true }
-        ensures sender { self.new ≡ record self.old { sender = sent self.old.flow now self.old.sender } }
+        ensures sender { self.new
+            ≡ record self.old { sender = sent self.old.flow now self.old.sender } }
         ensures first { result ≡ emitted self.old.sender }
         ensures whole { result % self.old.flow.smss ≡ 0 }
         ensures within { result < total_bytes self.old.flow }

@@ -1,35 +1,35 @@
 //! What a sender knows, and how each event changes it: one function for each rule.
 
 ghost use Rattle.std.specs.Prelude.{◌≡◌, ℕ, ◌+◌, ◌-◌, ◌*◌, ◌^◌, ◌<◌, ◌≤◌, true, false, Some, None, option_map, min, max, if◌then◌else◌};
-ghost use Rattle.emu_model.specs.Reno.{opening_sender, longest, greatest_word, opening_timeout, total_bytes, has_room, started_timer, started_sample, half_flight, bounded, grown_window, round_trip, timeout_after, sample_after, estimate_after, ack_new, ack_duplicate, enter_recovery, is_new, is_duplicate, ack, expire, emit, emitted, may_emit};
+ghost use Rattle.emu_model.specs.Reno.{initial_sender, longest, greatest_word, initial_rto, total_bytes, has_room, started_timer, started_sample, half_flight, bounded, grown_window, round_trip, timeout_after, sample_after, estimate_after, ack_new, ack_duplicate, enter_recovery, is_new, is_duplicate, ack, expire, emit, emitted, may_emit};
 ghost use Rattle.reno_core.specs.States.{sender_of, sample_of, estimate_of};
 ghost use Rattle.reno_core.specs.Sound.{IsSound, IsFlow, IsEstimate};
 
 use crate::times::{Estimate, LONGEST, SHORTEST, Sample, nanoseconds};
 use emu_model::{FlowSpec, Timing};
 
-/// Where cwnd and duplicates stay (own).
+/// Where cwnd and duplicates stay (our choice).
 const GREATEST_WORD: u64 = 4_294_967_295;
 
 /// The least segment size for which a sender begins with three segments and not four (RFC 5681,
 /// section 3.1).
 const LARGE_SEGMENT: u64 = 1096;
 
-/// The bytes below `una` are acknowledged, `nxt` is the next to be sent, and all below `top` were
+/// The bytes below `snd_una` are acknowledged, `snd_nxt` is the next to be sent, and all below `snd_max` were
 /// sent once (RFC 5681). Moments and times are in nanoseconds.
 #[derive(Clone, Copy)]
 pub(crate) struct State {
-    pub(crate) una: u64,
-    pub(crate) nxt: u64,
-    pub(crate) top: u64,
+    pub(crate) snd_una: u64,
+    pub(crate) snd_nxt: u64,
+    pub(crate) snd_max: u64,
     pub(crate) cwnd: u64,
     pub(crate) ssthresh: u64,
     pub(crate) duplicates: u64,
     pub(crate) recovery: bool,
     pub(crate) resend: bool,
     // The last timer expired, and no new data was acknowledged since.
-    pub(crate) timed: bool,
-    pub(crate) timeout: u64,
+    pub(crate) backed_off: bool,
+    pub(crate) rto: u64,
     pub(crate) timer: Option<u64>,
     pub(crate) sample: Option<Sample>,
     pub(crate) estimate: Option<Estimate>,
@@ -54,16 +54,16 @@ pub(crate) fn total_bytes(flow: &FlowSpec) -> u64
 
 impl State {
     /// Nothing is sent yet (RFC 5681, section 3.1).
-    pub(crate) fn opening(flow: &FlowSpec) -> Self
-        ensures sender { sender_of result ≡ opening_sender flow.now }
+    pub(crate) fn initial(flow: &FlowSpec) -> Self
+        ensures sender { sender_of result ≡ initial_sender flow.now }
         ensures flow { IsFlow flow.now }
     {
         let smss = segment_bytes(flow);
         let _total = flow.segments.get();
         State {
-            una: 0,
-            nxt: 0,
-            top: 0,
+            snd_una: 0,
+            snd_nxt: 0,
+            snd_max: 0,
             cwnd: if smss < LARGE_SEGMENT {
                 4 * smss
             } else {
@@ -73,8 +73,8 @@ impl State {
             duplicates: 0,
             recovery: false,
             resend: false,
-            timed: false,
-            timeout: match flow.timing {
+            backed_off: false,
+            rto: match flow.timing {
                 Timing::Fixed(time) => nanoseconds(time),
                 Timing::Adaptive => SHORTEST,
             },
@@ -84,21 +84,22 @@ impl State {
         }
     }
 
-    /// A segment at `nxt` is left, and fits the lesser of both windows.
+    /// A segment at `snd_nxt` is left, and fits the lesser of both windows.
     pub(crate) fn has_room(&self, flow: &FlowSpec) -> bool
         requires { IsSound flow.now (sender_of self.now) }
         ensures { result ≡ has_room flow.now (sender_of self.now) }
     {
         let window = self.cwnd.min(u64::from(flow.window.get()));
-        self.nxt < total_bytes(flow) && self.nxt + segment_bytes(flow) - self.una <= window
+        self.snd_nxt < total_bytes(flow)
+            && self.snd_nxt + segment_bytes(flow) - self.snd_una <= window
     }
 
     /// Half of what is under way, and at least two segments (RFC 5681, equation 4).
     fn half_flight(&self, flow: &FlowSpec) -> u64
-        requires { self.now.una ≤ self.now.top }
+        requires { self.now.snd_una ≤ self.now.snd_max }
         ensures { result ≡ half_flight flow.now (sender_of self.now) }
     {
-        ((self.top - self.una) / 2).max(2 * segment_bytes(flow))
+        ((self.snd_max - self.snd_una) / 2).max(2 * segment_bytes(flow))
     }
 
     /// The window after an acknowledgement of `count` new bytes: at recovery's end, in slow start, or
@@ -134,7 +135,7 @@ impl State {
         requires estimate { IsEstimate (sender_of self.old).estimate }
         ensures { let r = round_trip now upto (sender_of self.old).sample in
             sender_of self.new ≡ record (sender_of self.old) {
-              timeout = timeout_after flow.now.timing r (sender_of self.old);
+              rto = timeout_after flow.now.timing r (sender_of self.old);
               sample = sample_after r (sender_of self.old).sample;
               estimate = estimate_after r (sender_of self.old).estimate;
             } }
@@ -143,10 +144,10 @@ impl State {
             let estimate = Estimate::after(time, self.estimate);
             self.sample = None;
             self.estimate = Some(estimate);
-            self.timeout = estimate.timeout();
+            self.rto = estimate.timeout();
         }
         if let Timing::Fixed(time) = flow.timing {
-            self.timeout = nanoseconds(time);
+            self.rto = nanoseconds(time);
         }
     }
 
@@ -157,22 +158,22 @@ impl State {
         requires new { is_new flow.now upto (sender_of self.old) ≡ true }
         ensures { sender_of self.new ≡ ack_new flow.now now upto (sender_of self.old) }
     {
-        self.cwnd = self.grown_window(flow, upto - self.una);
+        self.cwnd = self.grown_window(flow, upto - self.snd_una);
         self.take_round_trip(flow, now, upto);
-        self.una = upto;
-        self.nxt = self.nxt.max(upto);
+        self.snd_una = upto;
+        self.snd_nxt = self.snd_nxt.max(upto);
         self.duplicates = 0;
         self.recovery = false;
         self.resend = false;
-        self.timed = false;
-        self.timer = if upto < self.top {
-            Some(now + self.timeout)
+        self.backed_off = false;
+        self.timer = if upto < self.snd_max {
+            Some(now + self.rto)
         } else {
             None
         };
     }
 
-    /// The third duplicate: the segment at `una` is sent again (RFC 5681, section 3.2, steps 2 and 3).
+    /// The third duplicate: the segment at `snd_una` is sent again (RFC 5681, section 3.2, steps 2 and 3).
     fn enter_recovery(&mut self, flow: &FlowSpec)
         requires sound { IsSound flow.now (sender_of self.old) }
         ensures { sender_of self.new ≡ enter_recovery flow.now (sender_of self.old) }
@@ -200,13 +201,13 @@ impl State {
     fn is_new(&self, flow: &FlowSpec, upto: u64) -> bool
         ensures { result ≡ is_new flow.now upto (sender_of self.now) }
     {
-        self.una < upto && upto <= self.top && upto % segment_bytes(flow) == 0
+        self.snd_una < upto && upto <= self.snd_max && upto % segment_bytes(flow) == 0
     }
 
     fn is_duplicate(&self, upto: u64) -> bool
         ensures { result ≡ is_duplicate upto (sender_of self.now) }
     {
-        upto == self.una && self.una < self.top
+        upto == self.snd_una && self.snd_una < self.snd_max
     }
 
     /// An acknowledgement of all bytes below `upto`. One that is neither of new data nor a duplicate
@@ -229,17 +230,17 @@ impl State {
         requires sound { IsSound flow.now (sender_of self.old) }
         ensures { sender_of self.new ≡ expire flow.now now (sender_of self.old) }
     {
-        if !self.timed {
+        if !self.backed_off {
             self.ssthresh = self.half_flight(flow);
         }
         self.cwnd = segment_bytes(flow);
-        self.nxt = self.una;
+        self.snd_nxt = self.snd_una;
         self.duplicates = 0;
         self.recovery = false;
         self.resend = false;
-        self.timed = true;
-        self.timeout = (2 * self.timeout).min(LONGEST);
-        self.timer = Some(now + self.timeout);
+        self.backed_off = true;
+        self.rto = (2 * self.rto).min(LONGEST);
+        self.timer = Some(now + self.rto);
         self.sample = None; // its segment may be sent again
     }
 
@@ -251,20 +252,20 @@ impl State {
         ensures first { result ≡ emitted (sender_of self.old) }
     {
         if self.timer.is_none() {
-            self.timer = Some(now + self.timeout);
+            self.timer = Some(now + self.rto);
         }
         if self.resend {
             self.resend = false;
-            return self.una;
+            return self.snd_una;
         }
-        let first = self.nxt;
+        let first = self.snd_nxt;
         let end = first + segment_bytes(flow);
         // What was sent before is not timed (RFC 6298, section 3, Karn).
-        if self.sample.is_none() && first == self.top {
+        if self.sample.is_none() && first == self.snd_max {
             self.sample = Some(Sample { end, sent: now });
         }
-        self.nxt = end;
-        self.top = self.top.max(end);
+        self.snd_nxt = end;
+        self.snd_max = self.snd_max.max(end);
         first
     }
 }

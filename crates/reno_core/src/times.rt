@@ -1,7 +1,7 @@
 //! Retransmission times: fixed, or from round trips (RFC 6298).
 
 ghost use Rattle.std.specs.Prelude.{◌≡◌, ◌*◌, ◌^◌, ◌<◌, ◌≤◌, option_map};
-ghost use Rattle.emu_model.specs.Reno.{longest, new_estimate, estimated_timeout, opening_timeout, timeout_at};
+ghost use Rattle.emu_model.specs.Reno.{longest, new_estimate, estimated_timeout, initial_rto, timeout_at};
 ghost use Rattle.reno_core.specs.States.{estimate_of};
 ghost use Rattle.reno_core.specs.Sound.{IsEstimate};
 
@@ -15,7 +15,7 @@ pub(crate) const SHORTEST: u64 = 1_000_000_000;
 /// The longest time, in nanoseconds (RFC 6298, section 2.5).
 pub(crate) const LONGEST: u64 = 60_000_000_000;
 
-/// A segment whose acknowledgement is timed: its end, and the moment (ns) at which it was sent.
+/// A segment whose acknowledgement is backed_off: its end, and the moment (ns) at which it was sent.
 #[derive(Clone, Copy)]
 pub(crate) struct Sample {
     pub(crate) end: u64,

@@ -1,6 +1,6 @@
 mod Examples
 pub mod Decimals
-pub mod Places
+pub mod DigitsMore
 pub mod Pairs
 pub mod Kept
 pub mod Made

@@ -1,5 +1,5 @@
 -- The text of a report: a line for the experiment's name, one for each record, one for the
--- counters (own). The fields of a line stand with one space between, and a line ends with LF.
+-- counters (our choice). The fields of a line stand with one space between, and a line ends with LF.
 use Rattle.std.specs.Prelude.{ℕ, Bool, true, false, List, [], ◌∷◌, ◌++◌, if◌then◌else◌, codes, decimal, filter}
 use Rattle.std.specs.List.{join_with_byte, flat_map}
 use Rattle.emu_model.specs.declared.records.Record.{Record}

@@ -1,7 +1,13 @@
--- The room that a vector of bytes has beyond what it holds.
-use Rattle.std.specs.Prelude.{ℕ, ◌-◌}
+-- The room that a vector of bytes has beyond what it holds, and what an append does.
+use Rattle.std.specs.Prelude.{◌≡◌, ℕ, ◌+◌, ◌-◌, ◌≤◌, List, ◌++◌}
 use Rattle.std.specs.Global.{Vec}
 use Rattle.std.specs.Vec.{vec_len, vec_capacity}
 
 unfoldable pub spare : Vec ℕ → ℕ
 spare bytes = vec_capacity bytes - vec_len bytes
+
+-- a text was appended where there was room, of which it takes so much at most
+pub record Appends (text : List ℕ) (most : ℕ) (old new : Vec ℕ) : Type 0 where
+  pub items : new.items ≡ old.items ++ text
+  pub room : spare old ≤ spare new + most
+  pub capacity : vec_capacity old ≤ vec_capacity new

@@ -1,4 +1,4 @@
--- What stands in a line of a report: each as its bytes (own; rules and pipes in the words of
+-- What stands in a line of a report: each as its bytes (our choice; rules and pipes in the words of
 -- ipfw(8)).
 use Rattle.std.specs.Prelude.{ℕ, ◌+◌, ◌/◌, ◌%◌, ◌^◌, ◌==◌, zero, suc, List, [], ◌∷◌, ◌++◌, Option, None, Some, if◌then◌else◌, codes, decimal, slice_index}
 use Rattle.std.specs.List.{join_with_byte}

@@ -28,7 +28,8 @@ fn put_pair(text: &mut [u8], at: usize, pair: u32)
 #[inline(always)]
 pub fn put_four(text: &mut [u8], at: usize, four: u32)
     requires { (four < 10000) × (at + 4 ≤ length text.old) }
-    ensures { drop at text.new ≡ pair_of (four / 100) ++ (pair_of (four % 100) ++ drop (at + 4) text.old) }
+    ensures { drop at text.new
+        ≡ pair_of (four / 100) ++ (pair_of (four % 100) ++ drop (at + 4) text.old) }
 {
     put_pair(text, at + 2, four % 100);
     put_pair(text, at, four / 100);
@@ -77,9 +78,21 @@ fn put_eight(text: &mut [u8], end: usize, number: u32) -> usize
     put_short(text, end - 4, number / 10_000)
 }
 
-/// Puts a number, and returns where it begins.
+// Puts a number of two digits or more, and returns where it begins.
 #[tactic(auto, using(crate::proofs::Decimals::at_most_twenty))]
-#[inline]
+fn put_long(text: &mut [u8], end: usize, number: u64) -> usize
+    requires { (20 ≤ end) × (end ≤ length text.old) }
+    ensures start { (end ≤ result + 20) × (result ≤ end) }
+    ensures items { drop result text.new ≡ decimal number ++ drop end text.old }
+{
+    if number < EIGHT_DIGITS {
+        return put_eight(text, end, number as u32);
+    }
+    write_digits(number, text, end)
+}
+
+/// Puts a number, and returns where it begins.
+#[inline(always)]
 pub fn put_number(text: &mut [u8], end: usize, number: u64) -> usize
     requires { (20 ≤ end) × (end ≤ length text.old) }
     ensures start { (end ≤ result + 20) × (result ≤ end) }
@@ -90,8 +103,5 @@ pub fn put_number(text: &mut [u8], end: usize, number: u64) -> usize
         text[end - 1] = b'0' + number as u8;
         return end - 1;
     }
-    if number < EIGHT_DIGITS {
-        return put_eight(text, end, number as u32);
-    }
-    write_digits(number, text, end)
+    put_long(text, end, number)
 }

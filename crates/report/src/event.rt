@@ -106,7 +106,8 @@ pub fn put_event(
 ) -> usize
     requires { (length word.now + 44 ≤ end) × (end ≤ length text.old) }
     ensures start { (end ≤ result + (length word.now + 44)) × (result ≤ end) }
-    ensures items { drop result text.new ≡ decimal moment ++ (word.now ++ (decimal number ++ drop end text.old)) }
+    ensures items { drop result text.new
+        ≡ decimal moment ++ (word.now ++ (decimal number ++ drop end text.old)) }
 {
     let start = put_labelled(text, end, word, number);
     leading.put(text, start, moment)

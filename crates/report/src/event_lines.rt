@@ -19,7 +19,9 @@ pub fn put_done(
 ) -> usize
     requires { (128 ≤ end) × (end ≤ length text.old) }
     ensures start { (end ≤ result + 128) × (result ≤ end) }
-    ensures items { drop result text.new ≡ (decimal moment ++ (codes " ok " ++ (decimal command ++ codes "\n"))) ++ drop end text.old }
+    ensures items { drop result text.new
+        ≡ (decimal moment ++ (codes " ok " ++ (decimal command ++ codes "\n")))
+        ++ drop end text.old }
 {
     let end = put(text, end, b"\n");
     put_event(leading, text, end, moment, b" ok ", command)
@@ -39,7 +41,11 @@ pub fn put_at_instance(
 ) -> usize
     requires { (length word.now ≤ 9) × ((128 ≤ end) × (end ≤ length text.old)) }
     ensures start { (end ≤ result + 128) × (result ≤ end) }
-    ensures items { drop result text.new ≡ (decimal moment ++ (word.now ++ (decimal packet ++ (codes " " ++ (instance_name pipe instance ++ codes "\n"))))) ++ drop end text.old }
+    ensures items { drop result text.new
+        ≡ (decimal moment
+        ++ (word.now
+        ++ (decimal packet ++ (codes " " ++ (instance_name pipe instance ++ codes "\n")))))
+        ++ drop end text.old }
 {
     let end = put(text, end, b"\n");
     let end = put_instance(text, end, pipe, instance);
@@ -59,7 +65,10 @@ pub fn put_delivery(
 ) -> usize
     requires { (128 ≤ end) × (end ≤ length text.old) }
     ensures start { (end ≤ result + 128) × (result ≤ end) }
-    ensures items { drop result text.new ≡ (decimal moment ++ (codes " deliver " ++ (decimal packet ++ (codes " " ++ (load_of load ++ codes "\n"))))) ++ drop end text.old }
+    ensures items { drop result text.new
+        ≡ (decimal moment
+        ++ (codes " deliver " ++ (decimal packet ++ (codes " " ++ (load_of load ++ codes "\n")))))
+        ++ drop end text.old }
 {
     let end = put(text, end, b"\n");
     let end = put_load(text, end, load);
@@ -80,7 +89,12 @@ pub fn put_drop(
 ) -> usize
     requires { (128 ≤ end) × (end ≤ length text.old) }
     ensures start { (end ≤ result + 128) × (result ≤ end) }
-    ensures items { drop result text.new ≡ (decimal moment ++ (codes " drop " ++ (decimal packet ++ (codes " " ++ (load_of load ++ (codes " " ++ (cause_of cause ++ codes "\n"))))))) ++ drop end text.old }
+    ensures items { drop result text.new
+        ≡ (decimal moment
+        ++ (codes " drop "
+        ++ (decimal packet
+        ++ (codes " " ++ (load_of load ++ (codes " " ++ (cause_of cause ++ codes "\n")))))))
+        ++ drop end text.old }
 {
     let end = put(text, end, b"\n");
     let end = put_cause(text, end, cause);
@@ -105,7 +119,12 @@ pub fn put_window(
 ) -> usize
     requires { (length word.now ≤ 9) × ((128 ≤ end) × (end ≤ length text.old)) }
     ensures start { (end ≤ result + 128) × (result ≤ end) }
-    ensures items { drop result text.new ≡ (decimal moment ++ (word.now ++ (decimal flow ++ (codes " " ++ (decimal cwnd ++ (codes " " ++ (decimal ssthresh ++ codes "\n"))))))) ++ drop end text.old }
+    ensures items { drop result text.new
+        ≡ (decimal moment
+        ++ (word.now
+        ++ (decimal flow
+        ++ (codes " " ++ (decimal cwnd ++ (codes " " ++ (decimal ssthresh ++ codes "\n")))))))
+        ++ drop end text.old }
 {
     let end = put(text, end, b"\n");
     let end = put_labelled(text, end, b" ", ssthresh);
@@ -117,7 +136,9 @@ pub fn put_window(
 #[inline]
 pub fn put_line(leading: &mut Leading, text: &mut [u8], end: usize, line: &Record) -> Option<usize>
     requires { (128 ≤ end) × (end ≤ length text.old) }
-    ensures { IfSome result (λ start. (end ≤ start + 128) × (start ≤ end) × (drop start text.new ≡ line_of line.now ++ drop end text.old)) }
+    ensures { IfSome result
+        (λ start. (end ≤ start + 128) × (start ≤ end)
+        × (drop start text.new ≡ line_of line.now ++ drop end text.old)) }
 {
     let start = match *line {
         Record::CommandDone { moment, command } => put_done(leading, text, end, moment, command),

@@ -1,4 +1,4 @@
-//! The text of a report, and of the listings in it (own).
+//! The text of a report, and of the listings in it (our choice).
 #![tactic(auto)]
 
 mod digits;

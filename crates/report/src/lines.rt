@@ -1,8 +1,8 @@
-//! The lines of a report, each appended to a text (own). Moments are in ns. Where memory is refused,
+//! The lines of a report, each appended to a text (our choice). Moments are in ns. Where memory is refused,
 //! the text stays as it was.
 
 ghost use Rattle.std.specs.Prelude.{◌≡◌, ℕ, ◌+◌, ◌-◌, ◌≤◌, ◌++◌, List, length, codes, decimal, drop, vec_len, vec_capacity, IsOk, OnOk, OnErr};
-ghost use Rattle.report.specs.Room.{spare};
+ghost use Rattle.report.specs.Room.{spare, Appends};
 ghost use Rattle.report.specs.Words.{instance_name, load_of, cause_of};
 ghost use Rattle.std.specs.List.{flat_map};
 ghost use Rattle.report.specs.Lines.{spaced, fields_of, line_of, heading_of, behind_space, counters_of};
@@ -24,9 +24,7 @@ const LONGEST_LINE: usize = 400;
 
 fn append_rule(out: &mut Vec<u8>, rule: &Rule, packets: u64, bytes: u64)
     requires { 399 ≤ spare out.old }
-    ensures items { out.new.items ≡ out.old.items ++ spaced (fields_of (RuleLine rule.now packets bytes)) }
-    ensures room { spare out.old ≤ spare out.new + 399 }
-    ensures capacity { vec_capacity out.old ≤ vec_capacity out.new }
+    ensures { Appends (spaced (fields_of (RuleLine rule.now packets bytes))) 399 out.old out.new }
 {
     append(out, b"rule ");
     append_places(out, 10, 5, rule.number.get());
@@ -44,9 +42,7 @@ fn append_rule(out: &mut Vec<u8>, rule: &Rule, packets: u64, bytes: u64)
 
 fn append_pipe(out: &mut Vec<u8>, pipe: PipeNumber, config: &PipeConfig)
     requires { 399 ≤ spare out.old }
-    ensures items { out.new.items ≡ out.old.items ++ spaced (fields_of (PipeLine pipe config.now)) }
-    ensures room { spare out.old ≤ spare out.new + 399 }
-    ensures capacity { vec_capacity out.old ≤ vec_capacity out.new }
+    ensures { Appends (spaced (fields_of (PipeLine pipe config.now))) 399 out.old out.new }
 {
     append_labelled(out, b"pipe ", u64::from(pipe.get()));
     append_labelled(out, b" bw ", config.bw.get());
@@ -64,7 +60,8 @@ fn append_pipe(out: &mut Vec<u8>, pipe: PipeNumber, config: &PipeConfig)
 #[inline(always)]
 fn append_made(out: &mut Vec<u8>, text: &[u8; ROOM], start: usize)
     requires { (start ≤ 128) × (128 ≤ spare out.old) }
-    ensures items { (line rest : List ℕ) → length rest ≡ 3968 → drop start text.now ≡ line ++ rest → out.new.items ≡ out.old.items ++ line }
+    ensures items { (line rest : List ℕ) → length rest ≡ 3968 →
+        drop start text.now ≡ line ++ rest → out.new.items ≡ out.old.items ++ line }
     ensures room { spare out.old ≤ spare out.new + 128 }
     ensures capacity { vec_capacity out.old ≤ vec_capacity out.new }
 {
@@ -80,9 +77,8 @@ fn append_made(out: &mut Vec<u8>, text: &[u8; ROOM], start: usize)
 #[inline(always)]
 fn append_done(out: &mut Vec<u8>, moments: &mut Moments, moment: u64, command: u64)
     requires { 128 ≤ spare out.old }
-    ensures items { out.new.items ≡ out.old.items ++ (decimal moment ++ (codes " ok " ++ (decimal command ++ codes "\n"))) }
-    ensures room { spare out.old ≤ spare out.new + 128 }
-    ensures capacity { vec_capacity out.old ≤ vec_capacity out.new }
+    ensures { Appends (decimal moment ++ (codes " ok " ++ (decimal command ++ codes "\n"))) 128
+        out.old out.new }
 {
     let start = put_done(
         &mut moments.leading,
@@ -97,9 +93,7 @@ fn append_done(out: &mut Vec<u8>, moments: &mut Moments, moment: u64, command: u
 // What happened to a number, but for the rest of its line.
 fn append_event(out: &mut Vec<u8>, moments: &mut Moments, moment: u64, word: &[u8], number: u64)
     requires { (128 ≤ spare out.old) × (length word.now ≤ 9) }
-    ensures items { out.new.items ≡ out.old.items ++ (decimal moment ++ (word.now ++ decimal number)) }
-    ensures room { spare out.old ≤ spare out.new + 53 }
-    ensures capacity { vec_capacity out.old ≤ vec_capacity out.new }
+    ensures { Appends (decimal moment ++ (word.now ++ decimal number)) 53 out.old out.new }
 {
     let mut text = [0; LONGEST_EVENT];
     let start = put_event(
@@ -115,9 +109,7 @@ fn append_event(out: &mut Vec<u8>, moments: &mut Moments, moment: u64, word: &[u
 
 fn append_load(out: &mut Vec<u8>, load: Load)
     requires { 46 ≤ spare out.old }
-    ensures items { out.new.items ≡ out.old.items ++ load_of load }
-    ensures room { spare out.old ≤ spare out.new + 46 }
-    ensures capacity { vec_capacity out.old ≤ vec_capacity out.new }
+    ensures { Appends (load_of load) 46 out.old out.new }
 {
     let mut text = [0; LONGEST_EVENT];
     let start = put_load(&mut text, LONGEST_EVENT, load);
@@ -136,9 +128,11 @@ fn append_at_instance(
     instance: u8,
 )
     requires { (128 ≤ spare out.old) × (length word.now ≤ 9) }
-    ensures items { out.new.items ≡ out.old.items ++ (decimal moment ++ (word.now ++ (decimal packet ++ (codes " " ++ (instance_name pipe instance ++ codes "\n"))))) }
-    ensures room { spare out.old ≤ spare out.new + 128 }
-    ensures capacity { vec_capacity out.old ≤ vec_capacity out.new }
+    ensures { Appends
+        (decimal moment
+        ++ (word.now
+        ++ (decimal packet ++ (codes " " ++ (instance_name pipe instance ++ codes "\n")))))
+        128 out.old out.new }
 {
     let start = put_at_instance(
         &mut moments.leading,
@@ -156,9 +150,10 @@ fn append_at_instance(
 #[inline(always)]
 fn append_delivery(out: &mut Vec<u8>, moments: &mut Moments, moment: u64, packet: u64, load: Load)
     requires { 128 ≤ spare out.old }
-    ensures items { out.new.items ≡ out.old.items ++ (decimal moment ++ (codes " deliver " ++ (decimal packet ++ (codes " " ++ (load_of load ++ codes "\n"))))) }
-    ensures room { spare out.old ≤ spare out.new + 128 }
-    ensures capacity { vec_capacity out.old ≤ vec_capacity out.new }
+    ensures { Appends
+        (decimal moment
+        ++ (codes " deliver " ++ (decimal packet ++ (codes " " ++ (load_of load ++ codes "\n")))))
+        128 out.old out.new }
 {
     let start = put_delivery(
         &mut moments.leading,
@@ -180,9 +175,12 @@ fn append_drop(
     cause: DropCause,
 )
     requires { 128 ≤ spare out.old }
-    ensures items { out.new.items ≡ out.old.items ++ (decimal moment ++ (codes " drop " ++ (decimal packet ++ (codes " " ++ (load_of load ++ (codes " " ++ (cause_of cause ++ codes "\n"))))))) }
-    ensures room { spare out.old ≤ spare out.new + 128 }
-    ensures capacity { vec_capacity out.old ≤ vec_capacity out.new }
+    ensures { Appends
+        (decimal moment
+        ++ (codes " drop "
+        ++ (decimal packet
+        ++ (codes " " ++ (load_of load ++ (codes " " ++ (cause_of cause ++ codes "\n")))))))
+        128 out.old out.new }
 {
     let start = put_drop(
         &mut moments.leading,
@@ -208,9 +206,12 @@ fn append_window(
     ssthresh: u64,
 )
     requires { (128 ≤ spare out.old) × (length word.now ≤ 9) }
-    ensures items { out.new.items ≡ out.old.items ++ (decimal moment ++ (word.now ++ (decimal flow ++ (codes " " ++ (decimal cwnd ++ (codes " " ++ (decimal ssthresh ++ codes "\n"))))))) }
-    ensures room { spare out.old ≤ spare out.new + 128 }
-    ensures capacity { vec_capacity out.old ≤ vec_capacity out.new }
+    ensures { Appends
+        (decimal moment
+        ++ (word.now
+        ++ (decimal flow
+        ++ (codes " " ++ (decimal cwnd ++ (codes " " ++ (decimal ssthresh ++ codes "\n")))))))
+        128 out.old out.new }
 {
     let start = put_window(
         &mut moments.leading,
@@ -227,9 +228,7 @@ fn append_window(
 
 fn append_line(out: &mut Vec<u8>, moments: &mut Moments, line: &Record)
     requires { 400 ≤ spare out.old }
-    ensures items { out.new.items ≡ out.old.items ++ line_of line.now }
-    ensures room { spare out.old ≤ spare out.new + 400 }
-    ensures capacity { vec_capacity out.old ≤ vec_capacity out.new }
+    ensures { Appends (line_of line.now) 400 out.old out.new }
 {
     match *line {
         Record::CommandDone { moment, command } => {
@@ -424,7 +423,8 @@ pub fn write_heading(out: &mut Vec<u8>, name: &[u8]) -> Result<(), AllocError>
     ensures ok { OnOk result (out.new.items ≡ out.old.items ++ heading_of name.now) }
     ensures err { OnErr result (out.new.items ≡ out.old.items) }
     ensures capacity { vec_capacity out.old ≤ vec_capacity out.new }
-    ensures succeeds { vec_len out.old + (400 + length name.now) ≤ vec_capacity out.old → IsOk result }
+    ensures succeeds { vec_len out.old + (400 + length name.now) ≤ vec_capacity out.old →
+        IsOk result }
 {
     out.reserve(LONGEST_LINE + name.len())?;
     append(out, b"experiment ");
@@ -435,9 +435,7 @@ pub fn write_heading(out: &mut Vec<u8>, name: &[u8]) -> Result<(), AllocError>
 
 fn append_drops(out: &mut Vec<u8>, drops: &[u64; 8])
     requires { 168 ≤ spare out.old }
-    ensures items { out.new.items ≡ out.old.items ++ flat_map behind_space drops.now }
-    ensures room { spare out.old ≤ spare out.new + 168 }
-    ensures capacity { vec_capacity out.old ≤ vec_capacity out.new }
+    ensures { Appends (flat_map behind_space drops.now) 168 out.old out.new }
 {
     for dropped in drops {
         append_labelled(out, b" ", *dropped);

@@ -43,7 +43,8 @@ impl Model for Leading {
 
     ghost view = { λ m. m.least };
 
-    ghost invariant = { λ m. (100000000 ≤ m.least) × (m.least % 100000000 ≡ 0) × (m.start ≤ 16) × (drop m.start m.digits ≡ decimal (m.least / 100000000)) };
+    ghost invariant = { λ m. (100000000 ≤ m.least) × (m.least % 100000000 ≡ 0) × (m.start ≤ 16)
+        × (drop m.start m.digits ≡ decimal (m.least / 100000000)) };
 }
 
 impl Leading {

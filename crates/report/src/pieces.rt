@@ -1,7 +1,7 @@
 //! What every line is made of. Each call finds the room that it needs.
 
 ghost use Rattle.std.specs.Prelude.{◌≡◌, ◌+◌, ◌≤◌, ◌++◌, length, decimal, vec_capacity};
-ghost use Rattle.report.specs.Room.{spare};
+ghost use Rattle.report.specs.Room.{spare, Appends};
 ghost use Rattle.report.specs.Words.{places};
 
 use itoa::Buffer;
@@ -11,9 +11,7 @@ use itoa::Buffer;
 #[inline]
 pub fn append(out: &mut Vec<u8>, bytes: &[u8])
     requires { length bytes.now ≤ spare out.old }
-    ensures items { out.new.items ≡ out.old.items ++ bytes.now }
-    ensures room { spare out.old ≤ spare out.new + length bytes.now }
-    ensures capacity { vec_capacity out.old ≤ vec_capacity out.new }
+    ensures { Appends bytes.now (length bytes.now) out.old out.new }
 {
     let Ok(()) = out.extend_from_slice(bytes) else {
         unreachable!()
@@ -24,9 +22,7 @@ pub fn append(out: &mut Vec<u8>, bytes: &[u8])
 #[inline]
 pub fn append_number(out: &mut Vec<u8>, number: u64)
     requires { 20 ≤ spare out.old }
-    ensures items { out.new.items ≡ out.old.items ++ decimal number }
-    ensures room { spare out.old ≤ spare out.new + 20 }
-    ensures capacity { vec_capacity out.old ≤ vec_capacity out.new }
+    ensures { Appends (decimal number) 20 out.old out.new }
 {
     // Half of all numbers are a flow, a pipe or an instance of one digit.
     if number < 10 {
@@ -40,9 +36,7 @@ pub fn append_number(out: &mut Vec<u8>, number: u64)
 #[inline]
 pub fn append_labelled(out: &mut Vec<u8>, label: &[u8], number: u64)
     requires { length label.now + 20 ≤ spare out.old }
-    ensures items { out.new.items ≡ out.old.items ++ label.now ++ decimal number }
-    ensures room { spare out.old ≤ spare out.new + length label.now + 20 }
-    ensures capacity { vec_capacity out.old ≤ vec_capacity out.new }
+    ensures { Appends (label.now ++ decimal number) (length label.now + 20) out.old out.new }
 {
     append(out, label);
     append_number(out, number);
@@ -53,9 +47,7 @@ pub fn append_labelled(out: &mut Vec<u8>, label: &[u8], number: u64)
 pub fn append_places(out: &mut Vec<u8>, base: u32, count: u32, number: u32)
     requires base { (2 ≤ base) × (base ≤ 16) }
     requires room { count ≤ spare out.old }
-    ensures items { out.new.items ≡ out.old.items ++ places base count number }
-    ensures room { spare out.old ≤ spare out.new + count }
-    ensures capacity { vec_capacity out.old ≤ vec_capacity out.new }
+    ensures { Appends (places base count number) count out.old out.new }
 {
     if count == 0 {
         return;

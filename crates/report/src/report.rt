@@ -1,4 +1,4 @@
-//! Whole reports and listings, as bytes (own). `AllocError` where memory is refused.
+//! Whole reports and listings, as bytes (our choice). `AllocError` where memory is refused.
 
 ghost use Rattle.std.specs.Prelude.{◌≡◌, IfOk};
 ghost use Rattle.report.specs.Lines.{report_of, rules_of, pipes_of};

@@ -47,7 +47,9 @@ fn run_length(records: &[Record]) -> usize
 // is none.
 fn put_lines(moments: &mut Moments, records: &[Record]) -> Option<usize>
     requires { length records.now ≤ 32 }
-    ensures { IfSome result (λ start. (4096 ≤ start + 128 * length records.now) × ((start ≤ 4096) × (drop start moments.new.text ≡ flat_map line_of records.now))) }
+    ensures { IfSome result
+        (λ start. (4096 ≤ start + 128 * length records.now)
+        × ((start ≤ 4096) × (drop start moments.new.text ≡ flat_map line_of records.now))) }
 {
     let mut left = records.len();
     let mut start = ROOM;
@@ -69,7 +71,8 @@ fn append_run(
 ) -> Result<usize, AllocError>
     requires { 0 < length records.now }
     ensures count { IfOk result (λ n. (0 < n) × (n ≤ length records.now)) }
-    ensures ok { IfOk result (λ n. out.new.items ≡ out.old.items ++ flat_map line_of (take n records.now)) }
+    ensures ok { IfOk result
+        (λ n. out.new.items ≡ out.old.items ++ flat_map line_of (take n records.now)) }
     ensures err { OnErr result (out.new.items ≡ out.old.items) }
     ensures room { IfOk result (λ n. spare out.old ≤ spare out.new + 400 * n) }
     ensures capacity { vec_capacity out.old ≤ vec_capacity out.new }
@@ -113,7 +116,8 @@ pub fn write_records(
     ensures ok { OnOk result (out.new.items ≡ out.old.items ++ flat_map line_of records.now) }
     ensures err { OnErr result (out.new.items ≡ out.old.items) }
     ensures capacity { vec_capacity out.old ≤ vec_capacity out.new }
-    ensures succeeds { vec_len out.old + 400 * length records.now ≤ vec_capacity out.old → IsOk result }
+    ensures succeeds { vec_len out.old + 400 * length records.now ≤ vec_capacity out.old →
+        IsOk result }
 {
     let before = out.len();
     let written = append_records(out, moments, records);

@@ -1,7 +1,7 @@
 //! The parts of a line that are more than a number.
 
 ghost use Rattle.std.specs.Prelude.{◌≡◌, ◌+◌, ◌≤◌, ◌++◌, vec_capacity};
-ghost use Rattle.report.specs.Room.{spare};
+ghost use Rattle.report.specs.Room.{spare, Appends};
 ghost use Rattle.report.specs.Words.{instance_name, code_of, action_of, protocol_of, transport_of, dotted, address_and_port, header_of, prefix_of, ports_of, end_of, queue_of, mask_of, discipline_of};
 
 use crate::pieces::{append, append_labelled, append_number, append_places};
@@ -14,9 +14,7 @@ use emu_model::{
 #[inline]
 pub fn append_instance(out: &mut Vec<u8>, pipe: PipeNumber, instance: u8)
     requires { 41 ≤ spare out.old }
-    ensures items { out.new.items ≡ out.old.items ++ instance_name pipe instance }
-    ensures room { spare out.old ≤ spare out.new + 41 }
-    ensures capacity { vec_capacity out.old ≤ vec_capacity out.new }
+    ensures { Appends (instance_name pipe instance) 41 out.old out.new }
 {
     append_number(out, u64::from(pipe.get()));
     append_labelled(out, b".", u64::from(instance));
@@ -32,9 +30,7 @@ pub fn refusal_code(refusal: Refusal) -> u64
 /// What a rule does, in the words of a scenario.
 pub fn append_action(out: &mut Vec<u8>, action: Action)
     requires { 27 ≤ spare out.old }
-    ensures items { out.new.items ≡ out.old.items ++ action_of action }
-    ensures room { spare out.old ≤ spare out.new + 27 }
-    ensures capacity { vec_capacity out.old ≤ vec_capacity out.new }
+    ensures { Appends (action_of action) 27 out.old out.new }
 {
     match action {
         Action::Permit => append(out, b"allow"),
@@ -48,9 +44,7 @@ pub fn append_action(out: &mut Vec<u8>, action: Action)
 /// The protocol of a rule: `ip`, `tcp` or `udp`.
 pub fn append_protocol(out: &mut Vec<u8>, proto: ProtocolMatch)
     requires { 3 ≤ spare out.old }
-    ensures items { out.new.items ≡ out.old.items ++ protocol_of proto }
-    ensures room { spare out.old ≤ spare out.new + 3 }
-    ensures capacity { vec_capacity out.old ≤ vec_capacity out.new }
+    ensures { Appends (protocol_of proto) 3 out.old out.new }
 {
     match proto {
         ProtocolMatch::AnyProtocol => append(out, b"ip"),
@@ -61,9 +55,7 @@ pub fn append_protocol(out: &mut Vec<u8>, proto: ProtocolMatch)
 
 fn append_transport(out: &mut Vec<u8>, proto: Protocol)
     requires { 3 ≤ spare out.old }
-    ensures items { out.new.items ≡ out.old.items ++ transport_of proto }
-    ensures room { spare out.old ≤ spare out.new + 3 }
-    ensures capacity { vec_capacity out.old ≤ vec_capacity out.new }
+    ensures { Appends (transport_of proto) 3 out.old out.new }
 {
     match proto {
         Protocol::Tcp => append(out, b"tcp"),
@@ -73,9 +65,7 @@ fn append_transport(out: &mut Vec<u8>, proto: Protocol)
 
 fn append_dotted(out: &mut Vec<u8>, address: u32)
     requires { 83 ≤ spare out.old }
-    ensures items { out.new.items ≡ out.old.items ++ dotted address }
-    ensures room { spare out.old ≤ spare out.new + 83 }
-    ensures capacity { vec_capacity out.old ≤ vec_capacity out.new }
+    ensures { Appends (dotted address) 83 out.old out.new }
 {
     append_number(out, u64::from(address >> 24));
     append_labelled(out, b".", u64::from((address >> 16) % 256));
@@ -85,9 +75,7 @@ fn append_dotted(out: &mut Vec<u8>, address: u32)
 
 fn append_address_and_port(out: &mut Vec<u8>, address: u32, port: u16)
     requires { 104 ≤ spare out.old }
-    ensures items { out.new.items ≡ out.old.items ++ address_and_port address port }
-    ensures room { spare out.old ≤ spare out.new + 104 }
-    ensures capacity { vec_capacity out.old ≤ vec_capacity out.new }
+    ensures { Appends (address_and_port address port) 104 out.old out.new }
 {
     append_dotted(out, address);
     append_labelled(out, b" ", u64::from(port));
@@ -111,9 +99,7 @@ pub fn append_header(out: &mut Vec<u8>, send: &SendSpec)
 
 fn append_prefix(out: &mut Vec<u8>, prefix: Prefix)
     requires { 104 ≤ spare out.old }
-    ensures items { out.new.items ≡ out.old.items ++ prefix_of prefix }
-    ensures room { spare out.old ≤ spare out.new + 104 }
-    ensures capacity { vec_capacity out.old ≤ vec_capacity out.new }
+    ensures { Appends (prefix_of prefix) 104 out.old out.new }
 {
     let len = prefix.length().get();
     if len == 0 {
@@ -128,9 +114,7 @@ fn append_prefix(out: &mut Vec<u8>, prefix: Prefix)
 
 fn append_ports(out: &mut Vec<u8>, ports: PortRange)
     requires { 41 ≤ spare out.old }
-    ensures items { out.new.items ≡ out.old.items ++ ports_of ports }
-    ensures room { spare out.old ≤ spare out.new + 41 }
-    ensures capacity { vec_capacity out.old ≤ vec_capacity out.new }
+    ensures { Appends (ports_of ports) 41 out.old out.new }
 {
     append_number(out, u64::from(ports.first()));
     if ports.first() == ports.last() {
@@ -142,9 +126,7 @@ fn append_ports(out: &mut Vec<u8>, ports: PortRange)
 /// Where a packet comes from or goes to.
 pub fn append_end(out: &mut Vec<u8>, prefix: Prefix, ports: Option<PortRange>)
     requires { 146 ≤ spare out.old }
-    ensures items { out.new.items ≡ out.old.items ++ end_of prefix ports }
-    ensures room { spare out.old ≤ spare out.new + 146 }
-    ensures capacity { vec_capacity out.old ≤ vec_capacity out.new }
+    ensures { Appends (end_of prefix ports) 146 out.old out.new }
 {
     append_prefix(out, prefix);
     let Some(ports) = ports else {
@@ -157,9 +139,7 @@ pub fn append_end(out: &mut Vec<u8>, prefix: Prefix, ports: Option<PortRange>)
 /// The limit of a queue, in slots or in KBytes of 1024 bytes.
 pub fn append_queue(out: &mut Vec<u8>, queue: QueueLimit)
     requires { 26 ≤ spare out.old }
-    ensures items { out.new.items ≡ out.old.items ++ queue_of queue }
-    ensures room { spare out.old ≤ spare out.new + 26 }
-    ensures capacity { vec_capacity out.old ≤ vec_capacity out.new }
+    ensures { Appends (queue_of queue) 26 out.old out.new }
 {
     match queue {
         QueueLimit::Slots(limit) => append_number(out, u64::from(limit.get())),
@@ -173,9 +153,7 @@ pub fn append_queue(out: &mut Vec<u8>, queue: QueueLimit)
 /// A mask: its five fields in hexadecimal digits.
 pub fn append_mask(out: &mut Vec<u8>, mask: Mask)
     requires { 30 ≤ spare out.old }
-    ensures items { out.new.items ≡ out.old.items ++ mask_of mask }
-    ensures room { spare out.old ≤ spare out.new + 30 }
-    ensures capacity { vec_capacity out.old ≤ vec_capacity out.new }
+    ensures { Appends (mask_of mask) 30 out.old out.new }
 {
     append_places(out, 16, 2, u32::from(mask.proto));
     append(out, b"/");
@@ -191,9 +169,7 @@ pub fn append_mask(out: &mut Vec<u8>, mask: Mask)
 /// The discipline of a queue, of CoDel with its target and interval (ns).
 pub fn append_discipline(out: &mut Vec<u8>, discipline: Discipline)
     requires { 63 ≤ spare out.old }
-    ensures items { out.new.items ≡ out.old.items ++ discipline_of discipline }
-    ensures room { spare out.old ≤ spare out.new + 63 }
-    ensures capacity { vec_capacity out.old ≤ vec_capacity out.new }
+    ensures { Appends (discipline_of discipline) 63 out.old out.new }
 {
     match discipline {
         Discipline::TailDrop => append(out, b"droptail"),

@@ -1,3 +1,3 @@
 pub mod Walking
 pub mod Counting
-pub mod Order
+pub mod JumpOrder

@@ -25,9 +25,19 @@ impl Model for CountedRule {
 
     ghost Value = { Counted };
 
-    ghost view = { λ c. record { rule = c.rule; order = c.order; packets = c.packets; bytes = c.bytes } };
+    ghost view = { λ c. record {
+      rule = c.rule;
+      order = c.order;
+      packets = c.packets;
+      bytes = c.bytes;
+    } };
 
-    ghost inverse = { λ c. record { rule = c.rule; order = c.order; packets = c.packets; bytes = c.bytes } };
+    ghost inverse = { λ c. record {
+      rule = c.rule;
+      order = c.order;
+      packets = c.packets;
+      bytes = c.bytes;
+    } };
 }
 
 impl CountedRule {

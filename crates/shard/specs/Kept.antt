@@ -1,7 +1,7 @@
 -- What an experiment that stands somewhere keeps over its packets.
 use Rattle.std.specs.Prelude.{◌≡◌, ℕ, ◌≤◌, ◌<◌, Option, None, [], length, take}
 use Rattle.emu_model.specs.declared.commands.Spec.{Spec}
-use Rattle.emu_model.specs.Step.{opening}
+use Rattle.emu_model.specs.Step.{initial_state}
 use Rattle.packet_store.specs.Pocket.{Pocket}
 use Rattle.packet_store.specs.Pocket.{empty_pocket}
 use Rattle.emu_model.specs.declared.sources.Due.{Due}
@@ -42,7 +42,7 @@ pub record IsGoing {M : Type 0} (seen : M → Seen) (p : Pocket) (e : KeptExperi
 
 -- one to which no command came
 pub record IsNew (spec : Spec) (e : KeptExperiment) : Type 0 where
-  pub shown : (p : Pocket) → view p e ≡ opening spec []
+  pub shown : (p : Pocket) → view p e ≡ initial_state spec []
   pub alone : (p : Pocket) → IsAlone p e
   pub housed : (budget : ℕ) → spec.budget.packets ≤ budget → IsHousedIn (empty_pocket budget) e
   pub spec_is : e.spec ≡ spec

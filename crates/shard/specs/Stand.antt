@@ -6,7 +6,7 @@ use Rattle.emu_model.specs.declared.records.Record.{Record}
 use Rattle.emu_model.specs.declared.records.Ending.{Ending}
 use Rattle.emu_model.specs.declared.records.Counters.{Counters}
 use Rattle.emu_model.specs.Net.{counters_of}
-use Rattle.emu_model.specs.Step.{State, opening}
+use Rattle.emu_model.specs.Step.{State, initial_state}
 use Rattle.emu_model.specs.Alone.{alone}
 use Rattle.experiment.specs.Kept.{last_moment, shown_ending}
 use Rattle.shard.specs.Seen.{Seen}
@@ -85,7 +85,7 @@ opened_stand name spec mail = record {
   name = name;
   spec = spec;
   consumed = [];
-  state = opening spec [];
+  state = initial_state spec [];
   published = 0;
   mail = mail;
 }

@@ -127,13 +127,18 @@ impl<M: Mail> Dossier<M> {
     /// What every dossier keeps: its records and counters are those of running it alone on the commands that came,
     /// which its mail gave; the letters that its mail took are the first of its records.
     pub fn known(&self)
-        ensures records { self.now.records ≡ (alone self.now.spec self.now.commands self.now.events).net.records }
-        ensures counters { self.now.counters ≡ counters_of (alone self.now.spec self.now.commands self.now.events).net }
-        ensures ending { shown_ending (Some self.now.ending) ≡ (alone self.now.spec self.now.commands self.now.events).ending }
+        ensures records { self.now.records
+            ≡ (alone self.now.spec self.now.commands self.now.events).net.records }
+        ensures counters { self.now.counters
+            ≡ counters_of (alone self.now.spec self.now.commands self.now.events).net }
+        ensures ending { shown_ending (Some self.now.ending)
+            ≡ (alone self.now.spec self.now.commands self.now.events).ending }
         ensures few { self.now.events ≤ self.now.spec.budget.steps }
-        ensures made { (alone self.now.spec self.now.commands self.now.events).steps ≡ self.now.events }
+        ensures made { (alone self.now.spec self.now.commands self.now.events).steps
+            ≡ self.now.events }
         ensures heard { self.now.commands ≡ heard_from [] (M.seen self.now.mail).given }
-        ensures told { (published : ℕ) × ((M.seen self.now.mail).letters ≡ take published self.now.records) }
+        ensures told { (published : ℕ)
+            × ((M.seen self.now.mail).letters ≡ take published self.now.records) }
     {
         let _ = &self.published;
     }
@@ -146,7 +151,8 @@ impl Dossier<ListMail> {
     /// Puts a command into its mail, which nobody takes any more; where 64 wait it comes back. Takes no memory.
     pub fn put(&mut self, timed: Timed) -> Result<(), Timed>
         requires { timed.moment ≤ 10 ^ 15 }
-        ensures ok { OnOk result (self.new ≡ record self.old { mail = with_command self.old.mail timed }) }
+        ensures ok { OnOk result
+            (self.new ≡ record self.old { mail = with_command self.old.mail timed }) }
         ensures room { OnOk result (length self.old.mail.waiting < 64) }
         ensures err { OnErr result (self.new ≡ self.old) }
         ensures back { IfErr result (λ t. t ≡ timed) }

@@ -58,14 +58,18 @@ impl Model for ListMail {
       unread = records_of (known_items m.letters);
     } };
 
-    ghost invariant = { λ m. IsPair m.put m.commands × (received m.commands ++ known_items m.commands ≡ sent m.put) × (producer_capacity m.put ≡ 64)
-        × IsPair m.news m.letters × (received m.letters ++ known_items m.letters ≡ sent m.news) × (producer_capacity m.news ≡ 64) };
+    ghost invariant = { λ m. IsPair m.put m.commands
+        × (received m.commands ++ known_items m.commands ≡ sent m.put)
+        × (producer_capacity m.put ≡ 64)
+        × IsPair m.news m.letters × (received m.letters ++ known_items m.letters ≡ sent m.news)
+        × (producer_capacity m.news ≡ 64) };
 }
 
 impl ListMail {
     /// An empty mail, with room for all that it may hold.
     pub fn new(alloc: Global) -> Result<Self, AllocError>
-        ensures { IfOk result (λ m. m ≡ record { given = []; waiting = []; read = []; unread = [] }) }
+        ensures { IfOk result
+            (λ m. m ≡ record { given = []; waiting = []; read = []; unread = [] }) }
     {
         let (put, commands) = RingBuffer::with_protocol::<Global, Moments>(alloc, SLOTS)?;
         let (news, letters) = RingBuffer::new(alloc, SLOTS)?;
@@ -80,7 +84,8 @@ impl ListMail {
     /// Puts a command behind those that wait; where 64 wait it comes back. Takes no memory.
     pub fn put(&mut self, timed: Timed) -> Result<(), Timed>
         requires { timed.moment ≤ 10 ^ 15 }
-        ensures ok { OnOk result (self.new ≡ record self.old { waiting = self.old.waiting ++ timed ∷ [] }) }
+        ensures ok { OnOk result
+            (self.new ≡ record self.old { waiting = self.old.waiting ++ timed ∷ [] }) }
         ensures room { OnOk result (length self.old.waiting < 64) }
         ensures err { OnErr result (self.new ≡ self.old) }
         ensures back { IfErr result (λ t. t ≡ timed) }
@@ -97,7 +102,10 @@ impl ListMail {
 
     /// Takes the first letter that wasn't read; None where there is none.
     pub fn read(&mut self) -> Option<Record>
-        ensures some { IfSome result (λ r. (self.old.unread ≡ r ∷ self.new.unread) × (self.new ≡ record self.old { read = self.old.read ++ r ∷ []; unread = self.new.unread })) }
+        ensures some { IfSome result
+            (λ r. (self.old.unread ≡ r ∷ self.new.unread)
+            × (self.new
+            ≡ record self.old { read = self.old.read ++ r ∷ []; unread = self.new.unread })) }
         ensures none { IfNone result ((self.old.unread ≡ []) × (self.new ≡ self.old)) }
     {
         if self.letters.slots_beside(&mut self.news) == 0 {

@@ -9,8 +9,7 @@ use crate::mail::Mail;
 use emu_model::{Record, Spec, Timed};
 use experiment::Experiment;
 use packet_store::OwnShelf;
-use queue_disc::NoMemory;
-use std::alloc::Global;
+use std::alloc::{AllocError, Global};
 use std::marker::Model;
 
 /// An experiment in transit, with its packets and its mail: one owned value, that may go to another worker. A
@@ -44,7 +43,7 @@ impl<M: Mail> Model for Parcel<M> {
 }
 
 // An experiment to which no command came.
-fn unused(alloc: Global, spec: Spec) -> Result<Experiment, NoMemory>
+fn unused(alloc: Global, spec: Spec) -> Result<Experiment, AllocError>
     ensures { IfOk result (IsNew spec) }
 {
     let experiment = Experiment::new(alloc, spec)?;
@@ -126,7 +125,8 @@ impl Parcel<ListMail> {
     /// Puts a command into its mail, behind those that wait there; where 64 wait it comes back. Takes no memory.
     pub fn put(&mut self, timed: Timed) -> Result<(), Timed>
         requires { timed.moment ≤ 10 ^ 15 }
-        ensures ok { OnOk result (self.new ≡ record self.old { mail = with_command self.old.mail timed }) }
+        ensures ok { OnOk result
+            (self.new ≡ record self.old { mail = with_command self.old.mail timed }) }
         ensures room { OnOk result (length self.old.mail.waiting < 64) }
         ensures err { OnErr result (self.new ≡ self.old) }
         ensures back { IfErr result (λ t. t ≡ timed) }

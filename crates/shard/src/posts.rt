@@ -26,7 +26,8 @@ impl Resident<ListMail> {
     // Puts a command into its mail.
     fn put(&mut self, timed: Timed) -> Result<(), Timed>
         requires { timed.moment ≤ 10 ^ 15 }
-        ensures ok { OnOk result (self.new ≡ record self.old { mail = with_command self.old.mail timed }) }
+        ensures ok { OnOk result
+            (self.new ≡ record self.old { mail = with_command self.old.mail timed }) }
         ensures room { OnOk result (length self.old.mail.waiting < 64) }
         ensures err { OnErr result (self.new ≡ self.old) }
         ensures back { IfErr result (λ t. t ≡ timed) }
@@ -73,7 +74,8 @@ impl<A: Agenda> Shard<A, ListMail> {
 
     /// Takes the first letter that wasn't read from the mail of a slot's resident; None where there is none.
     pub fn read(&mut self, slot: usize) -> Result<Option<Record>, Vacant>
-        ensures ok { IfOk result (λ letter. (s : Seat MailBook) × (mail : MailBook) × Reads letter s.stand.mail mail
+        ensures ok { IfOk result
+            (λ letter. (s : Seat MailBook) × (mail : MailBook) × Reads letter s.stand.mail mail
             × ChangedMail self.old self.new slot s mail) }
         ensures vacant { OnErr result (seat_at self.old.seats slot ≡ None) }
         ensures err { OnErr result (self.new ≡ self.old) }

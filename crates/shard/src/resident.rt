@@ -68,10 +68,12 @@ impl<M: Mail> Resident<M> {
     pub(crate) fn enter<A: Agenda>(&mut self, agenda: &mut A, slot: usize)
         requires alone { (p : Pocket) × IsAlone p self.old.experiment }
         requires early { A.time agenda.old < 2 ^ 62 + 2 * 10 ^ 15 }
-        ensures seated { (p : Pocket) → IsGoing M.seen p self.old.experiment self.old.published self.old.mail
+        ensures seated { (p : Pocket) →
+            IsGoing M.seen p self.old.experiment self.old.published self.old.mail
             → IsSeated M.seen p (A.entries agenda.new slot) (A.time agenda.old) self.new }
         ensures same { self.new ≡ record self.old { offset = self.new.offset } }
-        ensures offset { IfSome self.new.offset (λ o. o ≡ A.time agenda.old - self.old.experiment.clock) }
+        ensures offset { IfSome self.new.offset
+            (λ o. o ≡ A.time agenda.old - self.old.experiment.clock) }
         ensures others { (o : ℕ) → o ≢ slot → A.entries agenda.new o ≡ A.entries agenda.old o }
         ensures time { A.time agenda.new ≡ A.time agenda.old }
     {
@@ -89,12 +91,15 @@ impl<M: Mail> Resident<M> {
 
     // Makes one step, and leaves its entry as it was.
     fn advance(&mut self, store: &mut Store) -> Event
-        requires going { IsGoing M.seen (pocket_of store.old self.old.owner) self.old.experiment self.old.published self.old.mail }
+        requires going { IsGoing M.seen
+            (pocket_of store.old self.old.owner) self.old.experiment self.old.published self.old.mail }
         requires next { IsSome self.old.experiment.next }
-        ensures advances { Advances M.seen result (pocket_of store.old self.old.owner) self.old (pocket_of store.new self.old.owner) self.new }
+        ensures advances { Advances M.seen result (pocket_of store.old self.old.owner) self.old
+            (pocket_of store.new self.old.owner) self.new }
         ensures owner { self.new.owner ≡ self.old.owner }
         ensures offset { self.new.offset ≡ self.old.offset }
-        ensures others { (o : ℕ) → o ≢ self.old.owner → pocket_of store.new o ≡ pocket_of store.old o }
+        ensures others { (o : ℕ) → o ≢ self.old.owner →
+            pocket_of store.new o ≡ pocket_of store.old o }
     {
         let event = self.experiment.event(store, self.owner);
         self.published = publish(&mut self.mail, self.experiment.records(), self.published);
@@ -103,13 +108,17 @@ impl<M: Mail> Resident<M> {
 
     // Makes one step and at most `more` others, and leaves its entry as it was.
     fn run_on<W: Watch>(&mut self, store: &mut Store, more: u32, watch: &mut W) -> Event
-        requires going { IsGoing M.seen (pocket_of store.old self.old.owner) self.old.experiment self.old.published self.old.mail }
+        requires going { IsGoing M.seen
+            (pocket_of store.old self.old.owner) self.old.experiment self.old.published self.old.mail }
         requires next { IsSome self.old.experiment.next }
         ensures runs { (n : ℕ) × Heard W.hears self.old.name n watch.old watch.new
-            × RunsOn M.seen W.may_refuse more n result (pocket_of store.old self.old.owner) self.old (pocket_of store.new self.old.owner) self.new }
+            × RunsOn M.seen W.may_refuse more n result
+            (pocket_of store.old self.old.owner) self.old
+            (pocket_of store.new self.old.owner) self.new }
         ensures owner { self.new.owner ≡ self.old.owner }
         ensures offset { self.new.offset ≡ self.old.offset }
-        ensures others { (o : ℕ) → o ≢ self.old.owner → pocket_of store.new o ≡ pocket_of store.old o }
+        ensures others { (o : ℕ) → o ≢ self.old.owner →
+            pocket_of store.new o ≡ pocket_of store.old o }
     {
         for made in 0..more {
             let event = self.advance(store);
@@ -137,10 +146,14 @@ impl<M: Mail> Resident<M> {
         more: u32,
         watch: &mut W,
     ) -> Event
-        requires least { IsLeast M.seen (pocket_of store.old self.old.owner) (A.entries agenda.old slot) (A.time agenda.old) self.old }
+        requires least { IsLeast M.seen (pocket_of store.old self.old.owner)
+            (A.entries agenda.old slot) (A.time agenda.old) self.old }
         ensures runs { (n : ℕ) × Heard W.hears self.old.name n watch.old watch.new
-            × Runs M.seen W.may_refuse more n result (pocket_of store.old self.old.owner) self.old (pocket_of store.new self.old.owner) (A.entries agenda.new slot) (A.time agenda.old) self.new }
-        ensures others { (o : ℕ) → o ≢ self.old.owner → pocket_of store.new o ≡ pocket_of store.old o }
+            × Runs M.seen W.may_refuse more n result (pocket_of store.old self.old.owner) self.old
+            (pocket_of store.new self.old.owner) (A.entries agenda.new slot)
+            (A.time agenda.old) self.new }
+        ensures others { (o : ℕ) → o ≢ self.old.owner →
+            pocket_of store.new o ≡ pocket_of store.old o }
         ensures rows { (o : ℕ) → o ≢ slot → A.entries agenda.new o ≡ A.entries agenda.old o }
         ensures time { A.time agenda.new ≡ A.time agenda.old }
     {
@@ -153,9 +166,11 @@ impl<M: Mail> Resident<M> {
 
     // Takes a command, or sets the entry of a parked one again.
     pub(crate) fn poll<A: Agenda>(&mut self, agenda: &mut A, slot: usize) -> Polled
-        requires seated { (p : Pocket) × IsSeated M.seen p (A.entries agenda.old slot) (A.time agenda.old) self.old }
+        requires seated { (p : Pocket)
+            × IsSeated M.seen p (A.entries agenda.old slot) (A.time agenda.old) self.old }
         requires early { A.time agenda.old < 2 ^ 62 + 2 * 10 ^ 15 }
-        ensures seated { (p : Pocket) → IsSeated M.seen p (A.entries agenda.old slot) (A.time agenda.old) self.old
+        ensures seated { (p : Pocket) →
+            IsSeated M.seen p (A.entries agenda.old slot) (A.time agenda.old) self.old
             → IsSeated M.seen p (A.entries agenda.new slot) (A.time agenda.old) self.new }
         ensures polls { (p : Pocket) → Polls M.seen result (seat p self.old) (seat p self.new) }
         ensures published { IsPublished M.seen self.new.experiment.net.log.records self.new.mail }
@@ -194,7 +209,8 @@ impl<M: Mail> Resident<M> {
     // Makes a resident of a parcel, whose owner is admitted. It has no entry yet.
     pub(crate) fn settle(parcel: Parcel<M>, store: &mut Store, owner: Owner) -> Resident<M>
         requires admitted { pocket_of store.old owner ≡ empty_pocket parcel.spec.budget.packets }
-        ensures going { IsGoing M.seen (pocket_of store.new owner) result.experiment result.published result.mail }
+        ensures going { IsGoing M.seen
+            (pocket_of store.new owner) result.experiment result.published result.mail }
         ensures owner { result.owner ≡ owner }
         ensures same { standing (pocket_of store.new owner) result ≡ parcel }
         ensures others { (o : ℕ) → o ≢ owner → pocket_of store.new o ≡ pocket_of store.old o }
@@ -221,10 +237,12 @@ impl<M: Mail> Resident<M> {
 
     // Makes a parcel of a resident, on a shelf that has room for its packets.
     pub(crate) fn leave(self, store: &mut Store, mut shelf: OwnShelf) -> Parcel<M>
-        requires going { IsGoing M.seen (pocket_of store.old self.owner) self.experiment self.published self.mail }
+        requires going { IsGoing M.seen
+            (pocket_of store.old self.owner) self.experiment self.published self.mail }
         requires empty { own_pocket shelf ≡ empty_pocket self.experiment.spec.budget.packets }
         requires room { length (net_keys self.experiment.net) ≤ own_room shelf 0 }
-        requires fits { length (net_keys self.experiment.net) ≤ self.experiment.spec.budget.packets }
+        requires fits { length (net_keys self.experiment.net)
+            ≤ self.experiment.spec.budget.packets }
         ensures same { result ≡ standing (pocket_of store.old self.owner) self }
         ensures gone { pocket_of store.new self.owner ≡ empty_pocket 0 }
         ensures others { (o : ℕ) → o ≢ self.owner → pocket_of store.new o ≡ pocket_of store.old o }
@@ -250,7 +268,8 @@ impl<M: Mail> Resident<M> {
 
     // What is left of a resident that has ended. What it held is dropped.
     pub(crate) fn end(self, store: &mut Store) -> Dossier<M>
-        requires kept { IsKept M.seen (pocket_of store.old self.owner) self.experiment self.published self.mail }
+        requires kept { IsKept M.seen
+            (pocket_of store.old self.owner) self.experiment self.published self.mail }
         requires ended { IsSome self.experiment.ending }
         ensures ends { IsDossierOf (pocket_of store.old self.owner) self result }
         ensures gone { pocket_of store.new self.owner ≡ empty_pocket 0 }
@@ -287,8 +306,10 @@ impl<M: Mail> Resident<M> {
 
     // After a step: sets its entry to what comes next. Parked where there is no next command.
     fn set_again<A: Agenda>(&mut self, agenda: &mut A, slot: usize)
-        requires stale { (p : Pocket) × IsStale M.seen p (A.entries agenda.old slot) (A.time agenda.old) self.old }
-        ensures seated { (p : Pocket) → IsGoing M.seen p self.old.experiment self.old.published self.old.mail
+        requires stale { (p : Pocket)
+            × IsStale M.seen p (A.entries agenda.old slot) (A.time agenda.old) self.old }
+        ensures seated { (p : Pocket) →
+            IsGoing M.seen p self.old.experiment self.old.published self.old.mail
             → IsSeated M.seen p (A.entries agenda.new slot) (A.time agenda.old) self.new }
         ensures same { self.new ≡ record self.old { offset = self.new.offset } }
         ensures others { (o : ℕ) → o ≢ slot → A.entries agenda.new o ≡ A.entries agenda.old o }

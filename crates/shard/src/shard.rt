@@ -81,9 +81,13 @@ impl<A: Agenda, M: Mail> Model for Shard<A, M> {
 
     ghost use Rattle.shard.specs.Seats.{seats_of, IsShard};
 
-    ghost view = { λ s. record { seats = seats_of (pocket_of s.store) s.slots.items; clock = A.time s.agenda } };
+    ghost view = { λ s. record {
+      seats = seats_of (pocket_of s.store) s.slots.items;
+      clock = A.time s.agenda;
+    } };
 
-    ghost invariant = { λ s. IsShard M.seen (pocket_of s.store) (A.entries s.agenda) (A.time s.agenda) s.slots.items };
+    ghost invariant = { λ s. IsShard M.seen (pocket_of s.store) (A.entries s.agenda)
+        (A.time s.agenda) s.slots.items };
 }
 
 impl<A: Agenda, M: Mail> Shard<A, M> {
@@ -200,7 +204,8 @@ impl<A: Agenda, M: Mail> Shard<A, M> {
 
     /// Makes a parcel of a resident: one owned value with all that it holds. Refused, nothing has changed.
     pub fn pack(&mut self, slot: usize) -> Result<Parcel<M>, PackError>
-        ensures ok { IfOk result (λ parcel. (s : Seat M) × PackedAt parcel self.old self.new slot s) }
+        ensures ok { IfOk result
+            (λ parcel. (s : Seat M) × PackedAt parcel self.old self.new slot s) }
         ensures vacant { result ≡ Err PackError.Vacant → seat_at self.old.seats slot ≡ None }
         ensures there { result ≡ Err PackError.NoMemory → IsSome (seat_at self.old.seats slot) }
         ensures err { OnErr result (self.new ≡ self.old) }
@@ -237,7 +242,8 @@ impl<A: Agenda, M: Mail> Shard<A, M> {
     fn restart(&mut self)
         ensures stands { stands_of self.new.seats ≡ stands_of self.old.seats }
         ensures clock { self.new.clock ≡ 0 }
-        ensures parked { (k : ℕ) (s : Seat M) → seat_at self.new.seats k ≡ Some s → s.offset ≡ None }
+        ensures parked { (k : ℕ) (s : Seat M) → seat_at self.new.seats k ≡ Some s →
+            s.offset ≡ None }
     {
         self.agenda.restart();
         park_all(self.slots.as_mut_slice());
@@ -248,7 +254,8 @@ impl<A: Agenda, M: Mail> Shard<A, M> {
         requires inside { slot < 256 }
         ensures stands { stands_of self.new.seats ≡ stands_of self.old.seats }
         ensures clock { self.new.clock ≡ self.old.clock }
-        ensures offset { (s : Seat M) → seat_at self.new.seats slot ≡ Some s → IfSome s.offset (λ o. o ≤ self.old.clock) }
+        ensures offset { (s : Seat M) → seat_at self.new.seats slot ≡ Some s →
+            IfSome s.offset (λ o. o ≤ self.old.clock) }
         ensures others { (k : ℕ) → k ≢ slot → seat_at self.new.seats k ≡ seat_at self.old.seats k }
     {
         if let Some(resident) = &mut self.slots[slot] {
@@ -259,8 +266,11 @@ impl<A: Agenda, M: Mail> Shard<A, M> {
     /// The slot of the resident of a name. That of the last turn is found at once; else the time grows with the
     /// slots.
     pub fn slot_of(&self, name: u32) -> Option<usize>
-        ensures some { IfSome result (λ slot. (s : Seat M) × (seat_at self.now.seats slot ≡ Some s) × (s.stand.name ≡ name)) }
-        ensures none { IfNone result ((slot : ℕ) (s : Seat M) → seat_at self.now.seats slot ≡ Some s → s.stand.name ≢ name) }
+        ensures some { IfSome result
+            (λ slot. (s : Seat M) × (seat_at self.now.seats slot ≡ Some s)
+            × (s.stand.name ≡ name)) }
+        ensures none { IfNone result
+            ((slot : ℕ) (s : Seat M) → seat_at self.now.seats slot ≡ Some s → s.stand.name ≢ name) }
     {
         if self.is_named(self.turned, name) {
             return Some(self.turned);
@@ -275,8 +285,10 @@ impl<A: Agenda, M: Mail> Shard<A, M> {
 
     // Whether the resident of a slot has a name.
     fn is_named(&self, slot: usize, name: u32) -> bool
-        ensures yes { IsTrue result → (s : Seat M) × (seat_at self.now.seats slot ≡ Some s) × (s.stand.name ≡ name) }
-        ensures no { IsFalse result → (s : Seat M) → seat_at self.now.seats slot ≡ Some s → s.stand.name ≢ name }
+        ensures yes { IsTrue result →
+            (s : Seat M) × (seat_at self.now.seats slot ≡ Some s) × (s.stand.name ≡ name) }
+        ensures no { IsFalse result → (s : Seat M) → seat_at self.now.seats slot ≡ Some s →
+            s.stand.name ≢ name }
     {
         if slot >= self.slots.len() {
             return false;
@@ -289,7 +301,9 @@ impl<A: Agenda, M: Mail> Shard<A, M> {
 
     /// What the resident of a slot recorded; None where nobody is.
     pub fn records(&self, slot: usize) -> Option<&[Record]>
-        ensures { MatchOption result (seat_at self.now.seats slot ≡ None) (λ rs. (s : Seat M) × (seat_at self.now.seats slot ≡ Some s) × (rs.now ≡ s.stand.state.net.records)) }
+        ensures { MatchOption result (seat_at self.now.seats slot ≡ None)
+            (λ rs. (s : Seat M) × (seat_at self.now.seats slot ≡ Some s)
+            × (rs.now ≡ s.stand.state.net.records)) }
     {
         let resident = self.slots.get(slot)?.as_ref()?;
         Some(resident.experiment.records())
@@ -297,7 +311,9 @@ impl<A: Agenda, M: Mail> Shard<A, M> {
 
     /// The commands that came to the resident of a slot, the next one among them; None where nobody is.
     pub fn consumed(&self, slot: usize) -> Option<&[Timed]>
-        ensures { MatchOption result (seat_at self.now.seats slot ≡ None) (λ cs. (s : Seat M) × (seat_at self.now.seats slot ≡ Some s) × (cs.now ≡ s.stand.consumed)) }
+        ensures { MatchOption result (seat_at self.now.seats slot ≡ None)
+            (λ cs. (s : Seat M) × (seat_at self.now.seats slot ≡ Some s)
+            × (cs.now ≡ s.stand.consumed)) }
     {
         let resident = self.slots.get(slot)?.as_ref()?;
         Some(resident.experiment.consumed())
@@ -305,7 +321,8 @@ impl<A: Agenda, M: Mail> Shard<A, M> {
 
     /// What each resident keeps: it shows the state of running it alone.
     pub fn known(&self)
-        ensures { (slot : ℕ) (s : Seat M) → seat_at self.now.seats slot ≡ Some s → IsTold M.seen s.stand }
+        ensures { (slot : ℕ) (s : Seat M) → seat_at self.now.seats slot ≡ Some s →
+            IsTold M.seen s.stand }
     {
         let _ = &self.agenda;
     }
@@ -315,11 +332,13 @@ impl<A: Agenda, M: Mail> Shard<A, M> {
 // would clear the room for one.
 fn take_ended<M: Mail>(place: &mut Option<Resident<M>>, store: &mut Store) -> Dossier<M>
     requires there { IsSome place.old }
-    requires kept { IfSome place.old (λ r. IsKept M.seen (pocket_of store.old r.owner) r.experiment r.published r.mail) }
+    requires kept { IfSome place.old
+        (λ r. IsKept M.seen (pocket_of store.old r.owner) r.experiment r.published r.mail) }
     requires ended { IfSome place.old (λ r. IsSome r.experiment.ending) }
     ensures gone { place.new ≡ None }
     ensures ends { IfSome place.old (λ r. IsDossierOf (pocket_of store.old r.owner) r result) }
-    ensures others { IfSome place.old (λ r. (o : ℕ) → o ≢ r.owner → pocket_of store.new o ≡ pocket_of store.old o) }
+    ensures others { IfSome place.old
+        (λ r. (o : ℕ) → o ≢ r.owner → pocket_of store.new o ≡ pocket_of store.old o) }
 {
     let Some(gone) = mem::replace(place, None) else {
         unreachable!();
@@ -329,8 +348,11 @@ fn take_ended<M: Mail>(place: &mut Option<Resident<M>>, store: &mut Store) -> Do
 
 // The least slot with nobody.
 fn first_vacant<M: Mail>(slots: &[Option<Resident<M>>]) -> Option<usize>
-    ensures some { IfSome result (λ k. (k < length slots.now) × (slice_index_or slots.now k None ≡ None) × ((j : ℕ) → j < k → IsSome (slice_index_or slots.now j None))) }
-    ensures none { IfNone result ((j : ℕ) → j < length slots.now → IsSome (slice_index_or slots.now j None)) }
+    ensures some { IfSome result
+        (λ k. (k < length slots.now) × (slice_index_or slots.now k None ≡ None)
+        × ((j : ℕ) → j < k → IsSome (slice_index_or slots.now j None))) }
+    ensures none { IfNone result
+        ((j : ℕ) → j < length slots.now → IsSome (slice_index_or slots.now j None)) }
 {
     for k in 0..slots.len() {
         if slots[k].is_none() {

@@ -1,5 +1,5 @@
 mod Sources
-mod Order
+mod EntryOrder
 mod Rows
 mod PlaceFacts
 pub mod MarkFacts

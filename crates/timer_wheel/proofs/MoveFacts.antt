@@ -8,7 +8,7 @@ use Rattle.timer_wheel.specs.Stocks.{StockBook, Holds, IsStock, room_of, unless,
 use Rattle.timer_wheel.proofs.Circles.{pick_same, pick_other}
 use Rattle.timer_wheel.proofs.SlotFacts.{set_there, set_elsewhere}
 use Rattle.timer_wheel.proofs.StockFacts.{some_same, held_at, is_free, free_stays, falls_set}
-use Rattle.timer_wheel.proofs.Order.{is_before-order}
+use Rattle.timer_wheel.proofs.EntryOrder.{is_before-order}
 
 -- only the slots are other
 pub slots_alone : (a b n : StockBook) (xs : List ℕ) → b ≡ record a { slots = b.slots } → n ≡ record b { slots = xs } → n ≡ record a { slots = n.slots }

@@ -9,7 +9,7 @@ use Rattle.emu_model.specs.Laws.{same_source}
 use Rattle.timer_wheel.specs.declared.Entry.{Entry}
 use Rattle.timer_wheel.specs.Rows.{no_dues, with_due, without_due, is_before, is_of, lesser, row_of, IsAtOrAbove, least_of}
 use Rattle.timer_wheel.proofs.Sources.{same_source-sym, is_of-true, is_of-self}
-use Rattle.timer_wheel.proofs.Order.{is_before-order, is_before-low}
+use Rattle.timer_wheel.proofs.EntryOrder.{is_before-order, is_before-low}
 
 none_either : (b : Bool) → (let r : Option ℕ = cond b None None in r) ≡ None
 none_either true = refl

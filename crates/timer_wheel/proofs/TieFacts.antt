@@ -19,7 +19,7 @@ use Rattle.timer_wheel.specs.declared.ties.Tie.{Tie}
 use Rattle.timer_wheel.specs.Rows.{is_before, source_before}
 use Rattle.timer_wheel.specs.Ties.{TiesBook, Waits, IsRising, tie_of, tie_before}
 use Rattle.timer_wheel.specs.contracts.ties.TieOrd.TheImpl.{cmp-value}
-use Rattle.timer_wheel.proofs.Order.{is_before-order}
+use Rattle.timer_wheel.proofs.EntryOrder.{is_before-order}
 
 abbrev pub tie_cmp : Tie → Tie → Ordering
 tie_cmp a b = ordering_then (nat_cmp a.owner b.owner) (ordering_then (nat_cmp (rank a.source.class) (rank b.source.class)) (nat_cmp a.source.number b.source.number))

@@ -16,7 +16,7 @@ use Rattle.timer_wheel.specs.Stocks.{StockBook, Holds, IsStock, IsSpread, due_by
 use Rattle.timer_wheel.specs.Stands.{StandsAt, IsPlaced, IsSeated, IsWheel, IsTurned, IsStill, without_at, with_at}
 use Rattle.timer_wheel.proofs.Sources.{same_source-true}
 use Rattle.timer_wheel.specs.Ties.{TiesBook, Waits, IsRising, tie_of, tie_before}
-use Rattle.timer_wheel.proofs.Order.{is_before-low, is_before-order}
+use Rattle.timer_wheel.proofs.EntryOrder.{is_before-low, is_before-order}
 use Rattle.timer_wheel.proofs.PlaceFacts.{place_of-order, place_of-stays, place_of-within}
 use Rattle.timer_wheel.proofs.SlotFacts.{set_there, set_elsewhere}
 use Rattle.timer_wheel.proofs.StockFacts.{some_same, rows_slots, is_free, free_stays}

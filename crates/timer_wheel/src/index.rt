@@ -41,7 +41,8 @@ impl Model for Index {
 impl Hash for Whose {
     ghost use Rattle.std.specs.Prelude.{◌+◌, ◌*◌, ◌^◌, ◌%◌};
 
-    ghost hash_input = { λ w. fed.u64 ((w.owner * 2 ^ 40 % 2 ^ 64 + (w.class * 2 ^ 32 + w.number)) % 2 ^ 64) };
+    ghost hash_input = { λ w. fed.u64
+        ((w.owner * 2 ^ 40 % 2 ^ 64 + (w.class * 2 ^ 32 + w.number)) % 2 ^ 64) };
 
     ghost respects_eq = { Prim.search (hashing, rules) };
 
@@ -95,7 +96,9 @@ impl Index {
     /// Gives a source a key, for which there is room.
     pub fn insert(&mut self, owner: Owner, source: Source, key: usize)
         requires { 0 < self.old.room }
-        ensures keys { (o : ℕ) (s : Source) → key_in self.new.keys o s ≡ cond (o == owner && same_source s source) (Some key) (key_in self.old.keys o s) }
+        ensures keys { (o : ℕ) (s : Source) →
+            key_in self.new.keys o s
+            ≡ cond (o == owner && same_source s source) (Some key) (key_in self.old.keys o s) }
         ensures room { self.old.room ≤ self.new.room + 1 }
     {
         let Ok(_) = self.map.insert(Whose::of(owner, source), key) else {
@@ -105,7 +108,9 @@ impl Index {
 
     /// Takes the key of a source away.
     pub fn remove(&mut self, owner: Owner, source: Source)
-        ensures keys { (o : ℕ) (s : Source) → key_in self.new.keys o s ≡ cond (o == owner && same_source s source) None (key_in self.old.keys o s) }
+        ensures keys { (o : ℕ) (s : Source) →
+            key_in self.new.keys o s
+            ≡ cond (o == owner && same_source s source) None (key_in self.old.keys o s) }
         ensures room { self.old.room ≤ self.new.room }
     {
         self.map.swap_remove(&Whose::of(owner, source));

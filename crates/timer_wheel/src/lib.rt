@@ -1,4 +1,4 @@
-//! Agendas: which owner's source is due first, and when (own).
+//! Agendas: which owner's source is due first, and when (our choice).
 //!
 //! `Agenda` says what one is. `ListAgenda` keeps a plain list, for tests, and `Wheel` a timing wheel; callers
 //! that are generic over `Agenda` can't tell them apart. Only `new`, `set_ready` and `set` of a source that
@@ -68,7 +68,8 @@ pub trait Agenda: Drop {
     /// Sets the due of a source, in place of the one that it had. A source that had one needs no memory.
     fn set(&mut self, owner: Owner, source: Source, due: u64) -> Result<(), AllocError>
         requires { time self.old ≤ due }
-        ensures ok { OnOk result (entries self.new owner ≡ with_due (entries self.old owner) source due) }
+        ensures ok { OnOk result
+            (entries self.new owner ≡ with_due (entries self.old owner) source due) }
         ensures err { OnErr result (entries self.new owner ≡ entries self.old owner) }
         ensures others { (o : ℕ) → o ≢ owner → entries self.new o ≡ entries self.old o }
         ensures time { time self.new ≡ time self.old }
@@ -94,7 +95,8 @@ pub trait Agenda: Drop {
     /// Tells the least entry by due, owner, class and number, and moves the clock to its due. It stays.
     fn move_to_least(&mut self) -> Option<Entry>
         ensures was { IfSome result (λ e. entries self.old e.owner e.source ≡ Some e.due) }
-        ensures least { IfSome result (λ e. (o : ℕ) (s : Source) (d : ℕ) → entries self.old o s ≡ Some d
+        ensures least { IfSome result
+            (λ e. (o : ℕ) (s : Source) (d : ℕ) → entries self.old o s ≡ Some d
             → is_before (record { due = d; owner = o; source = s }) e ≡ false) }
         ensures entries { (o : ℕ) → entries self.new o ≡ entries self.old o }
         ensures time { IfSome result (λ e. time self.new ≡ e.due) }
@@ -106,10 +108,13 @@ pub trait Agenda: Drop {
     /// Takes the least entry by due, owner, class and number, and moves the clock to its due.
     fn pop_least(&mut self) -> Option<Entry>
         ensures was { IfSome result (λ e. entries self.old e.owner e.source ≡ Some e.due) }
-        ensures least { IfSome result (λ e. (o : ℕ) (s : Source) (d : ℕ) → entries self.old o s ≡ Some d
+        ensures least { IfSome result
+            (λ e. (o : ℕ) (s : Source) (d : ℕ) → entries self.old o s ≡ Some d
             → is_before (record { due = d; owner = o; source = s }) e ≡ false) }
-        ensures taken { IfSome result (λ e. entries self.new e.owner ≡ without_due (entries self.old e.owner) e.source) }
-        ensures others { IfSome result (λ e. (o : ℕ) → o ≢ e.owner → entries self.new o ≡ entries self.old o) }
+        ensures taken { IfSome result
+            (λ e. entries self.new e.owner ≡ without_due (entries self.old e.owner) e.source) }
+        ensures others { IfSome result
+            (λ e. (o : ℕ) → o ≢ e.owner → entries self.new o ≡ entries self.old o) }
         ensures time { IfSome result (λ e. time self.new ≡ e.due) }
         ensures rises { time self.old ≤ time self.new }
         ensures none { IfNone result ((o : ℕ) → entries self.old o ≡ no_dues) }

@@ -21,7 +21,11 @@ impl Model for ListAgenda {
 
     ghost Value = { ListBook };
 
-    ghost view = { λ a. record { items = a.items.items; clock = a.clock; spare = vec_capacity a.items - vec_len a.items } };
+    ghost view = { λ a. record {
+      items = a.items.items;
+      clock = a.clock;
+      spare = vec_capacity a.items - vec_len a.items;
+    } };
 
     ghost invariant = { λ a. IsAtOrAbove a.clock (row_of a.items.items) };
 }
@@ -44,7 +48,8 @@ fn least(items: &[Entry]) -> Option<Entry>
 fn remove(items: &mut Vec<Entry>, owner: Owner, source: Source)
     ensures items { items.new.items ≡ filter (λ e. not (is_of owner source e)) items.old.items }
     ensures len { vec_len items.new ≤ vec_len items.old }
-    ensures fewer { list_any (is_of owner source) items.old.items ≡ true → vec_len items.new < vec_len items.old }
+    ensures fewer { list_any (is_of owner source) items.old.items ≡ true →
+        vec_len items.new < vec_len items.old }
     ensures capacity { vec_capacity items.new ≡ vec_capacity items.old }
 {
     items.retain(|entry| !entry.is_of(owner, source));
@@ -59,10 +64,13 @@ fn has(items: &[Entry], owner: Owner, source: Source) -> bool
 
 // Puts an entry in place of those of its source. There is room, or there is one of its source.
 fn replace(items: &mut Vec<Entry>, entry: Entry)
-    requires { vec_len items.old < vec_capacity items.old ⊎ (list_any (is_of entry.owner entry.source) items.old.items ≡ true) }
-    ensures items { items.new.items ≡ filter (λ e. not (is_of entry.owner entry.source e)) items.old.items ++ entry ∷ [] }
+    requires { vec_len items.old < vec_capacity items.old
+        ⊎ (list_any (is_of entry.owner entry.source) items.old.items ≡ true) }
+    ensures items { items.new.items
+        ≡ filter (λ e. not (is_of entry.owner entry.source e)) items.old.items ++ entry ∷ [] }
     ensures len { vec_len items.new ≤ vec_len items.old + 1 }
-    ensures again { list_any (is_of entry.owner entry.source) items.old.items ≡ true → vec_len items.new ≤ vec_len items.old }
+    ensures again { list_any (is_of entry.owner entry.source) items.old.items ≡ true →
+        vec_len items.new ≤ vec_len items.old }
     ensures capacity { vec_capacity items.new ≡ vec_capacity items.old }
 {
     remove(items, entry.owner, entry.source);

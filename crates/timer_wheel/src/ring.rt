@@ -40,7 +40,8 @@ impl Model for Ring {
 // Says what comes behind a link.
 fn set_next(links: &mut Vec<Link>, at: usize, next: usize)
     requires { at < length links.old.items }
-    ensures next { (q : ℕ) → next_of links.new.items q ≡ cond (q == at) next (next_of links.old.items q) }
+    ensures next { (q : ℕ) →
+        next_of links.new.items q ≡ cond (q == at) next (next_of links.old.items q) }
     ensures prev { (q : ℕ) → prev_of links.new.items q ≡ prev_of links.old.items q }
     ensures list { (q : ℕ) → list_of links.new.items q ≡ list_of links.old.items q }
     ensures len { length links.new.items ≡ length links.old.items }
@@ -52,7 +53,8 @@ fn set_next(links: &mut Vec<Link>, at: usize, next: usize)
 fn set_prev(links: &mut Vec<Link>, at: usize, prev: usize)
     requires { at < length links.old.items }
     ensures next { (q : ℕ) → next_of links.new.items q ≡ next_of links.old.items q }
-    ensures prev { (q : ℕ) → prev_of links.new.items q ≡ cond (q == at) prev (prev_of links.old.items q) }
+    ensures prev { (q : ℕ) →
+        prev_of links.new.items q ≡ cond (q == at) prev (prev_of links.old.items q) }
     ensures list { (q : ℕ) → list_of links.new.items q ≡ list_of links.old.items q }
     ensures len { length links.new.items ≡ length links.old.items }
 {
@@ -64,7 +66,8 @@ fn set_list(links: &mut Vec<Link>, at: usize, list: usize)
     requires { at < length links.old.items }
     ensures next { (q : ℕ) → next_of links.new.items q ≡ next_of links.old.items q }
     ensures prev { (q : ℕ) → prev_of links.new.items q ≡ prev_of links.old.items q }
-    ensures list { (q : ℕ) → list_of links.new.items q ≡ cond (q == at) list (list_of links.old.items q) }
+    ensures list { (q : ℕ) →
+        list_of links.new.items q ≡ cond (q == at) list (list_of links.old.items q) }
     ensures len { length links.new.items ≡ length links.old.items }
 {
     links[at].list = list;
@@ -77,9 +80,11 @@ fn cross(links: &mut Vec<Link>, a: usize, b: usize)
     requires after_a { next_of links.old.items a < length links.old.items }
     requires after_b { next_of links.old.items b < length links.old.items }
     ensures next { (q : ℕ) → next_of links.new.items q
-        ≡ cond (q == b) (next_of links.old.items a) (cond (q == a) (next_of links.old.items b) (next_of links.old.items q)) }
+        ≡ cond (q == b) (next_of links.old.items a)
+        (cond (q == a) (next_of links.old.items b) (next_of links.old.items q)) }
     ensures prev { (q : ℕ) → prev_of links.new.items q
-        ≡ cond (q == next_of links.old.items a) b (cond (q == next_of links.old.items b) a (prev_of links.old.items q)) }
+        ≡ cond (q == next_of links.old.items a) b
+        (cond (q == next_of links.old.items b) a (prev_of links.old.items q)) }
     ensures list { (q : ℕ) → list_of links.new.items q ≡ list_of links.old.items q }
     ensures len { length links.new.items ≡ length links.old.items }
 {
@@ -164,7 +169,8 @@ impl Ring {
     /// Whether a list has no more than one key.
     pub fn is_alone(&self, list: usize) -> bool
         requires { list < 2051 }
-        ensures { IsTrue result → (j k : ℕ) → slice_get self.now j ≡ Some list → slice_get self.now k ≡ Some list → j ≡ k }
+        ensures { IsTrue result → (j k : ℕ) → slice_get self.now j ≡ Some list →
+            slice_get self.now k ≡ Some list → j ≡ k }
     {
         let behind = next(&self.links, list);
         let before = prev(&self.links, list);

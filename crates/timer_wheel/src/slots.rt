@@ -41,8 +41,10 @@ impl Model for Slots {
 // Marks a slot where it has a key, and takes its mark where it has none. Another list has no mark.
 fn renew(marks: &mut Marks, keys: &Ring, list: usize)
     ensures other { (q : ℕ) → q ≢ list → mark_at marks.new q ≡ mark_at marks.old q }
-    ensures there { list < 2048 → mark_at marks.new list ≡ 1 → (k : ℕ) × (slice_get keys.now k ≡ Some list) }
-    ensures none { list < 2048 → mark_at marks.new list ≡ 0 → (k : ℕ) → slice_get keys.now k ≢ Some list }
+    ensures there { list < 2048 → mark_at marks.new list ≡ 1 →
+        (k : ℕ) × (slice_get keys.now k ≡ Some list) }
+    ensures none { list < 2048 → mark_at marks.new list ≡ 0 → (k : ℕ) →
+        slice_get keys.now k ≢ Some list }
 {
     if list >= SLOTS {
         return;
@@ -84,8 +86,10 @@ impl Slots {
     pub fn first(&self) -> Option<usize>
         ensures within { IfSome result (λ p. p < 2048) }
         ensures filled { IfSome result (λ p. (k : ℕ) × (slice_get self.now k ≡ Some p)) }
-        ensures first { IfSome result (λ p. (q : ℕ) → q < p → (k : ℕ) → slice_get self.now k ≢ Some q) }
-        ensures none { IfNone result ((q : ℕ) → q < 2048 → (k : ℕ) → slice_get self.now k ≢ Some q) }
+        ensures first { IfSome result
+            (λ p. (q : ℕ) → q < p → (k : ℕ) → slice_get self.now k ≢ Some q) }
+        ensures none { IfNone result
+            ((q : ℕ) → q < 2048 → (k : ℕ) → slice_get self.now k ≢ Some q) }
     {
         self.marks.first()
     }
@@ -103,7 +107,8 @@ impl Slots {
     /// Whether a list has no more than one key.
     pub fn is_alone(&self, list: usize) -> bool
         requires { list < 2051 }
-        ensures { IsTrue result → (j k : ℕ) → slice_get self.now j ≡ Some list → slice_get self.now k ≡ Some list → j ≡ k }
+        ensures { IsTrue result → (j k : ℕ) → slice_get self.now j ≡ Some list →
+            slice_get self.now k ≡ Some list → j ≡ k }
     {
         self.keys.is_alone(list)
     }

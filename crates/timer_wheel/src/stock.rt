@@ -10,7 +10,7 @@ use crate::index::Index;
 use crate::ring::Ring;
 use crate::slots::{FREE, LOOSE, SLOTS, Slots};
 use crate::{Entry, Owner};
-use emu_model::{Class, Source};
+use emu_model::Source;
 use std::alloc::{AllocError, Global};
 use std::marker::Model;
 
@@ -31,9 +31,20 @@ impl Model for Stock {
 
     ghost use Rattle.timer_wheel.specs.Stocks.{IsStock};
 
-    ghost view = { λ s. record { entries = s.entries.items; slots = s.slots; owners = s.owners; index = s.index } };
+    ghost view = { λ s. record {
+      entries = s.entries.items;
+      slots = s.slots;
+      owners = s.owners;
+      index = s.index;
+    } };
 
-    ghost invariant = { λ s. IsStock (record { entries = s.entries.items; slots = s.slots; owners = s.owners; index = s.index }) };
+    ghost invariant = { λ s. IsStock
+        (record {
+          entries = s.entries.items;
+          slots = s.slots;
+          owners = s.owners;
+          index = s.index;
+        }) };
 }
 
 // What stands under a key that holds no entry.
@@ -41,10 +52,7 @@ fn nothing() -> Entry {
     Entry {
         due: 0,
         owner: 0,
-        source: Source {
-            class: Class::NextCommand,
-            number: 0,
-        },
+        source: Source::next_command(),
     }
 }
 
@@ -65,7 +73,8 @@ fn grow_entries(entries: &mut Vec<Entry>, len: usize) -> Result<(), AllocError>
 fn grow_owners(owners: &mut Ring, len: usize) -> Result<(), AllocError>
     requires { len ≤ length owners.old }
     ensures more { IsMore owners.old owners.new }
-    ensures free { (k l : ℕ) → slice_get owners.new k ≡ Some l → l ≢ 2050 → slice_get owners.old k ≡ Some l }
+    ensures free { (k l : ℕ) → slice_get owners.new k ≡ Some l → l ≢ 2050 →
+        slice_get owners.old k ≡ Some l }
     ensures ok { OnOk result (len < length owners.new) }
 {
     if len < owners.len() {
@@ -93,7 +102,8 @@ impl Stock {
     /// No entry.
     pub fn new(alloc: Global) -> Result<Stock, AllocError>
         ensures rows { IfOk result (λ b. (o : ℕ) (s : Source) → due_of b o s ≡ None) }
-        ensures holds { IfOk result (λ b. (k : ℕ) (e : Entry) (p : ℕ) → ¬ Holds b.entries b.slots k e p) }
+        ensures holds { IfOk result
+            (λ b. (k : ℕ) (e : Entry) (p : ℕ) → ¬ Holds b.entries b.slots k e p) }
     {
         Ok(Stock {
             entries: Vec::new(alloc),
@@ -112,7 +122,9 @@ impl Stock {
 
     /// The key of a source.
     pub fn find(&self, owner: Owner, source: Source) -> Option<usize>
-        ensures held { IfSome result (λ k. (e : Entry) × (p : ℕ) × Holds self.now.entries self.now.slots k e p × (e.owner ≡ owner) × (e.source ≡ source)) }
+        ensures held { IfSome result
+            (λ k. (e : Entry) × (p : ℕ) × Holds self.now.entries self.now.slots k e p
+            × (e.owner ≡ owner) × (e.source ≡ source)) }
         ensures some { IfSome result (λ k. IsSome (due_of self.now owner source)) }
         ensures none { IfNone result (due_of self.now owner source ≡ None) }
     {
@@ -144,8 +156,10 @@ impl Stock {
     pub fn first(&self) -> Option<usize>
         ensures within { IfSome result (λ p. p < 2048) }
         ensures filled { IfSome result (λ p. (k : ℕ) × (slice_get self.now.slots k ≡ Some p)) }
-        ensures first { IfSome result (λ p. (q : ℕ) → q < p → (k : ℕ) → slice_get self.now.slots k ≢ Some q) }
-        ensures none { IfNone result ((q : ℕ) → q < 2048 → (k : ℕ) → slice_get self.now.slots k ≢ Some q) }
+        ensures first { IfSome result
+            (λ p. (q : ℕ) → q < p → (k : ℕ) → slice_get self.now.slots k ≢ Some q) }
+        ensures none { IfNone result
+            ((q : ℕ) → q < 2048 → (k : ℕ) → slice_get self.now.slots k ≢ Some q) }
     {
         self.slots.first()
     }
@@ -163,7 +177,8 @@ impl Stock {
     /// Whether a list has no more than one key.
     pub fn is_alone(&self, list: usize) -> bool
         requires { list < 2051 }
-        ensures { IsTrue result → (j k : ℕ) → slice_get self.now.slots j ≡ Some list → slice_get self.now.slots k ≡ Some list → j ≡ k }
+        ensures { IsTrue result → (j k : ℕ) → slice_get self.now.slots j ≡ Some list →
+            slice_get self.now.slots k ≡ Some list → j ≡ k }
     {
         self.slots.is_alone(list)
     }
@@ -184,7 +199,8 @@ impl Stock {
         ensures holds { (k : ℕ) (e : Entry) (p : ℕ) → Holds self.new.entries self.new.slots k e p
             → Holds self.old.entries self.old.slots k e p ⊎ ((e.due ≡ due) × (p ≡ list)) }
         ensures rows { (e : Entry) → slice_get self.old.entries key ≡ Some e → (o : ℕ) (s : Source)
-            → due_of self.new o s ≡ cond (o == e.owner && same_source s e.source) (Some due) (due_of self.old o s) }
+            → due_of self.new o s
+            ≡ cond (o == e.owner && same_source s e.source) (Some due) (due_of self.old o s) }
         ensures room { room_of self.new ≡ room_of self.old }
     {
         self.entries[key].due = due;
@@ -195,7 +211,8 @@ impl Stock {
     pub fn ready(&mut self) -> Result<(), AllocError>
         ensures ok { OnOk result (0 < room_of self.new) }
         ensures succeeds { 0 < room_of self.old → IsOk result }
-        ensures holds { (k : ℕ) (e : Entry) (p : ℕ) → Holds self.new.entries self.new.slots k e p → Holds self.old.entries self.old.slots k e p }
+        ensures holds { (k : ℕ) (e : Entry) (p : ℕ) → Holds self.new.entries self.new.slots k e p →
+            Holds self.old.entries self.old.slots k e p }
         ensures rows { (o : ℕ) (s : Source) → due_of self.new o s ≡ due_of self.old o s }
         ensures room { room_of self.old ≤ room_of self.new }
     {
@@ -214,7 +231,10 @@ impl Stock {
         requires list { list < 2050 }
         ensures holds { (k : ℕ) (e : Entry) (p : ℕ) → Holds self.new.entries self.new.slots k e p
             → Holds self.old.entries self.old.slots k e p ⊎ ((e ≡ entry) × (p ≡ list)) }
-        ensures rows { (o : ℕ) (s : Source) → due_of self.new o s ≡ cond (o == entry.owner && same_source s entry.source) (Some entry.due) (due_of self.old o s) }
+        ensures rows { (o : ℕ) (s : Source) →
+            due_of self.new o s
+            ≡ cond (o == entry.owner && same_source s entry.source) (Some entry.due)
+            (due_of self.old o s) }
         ensures room { room_of self.old ≤ room_of self.new + 1 }
     {
         let Some(key) = self.slots.first_of(FREE) else {
@@ -233,7 +253,9 @@ impl Stock {
         ensures entries { self.new.entries ≡ self.old.entries }
         ensures slots { self.new.slots ≡ slice_set self.old.slots key 2050 }
         ensures owners { self.new.owners ≡ slice_set self.old.owners key 2050 }
-        ensures rows { (o : ℕ) (s : Source) → due_of self.new o s ≡ cond (o == result.owner && same_source s result.source) None (due_of self.old o s) }
+        ensures rows { (o : ℕ) (s : Source) →
+            due_of self.new o s
+            ≡ cond (o == result.owner && same_source s result.source) None (due_of self.old o s) }
         ensures room { room_of self.old ≤ room_of self.new }
     {
         let entry = self.entries[key];
@@ -247,7 +269,8 @@ impl Stock {
     fn owned(&self, list: usize) -> Option<usize>
         requires { list < 2050 }
         ensures some { IfSome result (λ k. slice_get self.now.owners k ≡ Some list) }
-        ensures holds { IfSome result (λ k. (e : Entry) × (p : ℕ) × Holds self.now.entries self.now.slots k e p) }
+        ensures holds { IfSome result
+            (λ k. (e : Entry) × (p : ℕ) × Holds self.now.entries self.now.slots k e p) }
         ensures none { IfNone result ((k : ℕ) → slice_get self.now.owners k ≢ Some list) }
     {
         self.owners.first(list)
@@ -255,7 +278,8 @@ impl Stock {
 
     // Puts a key into another list by owner: that of its own, or the one for keys on their way.
     fn lay(&mut self, key: usize, list: usize)
-        requires holds { (e : Entry) × (p : ℕ) × Holds self.old.entries self.old.slots key e p × ((list ≡ e.owner % 2048) ⊎ (list ≡ 2049)) }
+        requires holds { (e : Entry) × (p : ℕ) × Holds self.old.entries self.old.slots key e p
+            × ((list ≡ e.owner % 2048) ⊎ (list ≡ 2049)) }
         ensures { self.new ≡ record self.old { owners = slice_set self.old.owners key list } }
     {
         self.owners.put(key, list);
@@ -263,9 +287,11 @@ impl Stock {
 
     /// Takes all entries of an owner away.
     pub fn remove_owner(&mut self, owner: Owner)
-        ensures holds { (k : ℕ) (e : Entry) (p : ℕ) → Holds self.new.entries self.new.slots k e p → Holds self.old.entries self.old.slots k e p }
+        ensures holds { (k : ℕ) (e : Entry) (p : ℕ) → Holds self.new.entries self.new.slots k e p →
+            Holds self.old.entries self.old.slots k e p }
         ensures none { (s : Source) → due_of self.new owner s ≡ None }
-        ensures others { (o : ℕ) (s : Source) → o ≢ owner → due_of self.new o s ≡ due_of self.old o s }
+        ensures others { (o : ℕ) (s : Source) → o ≢ owner →
+            due_of self.new o s ≡ due_of self.old o s }
         ensures room { room_of self.old ≤ room_of self.new }
     {
         while let Some(key) = self.owned(owner % SLOTS) {
@@ -289,7 +315,8 @@ impl Stock {
 
     /// Takes all entries away.
     pub fn clear(&mut self)
-        ensures holds { (k : ℕ) (e : Entry) (p : ℕ) → ¬ Holds self.new.entries self.new.slots k e p }
+        ensures holds { (k : ℕ) (e : Entry) (p : ℕ) →
+            ¬ Holds self.new.entries self.new.slots k e p }
         ensures rows { (o : ℕ) (s : Source) → due_of self.new o s ≡ None }
         ensures room { room_of self.old ≤ room_of self.new }
     {

@@ -76,7 +76,8 @@ impl Ties {
 
     /// Takes in a source at the end, where there is room for it, and says whether there was.
     pub fn push(&mut self, tie: Tie) -> bool
-        ensures pushed { IsTrue result → self.new ≡ record self.old { items = self.old.items ++ tie ∷ [] } }
+        ensures pushed { IsTrue result →
+            self.new ≡ record self.old { items = self.old.items ++ tie ∷ [] } }
         ensures full { IsFalse result → self.new ≡ self.old }
     {
         if self.items.len() == self.items.capacity() {

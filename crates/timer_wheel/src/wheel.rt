@@ -55,8 +55,11 @@ impl Model for Wheel {
 fn gather(stock: &mut Stock, from: usize) -> Option<Entry>
     requires { from < 2048 }
     ensures slots { stock.new ≡ record stock.old { slots = map (unless from) stock.old.slots } }
-    ensures there { IfSome result (λ l. (k : ℕ) × Holds stock.old.entries stock.old.slots k l from) }
-    ensures least { IfSome result (λ l. (k : ℕ) (e : Entry) → Holds stock.old.entries stock.old.slots k e from → is_before e l ≡ false) }
+    ensures there { IfSome result
+        (λ l. (k : ℕ) × Holds stock.old.entries stock.old.slots k l from) }
+    ensures least { IfSome result
+        (λ l. (k : ℕ) (e : Entry) → Holds stock.old.entries stock.old.slots k e from →
+        is_before e l ≡ false) }
     ensures none { IfNone result ((k : ℕ) → slice_get stock.old.slots k ≢ Some from) }
     ensures room { room_of stock.new ≡ room_of stock.old }
 {
@@ -128,8 +131,11 @@ fn spread_ties(stock: &mut Stock, ties: &mut Ties, clock: u64)
 
 // Whether a source's key is among the ties.
 fn is_waiting(stock: &Stock, tie: Tie) -> bool
-    ensures yes { IsTrue result → (k : ℕ) × (e : Entry) × Holds stock.now.entries stock.now.slots k e 2048 × (tie_of e ≡ tie) }
-    ensures no { IsFalse result → (k : ℕ) (e : Entry) → Holds stock.now.entries stock.now.slots k e 2048 → tie_of e ≢ tie }
+    ensures yes { IsTrue result →
+        (k : ℕ) × (e : Entry) × Holds stock.now.entries stock.now.slots k e 2048
+        × (tie_of e ≡ tie) }
+    ensures no { IsFalse result → (k : ℕ) (e : Entry) →
+        Holds stock.now.entries stock.now.slots k e 2048 → tie_of e ≢ tie }
 {
     stock.known();
     let Some(key) = stock.find(tie.owner, tie.source) else {
@@ -141,8 +147,11 @@ fn is_waiting(stock: &Stock, tie: Tie) -> bool
 // The first of the ties whose key is among them still, once those before it were passed.
 fn waiting(stock: &Stock, ties: &mut Ties) -> Option<Tie>
     ensures items { ties.new.items ≡ ties.old.items }
-    ensures kept { (k : ℕ) (e : Entry) → Holds stock.now.entries stock.now.slots k e 2048 → Waits ties.old (tie_of e) → Waits ties.new (tie_of e) }
-    ensures held { IfSome result (λ t. (k : ℕ) × (e : Entry) × Holds stock.now.entries stock.now.slots k e 2048 × (tie_of e ≡ t)) }
+    ensures kept { (k : ℕ) (e : Entry) → Holds stock.now.entries stock.now.slots k e 2048 →
+        Waits ties.old (tie_of e) → Waits ties.new (tie_of e) }
+    ensures held { IfSome result
+        (λ t. (k : ℕ) × (e : Entry) × Holds stock.now.entries stock.now.slots k e 2048
+        × (tie_of e ≡ t)) }
     ensures top { IfSome result (λ t. slice_get ties.new.items ties.new.next ≡ Some t) }
     ensures none { IfNone result (length ties.new.items ≤ ties.new.next) }
 {
@@ -161,7 +170,11 @@ fn lift(stock: &mut Stock, from: usize) -> Entry
     requires within { from < 2048 }
     requires there { (k : ℕ) × (slice_get stock.old.slots k ≡ Some from) }
     ensures { (k : ℕ) × Holds stock.old.entries stock.old.slots k result from
-        × (stock.new ≡ record stock.old { slots = slice_set stock.old.slots k (place_of result.due result.due) }) }
+        × (stock.new
+        ≡ record stock.old {
+          slots = slice_set stock.old.slots k
+              (place_of result.due result.due);
+        }) }
 {
     stock.known();
     let Some(key) = stock.first_of(from) else {
@@ -197,7 +210,8 @@ fn turn(stock: &mut Stock, ties: &mut Ties, clock: u64) -> Option<Entry>
 // The least entry where a tie waits: it, or one that came to its moment later.
 fn meet(stock: &mut Stock, ties: &Ties, clock: u64, tie: Tie) -> Entry
     requires wheel { IsWheel clock stock.old ties.now }
-    requires held { (k : ℕ) × (e : Entry) × Holds stock.old.entries stock.old.slots k e 2048 × (tie_of e ≡ tie) }
+    requires held { (k : ℕ) × (e : Entry) × Holds stock.old.entries stock.old.slots k e 2048
+        × (tie_of e ≡ tie) }
     requires top { slice_get ties.now.items ties.now.next ≡ Some tie }
     ensures { IsTurned clock stock.old result stock.new ties.now }
 {

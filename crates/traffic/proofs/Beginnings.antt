@@ -7,10 +7,10 @@ use Rattle.std.proofs.lemmas.List.Elements.{All-push, All-map, All-weaker}
 use Rattle.std.proofs.lemmas.List.Quantifiers.{all_pairs_push}
 use Rattle.std.proofs.lemmas.Bool.{eqb-false, or_parts, ltb-true}
 use Rattle.emu_model.specs.declared.records.Refusal.TheVariants.{FlowThere, TooManyFlows}
-use Rattle.emu_model.specs.Net.{Net, TrainState, opening_net}
+use Rattle.emu_model.specs.Net.{Net, TrainState, initial_net}
 use Rattle.emu_model.specs.Commands.{is_in_use}
 use Rattle.traffic.specs.Kept.{KeptFlow, KeptTraffic, with_traffic, IsFree, IsNumber, AreNumbers, IsSound}
-use Rattle.traffic.proofs.Places.{any_position, absent, list_any-map}
+use Rattle.traffic.proofs.FirstPlaces.{any_position, absent, list_any-map}
 use Rattle.traffic.proofs.Changes.{kept, has_number, train_has_number}
 
 -- a number in use, by its places
@@ -35,7 +35,7 @@ refused false false e = absurd (cc)
 
 pub IsNew-from_free : (k : ℕ) (t : KeptTraffic) → IsFree k t → IsNew k t
 IsNew-from_free k t free =
-    let parts = refused _ _ (free opening_net) in
+    let parts = refused _ _ (free initial_net) in
     let apart = or_parts _ _ parts.0 in
     let flows : list_any (has_number k) t.flows ≡ false =
     sym (list_any-map (λ (f : KeptFlow). f.state) (λ s. s.number == k) t.flows) ∙ apart.0 in
@@ -56,8 +56,8 @@ nowhere (Some i) e = absurd (cc)
 absent_places : (k : ℕ) (t : KeptTraffic) → IsFree k t →
     (position (has_number k) t.flows ≡ None) × (position (train_has_number k) t.trains ≡ None)
 absent_places k t free =
-    let parts = refused _ _ (free opening_net) in
-    let apart = or_parts _ _ (sym (in_use k t opening_net) ∙ parts.0) in
+    let parts = refused _ _ (free initial_net) in
+    let apart = or_parts _ _ (sym (in_use k t initial_net) ∙ parts.0) in
     (nowhere _ apart.0, nowhere _ apart.1)
 
 pub no_flow_there : (k : ℕ) (t : KeptTraffic) (fs : List KeptFlow) (ts : List TrainState) → kept fs ts ≡ t → IsFree k t →

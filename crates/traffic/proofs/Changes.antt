@@ -10,7 +10,7 @@ use Rattle.std.proofs.lemmas.Bool.{eqb-true, eq-eqb}
 use Rattle.emu_model.specs.Net.{Net, FlowState, TrainState, find_flow, put_flow, find_train, put_train}
 use Rattle.emu_model.specs.Lists.{replace_first}
 use Rattle.traffic.specs.Kept.{KeptFlow, KeptTraffic, states_of, with_traffic, AreNumbers, IsSound}
-use Rattle.traffic.proofs.Places.{IsPlace, place_from_some, past_from_none, find_place, passes_place, find_past_all, replace_place, find-map, replace_first-map}
+use Rattle.traffic.proofs.FirstPlaces.{IsPlace, place_from_some, past_from_none, find_place, passes_place, find_past_all, replace_place, find-map, replace_first-map}
 
 abbrev pub has_number : ℕ → KeptFlow → Bool
 has_number k f = f.state.number == k

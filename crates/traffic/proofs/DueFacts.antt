@@ -11,11 +11,11 @@ use Rattle.std.proofs.lemmas.Bool.{cond_both, or_cases, and_parts, ltb-true, eqb
 use Rattle.emu_model.specs.declared.sources.Due.{Due}
 use Rattle.emu_model.specs.declared.sources.Class.TheVariants.{Expiry, Emission}
 use Rattle.emu_model.specs.Reno.{may_emit}
-use Rattle.emu_model.specs.Net.{Net, FlowState, TrainState, opening_net, find_flow, find_train}
+use Rattle.emu_model.specs.Net.{Net, FlowState, TrainState, initial_net, find_flow, find_train}
 use Rattle.emu_model.specs.Dues.{is_before, due, flow_dues, train_dues}
 use Rattle.traffic.specs.Kept.{KeptFlow, KeptTraffic, states_of, with_traffic, IsNumber, IsSound}
 use Rattle.traffic.specs.Sends.{may_send, has_left, IsAllowed, IsNumbered, source_dues}
-use Rattle.traffic.proofs.Places.{IsPlace, find_place, find_none, find-map}
+use Rattle.traffic.proofs.FirstPlaces.{IsPlace, find_place, find_none, find-map}
 use Rattle.traffic.proofs.Changes.{kept, has_number, train_has_number}
 use Rattle.traffic.proofs.Sendings.{emitting_by_train, emitting_by_flow}
 
@@ -188,17 +188,17 @@ module _ (clock : ℕ) (t : KeptTraffic) (fs : List KeptFlow) (ts : List TrainSt
   pub allowed_is : (b d : Due) → IsSound fs ts → ((n : Net) → d ≡ best_of is_before b (source_dues clock (with_traffic t n))) →
       IsAllowed t b → IsAllowed t d
   allowed_is b d h e p =
-      let n = opening_net in
+      let n = initial_net in
       let all = subst (λ t. All (IsAllowed t) (source_dues clock (with_traffic t n))) is (all_allowed clock fs ts n h) in
       subst (IsAllowed t) (sym (e n)) (best_of_all (IsAllowed t) b (source_dues clock (with_traffic t n)) p all)
 
   pub numbered_is : (b d : Due) → IsSound fs ts → ((n : Net) → d ≡ best_of is_before b (source_dues clock (with_traffic t n))) →
       IsNumbered b → IsNumbered d
   numbered_is b d h e p =
-      let n = opening_net in
+      let n = initial_net in
       let all = subst (λ (t : KeptTraffic). All IsNumbered (source_dues clock (with_traffic t n))) is (all_numbered clock fs ts n h) in
       subst IsNumbered (sym (e n)) (best_of_all IsNumbered b (source_dues clock (with_traffic t n)) p all)
 
   pub moment_is : (b d : Due) → ((n : Net) → d ≡ best_of is_before b (source_dues clock (with_traffic t n))) → d.moment ≤ b.moment
   moment_is b d e =
-      subst (λ (x : Due). x.moment ≤ b.moment) (sym (e opening_net)) (best_of_moment b (source_dues clock (with_traffic t opening_net)))
+      subst (λ (x : Due). x.moment ≤ b.moment) (sym (e initial_net)) (best_of_moment b (source_dues clock (with_traffic t initial_net)))

@@ -12,7 +12,7 @@ use Rattle.emu_model.specs.Reno.{may_emit}
 use Rattle.emu_model.specs.Net.{FlowState, TrainState}
 use Rattle.emu_model.specs.Dues.{is_before, due, flow_dues, train_dues}
 use Rattle.due_index.specs.Least.{dues_in, least_of, lesser}
-use Rattle.due_index.proofs.LeastDues.{least_all, least_all-append, least_all-option, least_leaf, least_of-leaf, best_of-same, lesser-swap}
+use Rattle.due_index.proofs.CallerLemmas.{least_all, least_all-append, least_all-option, least_leaf, least_of-leaf, best_of-same, lesser-swap}
 use Rattle.traffic.specs.declared.index.SourceIndex.{SourceIndex}
 use Rattle.traffic.specs.Kept.{KeptFlow}
 use Rattle.traffic.specs.Sends.{may_send, has_left}

@@ -1,4 +1,4 @@
-pub mod Places
+pub mod FirstPlaces
 pub mod Changes
 pub mod Beginnings
 pub mod Sendings

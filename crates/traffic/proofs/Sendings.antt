@@ -3,7 +3,8 @@ use Rattle.std.proofs.Common.{◌≡◌, ℕ, false, ◌∙◌, ap}
 use Rattle.std.specs.Prelude.{Option, Some, None, option_map}
 use Rattle.std.specs.Option.{option_map_or}
 use Rattle.emu_model.specs.declared.sources.SendSpec.{SendSpec}
-use Rattle.emu_model.specs.Net.{Net, Setting, FlowState, TrainState, find_flow, find_train, data_send}
+use Rattle.emu_model.specs.declared.commands.Setting.{Setting}
+use Rattle.emu_model.specs.Net.{Net, FlowState, TrainState, find_flow, find_train, data_send}
 use Rattle.emu_model.specs.Events.{emission, emit_packet, emit_segment}
 use Rattle.traffic.specs.Sends.{may_send, has_left, is_emitting, next_send}
 

@@ -8,7 +8,7 @@ use Rattle.std.proofs.lemmas.List.Folds.{position_or_len-set, position_or_len_pu
 use Rattle.std.proofs.lemmas.List.Sums.{prefix_len-le-length}
 use Rattle.number_table.specs.Places.{place_in}
 use Rattle.traffic.specs.Tables.{LeadsTo}
-use Rattle.traffic.proofs.Places.{none_is}
+use Rattle.traffic.proofs.FirstPlaces.{none_is}
 
 -- a place below an end
 abbrev below : ℕ → ℕ → Option ℕ

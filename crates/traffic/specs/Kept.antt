@@ -2,7 +2,7 @@
 use Rattle.std.specs.Prelude.{◌≡◌, ◌≢◌, ℕ, ◌+◌, ◌*◌, ◌^◌, ◌<◌, ◌≤◌, true, false, ◌==◌, nat_lt, None, List, [], map, length, find, All, AllPairs}
 use Rattle.std.specs.Option.{option_map_or}
 use Rattle.emu_model.specs.declared.sources.FlowSpec.{FlowSpec}
-use Rattle.emu_model.specs.Reno.{opening_sender}
+use Rattle.emu_model.specs.Reno.{initial_sender}
 use Rattle.emu_model.specs.Net.{Net, FlowState, TrainState}
 use Rattle.emu_model.specs.Commands.{source_refusal}
 
@@ -27,7 +27,7 @@ abbrev pub opened_flow : ℕ → FlowSpec → FlowState
 opened_flow k f = record {
   number = k;
   flow = f;
-  sender = opening_sender f;
+  sender = initial_sender f;
   stopped = false;
   came = [];
 }

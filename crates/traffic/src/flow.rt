@@ -2,21 +2,21 @@
 
 ghost use Rattle.std.specs.Prelude.{◌≡◌, ℕ, ◌+◌, ◌*◌, ◌^◌, ◌<◌, ◌≤◌, ◌++◌, option_to_list, true, OnOk, IfSome, IfNone, OnErr};
 ghost use Rattle.emu_model.specs.Dues.{flow_dues};
-ghost use Rattle.emu_model.specs.Net.{Net, Setting, put_flow, note, data_send, ack_send, take_ack as acknowledged};
+ghost use Rattle.emu_model.specs.declared.commands.Setting.{Setting};
+ghost use Rattle.emu_model.specs.Net.{Net, put_flow, note, data_send, ack_send, take_ack as acknowledged};
 ghost use Rattle.emu_model.specs.Reno.{emit as sent, emitted, expire as expired, with_segment, missing};
 ghost use Rattle.emu_model.specs.declared.records.Record.TheVariants.{AckTaken};
 ghost use Rattle.traffic.specs.Kept.{opened_flow};
 ghost use Rattle.traffic.specs.Leaves.{expiry_due, emission_due};
 ghost use Rattle.traffic.specs.Sends.{may_send};
 
-use crate::dues::due;
 use crate::sends::{Sending, Window};
-use emu_model::{Class, Due, FlowNumber, FlowSpec, Load, Protocol, SendSpec, Size};
+use emu_model::{Due, FlowNumber, FlowSpec, Load, Protocol, SendSpec, Size, Source};
 use reno_core::{Receiver, Sender};
 use std::alloc::{AllocError, Global};
 use std::marker::Model;
 
-/// The bytes of a header, and of an acknowledgement (own).
+/// The bytes of a header, and of an acknowledgement (our choice).
 const HEADER: u16 = 40;
 
 #[derive(Drop)]
@@ -117,7 +117,10 @@ impl Flow {
         ensures flow { let f = self.old.state in
             self.new ≡ record self.old { state = record f { sender = sent f.flow now f.sender } } }
         ensures result { let f = self.old.state in
-            result ≡ record { load = Load.Seg f.number (emitted f.sender); send = data_send f.flow } }
+            result ≡ record {
+              load = Load.Seg f.number (emitted f.sender);
+              send = data_send f.flow;
+            } }
     {
         let send = self.send();
         let first = self.sender.emit(now);
@@ -168,7 +171,8 @@ impl Flow {
     pub(crate) fn take_ack(&mut self, now: u64, upto: u64) -> Option<Window>
         requires { now < 2 * 10 ^ 15 }
         ensures taken { IfSome result (λ w. (n : Net) → acknowledged now upto n self.old.state
-            ≡ note (AckTaken now self.old.state.number w.cwnd w.ssthresh) (put_flow self.new.state n)) }
+            ≡ note (AckTaken now self.old.state.number w.cwnd w.ssthresh)
+            (put_flow self.new.state n)) }
         ensures ignored { IfNone result ((n : Net) → acknowledged now upto n self.old.state ≡ n) }
         ensures same { IfNone result (self.new ≡ self.old) }
         ensures number { self.new.state.number ≡ self.old.state.number }
@@ -184,15 +188,22 @@ impl Flow {
     pub(crate) fn expire(&mut self, now: u64) -> Window
         requires { now < 2 * 10 ^ 15 }
         ensures flow { let f = self.old.state in
-            self.new ≡ record self.old { state = record f { sender = expired f.flow now f.sender } } }
-        ensures window { result ≡ record { cwnd = self.new.state.sender.cwnd; ssthresh = self.new.state.sender.ssthresh } }
+            self.new
+            ≡ record self.old { state = record f { sender = expired f.flow now f.sender } } }
+        ensures window { result ≡ record {
+          cwnd = self.new.state.sender.cwnd;
+          ssthresh = self.new.state.sender.ssthresh;
+        } }
     {
         self.sender.expire(now);
         self.window()
     }
 
     fn window(&self) -> Window
-        ensures { result ≡ record { cwnd = self.now.state.sender.cwnd; ssthresh = self.now.state.sender.ssthresh } }
+        ensures { result ≡ record {
+          cwnd = self.now.state.sender.cwnd;
+          ssthresh = self.now.state.sender.ssthresh;
+        } }
     {
         Window {
             cwnd: self.sender.cwnd(),
@@ -204,7 +215,8 @@ impl Flow {
     pub(crate) fn dues(&self, clock: u64) -> FlowDues
         ensures expiry { result.expiry ≡ expiry_due self.now.state }
         ensures emission { result.emission ≡ emission_due clock self.now.state }
-        ensures all { option_to_list result.expiry ++ option_to_list result.emission ≡ flow_dues clock self.now.state }
+        ensures all { option_to_list result.expiry ++ option_to_list result.emission
+            ≡ flow_dues clock self.now.state }
     {
         if self.stopped {
             return FlowDues {
@@ -213,11 +225,17 @@ impl Flow {
             };
         }
         let expiry = match self.sender.due() {
-            Some(moment) => Some(due(Class::Expiry, self.number, moment)),
+            Some(moment) => Some(Due {
+                moment,
+                source: Source::expiry(self.number),
+            }),
             None => None,
         };
         let emission = if self.sender.may_emit() {
-            Some(due(Class::Emission, self.number, clock))
+            Some(Due {
+                moment: clock,
+                source: Source::emission(self.number),
+            })
         } else {
             None
         };

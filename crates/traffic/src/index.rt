@@ -7,7 +7,7 @@ ghost use Rattle.emu_model.specs.Dues.{is_before, flow_dues, train_dues};
 ghost use Rattle.traffic.specs.Kept.{KeptFlow};
 ghost use Rattle.traffic.specs.Leaves.{AreIndexed, HasFlowAt, HasFlowRoom};
 
-use crate::dues::{at_moment, lesser};
+use crate::dues::at_moment;
 use crate::flow::Flow;
 use crate::train::Train;
 use due_index::DueIndex;
@@ -37,7 +37,8 @@ impl SourceIndex {
 
     /// Makes the growth of one `add_flow`. Only room grows, also where it is refused.
     pub(crate) fn flow_ready(&mut self) -> Result<(), AllocError>
-        ensures same { (fs : List KeptFlow) (ts : List TrainState) → AreIndexed fs ts self.old → AreIndexed fs ts self.new }
+        ensures same { (fs : List KeptFlow) (ts : List TrainState) → AreIndexed fs ts self.old →
+            AreIndexed fs ts self.new }
         ensures ready { OnOk result (HasFlowRoom self.new) }
     {
         self.timers.push_ready()?;
@@ -46,7 +47,8 @@ impl SourceIndex {
 
     /// Makes the growth of one `add_train`. Only room grows, also where it is refused.
     pub(crate) fn train_ready(&mut self) -> Result<(), AllocError>
-        ensures same { (fs : List KeptFlow) (ts : List TrainState) → AreIndexed fs ts self.old → AreIndexed fs ts self.new }
+        ensures same { (fs : List KeptFlow) (ts : List TrainState) → AreIndexed fs ts self.old →
+            AreIndexed fs ts self.new }
         ensures ready { OnOk result (0 < self.new.packets.spare) }
     {
         self.packets.push_ready()
@@ -55,7 +57,8 @@ impl SourceIndex {
     /// One flow more, behind all others.
     pub(crate) fn add_flow(&mut self, flow: &Flow)
         requires { HasFlowRoom self.old }
-        ensures { (fs : List KeptFlow) (ts : List TrainState) → AreIndexed fs ts self.old → AreIndexed (fs ++ flow.now ∷ []) ts self.new }
+        ensures { (fs : List KeptFlow) (ts : List TrainState) → AreIndexed fs ts self.old →
+            AreIndexed (fs ++ flow.now ∷ []) ts self.new }
     {
         let dues = flow.dues(0);
         self.timers.push(dues.expiry);
@@ -65,7 +68,8 @@ impl SourceIndex {
     /// One train more, behind all others.
     pub(crate) fn add_train(&mut self, train: &Train)
         requires { 0 < self.old.packets.spare }
-        ensures { (fs : List KeptFlow) (ts : List TrainState) → AreIndexed fs ts self.old → AreIndexed fs (ts ++ train.now ∷ []) self.new }
+        ensures { (fs : List KeptFlow) (ts : List TrainState) → AreIndexed fs ts self.old →
+            AreIndexed fs (ts ++ train.now ∷ []) self.new }
     {
         self.packets.push(train.due());
     }
@@ -73,7 +77,8 @@ impl SourceIndex {
     /// A flow has changed.
     pub(crate) fn set_flow(&mut self, place: usize, flow: &Flow)
         requires { HasFlowAt place self.old }
-        ensures { (fs : List KeptFlow) (ts : List TrainState) → AreIndexed fs ts self.old → AreIndexed (slice_set fs place flow.now) ts self.new }
+        ensures { (fs : List KeptFlow) (ts : List TrainState) → AreIndexed fs ts self.old →
+            AreIndexed (slice_set fs place flow.now) ts self.new }
     {
         let dues = flow.dues(0);
         self.timers.set(place, dues.expiry);
@@ -83,7 +88,8 @@ impl SourceIndex {
     /// A train has changed.
     pub(crate) fn set_train(&mut self, place: usize, train: &Train)
         requires { place < length self.old.packets.leaves }
-        ensures { (fs : List KeptFlow) (ts : List TrainState) → AreIndexed fs ts self.old → AreIndexed fs (slice_set ts place train.now) self.new }
+        ensures { (fs : List KeptFlow) (ts : List TrainState) → AreIndexed fs ts self.old →
+            AreIndexed fs (slice_set ts place train.now) self.new }
     {
         self.packets.set(place, train.due());
     }
@@ -92,10 +98,11 @@ impl SourceIndex {
     /// `clock`.
     pub(crate) fn earliest(&self, clock: u64, best: Due) -> Due
         ensures { (fs : List KeptFlow) (ts : List TrainState) → AreIndexed fs ts self.now →
-            result ≡ best_of is_before best (flat_map (λ f. flow_dues clock f.state) fs ++ flat_map train_dues ts) }
+            result ≡ best_of is_before best
+            (flat_map (λ f. flow_dues clock f.state) fs ++ flat_map train_dues ts) }
     {
-        let best = lesser(best, self.timers.least());
-        let best = lesser(best, at_moment(clock, self.segments.least()));
-        lesser(best, self.packets.least())
+        let best = best.or_earlier(self.timers.least());
+        let best = best.or_earlier(at_moment(clock, self.segments.least()));
+        best.or_earlier(self.packets.least())
     }
 }

@@ -1,5 +1,5 @@
 //! All flows and trains of one experiment: Reno flows (RFC 5681, RFC 6298), and trains of equal
-//! packets (own).
+//! packets (our choice).
 #![tactic(auto)]
 
 mod dues;

@@ -4,7 +4,8 @@ ghost use Rattle.std.specs.Prelude.{◌≡◌, ℕ, ◌+◌, ◌*◌, ◌^◌, �
 ghost use Rattle.std.specs.Option.{option_map_or};
 ghost use Rattle.std.specs.List.{best_of};
 ghost use Rattle.emu_model.specs.declared.records.Record.TheVariants.{AckTaken, TimerExpired};
-ghost use Rattle.emu_model.specs.Net.{Net, Setting, find_flow, make, note, take_segment, take_ack as acknowledged};
+ghost use Rattle.emu_model.specs.declared.commands.Setting.{Setting};
+ghost use Rattle.emu_model.specs.Net.{Net, find_flow, make, note, take_segment, take_ack as acknowledged};
 ghost use Rattle.emu_model.specs.Commands.{is_in_use, source_refusal, start_flow as with_flow, start_train as with_train, stop_flow};
 ghost use Rattle.emu_model.specs.Dues.{is_before};
 ghost use Rattle.emu_model.specs.Events.{emission, expire_flow};
@@ -46,8 +47,10 @@ impl Model for Traffic {
 
     ghost view = { λ t. record { flows = t.flows.items; trains = t.trains.items } };
 
-    ghost invariant = { λ t. IsSound t.flows.items t.trains.items × AreIndexed t.flows.items t.trains.items t.index
-        × LeadsTo (λ f. f.state.number) t.flows.items t.flow_places × LeadsTo (λ u. u.number) t.trains.items t.train_places };
+    ghost invariant = { λ t. IsSound t.flows.items t.trains.items
+        × AreIndexed t.flows.items t.trains.items t.index
+        × LeadsTo (λ f. f.state.number) t.flows.items t.flow_places
+        × LeadsTo (λ u. u.number) t.trains.items t.train_places };
 }
 
 impl Traffic {
@@ -90,7 +93,9 @@ impl Traffic {
     /// Begins a flow. After an error nothing has changed.
     pub fn start_flow(&mut self, number: FlowNumber, flow: &FlowSpec) -> Result<(), AllocError>
         requires { IsFree number self.old }
-        ensures ok { OnOk result ((n : Net) → with_flow number flow.now (with_traffic self.old n) ≡ with_traffic self.new n) }
+        ensures ok { OnOk result
+            ((n : Net) →
+            with_flow number flow.now (with_traffic self.old n) ≡ with_traffic self.new n) }
         ensures err { OnErr result (self.new ≡ self.old) }
     {
         self.flows.reserve(1)?;
@@ -112,7 +117,9 @@ impl Traffic {
     ) -> Result<(), AllocError>
         requires now { now < 2 * 10 ^ 15 }
         requires free { IsFree number self.old }
-        ensures ok { OnOk result ((n : Net) → with_train now number train.now (with_traffic self.old n) ≡ with_traffic self.new n) }
+        ensures ok { OnOk result
+            ((n : Net) →
+            with_train now number train.now (with_traffic self.old n) ≡ with_traffic self.new n) }
         ensures err { OnErr result (self.new ≡ self.old) }
     {
         self.trains.reserve(1)?;
@@ -157,9 +164,12 @@ impl Traffic {
     pub fn emit(&mut self, now: u64, number: FlowNumber) -> Option<Sending>
         requires now { now < 2 * 10 ^ 15 }
         requires may { IsEmitting number self.old }
-        ensures emission { (at : Setting) (n : Net) → at.now ≡ now → emission at number (with_traffic self.old n)
-            ≡ option_map_or (λ s. make at s.load s.send (with_traffic self.new n)) result (with_traffic self.new n) }
-        ensures header { (n : Net) → option_map (λ s. s.send) result ≡ next_send number (with_traffic self.old n) }
+        ensures emission { (at : Setting) (n : Net) → at.now ≡ now →
+            emission at number (with_traffic self.old n)
+            ≡ option_map_or (λ s. make at s.load s.send (with_traffic self.new n)) result
+            (with_traffic self.new n) }
+        ensures header { (n : Net) →
+            option_map (λ s. s.send) result ≡ next_send number (with_traffic self.old n) }
     {
         if let Some(place) = self.train_place(number) {
             let train = &mut self.trains[place];
@@ -207,8 +217,10 @@ impl Traffic {
         requires { HasRoomFor number self.old }
         ensures taken { (at : Setting) (n : Net) → let m = with_traffic self.old n in
             option_map_or (take_segment at first m) (find_flow number m) m
-            ≡ option_map_or (λ s. make at s.load s.send (with_traffic self.new n)) result (with_traffic self.new n) }
-        ensures header { (n : Net) → option_map (λ s. s.send) result ≡ reply_send number (with_traffic self.old n) }
+            ≡ option_map_or (λ s. make at s.load s.send (with_traffic self.new n)) result
+            (with_traffic self.new n) }
+        ensures header { (n : Net) →
+            option_map (λ s. s.send) result ≡ reply_send number (with_traffic self.old n) }
     {
         let Some(place) = self.flow_place(number) else {
             return None;
@@ -223,7 +235,9 @@ impl Traffic {
         requires { now < 2 * 10 ^ 15 }
         ensures { (n : Net) → let m = with_traffic self.old n in
             option_map_or (acknowledged now upto m) (find_flow number m) m
-            ≡ option_map_or (λ w. note (AckTaken now number w.cwnd w.ssthresh) (with_traffic self.new n)) result (with_traffic self.new n) }
+            ≡ option_map_or
+            (λ w. note (AckTaken now number w.cwnd w.ssthresh) (with_traffic self.new n)) result
+            (with_traffic self.new n) }
     {
         let Some(place) = self.flow_place(number) else {
             return None;
@@ -239,7 +253,9 @@ impl Traffic {
         requires { now < 2 * 10 ^ 15 }
         ensures { (at : Setting) (n : Net) → at.now ≡ now → let m = with_traffic self.old n in
             option_map_or (expire_flow at m) (find_flow number m) m
-            ≡ option_map_or (λ w. note (TimerExpired now number w.cwnd w.ssthresh) (with_traffic self.new n)) result (with_traffic self.new n) }
+            ≡ option_map_or
+            (λ w. note (TimerExpired now number w.cwnd w.ssthresh)
+            (with_traffic self.new n)) result (with_traffic self.new n) }
     {
         let Some(place) = self.flow_place(number) else {
             return None;
@@ -253,7 +269,8 @@ impl Traffic {
     /// The least of a due and those of all flows and trains, where the last event was at the moment
     /// `clock`; the first of equal ones.
     pub fn earliest(&self, clock: u64, best: Due) -> Due
-        ensures least { (n : Net) → result ≡ best_of is_before best (source_dues clock (with_traffic self.now n)) }
+        ensures least { (n : Net) →
+            result ≡ best_of is_before best (source_dues clock (with_traffic self.now n)) }
         ensures moment { result.moment ≤ best.moment }
         ensures allowed { IsAllowed self.now best → IsAllowed self.now result }
         ensures numbered { IsNumbered best → IsNumbered result }
@@ -264,9 +281,13 @@ impl Traffic {
     /// Appends the dues of all flows and trains, or leaves `dues` as it was: that only where it has no room for two of
     /// each flow and one of each train.
     pub fn add_dues(&self, clock: u64, dues: &mut Vec<Due>) -> Result<(), AllocError>
-        ensures ok { OnOk result ((n : Net) → dues.new.items ≡ dues.old.items ++ source_dues clock (with_traffic self.now n)) }
+        ensures ok { OnOk result
+            ((n : Net) →
+            dues.new.items ≡ dues.old.items ++ source_dues clock (with_traffic self.now n)) }
         ensures err { OnErr result (dues.new.items ≡ dues.old.items) }
-        ensures full { OnErr result (vec_capacity dues.old < vec_len dues.old + (2 * length self.now.flows + length self.now.trains)) }
+        ensures full { OnErr result
+            (vec_capacity dues.old
+            < vec_len dues.old + (2 * length self.now.flows + length self.now.trains)) }
     {
         dues.reserve(2 * self.flows.len() + self.trains.len())?;
         for flow in &self.flows {

@@ -5,9 +5,8 @@ ghost use Rattle.emu_model.specs.Dues.{train_dues};
 ghost use Rattle.traffic.specs.Leaves.{packet_due};
 ghost use Rattle.traffic.specs.Sends.{has_left};
 
-use crate::dues::due;
 use crate::sends::Sending;
-use emu_model::{Class, Due, FlowNumber, Load, SendSpec, TrainSpec};
+use emu_model::{Due, FlowNumber, Load, SendSpec, Source, TrainSpec};
 use std::marker::Model;
 
 /// A train that sent so many of its packets; it began at a moment (ns).
@@ -25,9 +24,15 @@ impl Model for Train {
 
     ghost Value = { TrainState };
 
-    ghost view = { λ t. record { number = t.number; train = t.train; start = t.start; sent = t.sent } };
+    ghost view = { λ t. record {
+      number = t.number;
+      train = t.train;
+      start = t.start;
+      sent = t.sent;
+    } };
 
-    ghost invariant = { λ t. IsTrain (record { number = t.number; train = t.train; start = t.start; sent = t.sent }) };
+    ghost invariant = { λ t. IsTrain
+        (record { number = t.number; train = t.train; start = t.start; sent = t.sent }) };
 }
 
 impl Train {
@@ -72,6 +77,9 @@ impl Train {
             return None;
         }
         let moment = self.start + u64::from(self.sent) * self.train.gap.get();
-        Some(due(Class::Emission, self.number, moment))
+        Some(Due {
+            moment,
+            source: Source::emission(self.number),
+        })
     }
 }

@@ -19,9 +19,11 @@ impl Home {
     // Puts a command into its mail; false where 64 wait.
     fn put<A: Agenda>(&mut self, shards: &mut Vec<Shard<A, ListMail>>, timed: Timed) -> bool
         requires early { timed.moment ≤ 10 ^ 15 }
-        ensures yes { IsTrue result → Mailed (Puts timed) self.old shards.old.items self.new shards.new.items }
+        ensures yes { IsTrue result →
+            Mailed (Puts timed) self.old shards.old.items self.new shards.new.items }
         ensures no { IsFalse result → (self.new ≡ self.old) × (shards.new.items ≡ shards.old.items)
-            × ((life : Life) → life_of shards.old.items self.old ≡ Some life → length (shown life).mail.waiting ≡ 64) }
+            × ((life : Life) → life_of shards.old.items self.old ≡ Some life →
+            length (shown life).mail.waiting ≡ 64) }
     {
         match self {
             Home::Handed(parcel) => {
@@ -56,9 +58,11 @@ impl Home {
 
     // Reads the first letter that wasn't read; false where there is none.
     fn read<A: Agenda>(&mut self, shards: &mut Vec<Shard<A, ListMail>>) -> bool
-        ensures yes { IsTrue result → Mailed ReadsOne self.old shards.old.items self.new shards.new.items }
+        ensures yes { IsTrue result →
+            Mailed ReadsOne self.old shards.old.items self.new shards.new.items }
         ensures no { IsFalse result → (self.new ≡ self.old) × (shards.new.items ≡ shards.old.items)
-            × ((life : Life) → life_of shards.old.items self.old ≡ Some life → (shown life).mail.unread ≡ []) }
+            × ((life : Life) → life_of shards.old.items self.old ≡ Some life →
+            (shown life).mail.unread ≡ []) }
     {
         match self {
             Home::Handed(parcel) => {

@@ -50,8 +50,11 @@ impl Desk {
 
     // The parcel of one that is handed out, whose home is the first slot of a shard then.
     fn hand_over(&mut self, shard: usize) -> Option<Parcel<ListMail>>
-        ensures some { IfSome result (λ p. (self.old.home ≡ Handed p) × (self.new ≡ record self.old { home = Seated shard 0 })) }
-        ensures none { IfNone result ((self.new ≡ self.old) × ((p : Stand MailBook) → self.old.home ≢ Handed p)) }
+        ensures some { IfSome result
+            (λ p. (self.old.home ≡ Handed p)
+            × (self.new ≡ record self.old { home = Seated shard 0 })) }
+        ensures none { IfNone result
+            ((self.new ≡ self.old) × ((p : Stand MailBook) → self.old.home ≢ Handed p)) }
     {
         let Home::Handed(_) = &self.home else {
             return None;
@@ -64,8 +67,11 @@ impl Desk {
 
     // The parcel of one that waits in a deque, whose home is the first slot of a shard then.
     fn leave_queue(&mut self, shard: usize) -> Option<Parcel<ListMail>>
-        ensures some { IfSome result (λ p. (i : ℕ) × (self.old.home ≡ Queued i p) × (self.new ≡ record self.old { home = Seated shard 0 })) }
-        ensures none { IfNone result ((self.new ≡ self.old) × ((i : ℕ) (p : Stand MailBook) → self.old.home ≢ Queued i p)) }
+        ensures some { IfSome result
+            (λ p. (i : ℕ) × (self.old.home ≡ Queued i p)
+            × (self.new ≡ record self.old { home = Seated shard 0 })) }
+        ensures none { IfNone result
+            ((self.new ≡ self.old) × ((i : ℕ) (p : Stand MailBook) → self.old.home ≢ Queued i p)) }
     {
         let Home::Queued { .. } = &self.home else {
             return None;

@@ -16,10 +16,13 @@ impl<A: Agenda> World<A> {
     /// as many events as it made.
     pub fn run(&mut self, steps: &[Step]) -> u64
         ensures runs { Runs steps.now result self.old self.new }
-        ensures headline { (n : ℕ) (t : Tenant) → tenant_at self.new n ≡ Some t → IsAlone (shown t.life) }
+        ensures headline { (n : ℕ) (t : Tenant) → tenant_at self.new n ≡ Some t →
+            IsAlone (shown t.life) }
         ensures whole { (n : ℕ) (t : Tenant) → tenant_at self.new n ≡ Some t → IsAloneState t.life }
-        ensures posted { (n : ℕ) (t : Tenant) → tenant_at self.new n ≡ Some t → IsPosted (shown t.life) }
-        ensures letters { (n : ℕ) (t : Tenant) → tenant_at self.new n ≡ Some t → AreLetters (shown t.life) }
+        ensures posted { (n : ℕ) (t : Tenant) → tenant_at self.new n ≡ Some t →
+            IsPosted (shown t.life) }
+        ensures letters { (n : ℕ) (t : Tenant) → tenant_at self.new n ≡ Some t →
+            AreLetters (shown t.life) }
         ensures one_place { AreAtOnePlace self.new }
     {
         let mut refused = 0;

@@ -175,10 +175,13 @@ impl<A: Agenda> World<A> {
     /// One step of the workers. Afterwards, as ever, each name is as if it were alone.
     pub fn step(&mut self, step: Step) -> Did
         ensures case { Does step result self.old self.new }
-        ensures headline { (n : ℕ) (t : Tenant) → tenant_at self.new n ≡ Some t → IsAlone (shown t.life) }
+        ensures headline { (n : ℕ) (t : Tenant) → tenant_at self.new n ≡ Some t →
+            IsAlone (shown t.life) }
         ensures whole { (n : ℕ) (t : Tenant) → tenant_at self.new n ≡ Some t → IsAloneState t.life }
-        ensures posted { (n : ℕ) (t : Tenant) → tenant_at self.new n ≡ Some t → IsPosted (shown t.life) }
-        ensures letters { (n : ℕ) (t : Tenant) → tenant_at self.new n ≡ Some t → AreLetters (shown t.life) }
+        ensures posted { (n : ℕ) (t : Tenant) → tenant_at self.new n ≡ Some t →
+            IsPosted (shown t.life) }
+        ensures letters { (n : ℕ) (t : Tenant) → tenant_at self.new n ≡ Some t →
+            AreLetters (shown t.life) }
         ensures one_place { AreAtOnePlace self.new }
     {
         let did = self.do_step(step);

@@ -30,9 +30,14 @@ impl<A: Agenda> Model for World<A> {
 
     ghost use Rattle.world.specs.Kept.{IsWorld};
 
-    ghost view = { λ w. record { desks = w.desks.items; shards = w.shards.items; deques = w.deques.items } };
+    ghost view = { λ w. record {
+      desks = w.desks.items;
+      shards = w.shards.items;
+      deques = w.deques.items;
+    } };
 
-    ghost invariant = { λ w. IsWorld (record { desks = w.desks.items; shards = w.shards.items; deques = w.deques.items }) };
+    ghost invariant = { λ w. IsWorld
+        (record { desks = w.desks.items; shards = w.shards.items; deques = w.deques.items }) };
 }
 
 impl<A: Agenda> World<A> {
@@ -66,10 +71,13 @@ impl<A: Agenda> World<A> {
     /// state. What was posted are those commands and those that wait; the letters are the first records; and each
     /// name is at one place.
     pub fn known(&self)
-        ensures headline { (n : ℕ) (t : Tenant) → tenant_at self.now n ≡ Some t → IsAlone (shown t.life) }
+        ensures headline { (n : ℕ) (t : Tenant) → tenant_at self.now n ≡ Some t →
+            IsAlone (shown t.life) }
         ensures whole { (n : ℕ) (t : Tenant) → tenant_at self.now n ≡ Some t → IsAloneState t.life }
-        ensures posted { (n : ℕ) (t : Tenant) → tenant_at self.now n ≡ Some t → IsPosted (shown t.life) }
-        ensures letters { (n : ℕ) (t : Tenant) → tenant_at self.now n ≡ Some t → AreLetters (shown t.life) }
+        ensures posted { (n : ℕ) (t : Tenant) → tenant_at self.now n ≡ Some t →
+            IsPosted (shown t.life) }
+        ensures letters { (n : ℕ) (t : Tenant) → tenant_at self.now n ≡ Some t →
+            AreLetters (shown t.life) }
         ensures one_place { AreAtOnePlace self.now }
     {
         let _ = &self.alloc;
@@ -121,7 +129,8 @@ impl<A: Agenda> World<A> {
     /// What a name left that has ended; None for any other.
     pub fn ended(&self, name: u32) -> Option<&Dossier<ListMail>>
         ensures some { IfSome result (λ d. life_at self.now name ≡ Some (Over d.now)) }
-        ensures none { IfNone result ((d : Final MailBook) → life_at self.now name ≢ Some (Over d)) }
+        ensures none { IfNone result
+            ((d : Final MailBook) → life_at self.now name ≢ Some (Over d)) }
     {
         let at = name as usize;
         if at >= self.desks.len() {

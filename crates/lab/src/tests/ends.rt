@@ -64,7 +64,8 @@ impl Drain {
     fn begin(&mut self) -> Result<(), Trouble>
         ensures failed { self.new.failed ≡ has_failed result }
         ensures stays { self.old.failed ≡ true → result ≡ Err Trouble.Failed }
-        ensures patience { result ≡ Err Trouble.Interrupted → self.new.patience < self.old.patience }
+        ensures patience { result ≡ Err Trouble.Interrupted →
+            self.new.patience < self.old.patience }
     {
         if self.failed {
             return Err(Trouble::Failed);

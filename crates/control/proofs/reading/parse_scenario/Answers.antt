@@ -1,4 +1,4 @@
-use Rattle.control.proofs.Walk.{is_spelled, is_faulty}
+use Rattle.control.proofs.LinesWalk.{is_spelled, is_faulty}
 use Rattle.control.proofs.Counted.{read_few}
 use Rattle.control.proofs.Ranged.{read-scenario}
 use Rattle.control.proofs.reading.parse_scenario.Goals as goal

@@ -1,6 +1,6 @@
 use Rattle.std.proofs.Common.{ℕ, arith, rules}
 use Rattle.control.specs.Builder.{sofar}
-use Rattle.control.proofs.Walk.{holds_first, holds_next, line_fails, is_cut, has_no_end, is_done, is_too_big}
+use Rattle.control.proofs.LinesWalk.{holds_first, holds_next, line_fails, is_cut, has_no_end, is_done, is_too_big}
 use Rattle.control.proofs.Ranged.{is-scenario}
 use Rattle.control.proofs.reading.read_all.Goals as goal
 

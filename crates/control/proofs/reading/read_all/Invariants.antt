@@ -1,6 +1,6 @@
 use Rattle.std.proofs.Common.{◌+◌, ◌≤◌, length}
 use Rattle.control.specs.Builder.{sofar}
-use Rattle.control.proofs.Walk.{Holds}
+use Rattle.control.proofs.LinesWalk.{Holds}
 use Rattle.control.proofs.reading.read_all.Given as goal
 
 abbrev pub invariant-loop-line : goal.invariant-loop-line

@@ -1,4 +1,4 @@
-use Rattle.control_words.proofs.Places.{first_byte_is}
+use Rattle.control_words.proofs.FoundPlaces.{first_byte_is}
 use Rattle.control_words.proofs.text.far_place_of.Goals as goal
 
 pub returns : goal.returns

@@ -1,14 +1,15 @@
-use Rattle.std.proofs.Common.{◌≡◌, ◌<◌, length}
-use Rattle.due_index.specs.Tree.{owns_of, IsTreeBut}
+use Rattle.std.proofs.Common.{◌≡◌, ℕ, ◌+◌, ◌*◌, ◌<◌, length, drop}
+use Rattle.due_index.specs.Tree.{IsTreeBut}
 use Rattle.due_index.proofs.tree.mend.Given as goal
 
--- all is met but at one place
-abbrev pub invariant-loop-node : goal.invariant-loop-node
-invariant-loop-node l = record {
-  inside : l.at < length l.nodes;
+-- all is met but at one node, and the leaves are as they were
+abbrev pub invariant-loop-at : goal.invariant-loop-at
+invariant-loop-at l = record {
+  inside : 2 * l.at + 1 < length l.nodes;
   met : IsTreeBut l.at l.nodes;
-  owns : owns_of l.nodes ≡ owns_of l.initial.nodes;
+  long : length l.nodes ≡ length l.initial.nodes;
+  leaves : (half : ℕ) → length l.initial.nodes ≡ 2 * half → drop half l.nodes ≡ drop half l.initial.nodes;
 }
 
-abbrev pub decreases-loop-node : goal.decreases-loop-node
-decreases-loop-node l = l.at
+abbrev pub decreases-loop-at : goal.decreases-loop-at
+decreases-loop-at l = l.at

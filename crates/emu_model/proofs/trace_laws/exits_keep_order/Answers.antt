@@ -1,4 +1,4 @@
-use Rattle.emu_model.proofs.Order as law
+use Rattle.emu_model.proofs.PassingOrder as law
 use Rattle.emu_model.proofs.trace_laws.exits_keep_order.Goals as goal
 
 pub returns : goal.returns

@@ -2,7 +2,7 @@ use Rattle.std.proofs.Common.{◌≡◌, ap, ◌∙◌, arith}
 use Rattle.std.specs.List.{position_or_len}
 use Rattle.std.proofs.lemmas.List.{drop-drop}
 use Rattle.control_words.specs.Text.{words}
-use Rattle.explain.proofs.Places.{space, left_first, left_next, left_found}
+use Rattle.explain.proofs.FrontWords.{space, left_first, left_next, left_found}
 use Rattle.explain.proofs.place.place_of_word.Goals as goal
 
 pub loop-count-init : goal.loop-count-init

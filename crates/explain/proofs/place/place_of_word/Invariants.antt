@@ -1,6 +1,6 @@
 use Rattle.std.proofs.Common.{drop}
 use Rattle.control_words.specs.Text.{words}
-use Rattle.explain.proofs.Places.{IsLeft}
+use Rattle.explain.proofs.FrontWords.{IsLeft}
 use Rattle.explain.proofs.place.place_of_word.Given as goal
 
 abbrev pub invariant-loop-count : goal.invariant-loop-count

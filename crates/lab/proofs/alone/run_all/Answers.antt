@@ -6,7 +6,7 @@ use Rattle.lab.proofs.alone.run_all.Goals as goal
 
 pub loop-plan-preserved : goal.loop-plan-preserved
 loop-plan-preserved g c = record {
-  done = c.in-Ok-push.ensures.items
+  done = c.in_ok-push.ensures.items
       ∙ ap (λ l. l ++ c.in_ok-outcome.outcome ∷ []) c.loop-plan.invariant.done
       ∙ ap (λ t. map trace_alone (take c.loop-plan.plan-index c.args.plans.now) ++ t ∷ []) (
       c.in_ok-outcome.ensures

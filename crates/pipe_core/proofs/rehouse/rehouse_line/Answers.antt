@@ -2,7 +2,7 @@ use Rattle.std.proofs.Common.{◌≡◌, ◌+◌, ◌<◌, ◌∙◌, ℕ, List,
 use Rattle.std.proofs.lemmas.List.{length-map}
 use Rattle.packet_store.specs.Pocket.{Pocket}
 use Rattle.pipe_instance.specs.Blanks.{blank_line}
-use Rattle.pipe_instance.proofs.Blanked.{line-items, line-blank, seen_line-same}
+use Rattle.pipe_instance.proofs.CallerLemmas.{line-items, line-blank, seen_line-same}
 use Rattle.pipe_core.specs.Moves.{packet_at}
 use Rattle.pipe_core.proofs.Halves.{IsHalf, half_none, half_there, half_named, half_next, half_all}
 use Rattle.pipe_core.proofs.rehouse.rehouse_line.Goals as goal

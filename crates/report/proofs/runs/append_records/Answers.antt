@@ -1,8 +1,6 @@
-use Rattle.std.proofs.Common.{◌≡◌, ◌+◌, ◌-◌, ◌*◌, ◌≤◌, ◌++◌, length, take, drop, ap, sym, ◌∙◌, arith, length-drop}
+use Rattle.std.proofs.Common.{arith, length-drop}
 use Rattle.std.proofs.lemmas.List.{take_rest}
-use Rattle.std.specs.List.{flat_map}
 use Rattle.report.specs.Lines.{line_of}
-use Rattle.report.specs.Room.{spare}
 use Rattle.report.proofs.Taken.{flat_map_further}
 use Rattle.report.proofs.runs.append_records.Goals as goal
 

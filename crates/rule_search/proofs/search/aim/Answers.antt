@@ -5,7 +5,7 @@ use Rattle.emu_model.specs.declared.rules.Rule.{Rule}
 use Rattle.rule_search.specs.Walk.{target_of}
 use Rattle.emu_model.specs.Rules.{Counted, the_rules, goes_on, action_at}
 use Rattle.rule_search.proofs.Walking.{action}
-use Rattle.rule_search.proofs.Order.{aimed, goes_within, jumps_forward}
+use Rattle.rule_search.proofs.JumpOrder.{aimed, goes_within, jumps_forward}
 use Rattle.rule_search.proofs.search.aim.Goals as goal
 use Rattle.rule_search.proofs.search.aim.Goals.{in-Some, in-None}
 

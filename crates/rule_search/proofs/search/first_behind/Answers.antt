@@ -1,6 +1,6 @@
 use Rattle.std.proofs.Common.{rules}
 use Rattle.std.proofs.lemmas.List.Sorted.{IsPartitionPoint-from_clause}
-use Rattle.rule_search.proofs.Order.{is_not_behind, partitioned_behind, start_behind-from_point}
+use Rattle.rule_search.proofs.JumpOrder.{is_not_behind, partitioned_behind, start_behind-from_point}
 use Rattle.rule_search.proofs.search.first_behind.Goals as goal
 
 pub returns : goal.returns

@@ -1,7 +1,7 @@
 use Rattle.std.proofs.Common.{rules, ltb}
 use Rattle.std.proofs.lemmas.List.Sorted.{IsPartitionPoint-from_clause, IsPartitionedBy-ltb}
 use Rattle.emu_model.specs.Rules.{Counted}
-use Rattle.rule_search.proofs.Order.{numbers_rise, place-from_point}
+use Rattle.rule_search.proofs.JumpOrder.{numbers_rise, place-from_point}
 use Rattle.rule_search.proofs.search.first_from.Goals as goal
 
 pub returns-clause-first : goal.returns-clause-first

@@ -1,7 +1,7 @@
 use Rattle.std.proofs.Common.{sym, inl}
 use Rattle.control_lines.specs.Entries.{view_entry}
 use Rattle.control.specs.Builder.{sofar}
-use Rattle.control.proofs.Walk.{taken_by}
+use Rattle.control.proofs.LinesWalk.{taken_by}
 use Rattle.control.proofs.Ranged.{says-named}
 use Rattle.control.proofs.reading.Builder.take_line.Goals as goal
 

@@ -1,57 +1,40 @@
-use Rattle.std.proofs.Common.{◌≡◌, ◌<◌, length, set, drop, sym, ◌∙◌, ap, subst, arith}
-use Rattle.std.proofs.Math.ListN.{get_or-map}
-use Rattle.std.proofs.lemmas.List.{length-map, set-get_or, take_at}
-use Rattle.due_index.specs.declared.tree.Node.{Node}
+use Rattle.std.proofs.Common.{◌≡◌, ◌<◌, length, set, drop, sym, ◌∙◌, ap, subst, refl, arith}
+use Rattle.std.proofs.lemmas.List.{take_at}
 use Rattle.due_index.specs.Places.{Places}
-use Rattle.due_index.specs.Tree.{owns_of, IsTree}
+use Rattle.due_index.specs.Tree.{leaves_of, IsIndex}
+use Rattle.due_index.proofs.Trees.{leaves_long, set_index, set_leaves}
 use Rattle.due_index.proofs.index.DueIndex.set.Goals as goal
 
-pub returns-then-is_same : goal.returns-then-is_same
-returns-then-is_same c =
-    let xs = c.self.inside.nodes.items in
-    let k = c.args.place in
-    let x = c.index.result.now in
-    let before = ap (λ (p : Places). p.leaves) c.self.view_is in
-    (λ t. record {
-      leaves = (sym before ∙ sym (set-get_or (owns_of xs) k x.own)
-          ∙ ap (set (owns_of xs) k) (get_or-map (λ (n : Node). n.own) xs k x
-          ∙ sym (ap (λ (n : Node). n.own) c.index.ensures)
-          ∙ c.is_same.ensures c.if-is_same.true)
-          ∙ ap (λ l. set l k c.args.due) before) t;
-      spare = c.args.self.now.spare;
-    })
-
-pub put-requires-clause-inside : goal.put-requires-clause-inside
-put-requires-clause-inside c =
-    let xs = c.self.inside.nodes.items in
-    omega (
-      arith,
-      c.requires,
-      ap (λ (p : Places). length p.leaves) c.self.view_is,
-      length-map xs (λ (n : Node). n.own),
-      ap length c.as_mut_slice.ensures.value,
-    )
-
-pub put-requires-clause-met : goal.put-requires-clause-met
-put-requires-clause-met c = subst IsTree (sym c.as_mut_slice.ensures.value) c.self.invariant
+pub invariant_of-self : goal.invariant_of-self
+invariant_of-self c =
+    let s = c.self.inside in
+    let xs = s.nodes.items in
+    let ys = c.put.new.nodes in
+    let same : c.as_mut_slice.result.now ≡ xs = c.as_mut_slice.ensures.value in
+    let long : length ys ≡ length xs = omega (arith, c.put.auto.nodes, ap length same) in
+    let whole = take_at ys (drop (length ys) xs) s.nodes.len (omega (arith, long, s.nodes.ok.0)) in
+    let low : c.args.place < s.places =
+    omega (arith, c.requires, ap (λ (p : Places). length p.leaves) c.self.view_is, leaves_long xs s.half s.places c.self.invariant) in
+    subst (λ l. IsIndex l s.half s.places) (sym whole)
+    (set_index xs s.half s.places c.self.invariant ys c.args.place c.args.due low c.put.ensures.met long
+    (c.put.ensures.leaves s.half c.args.place (ap length same ∙ c.self.invariant.long) refl
+    ∙ ap (λ l. set (drop s.half l) c.args.place c.args.due) same))
 
 pub returns : goal.returns
 returns c =
-    let xs = c.self.inside.nodes.items in
-    let k = c.args.place in
-    let before = ap (λ (p : Places). p.leaves) c.self.view_is in
-    let long : length c.put.new.nodes ≡ c.self.inside.nodes.len =
-    omega (
-      arith,
-      c.put.auto.nodes,
-      ap length c.as_mut_slice.ensures.value,
-      c.self.inside.nodes.ok.0,
-    ) in
-    let whole =
-    take_at c.put.new.nodes (drop (length c.put.new.nodes) xs) c.self.inside.nodes.len long in
+    let s = c.self.inside in
+    let xs = s.nodes.items in
+    let ys = c.put.new.nodes in
+    let same : c.as_mut_slice.result.now ≡ xs = c.as_mut_slice.ensures.value in
+    let long : length ys ≡ length xs = omega (arith, c.put.auto.nodes, ap length same) in
+    let whole = take_at ys (drop (length ys) xs) s.nodes.len (omega (arith, long, s.nodes.ok.0)) in
+    let low : c.args.place < s.places =
+    omega (arith, c.requires, ap (λ (p : Places). length p.leaves) c.self.view_is, leaves_long xs s.half s.places c.self.invariant) in
     (λ t. record {
-      leaves = (ap owns_of whole ∙ c.put.ensures.owns
-          ∙ ap (λ l. set (owns_of l) k c.args.due) c.as_mut_slice.ensures.value
-          ∙ ap (λ l. set l k c.args.due) before) t;
+      leaves = (ap (λ l. leaves_of l s.half s.places) whole
+          ∙ set_leaves xs s.half s.places c.self.invariant ys c.args.place c.args.due low c.put.ensures.met long
+          (c.put.ensures.leaves s.half c.args.place (ap length same ∙ c.self.invariant.long) refl
+          ∙ ap (λ l. set (drop s.half l) c.args.place c.args.due) same)
+          ∙ ap (λ (p : Places). set p.leaves c.args.place c.args.due) c.self.view_is) t;
       spare = ap (λ (p : Places). p.spare) c.self.view_is t;
     })

@@ -3,7 +3,7 @@ use Rattle.std.specs.Prelude.{All}
 use Rattle.std.proofs.lemmas.List.{with_items_is}
 use Rattle.emu_model.specs.Rules.{Counted, the_rules, with_rule}
 use Rattle.rule_search.specs.Walk.{IsOrdered, AreJumps}
-use Rattle.emu_rules.proofs.Order.{IsAccepted-from_none, IsOrdered-with_rule, older-with_rule, inserted, book}
+use Rattle.emu_rules.proofs.RulesKept.{IsAccepted-from_none, IsOrdered-with_rule, older-with_rule, inserted, book}
 use Rattle.emu_rules.proofs.list.RuleList.add.Goals as goal
 
 pub aim-requires-clause-ordered : goal.aim-requires-clause-ordered

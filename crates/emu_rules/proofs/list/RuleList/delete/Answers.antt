@@ -8,7 +8,7 @@ use Rattle.std.proofs.lemmas.List.{with_items_is}
 use Rattle.std.proofs.lemmas.List.Elements.{All-filter}
 use Rattle.emu_model.specs.Rules.{Counted, the_rules, is_rule_number}
 use Rattle.rule_search.specs.Walk.{IsOrdered, AreJumps}
-use Rattle.emu_rules.proofs.Order.{IsOrdered-filter, no_rule, book}
+use Rattle.emu_rules.proofs.RulesKept.{IsOrdered-filter, no_rule, book}
 use Rattle.emu_rules.proofs.list.RuleList.delete.Goals as goal
 
 pub returns-then-not-any-clause-refusal : goal.returns-then-not-any-clause-refusal

@@ -3,7 +3,7 @@ use Rattle.std.proofs.lemmas.List.{with_items_is}
 use Rattle.emu_model.specs.Rules.{the_rules, matched_places, counted_rules}
 use Rattle.rule_search.specs.Findings.{IsTrueOf}
 use Rattle.emu_rules.specs.Sound.{IsSound}
-use Rattle.emu_rules.proofs.Order.{IsSound-counted, book}
+use Rattle.emu_rules.proofs.RulesKept.{IsSound-counted, book}
 use Rattle.emu_rules.proofs.list.RuleList.verdict.Goals as goal
 
 pub invariant_of-self : goal.invariant_of-self

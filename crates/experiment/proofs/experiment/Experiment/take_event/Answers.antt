@@ -1,6 +1,6 @@
 use Rattle.std.specs.Prelude.{◌-◌, vec_len, vec_capacity}
 use Rattle.experiment.specs.Kept.{KeptExperiment}
-use Rattle.experiment.proofs.Keeping.{sound-halted}
+use Rattle.experiment.proofs.StepsKeep.{sound-halted}
 use Rattle.experiment.proofs.experiment.Experiment.take_event.Goals as goal
 
 pub invariant_of-self : goal.invariant_of-self

@@ -1,7 +1,7 @@
 use Rattle.std.proofs.Common.{◌≡◌, ◌∙◌, Some, None, map, slice_get, refl, ap, sym}
 use Rattle.std.specs.Prelude.{option_map}
 use Rattle.std.proofs.lemmas.Option.{slice_get_past, slice_get_read}
-use Rattle.link_core.proofs.Places.{items-get}
+use Rattle.link_core.proofs.LinePlaces.{items-get}
 use Rattle.link_core.proofs.delay.DelayLine.at.Goals as goal
 
 pub returns-in-Some : goal.returns-in-Some

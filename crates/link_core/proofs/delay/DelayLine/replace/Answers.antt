@@ -1,7 +1,7 @@
 use Rattle.std.proofs.Common.{◌<◌, ◌∙◌, length, ap, arith}
 use Rattle.std.proofs.lemmas.List.{length-map}
 use Rattle.link_core.specs.Flight.{leaving_of, with_item}
-use Rattle.link_core.proofs.Places.{flight-set}
+use Rattle.link_core.proofs.LinePlaces.{flight-set}
 use Rattle.link_core.proofs.delay.DelayLine.replace.Goals as goal
 
 pub returns : goal.returns

@@ -2,7 +2,7 @@ use Rattle.std.proofs.Common.{◌≡◌, ◌++◌, sym, ap, ◌∙◌, subst, ar
 use Rattle.std.specs.Prelude.{flat_map}
 use Rattle.std.proofs.lemmas.List.{append_assoc}
 use Rattle.emu_model.specs.Dues.{dues_of, line_dues, pipe_dues}
-use Rattle.emu_model.specs.Net.{opening_net}
+use Rattle.emu_model.specs.Net.{initial_net}
 use Rattle.packet_store.specs.Pocket.{Pocket, empty_pocket}
 use Rattle.pipe_table.specs.Table.{with_pipes}
 use Rattle.network.specs.contracts.state.Network.{the_view}
@@ -20,9 +20,9 @@ pub returns-in_default-add_dues-clause-err : goal.returns-in_default-add_dues-cl
 returns-in_default-add_dues-clause-err c =
     let p = empty_pocket 0 in
     let line = line_dues 0 (net_of p c.args.self.now).direct in
-    let pipes = flat_map pipe_dues (with_pipes p c.self.inside.table opening_net).pipes in
+    let pipes = flat_map pipe_dues (with_pipes p c.self.inside.table initial_net).pipes in
     cut-back _ c.args.dues.now.items (line ++ pipes) c.add_dues-2.new.dues.items _ c.truncate-in_default-add_dues.ensures.items (omega arith)
-    (c.in_default-add_dues.ensures.err ∙ c.in-Ok.ensures.ok p opening_net
+    (c.in_default-add_dues.ensures.err ∙ c.in-Ok.ensures.ok p initial_net
     ∙ ap (λ ds. ds ++ pipes) (c.in_ok-add_direct.ensures.ok p) ∙ append_assoc c.args.dues.now.items line pipes)
 
 pub returns-clause-ok : goal.returns-clause-ok

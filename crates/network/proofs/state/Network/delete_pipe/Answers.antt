@@ -8,7 +8,7 @@ use Rattle.emu_model.specs.declared.records.Refusal.TheVariants.{NoSuchPipe}
 use Rattle.emu_model.specs.Net.{drop_record, find_pipe}
 use Rattle.emu_model.specs.Commands.{obey}
 use Rattle.network.specs.contracts.state.Network.{the_view}
-use Rattle.network.specs.Kept.{KeptNet, net_of, setting_of, IsHoused}
+use Rattle.network.specs.Kept.{KeptNet, net_of, IsHoused}
 use Rattle.network.specs.Changes.{IsStill, Notes}
 use Rattle.network.proofs.Obeying.{none-there, refuse-obeys, from_ready, ready-housed, deleted, not-deleted}
 use Rattle.network.proofs.Frame.{pipes-named}
@@ -33,8 +33,8 @@ returns-in-Ok-None-clause-ok g c =
     let n = the_view c.self-2.inside in
     let h : IsHoused p n = ready-housed p p c.args.self.now c.reserve_besides.new.self n c.requires.stands.housed still refl c.self-2.view_is in
     let q = g.S.Shelf.pocket c.delete.new.shelf c.args.owner in
-    from_ready (obey (setting_of c.args.at) c.args.number (PipeDelete c.args.pipe)) 1 p p q c.args.self.now c.reserve_besides.new.self n _ c.requires.stands.housed still refl c.self-2.view_is
-    (not-deleted (setting_of c.args.at) c.args.number c.args.pipe p q n c.delete.new.self h c.delete.ensures.keys c.delete.ensures.seed _ (rw c.in-Ok-None.field-0-is at c.in-Ok-None.ensures.ok) (rw c.in-Ok-None.field-0-is at c.in-Ok-None.ensures.there) c.refuse-in-Ok-None.ensures)
+    from_ready (obey c.args.at c.args.number (PipeDelete c.args.pipe)) 1 p p q c.args.self.now c.reserve_besides.new.self n _ c.requires.stands.housed still refl c.self-2.view_is
+    (not-deleted c.args.at c.args.number c.args.pipe p q n c.delete.new.self h c.delete.ensures.keys c.delete.ensures.seed _ (rw c.in-Ok-None.field-0-is at c.in-Ok-None.ensures.ok) (rw c.in-Ok-None.field-0-is at c.in-Ok-None.ensures.there) c.refuse-in-Ok-None.ensures)
 
 pub returns-in-Ok-Some-clause-ok : goal.returns-in-Ok-Some-clause-ok
 returns-in-Ok-Some-clause-ok g c =
@@ -43,14 +43,14 @@ returns-in-Ok-Some-clause-ok g c =
     let n = the_view c.self-2.inside in
     let h : IsHoused p n = ready-housed p p c.args.self.now c.reserve_besides.new.self n c.requires.stands.housed still refl c.self-2.view_is in
     let q = g.S.Shelf.pocket c.delete.new.shelf c.args.owner in
-    from_ready (obey (setting_of c.args.at) c.args.number (PipeDelete c.args.pipe)) 1 p p q c.args.self.now c.reserve_besides.new.self n _ c.requires.stands.housed still refl c.self-2.view_is
-    (deleted (setting_of c.args.at) c.args.number c.args.pipe p q n c.delete.new.self h c.delete.ensures.keys c.delete.ensures.seed c.in-Ok-Some.packets.items c.done.new.self _ (rw c.in-Ok-Some.field-0-is at c.in-Ok-Some.ensures.ok) (rw c.in-Ok-Some.field-0-is at c.in-Ok-Some.ensures.there) c.done.ensures
+    from_ready (obey c.args.at c.args.number (PipeDelete c.args.pipe)) 1 p p q c.args.self.now c.reserve_besides.new.self n _ c.requires.stands.housed still refl c.self-2.view_is
+    (deleted c.args.at c.args.number c.args.pipe p q n c.delete.new.self h c.delete.ensures.keys c.delete.ensures.seed c.in-Ok-Some.packets.items c.done.new.self _ (rw c.in-Ok-Some.field-0-is at c.in-Ok-Some.ensures.ok) (rw c.in-Ok-Some.field-0-is at c.in-Ok-Some.ensures.there) c.done.ensures
     (subst (λ (xs : List Packet). Notes (map (drop_record c.args.at.now) (map (λ x. record { packet = x; cause = Deleted }) xs)) c.done.new.self c.drop_all.new.self) c.deref.ensures.value c.drop_all.ensures))
 
 pub returns-then-not-has-clause-ok : goal.returns-then-not-has-clause-ok
 returns-then-not-has-clause-ok g c =
     let p = g.S.Shelf.pocket c.args.shelf.now c.args.owner in
-    refuse-obeys (setting_of c.args.at) c.args.number (PipeDelete c.args.pipe) NoSuchPipe c.args.self.now _
+    refuse-obeys c.args.at c.args.number (PipeDelete c.args.pipe) NoSuchPipe c.args.self.now _
     (λ q. ap refused-where (ap (λ (v : KeptNet). is_some (find_pipe c.args.pipe (net_of q v))) (sym c.self.view_is) ∙ sym (c.has.ensures q (net_of q (the_view c.self.inside))) ∙ c.if-not-has.true))
     c.refuse.ensures p c.requires.stands.housed
 

@@ -1,5 +1,5 @@
 use Rattle.std.proofs.Common.{◌≡◌, sym, ap, ◌∙◌, subst}
-use Rattle.emu_model.specs.Net.{opening_net}
+use Rattle.emu_model.specs.Net.{initial_net}
 use Rattle.packet_store.specs.Pocket.{Pocket}
 use Rattle.pipe_table.specs.Table.{with_pipes}
 use Rattle.traffic.specs.Kept.{with_traffic}
@@ -26,8 +26,8 @@ returns-clause-due c =
     let n = the_view c.self.inside in
     let first : IsDue c.direct_earliest-best.result n = subst (λ (m : KeptNet). IsDue c.direct_earliest-best.result m) (sym c.self.view_is) (c.direct_earliest-best.ensures.due due) in
     let p = empty_pocket 0 in
-    let sources = pipes-keep c.self.inside.traffic c.direct_earliest-best.result c.earliest-best.result (with_pipes p c.self.inside.table opening_net).pipes (c.earliest-best.ensures.least p opening_net) (first.allowed, first.numbered) in
-    let pipes = sources-keep c.self.inside.table.pipes c.args.clock (with_traffic c.self.inside.traffic opening_net) c.earliest-best.result c.earliest.result (c.earliest.ensures.least opening_net)
+    let sources = pipes-keep c.self.inside.traffic c.direct_earliest-best.result c.earliest-best.result (with_pipes p c.self.inside.table initial_net).pipes (c.earliest-best.ensures.least p initial_net) (first.allowed, first.numbered) in
+    let pipes = sources-keep c.self.inside.table.pipes c.args.clock (with_traffic c.self.inside.traffic initial_net) c.earliest-best.result c.earliest.result (c.earliest.ensures.least initial_net)
     (c.earliest-best.ensures.finishing first.finishing, c.earliest-best.ensures.piped first.piped) in
     subst (λ (m : KeptNet). IsDue c.earliest.result m) c.self.view_is
     (record { finishing = pipes.0; allowed = c.earliest.ensures.allowed sources.0; numbered = c.earliest.ensures.numbered sources.1; piped = pipes.1 })

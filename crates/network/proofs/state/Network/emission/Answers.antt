@@ -5,7 +5,7 @@ use Rattle.emu_model.specs.Events.{emission}
 use Rattle.traffic.specs.Kept.{with_traffic}
 use Rattle.traffic.specs.Sends.{next_send}
 use Rattle.network.specs.contracts.state.Network.{the_view}
-use Rattle.network.specs.Kept.{KeptNet, net_of, setting_of, IsHoused}
+use Rattle.network.specs.Kept.{KeptNet, net_of, IsHoused}
 use Rattle.network.specs.Changes.{IsStill}
 use Rattle.network.specs.Ready.{CanMake}
 use Rattle.network.proofs.Leaving.{sent-one, sent-none}
@@ -30,9 +30,9 @@ returns-in_default-clause-ok g c =
     let still : IsStill c.args.self.now c.emission_ready.new.self = c.emission_ready.ensures.still in
     let n = the_view c.self.inside in
     let h : IsHoused p n = ready-housed o p c.args.self.now c.emission_ready.new.self n c.requires.stands.housed still same c.self.view_is in
-    from_ready (λ m. emission (setting_of c.args.at) c.args.source m) 1 o p p c.args.self.now c.emission_ready.new.self n _ c.requires.stands.housed still same c.self.view_is
-    (sent-none (λ m. emission (setting_of c.args.at) c.args.source m) p n c.emit-answer.new.self h (λ m. c.emit-answer.ensures.emission (setting_of c.args.at) m refl
-    ∙ ap (λ (r : Option Sending). option_map_or (λ s. make (setting_of c.args.at) s.load s.send (with_traffic c.emit-answer.new.self m)) r (with_traffic c.emit-answer.new.self m)) c.in_default.is))
+    from_ready (λ m. emission c.args.at c.args.source m) 1 o p p c.args.self.now c.emission_ready.new.self n _ c.requires.stands.housed still same c.self.view_is
+    (sent-none (λ m. emission c.args.at c.args.source m) p n c.emit-answer.new.self h (λ m. c.emit-answer.ensures.emission c.args.at m refl
+    ∙ ap (λ (r : Option Sending). option_map_or (λ s. make c.args.at s.load s.send (with_traffic c.emit-answer.new.self m)) r (with_traffic c.emit-answer.new.self m)) c.in_default.is))
 
 pub make-requires-clause-ready : goal.make-requires-clause-ready
 make-requires-clause-ready g c =
@@ -55,6 +55,6 @@ returns-clause-ok g c =
     let still : IsStill c.args.self.now c.emission_ready.new.self = c.emission_ready.ensures.still in
     let n = the_view c.self.inside in
     let h : IsHoused p n = ready-housed o p c.args.self.now c.emission_ready.new.self n c.requires.stands.housed still same c.self.view_is in
-    from_ready (λ m. emission (setting_of c.args.at) c.args.source m) 1 o p _ c.args.self.now c.emission_ready.new.self n _ c.requires.stands.housed still same c.self.view_is
-    (sent-one (λ m. emission (setting_of c.args.at) c.args.source m) p n c.emit-answer.new.self _ c.make.new.self _ (c.emit-answer.ensures.emission (setting_of c.args.at) (net_of p n) refl
-    ∙ ap (λ (r : Option Sending). option_map_or (λ s. make (setting_of c.args.at) s.load s.send (with_traffic c.emit-answer.new.self (net_of p n))) r (with_traffic c.emit-answer.new.self (net_of p n))) c.in-Some.is) c.make.ensures.becomes)
+    from_ready (λ m. emission c.args.at c.args.source m) 1 o p _ c.args.self.now c.emission_ready.new.self n _ c.requires.stands.housed still same c.self.view_is
+    (sent-one (λ m. emission c.args.at c.args.source m) p n c.emit-answer.new.self _ c.make.new.self _ (c.emit-answer.ensures.emission c.args.at (net_of p n) refl
+    ∙ ap (λ (r : Option Sending). option_map_or (λ s. make c.args.at s.load s.send (with_traffic c.emit-answer.new.self (net_of p n))) r (with_traffic c.emit-answer.new.self (net_of p n))) c.in-Some.is) c.make.ensures.becomes)

@@ -1,5 +1,5 @@
 use Rattle.emu_model.specs.Net.{enter_pipe as enters_pipe}
-use Rattle.network.specs.Kept.{net_of, setting_of, IsHoused, Stands}
+use Rattle.network.specs.Kept.{net_of, IsHoused, Stands}
 use Rattle.std.proofs.Common.{refl}
 use Rattle.network.specs.contracts.state.Network.{the_view}
 use Rattle.network.proofs.Steps.{at_view, from_view}
@@ -17,17 +17,17 @@ returns-in-Some-clause-becomes g c =
     let p = g.S.Shelf.pocket c.args.shelf.now c.args.owner in
     let n = the_view c.self.inside in
     let stands : Stands c.args.at p n = at_view (Stands c.args.at p) _ _ c.self.view_is c.requires.stands in
-    from_view 0 (λ m. enters_pipe (setting_of c.args.at) c.args.number c.args.packet.now (net_of p m)) p _ _ _ _ c.self.view_is
-    (turned-away (setting_of c.args.at) p _ n c.arrive-answer.new.self c.args.number c.args.at.now c.args.packet.now
+    from_view 0 (λ m. enters_pipe c.args.at c.args.number c.args.packet.now (net_of p m)) p _ _ _ _ c.self.view_is
+    (turned-away c.args.at p _ n c.arrive-answer.new.self c.args.number c.args.at.now c.args.packet.now
     stands.housed c.arrive-answer.ensures.keys c.arrive-answer.ensures.seed c.in-Some.cause _
-    (c.in-Some.ensures.arrived (setting_of c.args.at) (net_of p n) stands.seed refl) c.drop_packet.ensures)
+    (c.in-Some.ensures.arrived c.args.at (net_of p n) stands.seed refl) c.drop_packet.ensures)
 
 pub returns-in-None-clause-becomes : goal.returns-in-None-clause-becomes
 returns-in-None-clause-becomes g c =
     let p = g.S.Shelf.pocket c.args.shelf.now c.args.owner in
     let n = the_view c.self.inside in
     let stands : Stands c.args.at p n = at_view (Stands c.args.at p) _ _ c.self.view_is c.requires.stands in
-    from_view 0 (λ m. enters_pipe (setting_of c.args.at) c.args.number c.args.packet.now (net_of p m)) p _ _ _ _ c.self.view_is
-    (taken-in (setting_of c.args.at) p _ n c.arrive-answer.new.self c.args.number c.args.at.now c.args.packet.now
+    from_view 0 (λ m. enters_pipe c.args.at c.args.number c.args.packet.now (net_of p m)) p _ _ _ _ c.self.view_is
+    (taken-in c.args.at p _ n c.arrive-answer.new.self c.args.number c.args.at.now c.args.packet.now
     stands.housed c.arrive-answer.ensures.keys c.arrive-answer.ensures.seed
-    (c.in-None.ensures.arrived (setting_of c.args.at) (net_of p n) stands.seed refl))
+    (c.in-None.ensures.arrived c.args.at (net_of p n) stands.seed refl))

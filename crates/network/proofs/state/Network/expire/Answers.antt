@@ -4,18 +4,17 @@ use Rattle.emu_model.specs.declared.records.Record.TheVariants.{TimerExpired}
 use Rattle.emu_model.specs.Net.{find_flow}
 use Rattle.emu_model.specs.Events.{expire_flow}
 use Rattle.network.specs.contracts.state.Network.{the_view}
-use Rattle.network.specs.Kept.{setting_of}
 use Rattle.network.proofs.Steps.{turns_view}
 use Rattle.network.proofs.Sources.{traffic-noted, traffic-turned}
 use Rattle.network.proofs.state.Network.expire.Goals as goal
 
 pub returns-in-Some-clause-turns : goal.returns-in-Some-clause-turns
 returns-in-Some-clause-turns c =
-    turns_view (λ n. option_map_or (expire_flow (setting_of c.args.at) n) (find_flow c.args.flow n) n) _ _ _ c.self.view_is
-    (traffic-noted (λ n. option_map_or (expire_flow (setting_of c.args.at) n) (find_flow c.args.flow n) n) (the_view c.self.inside) c.note.new.self c.expire-answer.new.self
-    (TimerExpired c.args.at.now c.args.flow c.in-Some.window.cwnd c.in-Some.window.ssthresh ∷ []) (λ m. c.in-Some.ensures (setting_of c.args.at) m refl) c.note.ensures)
+    turns_view (λ n. option_map_or (expire_flow c.args.at n) (find_flow c.args.flow n) n) _ _ _ c.self.view_is
+    (traffic-noted (λ n. option_map_or (expire_flow c.args.at n) (find_flow c.args.flow n) n) (the_view c.self.inside) c.note.new.self c.expire-answer.new.self
+    (TimerExpired c.args.at.now c.args.flow c.in-Some.window.cwnd c.in-Some.window.ssthresh ∷ []) (λ m. c.in-Some.ensures c.args.at m refl) c.note.ensures)
 
 pub returns-in-None-clause-turns : goal.returns-in-None-clause-turns
 returns-in-None-clause-turns c =
-    turns_view (λ n. option_map_or (expire_flow (setting_of c.args.at) n) (find_flow c.args.flow n) n) _ _ _ c.self.view_is
-    (traffic-turned (λ n. option_map_or (expire_flow (setting_of c.args.at) n) (find_flow c.args.flow n) n) (the_view c.self.inside) c.expire-answer.new.self (λ m. c.in-None.ensures (setting_of c.args.at) m refl))
+    turns_view (λ n. option_map_or (expire_flow c.args.at n) (find_flow c.args.flow n) n) _ _ _ c.self.view_is
+    (traffic-turned (λ n. option_map_or (expire_flow c.args.at n) (find_flow c.args.flow n) n) (the_view c.self.inside) c.expire-answer.new.self (λ m. c.in-None.ensures c.args.at m refl))

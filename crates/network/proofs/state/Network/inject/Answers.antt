@@ -4,7 +4,7 @@ use Rattle.emu_model.specs.declared.commands.Command.TheVariants.{Inject}
 use Rattle.emu_model.specs.Net.{make}
 use Rattle.emu_model.specs.Commands.{obey}
 use Rattle.packet_store.specs.Pocket.{Pocket}
-use Rattle.network.specs.Kept.{net_of, setting_of, IsHoused}
+use Rattle.network.specs.Kept.{net_of, IsHoused}
 use Rattle.network.specs.Changes.{Becomes}
 use Rattle.network.proofs.Obeying.{injected}
 use Rattle.traffic.specs.declared.sends.Sending.{Sending}
@@ -16,8 +16,8 @@ returns-clause-ok g c =
     let p = g.S.Shelf.pocket c.make_ready.new.shelf c.args.owner in
     let same : p ≡ o = c.make_ready.ensures.pockets c.args.owner ∙ c.put_ready.ensures.pockets c.args.owner in
     let q = g.S.Shelf.pocket c.make.new.shelf c.args.owner in
-    let made : Becomes 1 (make (setting_of c.args.at) Plain c.args.send.now (net_of p c.done.new.self)) p q c.done.new.self c.make.new.self =
-    subst (λ (s : Sending). Becomes 1 (make (setting_of c.args.at) s.load s.send (net_of p c.done.new.self)) p q c.done.new.self c.make.new.self) c.plain_sending-sending.ensures c.make.ensures.becomes in
-    subst (λ (x : Pocket). Becomes 1 (obey (setting_of c.args.at) c.args.number (Inject c.args.send.now) (net_of x c.args.self.now)) x q c.args.self.now c.make.new.self) same
-    (injected (setting_of c.args.at) c.args.number c.args.send.now p q c.args.self.now c.make_ready.new.self c.done.new.self c.make.new.self
+    let made : Becomes 1 (make c.args.at Plain c.args.send.now (net_of p c.done.new.self)) p q c.done.new.self c.make.new.self =
+    subst (λ (s : Sending). Becomes 1 (make c.args.at s.load s.send (net_of p c.done.new.self)) p q c.done.new.self c.make.new.self) c.plain_sending-sending.ensures c.make.ensures.becomes in
+    subst (λ (x : Pocket). Becomes 1 (obey c.args.at c.args.number (Inject c.args.send.now) (net_of x c.args.self.now)) x q c.args.self.now c.make.new.self) same
+    (injected c.args.at c.args.number c.args.send.now p q c.args.self.now c.make_ready.new.self c.done.new.self c.make.new.self
     (subst (λ (x : Pocket). IsHoused x c.args.self.now) (sym same) c.requires.stands.housed) c.make_ready.ensures.still c.done.ensures made)

@@ -1,7 +1,7 @@
 use Rattle.emu_model.specs.Net.{make as made_of}
-use Rattle.network.specs.Kept.{KeptNet, net_of, setting_of, Stands}
+use Rattle.network.specs.Kept.{KeptNet, net_of, Stands}
 use Rattle.network.specs.Ready.{CanMake}
-use Rattle.std.proofs.Common.{◌+◌, refl, sym, subst}
+use Rattle.std.proofs.Common.{refl, sym, subst}
 use Rattle.network.specs.contracts.state.Network.{the_view}
 use Rattle.network.proofs.Steps.{at_view, from_view}
 use Rattle.std.proofs.Common.{arith}
@@ -21,8 +21,8 @@ returns-then-count-get-clause-becomes g c =
     let p = g.S.Shelf.pocket c.args.shelf.now c.args.owner in
     let n = the_view c.self.inside in
     let stands : Stands c.args.at p n = at_view (Stands c.args.at p) _ _ c.self.view_is c.requires.stands in
-    from_view 1 (λ m. made_of (setting_of c.args.at) c.args.sending.now.load c.args.sending.now.send (net_of p m)) p _ _ _ _ c.self.view_is
-    (made-passes c.keys_say_all.ensures.packets (setting_of c.args.at) p n c.args.sending.now.load c.args.sending.now.send c.packet_of-packet.result
+    from_view 1 (λ m. made_of c.args.at c.args.sending.now.load c.args.sending.now.send (net_of p m)) p _ _ _ _ c.self.view_is
+    (made-passes c.keys_say_all.ensures.packets c.args.at p n c.args.sending.now.load c.args.sending.now.send c.packet_of-packet.result
     stands.housed c.packet_of-packet.ensures _ _ _ c.note_made.ensures
     (omega (arith, c.if-count-get.true, c.count.ensures.value, c.get.ensures.value)) c.pass_rules.ensures.becomes)
 
@@ -31,7 +31,7 @@ returns-clause-becomes g c =
     let p = g.S.Shelf.pocket c.args.shelf.now c.args.owner in
     let n = the_view c.self.inside in
     let stands : Stands c.args.at p n = at_view (Stands c.args.at p) _ _ c.self.view_is c.requires.stands in
-    from_view 1 (λ m. made_of (setting_of c.args.at) c.args.sending.now.load c.args.sending.now.send (net_of p m)) p _ _ _ _ c.self.view_is
-    (made-dropped c.keys_say_all.ensures.packets (setting_of c.args.at) p n c.args.sending.now.load c.args.sending.now.send c.packet_of-packet.result
+    from_view 1 (λ m. made_of c.args.at c.args.sending.now.load c.args.sending.now.send (net_of p m)) p _ _ _ _ c.self.view_is
+    (made-dropped c.keys_say_all.ensures.packets c.args.at p n c.args.sending.now.load c.args.sending.now.send c.packet_of-packet.result
     stands.housed c.packet_of-packet.ensures _ _ c.note_made.ensures
     (omega (arith, c.if-count-get.false, c.count.ensures.value, c.get.ensures.value)) c.drop_packet.ensures)

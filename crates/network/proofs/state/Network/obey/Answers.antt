@@ -1,7 +1,7 @@
 use Rattle.std.proofs.Common.{IsSome, sym, subst}
 use Rattle.emu_model.specs.declared.commands.Command.TheVariants.{Add, Delete, Config, PipeDelete, PipeShow, Show, Inject, Train, Flow, Stop, OnePass, Trace, End}
 use Rattle.emu_model.specs.Commands.{obey, source_refusal}
-use Rattle.network.specs.Kept.{net_of, setting_of}
+use Rattle.network.specs.Kept.{net_of}
 use Rattle.network.specs.Changes.{Becomes, Obeys}
 use Rattle.network.specs.Ready.{TakesNoMemory}
 use Rattle.network.proofs.Steps.{still-housed}
@@ -13,7 +13,7 @@ use Rattle.network.proofs.state.Network.obey.Goals as goal
 pub returns-in-PipeDelete-clause-ok : goal.returns-in-PipeDelete-clause-ok
 returns-in-PipeDelete-clause-ok g c =
     let p = g.S.Shelf.pocket c.args.shelf.now c.args.owner in
-    let at = setting_of c.args.at in
+    let at = c.args.at in
     let old = c.args.self.now in
     let n = c.reserve.new.self in
     on_ok (Becomes 1 (obey at c.args.number (PipeDelete c.in-PipeDelete.pipe) (net_of p n)) p (g.S.Shelf.pocket c.delete_pipe.new.shelf c.args.owner) n c.delete_pipe.new.self) (Becomes 1 (obey at c.args.number c.args.command.now (net_of p old)) p (g.S.Shelf.pocket c.delete_pipe.new.shelf c.args.owner) old c.delete_pipe.new.self) c.delete_pipe.result
@@ -23,7 +23,7 @@ returns-in-PipeDelete-clause-ok g c =
 pub returns-in-Inject-clause-ok : goal.returns-in-Inject-clause-ok
 returns-in-Inject-clause-ok g c =
     let p = g.S.Shelf.pocket c.args.shelf.now c.args.owner in
-    let at = setting_of c.args.at in
+    let at = c.args.at in
     let old = c.args.self.now in
     let n = c.reserve.new.self in
     on_ok (Becomes 1 (obey at c.args.number (Inject c.in-Inject.send) (net_of p n)) p (g.S.Shelf.pocket c.inject.new.shelf c.args.owner) n c.inject.new.self) (Becomes 1 (obey at c.args.number c.args.command.now (net_of p old)) p (g.S.Shelf.pocket c.inject.new.shelf c.args.owner) old c.inject.new.self) c.inject.result
@@ -33,7 +33,7 @@ returns-in-Inject-clause-ok g c =
 pub returns-in-Add-clause-ok : goal.returns-in-Add-clause-ok
 returns-in-Add-clause-ok g c =
     let p = g.S.Shelf.pocket c.args.shelf.now c.args.owner in
-    let at = setting_of c.args.at in
+    let at = c.args.at in
     let old = c.args.self.now in
     let n = c.reserve.new.self in
     on_ok (Obeys at c.args.number (Add c.in-Add.rule) n c.add.new.self) (Becomes 1 (obey at c.args.number c.args.command.now (net_of p old)) p p old c.add.new.self) c.add.result
@@ -43,7 +43,7 @@ returns-in-Add-clause-ok g c =
 pub returns-in-Delete-clause-ok : goal.returns-in-Delete-clause-ok
 returns-in-Delete-clause-ok g c =
     let p = g.S.Shelf.pocket c.args.shelf.now c.args.owner in
-    let at = setting_of c.args.at in
+    let at = c.args.at in
     let old = c.args.self.now in
     let n = c.reserve.new.self in
     on_ok (Obeys at c.args.number (Delete c.in-Delete.rule) n c.delete.new.self) (Becomes 1 (obey at c.args.number c.args.command.now (net_of p old)) p p old c.delete.new.self) c.delete.result
@@ -53,7 +53,7 @@ returns-in-Delete-clause-ok g c =
 pub returns-in-Config-clause-ok : goal.returns-in-Config-clause-ok
 returns-in-Config-clause-ok g c =
     let p = g.S.Shelf.pocket c.args.shelf.now c.args.owner in
-    let at = setting_of c.args.at in
+    let at = c.args.at in
     let old = c.args.self.now in
     let n = c.reserve.new.self in
     on_ok (Obeys at c.args.number (Config c.in-Config.pipe c.in-Config.config) n c.configure.new.self) (Becomes 1 (obey at c.args.number c.args.command.now (net_of p old)) p p old c.configure.new.self) c.configure.result
@@ -63,7 +63,7 @@ returns-in-Config-clause-ok g c =
 pub returns-in-PipeShow-clause-ok : goal.returns-in-PipeShow-clause-ok
 returns-in-PipeShow-clause-ok g c =
     let p = g.S.Shelf.pocket c.args.shelf.now c.args.owner in
-    let at = setting_of c.args.at in
+    let at = c.args.at in
     let old = c.args.self.now in
     let n = c.reserve.new.self in
     on_ok (Obeys at c.args.number PipeShow n c.show_pipes.new.self) (Becomes 1 (obey at c.args.number c.args.command.now (net_of p old)) p p old c.show_pipes.new.self) c.show_pipes.result
@@ -73,7 +73,7 @@ returns-in-PipeShow-clause-ok g c =
 pub returns-in-Show-clause-ok : goal.returns-in-Show-clause-ok
 returns-in-Show-clause-ok g c =
     let p = g.S.Shelf.pocket c.args.shelf.now c.args.owner in
-    let at = setting_of c.args.at in
+    let at = c.args.at in
     let old = c.args.self.now in
     let n = c.reserve.new.self in
     on_ok (Obeys at c.args.number Show n c.show_rules.new.self) (Becomes 1 (obey at c.args.number c.args.command.now (net_of p old)) p p old c.show_rules.new.self) c.show_rules.result
@@ -83,7 +83,7 @@ returns-in-Show-clause-ok g c =
 pub returns-in-Train-clause-ok : goal.returns-in-Train-clause-ok
 returns-in-Train-clause-ok g c =
     let p = g.S.Shelf.pocket c.args.shelf.now c.args.owner in
-    let at = setting_of c.args.at in
+    let at = c.args.at in
     let old = c.args.self.now in
     let n = c.reserve.new.self in
     on_ok (Obeys at c.args.number (Train c.in-Train.source c.in-Train.train) n c.start_train.new.self) (Becomes 1 (obey at c.args.number c.args.command.now (net_of p old)) p p old c.start_train.new.self) c.start_train.result
@@ -93,7 +93,7 @@ returns-in-Train-clause-ok g c =
 pub returns-in-Flow-clause-ok : goal.returns-in-Flow-clause-ok
 returns-in-Flow-clause-ok g c =
     let p = g.S.Shelf.pocket c.args.shelf.now c.args.owner in
-    let at = setting_of c.args.at in
+    let at = c.args.at in
     let old = c.args.self.now in
     let n = c.reserve.new.self in
     on_ok (Obeys at c.args.number (Flow c.in-Flow.source c.in-Flow.flow) n c.start_flow.new.self) (Becomes 1 (obey at c.args.number c.args.command.now (net_of p old)) p p old c.start_flow.new.self) c.start_flow.result
@@ -103,7 +103,7 @@ returns-in-Flow-clause-ok g c =
 pub returns-in-Stop-clause-ok : goal.returns-in-Stop-clause-ok
 returns-in-Stop-clause-ok g c =
     let p = g.S.Shelf.pocket c.args.shelf.now c.args.owner in
-    let at = setting_of c.args.at in
+    let at = c.args.at in
     let old = c.args.self.now in
     let n = c.reserve.new.self in
     on_ok (Obeys at c.args.number (Stop c.in-Stop.flow) n c.stop.new.self) (Becomes 1 (obey at c.args.number c.args.command.now (net_of p old)) p p old c.stop.new.self) c.stop.result
@@ -113,7 +113,7 @@ returns-in-Stop-clause-ok g c =
 pub returns-in-OnePass-clause-ok : goal.returns-in-OnePass-clause-ok
 returns-in-OnePass-clause-ok g c =
     let p = g.S.Shelf.pocket c.args.shelf.now c.args.owner in
-    let at = setting_of c.args.at in
+    let at = c.args.at in
     let old = c.args.self.now in
     let n = c.reserve.new.self in
     on_ok (Obeys at c.args.number (OnePass c.in-OnePass.one_pass) n c.set_one_pass.new.self) (Becomes 1 (obey at c.args.number c.args.command.now (net_of p old)) p p old c.set_one_pass.new.self) c.set_one_pass.result
@@ -123,7 +123,7 @@ returns-in-OnePass-clause-ok g c =
 pub returns-in-Trace-clause-ok : goal.returns-in-Trace-clause-ok
 returns-in-Trace-clause-ok g c =
     let p = g.S.Shelf.pocket c.args.shelf.now c.args.owner in
-    let at = setting_of c.args.at in
+    let at = c.args.at in
     let old = c.args.self.now in
     let n = c.reserve.new.self in
     on_ok (Obeys at c.args.number (Trace c.in-Trace.trace) n c.set_trace.new.self) (Becomes 1 (obey at c.args.number c.args.command.now (net_of p old)) p p old c.set_trace.new.self) c.set_trace.result
@@ -133,7 +133,7 @@ returns-in-Trace-clause-ok g c =
 pub returns-in-End-clause-ok : goal.returns-in-End-clause-ok
 returns-in-End-clause-ok g c =
     let p = g.S.Shelf.pocket c.args.shelf.now c.args.owner in
-    let at = setting_of c.args.at in
+    let at = c.args.at in
     let old = c.args.self.now in
     let n = c.reserve.new.self in
     on_ok (Obeys at c.args.number End n c.end.new.self) (Becomes 1 (obey at c.args.number c.args.command.now (net_of p old)) p p old c.end.new.self) c.end.result

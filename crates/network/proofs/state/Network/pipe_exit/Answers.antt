@@ -7,7 +7,7 @@ use Rattle.emu_model.specs.Events.{flying_in, pipe_exits}
 use Rattle.packet_store.specs.Pocket.{Pocket}
 use Rattle.pipe_table.specs.Table.{with_pipes}
 use Rattle.network.specs.contracts.state.Network.{the_view}
-use Rattle.network.specs.Kept.{KeptNet, net_of, setting_of, IsHoused}
+use Rattle.network.specs.Kept.{KeptNet, net_of, IsHoused}
 use Rattle.network.specs.Changes.{IsStill}
 use Rattle.network.specs.Ready.{CanLeave}
 use Rattle.network.proofs.Leaving.{exit-none, exit-some}
@@ -37,10 +37,10 @@ returns-in_default-clause-ok g c =
     let h : IsHoused p n = ready-housed o p c.args.self.now c.exit_ready.new.self n c.requires.stands.housed still same c.self.view_is in
     let t = c.exit-gone.new.self in
     let q = g.S.Shelf.pocket c.exit-gone.new.shelf c.args.owner in
-    from_ready (λ m. option_map_or (pipe_exits (setting_of c.args.at) c.args.pipe c.args.instance m) (find_pipe c.args.pipe m) m) 1 o p q c.args.self.now c.exit_ready.new.self n _ c.requires.stands.housed still same c.self.view_is
-    (exit-none p q n t c.args.pipe c.args.instance h c.exit-gone.ensures.keys c.exit-gone.ensures.seed (setting_of c.args.at)
-    (c.exit-gone.ensures.gone (setting_of c.args.at) (net_of p n)
-    ∙ ap (λ (r : Option Packet). leave_pipe_some (setting_of c.args.at) c.args.pipe c.args.instance r (with_pipes q t (net_of p n))) c.in_default.is))
+    from_ready (λ m. option_map_or (pipe_exits c.args.at c.args.pipe c.args.instance m) (find_pipe c.args.pipe m) m) 1 o p q c.args.self.now c.exit_ready.new.self n _ c.requires.stands.housed still same c.self.view_is
+    (exit-none p q n t c.args.pipe c.args.instance h c.exit-gone.ensures.keys c.exit-gone.ensures.seed c.args.at
+    (c.exit-gone.ensures.gone c.args.at (net_of p n)
+    ∙ ap (λ (r : Option Packet). leave_pipe_some c.args.at c.args.pipe c.args.instance r (with_pipes q t (net_of p n))) c.in_default.is))
 
 pub leave_pipe-requires-clause-stands : goal.leave_pipe-requires-clause-stands
 leave_pipe-requires-clause-stands g c =
@@ -85,8 +85,8 @@ returns-clause-ok g c =
     let h : IsHoused p n = ready-housed o p c.args.self.now c.exit_ready.new.self n c.requires.stands.housed still same c.self.view_is in
     let t = c.exit-gone.new.self in
     let q = g.S.Shelf.pocket c.exit-gone.new.shelf c.args.owner in
-    from_ready (λ m. option_map_or (pipe_exits (setting_of c.args.at) c.args.pipe c.args.instance m) (find_pipe c.args.pipe m) m) 1 o p _ c.args.self.now c.exit_ready.new.self n _ c.requires.stands.housed still same c.self.view_is
-    (exit-some p q n t c.args.pipe c.args.instance h c.exit-gone.ensures.keys c.exit-gone.ensures.seed (setting_of c.args.at) _ _ c.in-Some.packet
-    (c.exit-gone.ensures.gone (setting_of c.args.at) (net_of p n)
-    ∙ ap (λ (r : Option Packet). leave_pipe_some (setting_of c.args.at) c.args.pipe c.args.instance r (with_pipes q t (net_of p n))) c.in-Some.is)
+    from_ready (λ m. option_map_or (pipe_exits c.args.at c.args.pipe c.args.instance m) (find_pipe c.args.pipe m) m) 1 o p _ c.args.self.now c.exit_ready.new.self n _ c.requires.stands.housed still same c.self.view_is
+    (exit-some p q n t c.args.pipe c.args.instance h c.exit-gone.ensures.keys c.exit-gone.ensures.seed c.args.at _ _ c.in-Some.packet
+    (c.exit-gone.ensures.gone c.args.at (net_of p n)
+    ∙ ap (λ (r : Option Packet). leave_pipe_some c.args.at c.args.pipe c.args.instance r (with_pipes q t (net_of p n))) c.in-Some.is)
     c.leave_pipe.ensures.becomes)

@@ -1,4 +1,4 @@
-use Rattle.std.proofs.Common.{◌≡◌, ◌≤◌, sym, ap, ◌∙◌, subst, length}
+use Rattle.std.proofs.Common.{◌≤◌, sym, ap, ◌∙◌, subst, length}
 use Rattle.network.specs.Kept.{KeptNet, net_of, net_keys, IsHoused}
 use Rattle.network.proofs.Rehoused.{line-named, pipes-left, net-housed, net-count, net-gone, net-shown}
 use Rattle.network.proofs.state.Network.rehouse.Goals as goal

@@ -7,17 +7,17 @@ use Rattle.network.proofs.Steps.{still_view, still-then}
 use Rattle.network.proofs.Sources.{on_ok, traffic-still, can-segment, can-nothing}
 use Rattle.network.proofs.state.Network.segment_ready.Goals as goal
 
+pub returns-in_err-take_ready-clause-still : goal.returns-in_err-take_ready-clause-still
+returns-in_err-take_ready-clause-still g c =
+    still_view _ _ _ c.self.view_is (traffic-still (the_view c.self.inside) c.take_ready.new.self c.take_ready.ensures.same)
+
 pub returns-in_default-clause-still : goal.returns-in_default-clause-still
 returns-in_default-clause-still g c =
     still_view _ _ _ c.self.view_is (traffic-still (the_view c.self.inside) c.take_ready.new.self c.take_ready.ensures.same)
 
-pub returns-in_default-reply-clause-still : goal.returns-in_default-reply-clause-still
-returns-in_default-reply-clause-still g c =
-    still_view _ _ _ c.self.view_is (traffic-still (the_view c.self.inside) c.take_ready.new.self c.take_ready.ensures.same)
-
-pub returns-in_default-reply-clause-ready : goal.returns-in_default-reply-clause-ready
-returns-in_default-reply-clause-ready g c =
-    can-nothing c.args.flow c.args.first (record (the_view c.self.inside) { traffic = c.take_ready.new.self }) c.in-Ok.ensures.ready (λ m. sym c.in_default-reply.is ∙ c.reply.ensures m)
+pub returns-in_default-clause-ready : goal.returns-in_default-clause-ready
+returns-in_default-clause-ready g c =
+    can-nothing c.args.flow c.args.first (record (the_view c.self.inside) { traffic = c.take_ready.new.self }) c.in_ok-take_ready.ensures.ready (λ m. sym c.in_default.is ∙ c.reply.ensures m)
 
 pub returns-clause-still : goal.returns-clause-still
 returns-clause-still g c =
@@ -27,4 +27,4 @@ pub returns-clause-ready : goal.returns-clause-ready
 returns-clause-ready g c =
     on_ok (CanMake c.in-Some.send c.make_ready.new.self) (CanDeliver (Seg c.args.flow c.args.first) c.make_ready.new.self) c.make_ready.result
     (can-segment c.args.flow c.args.first c.in-Some.send c.make_ready.new.self c.take_ready.new.self (ap (λ (m : KeptNet). m.traffic) c.make_ready.ensures.rest)
-    c.in-Ok.ensures.ready c.in-Some.ensures) c.make_ready.ensures.ready
+    c.in_ok-take_ready.ensures.ready c.in-Some.ensures) c.make_ready.ensures.ready

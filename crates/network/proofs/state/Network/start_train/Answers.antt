@@ -1,7 +1,7 @@
 use Rattle.std.proofs.Common.{sym, ap, ◌∙◌}
 use Rattle.emu_model.specs.declared.commands.Command.TheVariants.{Train}
 use Rattle.network.specs.contracts.state.Network.{the_view}
-use Rattle.network.specs.Kept.{KeptNet, net_of, setting_of}
+use Rattle.network.specs.Kept.{KeptNet, net_of}
 use Rattle.network.proofs.Steps.{obeys_view}
 use Rattle.network.proofs.Obeying.{none-there, refuse-obeys, traffic-done}
 use Rattle.emu_model.specs.Commands.{source_refusal}
@@ -9,15 +9,15 @@ use Rattle.network.proofs.state.Network.start_train.Goals as goal
 
 pub returns-in-Some-clause-ok : goal.returns-in-Some-clause-ok
 returns-in-Some-clause-ok c =
-    refuse-obeys (setting_of c.args.at) c.args.number (Train c.args.source c.args.train.now) c.in-Some.refusal c.args.self.now _
+    refuse-obeys c.args.at c.args.number (Train c.args.source c.args.train.now) c.in-Some.refusal c.args.self.now _
     (λ p. ap (λ (m : KeptNet). source_refusal c.args.source (net_of p m)) (sym c.self.view_is) ∙ sym (c.in-Some.ensures.refusal (net_of p (the_view c.self.inside)))) c.refuse.ensures
 
 pub returns-clause-ok : goal.returns-clause-ok
 returns-clause-ok c =
-    obeys_view (setting_of c.args.at) c.args.number (Train c.args.source c.args.train.now) (the_view c.self.inside) _ _ c.self.view_is
-    (traffic-done (setting_of c.args.at) c.args.number (the_view c.self.inside) _ (Train c.args.source c.args.train.now) c.start_train.new.self (λ p. sym (c.in_default.ensures.refusal (net_of p (the_view c.self.inside)))) c.in-Ok.ensures.ok c.done.ensures)
+    obeys_view c.args.at c.args.number (Train c.args.source c.args.train.now) (the_view c.self.inside) _ _ c.self.view_is
+    (traffic-done c.args.at c.args.number (the_view c.self.inside) _ (Train c.args.source c.args.train.now) c.start_train.new.self (λ p. sym (c.in_default.ensures.refusal (net_of p (the_view c.self.inside)))) c.in_ok-start_train.ensures.ok c.done.ensures)
 
-pub returns-in_default-start_train-clause-succeeds : goal.returns-in_default-start_train-clause-succeeds
-returns-in_default-start_train-clause-succeeds c = λ p some.
+pub returns-in_err-start_train-clause-succeeds : goal.returns-in_err-start_train-clause-succeeds
+returns-in_err-start_train-clause-succeeds c = λ p some.
     absurd (none-there (source_refusal c.args.source (net_of p c.args.self.now))
     (ap (λ v. source_refusal c.args.source (net_of p v)) (sym c.self.view_is) ∙ sym (c.in_default.ensures.refusal (net_of p (the_view c.self.inside)))) some)

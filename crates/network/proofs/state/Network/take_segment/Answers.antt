@@ -2,7 +2,7 @@ use Rattle.std.proofs.Common.{refl, sym, arith}
 use Rattle.emu_model.specs.declared.packets.Load.TheVariants.{Seg}
 use Rattle.emu_model.specs.Net.{take_load}
 use Rattle.network.specs.contracts.state.Network.{the_view}
-use Rattle.network.specs.Kept.{net_of, setting_of, Stands}
+use Rattle.network.specs.Kept.{net_of, Stands}
 use Rattle.network.specs.Ready.{CanDeliver}
 use Rattle.network.proofs.AsReady.{as-make}
 use Rattle.network.proofs.Steps.{at_view, from_view}
@@ -20,12 +20,12 @@ pub returns-in-Some-clause-becomes : goal.returns-in-Some-clause-becomes
 returns-in-Some-clause-becomes g c =
     let p = g.S.Shelf.pocket c.args.shelf.now c.args.owner in
     let n = the_view c.self.inside in
-    from_view 1 (λ m. take_load (setting_of c.args.at) (Seg c.args.flow c.args.first) (net_of p m)) p _ n _ _ c.self.view_is
-    (sent-one (λ m. take_load (setting_of c.args.at) (Seg c.args.flow c.args.first) m) p n c.take-answer.new.self _ c.make.new.self _ (c.in-Some.ensures.taken (setting_of c.args.at) (net_of p n)) c.make.ensures.becomes)
+    from_view 1 (λ m. take_load c.args.at (Seg c.args.flow c.args.first) (net_of p m)) p _ n _ _ c.self.view_is
+    (sent-one (λ m. take_load c.args.at (Seg c.args.flow c.args.first) m) p n c.take-answer.new.self _ c.make.new.self _ (c.in-Some.ensures.taken c.args.at (net_of p n)) c.make.ensures.becomes)
 
 pub returns-in-None-clause-becomes : goal.returns-in-None-clause-becomes
 returns-in-None-clause-becomes g c =
     let p = g.S.Shelf.pocket c.args.shelf.now c.args.owner in
     let n = the_view c.self.inside in
-    from_view 1 (λ m. take_load (setting_of c.args.at) (Seg c.args.flow c.args.first) (net_of p m)) p _ n _ _ c.self.view_is
-    (sent-none (λ m. take_load (setting_of c.args.at) (Seg c.args.flow c.args.first) m) p n c.take-answer.new.self (at_view (Stands c.args.at p) n _ c.self.view_is c.requires.stands).housed (λ m. c.in-None.ensures.taken (setting_of c.args.at) m))
+    from_view 1 (λ m. take_load c.args.at (Seg c.args.flow c.args.first) (net_of p m)) p _ n _ _ c.self.view_is
+    (sent-none (λ m. take_load c.args.at (Seg c.args.flow c.args.first) m) p n c.take-answer.new.self (at_view (Stands c.args.at p) n _ c.self.view_is c.requires.stands).housed (λ m. c.in-None.ensures.taken c.args.at m))

@@ -1,5 +1,5 @@
 use Rattle.std.proofs.Common.{sym, subst}
-use Rattle.network.specs.Kept.{KeptNet, setting_of, Stands}
+use Rattle.network.specs.Kept.{KeptNet, Stands}
 use Rattle.pipe_table.specs.Table.{HasRoomIn}
 use Rattle.network.proofs.Arriving.{arrives}
 use Rattle.network.proofs.state.Network.to_pipe.Goals as goal
@@ -21,5 +21,5 @@ enter_pipe-requires-clause-ready g c =
 pub returns-clause-becomes : goal.returns-clause-becomes
 returns-clause-becomes g c =
     let p = g.S.Shelf.pocket c.args.shelf.now c.args.owner in
-    arrives (setting_of c.args.at) p _ c.args.self.now c.note_arrival.new.self _ c.args.number c.args.packet.now
+    arrives c.args.at p _ c.args.self.now c.note_arrival.new.self _ c.args.number c.args.packet.now
     c.requires.stands.housed c.note_arrival.ensures.rest (c.note_arrival.ensures.records p) c.enter_pipe.ensures.becomes

@@ -1,10 +1,7 @@
-use Rattle.std.proofs.Common.{◌≡◌, ◌≢◌, ℕ, ◌<◌, ◌≤◌, ◌+◌, ◌-◌, List, [], length, get_or, set, Option, Some, None, Bool, true, false, nat_eq, cond, arith, rules, refl, sym, ap, ◌∙◌, subst, is_some, count_by}
-use Rattle.packet_store.specs.declared.shared.Kept.{Kept}
+use Rattle.std.proofs.Common.{◌≡◌, get_or, Option, Some, None, arith, sym, ap, ◌∙◌}
 use Rattle.packet_store.specs.declared.shared.Account.{Account}
-use Rattle.packet_store.specs.Books.{Books, pocket_of, account, account_of, held_by, is_of, mine, unused, IsSound}
-use Rattle.packet_store.proofs.Counts.{Elsewhere, at-le-sum_by}
-use Rattle.packet_store.proofs.Pockets.{pocket_of-other, pocket_of-put, pocket_of-take, pocket_of-empty, pocket_of-account, is_of-other, kept_at, nothing_found, budget_is, count_is, find_is, found}
-use Rattle.packet_store.proofs.Sound.{IsSound-put, IsSound-take, IsSound-account, place_for, HasPlace, not_of, uses_one, elsewhere-set, account-set}
+use Rattle.packet_store.specs.Books.{account_of}
+use Rattle.packet_store.proofs.Pockets.{budget_is, count_is}
 use Rattle.packet_store.proofs.shared.StoreShelf.count.Goals as goal
 
 pub returns-in-Some-clause-value : goal.returns-in-Some-clause-value

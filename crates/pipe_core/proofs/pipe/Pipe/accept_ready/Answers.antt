@@ -3,7 +3,7 @@ use Rattle.std.specs.Prelude.{min}
 use Rattle.pipe_core.specs.declared.slot.Slot.{Slot}
 use Rattle.pipe_core.specs.Keyed.{KeyedPipe, ids_of}
 use Rattle.pipe_core.specs.Steps.{HasRoomAtSlot}
-use Rattle.pipe_core.proofs.Places.{IsPlace, place_of, pipe_at, ids_same, get_at}
+use Rattle.pipe_core.proofs.InstancePlaces.{IsPlace, place_of, pipe_at, ids_same, get_at}
 use Rattle.pipe_core.proofs.Growths.{grown_place, grown_at, ready_here, not_refused}
 use Rattle.pipe_core.specs.Leaves.{slot_due}
 use Rattle.pipe_core.proofs.DueLeaves.{leaves_same}

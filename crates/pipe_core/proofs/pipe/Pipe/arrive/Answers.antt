@@ -17,17 +17,17 @@ returns-in_default-clause-arrived g c =
 pub returns-clause-arrived : goal.returns-clause-arrived
 returns-clause-arrived g c =
     let p : Pocket = g.S.Shelf.pocket c.args.shelf.now c.args.owner in
-    let q : Pocket = g.S.Shelf.pocket c.come.new.shelf c.args.owner in
+    let q : Pocket = g.S.Shelf.pocket c.arrive_at.new.shelf c.args.owner in
     let old : KeyedPipe = c.args.self.now in
     let id : c.apply-id.result ≡ flow_id old.config.mask c.args.packet.now =
     c.apply-id.ensures ∙ ap (λ (z : KeyedPipe). flow_id z.config.mask c.args.packet.now) c.self.view_is in
-    arrive_some c.args.now c.in-Some.index c.args.packet.now c.come.result p q old c.find_or_make.new.self c.come.new.self
-    c.apply-id.result c.find_or_make.ensures.same c.come.ensures.came
+    arrive_some c.args.now c.in-Some.index c.args.packet.now c.arrive_at.result p q old c.find_or_make.new.self c.arrive_at.new.self
+    c.apply-id.result c.find_or_make.ensures.same c.arrive_at.ensures.came
     c.requires.named id c.in-Some.ensures.number c.in-Some.ensures.made
 
 pub returns-clause-keys : goal.returns-clause-keys
 returns-clause-keys g c =
     let p : Pocket = g.S.Shelf.pocket c.args.shelf.now c.args.owner in
-    let q : Pocket = g.S.Shelf.pocket c.come.new.shelf c.args.owner in
-    arrive_keys c.args.now c.in-Some.index c.args.packet.now c.come.result p q c.args.self.now c.find_or_make.new.self c.come.new.self
-    c.apply-id.result c.find_or_make.ensures.same c.come.ensures.came c.find_or_make.ensures.keys
+    let q : Pocket = g.S.Shelf.pocket c.arrive_at.new.shelf c.args.owner in
+    arrive_keys c.args.now c.in-Some.index c.args.packet.now c.arrive_at.result p q c.args.self.now c.find_or_make.new.self c.arrive_at.new.self
+    c.apply-id.result c.find_or_make.ensures.same c.arrive_at.ensures.came c.find_or_make.ensures.keys

@@ -1,6 +1,6 @@
 use Rattle.std.proofs.Common.{◌<◌, length, sym, subst, ◌∙◌}
 use Rattle.pipe_core.specs.Keyed.{KeyedPipe}
-use Rattle.pipe_core.proofs.Places.{IsPlace, place_of, exit_due, finish_due}
+use Rattle.pipe_core.proofs.InstancePlaces.{IsPlace, place_of, exit_due, finish_due}
 use Rattle.pipe_core.proofs.pipe.Pipe.dues.Goals as goal
 
 pub returns-clause-exit : goal.returns-clause-exit

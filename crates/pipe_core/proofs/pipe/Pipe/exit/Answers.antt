@@ -1,4 +1,4 @@
-use Rattle.std.proofs.Common.{◌≡◌, ℕ, ◌-◌, ◌<◌, length, set, sym, subst, ap, ◌∙◌, vec_len, vec_capacity}
+use Rattle.std.proofs.Common.{◌≡◌, ℕ, ◌-◌, ◌<◌, length, set, sym, subst, ap, vec_len, vec_capacity}
 use Rattle.std.specs.Prelude.{min}
 use Rattle.packet_store.specs.Pocket.{Pocket}
 use Rattle.pipe_instance.specs.Keyed.{KeyedInstance}
@@ -6,7 +6,7 @@ use Rattle.pipe_core.specs.declared.slot.Slot.{Slot}
 use Rattle.pipe_core.specs.Moves.{AreNamed}
 use Rattle.pipe_core.specs.Keyed.{KeyedPipe, keys_of}
 use Rattle.pipe_core.specs.Steps.{HasRoom, HasRoomAt}
-use Rattle.pipe_core.proofs.Places.{IsPlace, place_of, named_at, pipe_at, keeps_at, exit_packet, exit_view, room_same, slot_at}
+use Rattle.pipe_core.proofs.InstancePlaces.{IsPlace, place_of, named_at, pipe_at, keeps_at, exit_packet, exit_view, room_same, slot_at}
 use Rattle.pipe_core.proofs.DueLeaves.{leaves_set, number_at}
 use Rattle.due_index.specs.Places.{Places}
 use Rattle.emu_model.specs.declared.packets.Packet.{Packet}
@@ -105,6 +105,5 @@ due-requires g c =
     let x : Slot = c.index_mut-slot.result.now in
     let within : k < length s.slots.items = subst (λ (e : KeyedPipe). k < length e.slots) (sym c.self.view_is) c.requires.inside in
     let at : IsPlace k s.slots.items x = place_of s.slots.items k x c.index_mut-slot.ensures.value within in
-    c.instance_number-number.ensures
-    ∙ number_at s.config s.seed s.number k x c.exit-packet.new.self
+    number_at s.config s.seed s.number k x c.exit-packet.new.self
     (slot_at k s.slots.items x at s.config s.seed s.number s.ids.ids c.self.invariant.0) c.exit-packet.ensures.left.place

@@ -10,7 +10,7 @@ use Rattle.pipe_core.specs.declared.slot.Slot.{Slot}
 use Rattle.pipe_core.specs.Moves.{packet_at, AreNamed}
 use Rattle.pipe_core.specs.Keyed.{KeyedPipe, seen_slot, seen_pipe, view, keys_of}
 use Rattle.pipe_core.specs.Steps.{IsFreeAt, IsGrown}
-use Rattle.pipe_core.proofs.Places.{IsPlace, place_of, slot_at, pipe_at, named_at, keeps_at, finish_due, get_at}
+use Rattle.pipe_core.proofs.InstancePlaces.{IsPlace, place_of, slot_at, pipe_at, named_at, keeps_at, finish_due, get_at}
 use Rattle.pipe_core.proofs.FinishViews.{due_within, finish_place, finish_keeps, finish_view, served_view, refused_grown, on_ok_by, if_ok_by, on_err}
 use Rattle.pipe_core.proofs.DueLeaves.{leaves_set, leaves_within, number_at}
 use Rattle.due_index.specs.Places.{Places}
@@ -26,8 +26,8 @@ finish-finished-requires-clause-tuned g c =
     let k : ℕ = c.args.index in
     let x : Slot = c.index_mut-slot.result.now in
     let p : Pocket = g.S.Shelf.pocket c.args.shelf.now c.args.owner in
-    let due : option_map (λ (t : InService). t.period.finish) (served_in k (seen_pipe (packet_at p.find) (inside_of s.config s.seed s.number s.slots.items 0))) ≡ Some c.args.now =
-    subst (λ (e : KeyedPipe). option_map (λ (t : InService). t.period.finish) (served_in k (view p e)) ≡ Some c.args.now) (sym c.self.view_is) c.requires.due in
+    let due : option_map (λ (t : InService Packet). t.period.finish) (served_in k (seen_pipe (packet_at p.find) (inside_of s.config s.seed s.number s.slots.items 0))) ≡ Some c.args.now =
+    subst (λ (e : KeyedPipe). option_map (λ (t : InService Packet). t.period.finish) (served_in k (view p e)) ≡ Some c.args.now) (sym c.self.view_is) c.requires.due in
     let within : k < length s.slots.items =
     omega (arith, due_within (map (seen_slot (packet_at p.find)) s.slots.items) k c.args.now due, length-map s.slots.items (seen_slot (packet_at p.find))) in
     let at : IsPlace k s.slots.items x = place_of s.slots.items k x c.index_mut-slot.ensures.value within in
@@ -39,8 +39,8 @@ finish-finished-requires-clause-due g c =
     let k : ℕ = c.args.index in
     let x : Slot = c.index_mut-slot.result.now in
     let p : Pocket = g.S.Shelf.pocket c.args.shelf.now c.args.owner in
-    let due : option_map (λ (t : InService). t.period.finish) (served_in k (seen_pipe (packet_at p.find) (inside_of s.config s.seed s.number s.slots.items 0))) ≡ Some c.args.now =
-    subst (λ (e : KeyedPipe). option_map (λ (t : InService). t.period.finish) (served_in k (view p e)) ≡ Some c.args.now) (sym c.self.view_is) c.requires.due in
+    let due : option_map (λ (t : InService Packet). t.period.finish) (served_in k (seen_pipe (packet_at p.find) (inside_of s.config s.seed s.number s.slots.items 0))) ≡ Some c.args.now =
+    subst (λ (e : KeyedPipe). option_map (λ (t : InService Packet). t.period.finish) (served_in k (view p e)) ≡ Some c.args.now) (sym c.self.view_is) c.requires.due in
     let within : k < length s.slots.items =
     omega (arith, due_within (map (seen_slot (packet_at p.find)) s.slots.items) k c.args.now due, length-map s.slots.items (seen_slot (packet_at p.find))) in
     let at : IsPlace k s.slots.items x = place_of s.slots.items k x c.index_mut-slot.ensures.value within in
@@ -52,8 +52,8 @@ finish-finished-requires-clause-named g c =
     let k : ℕ = c.args.index in
     let x : Slot = c.index_mut-slot.result.now in
     let p : Pocket = g.S.Shelf.pocket c.args.shelf.now c.args.owner in
-    let due : option_map (λ (t : InService). t.period.finish) (served_in k (seen_pipe (packet_at p.find) (inside_of s.config s.seed s.number s.slots.items 0))) ≡ Some c.args.now =
-    subst (λ (e : KeyedPipe). option_map (λ (t : InService). t.period.finish) (served_in k (view p e)) ≡ Some c.args.now) (sym c.self.view_is) c.requires.due in
+    let due : option_map (λ (t : InService Packet). t.period.finish) (served_in k (seen_pipe (packet_at p.find) (inside_of s.config s.seed s.number s.slots.items 0))) ≡ Some c.args.now =
+    subst (λ (e : KeyedPipe). option_map (λ (t : InService Packet). t.period.finish) (served_in k (view p e)) ≡ Some c.args.now) (sym c.self.view_is) c.requires.due in
     let within : k < length s.slots.items =
     omega (arith, due_within (map (seen_slot (packet_at p.find)) s.slots.items) k c.args.now due, length-map s.slots.items (seen_slot (packet_at p.find))) in
     let at : IsPlace k s.slots.items x = place_of s.slots.items k x c.index_mut-slot.ensures.value within in
@@ -66,8 +66,8 @@ invariant_of-self g c =
     let k : ℕ = c.args.index in
     let x : Slot = c.index_mut-slot.result.now in
     let p : Pocket = g.S.Shelf.pocket c.args.shelf.now c.args.owner in
-    let due : option_map (λ (t : InService). t.period.finish) (served_in k (seen_pipe (packet_at p.find) (inside_of s.config s.seed s.number s.slots.items 0))) ≡ Some c.args.now =
-    subst (λ (e : KeyedPipe). option_map (λ (t : InService). t.period.finish) (served_in k (view p e)) ≡ Some c.args.now) (sym c.self.view_is) c.requires.due in
+    let due : option_map (λ (t : InService Packet). t.period.finish) (served_in k (seen_pipe (packet_at p.find) (inside_of s.config s.seed s.number s.slots.items 0))) ≡ Some c.args.now =
+    subst (λ (e : KeyedPipe). option_map (λ (t : InService Packet). t.period.finish) (served_in k (view p e)) ≡ Some c.args.now) (sym c.self.view_is) c.requires.due in
     let within : k < length s.slots.items =
     omega (arith, due_within (map (seen_slot (packet_at p.find)) s.slots.items) k c.args.now due, length-map s.slots.items (seen_slot (packet_at p.find))) in
     let at : IsPlace k s.slots.items x = place_of s.slots.items k x c.index_mut-slot.ensures.value within in
@@ -88,8 +88,8 @@ returns-clause-served g c =
     let k : ℕ = c.args.index in
     let x : Slot = c.index_mut-slot.result.now in
     let p : Pocket = g.S.Shelf.pocket c.args.shelf.now c.args.owner in
-    let due : option_map (λ (t : InService). t.period.finish) (served_in k (seen_pipe (packet_at p.find) (inside_of s.config s.seed s.number s.slots.items 0))) ≡ Some c.args.now =
-    subst (λ (e : KeyedPipe). option_map (λ (t : InService). t.period.finish) (served_in k (view p e)) ≡ Some c.args.now) (sym c.self.view_is) c.requires.due in
+    let due : option_map (λ (t : InService Packet). t.period.finish) (served_in k (seen_pipe (packet_at p.find) (inside_of s.config s.seed s.number s.slots.items 0))) ≡ Some c.args.now =
+    subst (λ (e : KeyedPipe). option_map (λ (t : InService Packet). t.period.finish) (served_in k (view p e)) ≡ Some c.args.now) (sym c.self.view_is) c.requires.due in
     let within : k < length s.slots.items =
     omega (arith, due_within (map (seen_slot (packet_at p.find)) s.slots.items) k c.args.now due, length-map s.slots.items (seen_slot (packet_at p.find))) in
     let at : IsPlace k s.slots.items x = place_of s.slots.items k x c.index_mut-slot.ensures.value within in
@@ -106,8 +106,8 @@ returns-clause-ok g c =
     let k : ℕ = c.args.index in
     let x : Slot = c.index_mut-slot.result.now in
     let p : Pocket = g.S.Shelf.pocket c.args.shelf.now c.args.owner in
-    let due : option_map (λ (t : InService). t.period.finish) (served_in k (seen_pipe (packet_at p.find) (inside_of s.config s.seed s.number s.slots.items 0))) ≡ Some c.args.now =
-    subst (λ (e : KeyedPipe). option_map (λ (t : InService). t.period.finish) (served_in k (view p e)) ≡ Some c.args.now) (sym c.self.view_is) c.requires.due in
+    let due : option_map (λ (t : InService Packet). t.period.finish) (served_in k (seen_pipe (packet_at p.find) (inside_of s.config s.seed s.number s.slots.items 0))) ≡ Some c.args.now =
+    subst (λ (e : KeyedPipe). option_map (λ (t : InService Packet). t.period.finish) (served_in k (view p e)) ≡ Some c.args.now) (sym c.self.view_is) c.requires.due in
     let within : k < length s.slots.items =
     omega (arith, due_within (map (seen_slot (packet_at p.find)) s.slots.items) k c.args.now due, length-map s.slots.items (seen_slot (packet_at p.find))) in
     let at : IsPlace k s.slots.items x = place_of s.slots.items k x c.index_mut-slot.ensures.value within in
@@ -125,8 +125,8 @@ returns-clause-keys g c =
     let k : ℕ = c.args.index in
     let x : Slot = c.index_mut-slot.result.now in
     let p : Pocket = g.S.Shelf.pocket c.args.shelf.now c.args.owner in
-    let due : option_map (λ (t : InService). t.period.finish) (served_in k (seen_pipe (packet_at p.find) (inside_of s.config s.seed s.number s.slots.items 0))) ≡ Some c.args.now =
-    subst (λ (e : KeyedPipe). option_map (λ (t : InService). t.period.finish) (served_in k (view p e)) ≡ Some c.args.now) (sym c.self.view_is) c.requires.due in
+    let due : option_map (λ (t : InService Packet). t.period.finish) (served_in k (seen_pipe (packet_at p.find) (inside_of s.config s.seed s.number s.slots.items 0))) ≡ Some c.args.now =
+    subst (λ (e : KeyedPipe). option_map (λ (t : InService Packet). t.period.finish) (served_in k (view p e)) ≡ Some c.args.now) (sym c.self.view_is) c.requires.due in
     let within : k < length s.slots.items =
     omega (arith, due_within (map (seen_slot (packet_at p.find)) s.slots.items) k c.args.now due, length-map s.slots.items (seen_slot (packet_at p.find))) in
     let at : IsPlace k s.slots.items x = place_of s.slots.items k x c.index_mut-slot.ensures.value within in
@@ -144,8 +144,8 @@ returns-clause-refused g c =
     let k : ℕ = c.args.index in
     let x : Slot = c.index_mut-slot.result.now in
     let p : Pocket = g.S.Shelf.pocket c.args.shelf.now c.args.owner in
-    let due : option_map (λ (t : InService). t.period.finish) (served_in k (seen_pipe (packet_at p.find) (inside_of s.config s.seed s.number s.slots.items 0))) ≡ Some c.args.now =
-    subst (λ (e : KeyedPipe). option_map (λ (t : InService). t.period.finish) (served_in k (view p e)) ≡ Some c.args.now) (sym c.self.view_is) c.requires.due in
+    let due : option_map (λ (t : InService Packet). t.period.finish) (served_in k (seen_pipe (packet_at p.find) (inside_of s.config s.seed s.number s.slots.items 0))) ≡ Some c.args.now =
+    subst (λ (e : KeyedPipe). option_map (λ (t : InService Packet). t.period.finish) (served_in k (view p e)) ≡ Some c.args.now) (sym c.self.view_is) c.requires.due in
     let within : k < length s.slots.items =
     omega (arith, due_within (map (seen_slot (packet_at p.find)) s.slots.items) k c.args.now due, length-map s.slots.items (seen_slot (packet_at p.find))) in
     let at : IsPlace k s.slots.items x = place_of s.slots.items k x c.index_mut-slot.ensures.value within in
@@ -166,8 +166,8 @@ returns-clause-succeeds g c =
     let k : ℕ = c.args.index in
     let x : Slot = c.index_mut-slot.result.now in
     let p : Pocket = g.S.Shelf.pocket c.args.shelf.now c.args.owner in
-    let due : option_map (λ (t : InService). t.period.finish) (served_in k (seen_pipe (packet_at p.find) (inside_of s.config s.seed s.number s.slots.items 0))) ≡ Some c.args.now =
-    subst (λ (e : KeyedPipe). option_map (λ (t : InService). t.period.finish) (served_in k (view p e)) ≡ Some c.args.now) (sym c.self.view_is) c.requires.due in
+    let due : option_map (λ (t : InService Packet). t.period.finish) (served_in k (seen_pipe (packet_at p.find) (inside_of s.config s.seed s.number s.slots.items 0))) ≡ Some c.args.now =
+    subst (λ (e : KeyedPipe). option_map (λ (t : InService Packet). t.period.finish) (served_in k (view p e)) ≡ Some c.args.now) (sym c.self.view_is) c.requires.due in
     let within : k < length s.slots.items =
     omega (arith, due_within (map (seen_slot (packet_at p.find)) s.slots.items) k c.args.now due, length-map s.slots.items (seen_slot (packet_at p.find))) in
     let at : IsPlace k s.slots.items x = place_of s.slots.items k x c.index_mut-slot.ensures.value within in
@@ -183,8 +183,8 @@ due-requires g c =
     let k : ℕ = c.args.index in
     let x : Slot = c.index_mut-slot.result.now in
     let p : Pocket = g.S.Shelf.pocket c.args.shelf.now c.args.owner in
-    let due : option_map (λ (t : InService). t.period.finish) (served_in k (seen_pipe (packet_at p.find) (inside_of s.config s.seed s.number s.slots.items 0))) ≡ Some c.args.now =
-    subst (λ (e : KeyedPipe). option_map (λ (t : InService). t.period.finish) (served_in k (view p e)) ≡ Some c.args.now) (sym c.self.view_is) c.requires.due in
+    let due : option_map (λ (t : InService Packet). t.period.finish) (served_in k (seen_pipe (packet_at p.find) (inside_of s.config s.seed s.number s.slots.items 0))) ≡ Some c.args.now =
+    subst (λ (e : KeyedPipe). option_map (λ (t : InService Packet). t.period.finish) (served_in k (view p e)) ≡ Some c.args.now) (sym c.self.view_is) c.requires.due in
     let within : k < length s.slots.items =
     omega (arith, due_within (map (seen_slot (packet_at p.find)) s.slots.items) k c.args.now due, length-map s.slots.items (seen_slot (packet_at p.find))) in
     let at : IsPlace k s.slots.items x = place_of s.slots.items k x c.index_mut-slot.ensures.value within in
@@ -193,8 +193,7 @@ due-requires g c =
     let n : ℕ = y.instance.lane.spare in
     let drops : List Packet = c.finish-finished.new.drops.items in
     let old : KeyedPipe = inside_of s.config s.seed s.number s.slots.items (min (min (vec_capacity s.slots - vec_len s.slots) s.ids.spare) s.dues.spare) in
-    c.instance_number-number.ensures
-    ∙ number_at s.config s.seed s.number k x y
+    number_at s.config s.seed s.number k x y
     (slot_at k s.slots.items x at s.config s.seed s.number s.ids.ids c.self.invariant.0)
     (finish_place s.config c.args.now n drops p q x y c.finish-finished.result c.finish-finished.ensures.finished c.finish-finished.ensures.refused)
 
@@ -204,8 +203,8 @@ set-requires g c =
     let k : ℕ = c.args.index in
     let x : Slot = c.index_mut-slot.result.now in
     let p : Pocket = g.S.Shelf.pocket c.args.shelf.now c.args.owner in
-    let due : option_map (λ (t : InService). t.period.finish) (served_in k (seen_pipe (packet_at p.find) (inside_of s.config s.seed s.number s.slots.items 0))) ≡ Some c.args.now =
-    subst (λ (e : KeyedPipe). option_map (λ (t : InService). t.period.finish) (served_in k (view p e)) ≡ Some c.args.now) (sym c.self.view_is) c.requires.due in
+    let due : option_map (λ (t : InService Packet). t.period.finish) (served_in k (seen_pipe (packet_at p.find) (inside_of s.config s.seed s.number s.slots.items 0))) ≡ Some c.args.now =
+    subst (λ (e : KeyedPipe). option_map (λ (t : InService Packet). t.period.finish) (served_in k (view p e)) ≡ Some c.args.now) (sym c.self.view_is) c.requires.due in
     let within : k < length s.slots.items =
     omega (arith, due_within (map (seen_slot (packet_at p.find)) s.slots.items) k c.args.now due, length-map s.slots.items (seen_slot (packet_at p.find))) in
     leaves_within s.slots.items s.dues k c.self.invariant.1 within

@@ -5,7 +5,7 @@ use Rattle.packet_store.specs.Pocket.{Pocket}
 use Rattle.pipe_core.specs.declared.slot.Slot.{Slot}
 use Rattle.pipe_core.specs.Moves.{packet_at, AreNamed}
 use Rattle.pipe_core.specs.Keyed.{KeyedPipe, keys_of}
-use Rattle.pipe_core.proofs.Places.{IsPlace, place_of, named_at, seen_at}
+use Rattle.pipe_core.proofs.InstancePlaces.{IsPlace, place_of, named_at, seen_at}
 use Rattle.pipe_core.proofs.pipe.Pipe.front.Goals as goal
 
 pub front-requires : goal.front-requires

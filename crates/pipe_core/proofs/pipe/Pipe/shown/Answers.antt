@@ -4,7 +4,7 @@ use Rattle.std.proofs.lemmas.Bool.Decides.{nat_tests}
 use Rattle.pipe_core.specs.declared.slot.Slot.{Slot}
 use Rattle.pipe_core.specs.Keyed.{shown_of}
 use Rattle.pipe_core.proofs.PipeFacts.{numbers-seen}
-use Rattle.pipe_core.proofs.Places.{IsPlace, place_of, seen_at}
+use Rattle.pipe_core.proofs.InstancePlaces.{IsPlace, place_of, seen_at}
 use Rattle.pipe_core.proofs.pipe.Pipe.shown.Goals as goal
 
 pub returns : goal.returns

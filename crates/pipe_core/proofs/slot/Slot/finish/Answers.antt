@@ -9,21 +9,21 @@ use Rattle.pipe_core.proofs.slot.Slot.finish.Goals as goal
 
 pub unreachable-requires : goal.unreachable-requires
 unreachable-requires g c =
-    served_found (g.S.Shelf.pocket c.args.shelf.now c.args.owner) c.args.self.now.instance c.in-Ok-finish.done.key
-    c.requires.named c.in-Ok-finish.ensures.ok.served (sym c.in_default-look.ensures)
+    served_found (g.S.Shelf.pocket c.args.shelf.now c.args.owner) c.args.self.now.instance c.in_ok-done.done.key
+    c.requires.named c.in_ok-done.ensures.ok.served (sym c.in_default.ensures)
 
 pub take_dropped-requires-clause-named : goal.take_dropped-requires-clause-named
 take_dropped-requires-clause-named g c =
     let p : Pocket = g.S.Shelf.pocket c.args.shelf.now c.args.owner in
     subst (λ (ws : List (Waiting ℕ)). AreNamed p (map (λ w. w.item) ws)) (sym c.as_slice.ensures.value)
-    (dropped_named p c.args.now c.args.config.now.delay c.in-Ok-finish.done.key c.in-Ok-finish.done.dropped.items
-    c.args.self.now.instance c.finish.new.self c.requires.named c.in-Ok-finish.ensures.ok)
+    (dropped_named p c.args.now c.args.config.now.delay c.in_ok-done.done.key c.in_ok-done.done.dropped.items
+    c.args.self.now.instance c.finish.new.self c.requires.named c.in_ok-done.ensures.ok)
 
 pub take_dropped-requires-clause-room : goal.take_dropped-requires-clause-room
 take_dropped-requires-clause-room g c =
     let i = c.args.self.now.instance in
-    let within : length c.in-Ok-finish.done.dropped.items ≤ most_of i.queue.discipline (length i.queue.waiting) =
-    subst (λ (ws : List (Waiting ℕ)). length ws ≤ most_of i.queue.discipline (length i.queue.waiting)) (sym c.in-Ok-finish.ensures.ok.dropped_are)
+    let within : length c.in_ok-done.done.dropped.items ≤ most_of i.queue.discipline (length i.queue.waiting) =
+    subst (λ (ws : List (Waiting ℕ)). length ws ≤ most_of i.queue.discipline (length i.queue.waiting)) (sym c.in_ok-done.ensures.ok.dropped_are)
     (dropped_within i.queue.discipline c.args.now i.queue.control i.queue.waiting) in
     omega (
       arith,
@@ -31,7 +31,7 @@ take_dropped-requires-clause-room g c =
       ap length c.as_slice.ensures.value,
       c.reserve.ensures.len,
       c.clear.ensures.len,
-      c.in-Ok.ensures.ok,
+      c.in_ok-reserve.ensures.ok,
       c.most_dropped-most.ensures,
     )
 
@@ -39,11 +39,11 @@ pub returns-clause-finished : goal.returns-clause-finished
 returns-clause-finished g c =
     let p : Pocket = g.S.Shelf.pocket c.args.shelf.now c.args.owner in
     let q : Pocket = g.S.Shelf.pocket c.take_dropped.new.shelf c.args.owner in
-    let dropped : List (Waiting ℕ) = c.in-Ok-finish.done.dropped.items in
+    let dropped : List (Waiting ℕ) = c.in_ok-done.done.dropped.items in
     let drops : List Packet = c.take_dropped.new.drops.items in
     let none : c.reserve.new.self.items ≡ [] = c.reserve.ensures.items ∙ c.clear.ensures.items in
     let taking : Taking p q (map (λ (w : Waiting ℕ). w.item) dropped) [] [] drops =
     subst (λ (ws : List (Waiting ℕ)). Taking p q (map (λ w. w.item) ws) [] [] drops) c.as_slice.ensures.value
     (subst (λ (l : List Packet). Taking p q (map (λ (w : Waiting ℕ). w.item) c.as_slice.result.now) [] l drops) none c.take_dropped.ensures.taken) in
-    finish-is c.args.config.now c.args.now c.in-Ok-finish.done.key dropped c.in-Some.packet drops p q c.args.self.now.id
-    c.args.self.now.instance c.finish.new.self c.in-Ok-finish.ensures.ok c.requires.tuned c.in-Some.ensures taking
+    finish-is c.args.config.now c.args.now c.in_ok-done.done.key dropped c.in-Some.packet drops p q c.args.self.now.id
+    c.args.self.now.instance c.finish.new.self c.in_ok-done.ensures.ok c.requires.tuned c.in-Some.ensures taking

@@ -35,6 +35,6 @@ returns-clause-ok c =
     (λ i. record {
       queue = c.in_ok-dequeued.ensures.same i;
       service = c.follow.ensures i;
-      lane = record { line = (c.in-Ok-enter.ensures.ok ∙ ap (λ l. enter c.in-Some.key c.args.now (delay_ns c.args.delay) l) c.in-Ok.ensures.line) i; spare = c.enter.new.self.spare };
+      lane = record { line = (c.in-Ok.ensures.ok ∙ ap (λ l. enter c.in-Some.key c.args.now (delay_ns c.args.delay) l) c.in_ok-enter_ready.ensures.line) i; spare = c.enter.new.self.spare };
       draws = c.self.inside.stream;
     }))

@@ -3,7 +3,6 @@ use Rattle.emu_model.specs.Pipes.{PipeState}
 use Rattle.pipe_core.specs.Moves.{packet_at}
 use Rattle.pipe_core.specs.Keyed.{KeyedPipe}
 use Rattle.pipe_core.specs.Steps.{HasRoomAt}
-use Rattle.queue_disc.specs.declared.entries.NoMemory.{NoMemory}
 use Rattle.pipe_table.specs.Table.{pipe_of, has_number, HasRoomIn}
 use Rattle.pipe_table.proofs.Splits.{position-none}
 use Rattle.pipe_table.proofs.At.{sound-at, grown-set, ready-set, pipe-at}
@@ -37,7 +36,7 @@ returns-clause-grown g c = rw (← c.self.view_is) (grown-set c.args.number c.in
 pub returns-clause-ready : goal.returns-clause-ready
 returns-clause-ready g c = go c.arrive_ready.result c.arrive_ready.ensures.ready
   where
-    go : (r : Result (Unit {0}) NoMemory) → OnOk r (HasRoomAt c.args.packet.now c.arrive_ready.new.self) →
+    go : {E : Type 0} (r : Result (Unit {0}) E) → OnOk r (HasRoomAt c.args.packet.now c.arrive_ready.new.self) →
         OnOk r (HasRoomIn c.args.number c.args.packet.now (set c.self.inside.pipes.items c.in-Some.place c.arrive_ready.new.self))
     go (Ok u) has = ready-set c.args.number c.in-Some.place c.self.inside.pipes.items c.index_mut.result.now (rw (← c.self.view_is) at c.in-Some.ensures) c.index_mut.ensures.value c.arrive_ready.new.self c.args.packet.now (ap (λ (p : KeyedPipe). p.number) c.arrive_ready.ensures.grown.same) has
     go (Err e) has = tt

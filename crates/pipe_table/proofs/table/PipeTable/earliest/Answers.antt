@@ -15,9 +15,9 @@ returns c =
     let ps = c.self.inside.pipes.items in
     let x = c.self.inside.dues in
     let b = c.args.best in
-    let d = c.earlier.result in
+    let d = c.or_earlier.result in
     let least : (f : ℕ → Packet) → d ≡ best_of is_before b (flat_map pipe_dues (seen_pipes f ps)) =
-    least-is ps x b d c.least.result c.self.invariant.1 c.least.ensures c.earlier.ensures in
+    least-is ps x b d c.least.result c.self.invariant.1 c.least.ensures c.or_earlier.ensures.least in
     let r : Reaches ps (λ f. flat_map pipe_dues (seen_pipes f ps)) b d =
     reach_least c.self.inside.seed ps b d c.self.invariant.0.0 (λ f. (c.self.invariant.1 f).fit) least in
     rw (← c.self.view_is) (record {

@@ -1,6 +1,6 @@
 use Rattle.std.proofs.Common.{◌≡◌, ◌<◌, ◌≤◌, take, length, get_or, ap, ◌∙◌, subst, arith}
 use Rattle.packet_store.specs.Pocket.{empty_pocket}
-use Rattle.emu_model.specs.Net.{opening_net}
+use Rattle.emu_model.specs.Net.{initial_net}
 use Rattle.pipe_core.specs.Moves.{packet_at}
 use Rattle.pipe_table.specs.Table.{Table}
 use Rattle.pipe_table.proofs.LineFacts.{take-end, lines_of, lines-count, count-within}
@@ -19,7 +19,7 @@ show_pipe-requires c =
       c.loop-pipe.invariant.1,
       count-within ps i x within read,
       lines-count (packet_at (empty_pocket 0).find) ps,
-      c.requires (empty_pocket 0) opening_net,
+      c.requires (empty_pocket 0) initial_net,
     )
 
 pub returns-clause-room : goal.returns-clause-room

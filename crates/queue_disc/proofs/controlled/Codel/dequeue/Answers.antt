@@ -1,5 +1,6 @@
 use Rattle.std.proofs.Common.{◌++◌, ◌∙◌, ap, take}
-use Rattle.queue_disc.proofs.Cuts.{codel_dequeue-cut, dropped-le, taken-is}
+use Rattle.emu_model.proofs.CallerLemmas.{codel_dequeue-cut}
+use Rattle.queue_disc.proofs.Cuts.{dropped-le, taken-is}
 use Rattle.queue_disc.proofs.controlled.Codel.dequeue.Goals as goal
 
 pub take_into-requires-clause-enough : goal.take_into-requires-clause-enough
@@ -12,6 +13,6 @@ returns-clause-ok g c =
     rw (← c.self.view_is)
     (taken-is _ _ _ _ _ _ _ c.take_into.new.self.waiting (codel_dequeue-cut _ _ _ _)
     (ap (λ v. v.drops) c.judge-drops.ensures) (ap (λ v. v.control) c.judge-drops.ensures)
-    (t.taken ∙ ap (λ xs. xs ++ take c.judge-drops.result.drops c.self.inside.queue.waiting) c.in-Ok.ensures.items)
+    (t.taken ∙ ap (λ xs. xs ++ take c.judge-drops.result.drops c.self.inside.queue.waiting) c.in_ok-dropped.ensures.items)
     (ap (λ q. q.waiting) t.rest) c.dequeue-given.ensures.given
     (ap (λ q. q.waiting) c.dequeue-given.ensures.rest))

@@ -1,4 +1,4 @@
-use Rattle.std.proofs.Common.{◌≡◌, ◌∙◌, arith}
+use Rattle.std.proofs.Common.{◌∙◌, arith}
 use Rattle.queue_disc.proofs.Counted.{IsCounted-push}
 use Rattle.queue_disc.proofs.tail.DropTail.enqueue_reserved.Goals as goal
 

@@ -1,4 +1,4 @@
-use Rattle.reno_core.proofs.Keeping.{ack_sound}
+use Rattle.reno_core.proofs.SoundnessKept.{ack_sound}
 use Rattle.reno_core.proofs.sender.Sender.ack.Goals as goal
 
 pub invariant_of-self : goal.invariant_of-self

@@ -1,7 +1,7 @@
 use Rattle.std.proofs.Common.{◌≡◌, true, subst, sym}
 use Rattle.emu_model.specs.Reno.{may_emit}
 use Rattle.reno_core.specs.Sending.{Sending}
-use Rattle.reno_core.proofs.Keeping.{emit_sound, emitted_whole, emitted_within}
+use Rattle.reno_core.proofs.SoundnessKept.{emit_sound, emitted_whole, emitted_within}
 use Rattle.reno_core.proofs.sender.Sender.emit.Goals as goal
 
 pub invariant_of-self : goal.invariant_of-self

@@ -7,7 +7,7 @@ use Rattle.traffic.specs.declared.sends.Sending.{Sending}
 use Rattle.traffic.specs.Kept.{KeptFlow, with_traffic}
 use Rattle.traffic.proofs.Changes.{kept, flow_at, no_flow, sound_flow}
 use Rattle.std.proofs.Common.{◌+◌}
-use Rattle.emu_model.specs.Net.{opening_net}
+use Rattle.emu_model.specs.Net.{initial_net}
 use Rattle.traffic.proofs.Changes.{train_at, no_train, sound_train}
 use Rattle.traffic.proofs.Sendings.{send_by_train, send_by_flow, send_by_none, emission_by_train, emission_by_flow, emission_by_none, emitting_by_train, emitting_by_flow}
 use Rattle.traffic.proofs.Indexes.{flow_indexed, train_indexed}
@@ -20,7 +20,7 @@ emit-sending-requires c =
     let ts = c.self.inside.trains.items in
     let u = c.index_mut-train.result.now in
     let at = train_at c.args.number c.args.self.now fs ts c.in-Some.place u c.self.view_is (sym c.in-Some.is ∙ c.train_place.ensures) c.index_mut-train.ensures.value in
-    sym (emitting_by_train c.args.number (with_traffic c.args.self.now opening_net) u (at.found opening_net)) ∙ c.requires.may opening_net
+    sym (emitting_by_train c.args.number (with_traffic c.args.self.now initial_net) u (at.found initial_net)) ∙ c.requires.may initial_net
 
 pub invariant_of-self : goal.invariant_of-self
 invariant_of-self c = (
@@ -76,7 +76,7 @@ emit-sending-requires-2-clause-may c =
     let f = c.index_mut-flow.result.now in
     let at = flow_at c.args.number c.args.self.now fs ts c.in-Some-flow_place.place f c.self.view_is (sym c.in-Some-flow_place.is ∙ c.flow_place.ensures) c.index_mut-flow.ensures.value in
     let none = no_train c.args.number c.args.self.now (sym c.in_default.is ∙ c.train_place.ensures) in
-    sym (emitting_by_flow c.args.number (with_traffic c.args.self.now opening_net) f.state (none opening_net) (at.found opening_net)) ∙ c.requires.may opening_net
+    sym (emitting_by_flow c.args.number (with_traffic c.args.self.now initial_net) f.state (none initial_net) (at.found initial_net)) ∙ c.requires.may initial_net
 
 pub invariant_of-self-2 : goal.invariant_of-self-2
 invariant_of-self-2 c = (

@@ -2,7 +2,8 @@ use Rattle.std.proofs.Common.{◌≡◌, ℕ, set, sym, ◌∙◌, ap}
 use Rattle.std.specs.Option.{option_map_or}
 use Rattle.emu_model.specs.declared.records.Record.TheVariants.{TimerExpired}
 use Rattle.emu_model.specs.Reno.{expire as expired}
-use Rattle.emu_model.specs.Net.{Net, Setting, FlowState, put_flow, note}
+use Rattle.emu_model.specs.declared.commands.Setting.{Setting}
+use Rattle.emu_model.specs.Net.{Net, FlowState, put_flow, note}
 use Rattle.emu_model.specs.Events.{expire_flow}
 use Rattle.traffic.specs.declared.sends.Window.{Window}
 use Rattle.traffic.specs.Kept.{KeptFlow, KeptTraffic, with_traffic}

@@ -3,7 +3,7 @@ use Rattle.std.specs.Prelude.{Option, Some, None, is_some, option_map, find}
 use Rattle.traffic.specs.Kept.{KeptFlow}
 use Rattle.traffic.proofs.Changes.{has_number}
 use Rattle.std.proofs.Common.{◌==◌}
-use Rattle.traffic.proofs.Places.{any_position, list_any_is, find-map}
+use Rattle.traffic.proofs.FirstPlaces.{any_position, list_any_is, find-map}
 use Rattle.traffic.proofs.sources.Traffic.has_flow.Goals as goal
 
 is_some-map : (o : Option KeptFlow) → is_some (option_map (λ (f : KeptFlow). f.state) o) ≡ is_some o

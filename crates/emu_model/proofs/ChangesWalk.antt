@@ -9,11 +9,11 @@ use Rattle.emu_model.specs.Rules.{Counted, verdict, start_behind, counted_book}
 use Rattle.emu_model.specs.Delay.{first_item, leave}
 use Rattle.emu_model.specs.Reno.{Sender, ack, with_segment, missing, emitted, emit, expire}
 use Rattle.emu_model.specs.Pipes.{Instance, PipeState, pipe_arrive, pipe_finish, pipe_exit, pipe_configure}
-use Rattle.emu_model.specs.Net.{Net, Setting, opening_net, FlowState, TrainState, note, note_all, note_traced, drop_packet, arrivals, to_pipe, to_direct, by_verdict, pass_rules_from, pass_rules, go_on, packet_of, make_record, make, held, data_send, ack_send, find_pipe, put_pipe, put_after, find_flow, put_flow, find_train, put_train, take_segment, take_ack, take_load, deliver}
+use Rattle.emu_model.specs.Net.{Net, Setting, initial_net, FlowState, TrainState, note, note_all, note_traced, drop_packet, arrivals, to_pipe, to_direct, by_verdict, pass_rules_from, pass_rules, go_on, packet_of, make_record, make, held, data_send, ack_send, find_pipe, put_pipe, put_after, find_flow, put_flow, find_train, put_train, take_segment, take_ack, take_load, deliver}
 use Rattle.emu_model.specs.Commands.{rule_lines, instance_lines, pipe_lines, new_pipe, delete_pipe, stop_flow, refusal_of, effect_of, obey}
 use Rattle.emu_model.specs.Events.{direct_exit, deliver_some, flying_in, leave_pipe_some, pipe_exits, served_in, note_finish, pipe_finishes, expire_flow, emit_segment, emit_packet, event_of}
 use Rattle.emu_model.specs.declared.sources.Due.{Due}
-use Rattle.emu_model.specs.Step.{State, opening, setting, take_command, take_class, take_due, count_step, spend, is_last_step, next_event, step_with, step}
+use Rattle.emu_model.specs.Step.{State, initial_state, setting, take_command, take_class, take_due, count_step, spend, is_last_step, next_event, step_with, step}
 use Rattle.emu_model.specs.Alone.{after_steps, alone}
 use Rattle.emu_model.proofs.AllFacts.{either, some_or, each_joined}
 
@@ -139,7 +139,7 @@ module _ (P : Option Packet → Net → Type 0) (keeps : Keeps P) where
       let p : Packet = packet_of l send n.made in
       let m : Net = note_traced (make_record at.now p ∷ []) (record n { made = n.made + 1 }) in
       let made : P (Some p) m = keeps.made at.now l send n h in
-      either (P None) (nat_lt (held n) at.room) (pass_rules at p m) (drop_packet at.now Budget p m)
+      either (P None) (nat_lt (held n) at.packet_budget) (pass_rules at p m) (drop_packet at.now Budget p m)
       (pass_rules_from-walks at 0 p m made) (keeps.dropped at.now Budget p m made)
 
   take_segment-walks : (at : Setting) (first : ℕ) (n : Net) (f : FlowState) → P None n →
@@ -305,12 +305,12 @@ module _ (P : Option Packet → Net → Type 0) (keeps : Keeps P) where
 
   -- what holds once the first command is obeyed holds after any number of steps from then on
   pub walks_on : (spec : Spec) (t : Timed) (ts : List Timed) (n : ℕ) →
-      AllByRecursion (λ u. Fits P u.command) ts → ((at : Setting) → P None (obey at 0 t.command opening_net)) →
+      AllByRecursion (λ u. Fits P u.command) ts → ((at : Setting) → P None (obey at 0 t.command initial_net)) →
       P None (alone spec (t ∷ ts) (suc n)).net
   walks_on spec t ts n fits h =
-      subst (λ s. P None s.net) (sym (shifted n (opening spec (t ∷ ts))))
-      (steps-stand n (step (opening spec (t ∷ ts)))
-      (counted-stands (take_command t.moment t ts (opening spec (t ∷ ts)))
+      subst (λ s. P None s.net) (sym (shifted n (initial_state spec (t ∷ ts))))
+      (steps-stand n (step (initial_state spec (t ∷ ts)))
+      (counted-stands (take_command t.moment t ts (initial_state spec (t ∷ ts)))
       (record { net = h (setting spec t.moment); fits = fits }))).net
 
   -- where `trace` keeps it too, all commands fit

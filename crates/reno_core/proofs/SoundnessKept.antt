@@ -6,7 +6,7 @@ use Rattle.std.proofs.lemmas.Bool.{cond_both, and_parts, or_cases, ltb-true, leb
 use Rattle.emu_model.specs.declared.sources.FlowSpec.{FlowSpec}
 use Rattle.emu_model.specs.declared.sources.Timing.{Timing}
 use Rattle.emu_model.specs.declared.sources.Timing.TheVariants.{Fixed, Adaptive}
-use Rattle.emu_model.specs.Reno.{Sender, Sample, Estimate, total_bytes, timeout_at, longest, greatest_word, has_room, may_emit, emitted, emit, started_sample, half_flight, grown_window, bounded, round_trip, new_estimate, timeout_after, estimate_after, sample_after, ack_new, ack_duplicate, enter_recovery, is_new, is_duplicate, ack, expire, opening_sender}
+use Rattle.emu_model.specs.Reno.{Sender, Sample, Estimate, total_bytes, timeout_at, longest, greatest_word, has_room, may_emit, emitted, emit, started_sample, half_flight, grown_window, bounded, round_trip, new_estimate, timeout_after, estimate_after, sample_after, ack_new, ack_duplicate, enter_recovery, is_new, is_duplicate, ack, expire, initial_sender}
 use Rattle.reno_core.specs.Sound.{IsFlow, IsSound, IsEstimate, IsSent}
 
 -- a whole segment that begins below the total ends there at the latest
@@ -36,9 +36,9 @@ max_whole a b smss p q =
 -- the segment that a sender may send is whole and within the flow
 pub emitted_whole : (f : FlowSpec) (s : Sender) → IsSound f s → emitted s % f.smss ≡ 0
 emitted_whole f s h =
-    cond_both s.resend s.una s.nxt (λ n. n % f.smss ≡ 0) (λ e. h.una_whole) (λ e. h.nxt_whole)
+    cond_both s.resend s.snd_una s.snd_nxt (λ n. n % f.smss ≡ 0) (λ e. h.una_whole) (λ e. h.nxt_whole)
 
-room_below : (f : FlowSpec) (s : Sender) → has_room f s ≡ true → s.nxt < total_bytes f
+room_below : (f : FlowSpec) (s : Sender) → has_room f s ≡ true → s.snd_nxt < total_bytes f
 room_below f s e = ltb-true _ _ ((and_parts _ _ e).0)
 
 may_room : (f : FlowSpec) (s : Sender) → may_emit f s ≡ true → s.resend ≡ false → has_room f s ≡ true
@@ -48,16 +48,16 @@ pub emitted_within : (f : FlowSpec) (s : Sender) → IsSound f s → may_emit f 
     emitted s < total_bytes f
 emitted_within f s h may =
     let within = h.within in
-    cond_both s.resend s.una s.nxt (λ n. n < total_bytes f)
+    cond_both s.resend s.snd_una s.snd_nxt (λ n. n < total_bytes f)
     (λ e. let below = h.resends e in omega arith) (λ e. room_below f s (may_room f s may e))
 
-started_sent : (f : FlowSpec) (now : ℕ) (s : Sender) → IsSent s.nxt s.sample →
-    IsSent (s.nxt + f.smss) (started_sample f now s)
+started_sent : (f : FlowSpec) (now : ℕ) (s : Sender) → IsSent s.snd_nxt s.sample →
+    IsSent (s.snd_nxt + f.smss) (started_sample f now s)
 started_sent f now s h =
-    cond_both (is_none s.sample && (s.nxt == s.top)) _ s.sample (IsSent (s.nxt + f.smss))
+    cond_both (is_none s.sample && (s.snd_nxt == s.snd_max)) _ s.sample (IsSent (s.snd_nxt + f.smss))
     (λ e. omega arith) (λ e. later s.sample h)
   where
-    later : (m : Option Sample) → IsSent s.nxt m → IsSent (s.nxt + f.smss) m
+    later : (m : Option Sample) → IsSent s.snd_nxt m → IsSent (s.snd_nxt + f.smss) m
     later None h = tt
     later (Some m) h = omega (arith, h)
 
@@ -85,7 +85,7 @@ emit_sound f now s h may = cond_both s.resend _ _ (IsSound f)
       timed_sent = h.timed_sent;
       timed_once = λ e. absurd (true≢false (sym e));
     })
-    (λ first. let room = segment_fits s.nxt f.smss f.segments h.nxt_whole (room_below f s (may_room f s may first)) in
+    (λ first. let room = segment_fits s.snd_nxt f.smss f.segments h.nxt_whole (room_below f s (may_room f s may first)) in
     let within = h.within in
     let acknowledged = h.acknowledged in
     let sent = h.sent in
@@ -95,8 +95,8 @@ emit_sound f now s h may = cond_both s.resend _ _ (IsSound f)
       sent = omega arith;
       within = omega (arith, room, within);
       una_whole = h.una_whole;
-      nxt_whole = add-mod_right s.nxt f.smss ∙ h.nxt_whole;
-      top_whole = max_whole s.top (s.nxt + f.smss) f.smss h.top_whole (add-mod_right s.nxt f.smss ∙ h.nxt_whole);
+      nxt_whole = add-mod_right s.snd_nxt f.smss ∙ h.nxt_whole;
+      top_whole = max_whole s.snd_max (s.snd_nxt + f.smss) f.smss h.top_whole (add-mod_right s.snd_nxt f.smss ∙ h.nxt_whole);
       window = h.window;
       window_fits = h.window_fits;
       threshold = h.threshold;
@@ -139,7 +139,7 @@ estimate_below r (Some e) h p = (omega (arith, p.0), omega (arith, p.0, p.1))
 
 -- the time after an acknowledgement of new data is no shorter than the first, nor above 60 s
 time_bounds : (t : Timing) (r : Option ℕ) (s : Sender) →
-    timeout_at t ≤ longest → timeout_at t ≤ s.timeout → s.timeout ≤ longest →
+    timeout_at t ≤ longest → timeout_at t ≤ s.rto → s.rto ≤ longest →
     (timeout_at t ≤ timeout_after t r s) × (timeout_after t r s ≤ longest)
 time_bounds (Fixed ms) r s slow h k = (omega arith, slow)
 time_bounds Adaptive None s slow h k = (h, k)
@@ -159,12 +159,12 @@ sample_kept (Some r) m nxt a h = tt
 new_sound : (f : FlowSpec) (now a : ℕ) (s : Sender) → now < 2 * 10 ^ 15 → IsSound f s →
     is_new f a s ≡ true → IsSound f (ack_new f now a s)
 new_sound f now a s early h new =
-    let ends : Bool = nat_lt s.una a && nat_le a s.top in
+    let ends : Bool = nat_lt s.snd_una a && nat_le a s.snd_max in
     let parts = and_parts ends (a % f.smss == 0) new in
-    let most : a ≤ s.top = leb-true a s.top ((and_parts (nat_lt s.una a) (nat_le a s.top) parts.0).1) in
+    let most : a ≤ s.snd_max = leb-true a s.snd_max ((and_parts (nat_lt s.snd_una a) (nat_le a s.snd_max) parts.0).1) in
     let whole : a % f.smss ≡ 0 = eqb-true (a % f.smss) 0 parts.1 in
     let r = round_trip now a s.sample in
-    let window = grown_bounds f (a - s.una) s h in
+    let window = grown_bounds f (a - s.snd_una) s h in
     let time = time_bounds f.timing r s h.flow.slow h.quick h.slow in
     let sent = h.sent in
     record {
@@ -173,7 +173,7 @@ new_sound f now a s early h new =
       sent = omega arith;
       within = h.within;
       una_whole = whole;
-      nxt_whole = max_whole s.nxt a f.smss h.nxt_whole whole;
+      nxt_whole = max_whole s.snd_nxt a f.smss h.nxt_whole whole;
       top_whole = h.top_whole;
       window = window.0;
       window_fits = window.1;
@@ -185,7 +185,7 @@ new_sound f now a s early h new =
       quick = time.0;
       slow = time.1;
       estimated = estimate_kept r s.estimate (λ t e. trip_below now a s.sample early tt t e) h.estimated;
-      timed_sent = sample_kept r s.sample s.nxt a h.timed_sent;
+      timed_sent = sample_kept r s.sample s.snd_nxt a h.timed_sent;
       timed_once = λ e. absurd (true≢false (sym e));
     }
 
@@ -199,7 +199,7 @@ half_bounds f s h =
     let total : total_bytes f ≤ 1460000000 = omega (arith, mul-le-mul_left f.segments most, mul_comm f.segments 1460) in
     (omega arith, omega arith)
 
-recovery_sound : (f : FlowSpec) (s : Sender) → IsSound f s → s.una < s.top →
+recovery_sound : (f : FlowSpec) (s : Sender) → IsSound f s → s.snd_una < s.snd_max →
     IsSound f (enter_recovery f s)
 recovery_sound f s h under =
     let half = half_bounds f s h in
@@ -278,7 +278,7 @@ inflated_sound f s h =
       timed_once = h.timed_once;
     }
 
-duplicate_sound : (f : FlowSpec) (s : Sender) → IsSound f s → s.una < s.top →
+duplicate_sound : (f : FlowSpec) (s : Sender) → IsSound f s → s.snd_una < s.snd_max →
     IsSound f (ack_duplicate f s)
 duplicate_sound f s h under =
     let t : Sender = record s { duplicates = bounded (s.duplicates + 1) } in
@@ -310,8 +310,8 @@ expire_sound f now s h =
       top_whole = h.top_whole;
       window = omega arith;
       window_fits = omega arith;
-      threshold = cond_both s.timed s.ssthresh (half_flight f s) (λ n. 1 ≤ n) (λ _. h.threshold) (λ _. omega (arith, half.0));
-      threshold_fits = cond_both s.timed s.ssthresh (half_flight f s) (λ n. n ≤ 1000000000) (λ _. h.threshold_fits) (λ _. half.1);
+      threshold = cond_both s.backed_off s.ssthresh (half_flight f s) (λ n. 1 ≤ n) (λ _. h.threshold) (λ _. omega (arith, half.0));
+      threshold_fits = cond_both s.backed_off s.ssthresh (half_flight f s) (λ n. n ≤ 1000000000) (λ _. h.threshold_fits) (λ _. half.1);
       recovers = λ e. absurd (true≢false (sym e));
       duplicates_fit = omega arith;
       resends = λ e. absurd (true≢false (sym e));
@@ -322,8 +322,8 @@ expire_sound f now s h =
       timed_once = λ _. refl;
     }
 
-pub opening_sound : (f : FlowSpec) → IsFlow f → IsSound f (opening_sender f)
-opening_sound f h =
+pub initial_sound : (f : FlowSpec) → IsFlow f → IsSound f (initial_sender f)
+initial_sound f h =
     let least = h.least in
     let most = h.most in
     record {

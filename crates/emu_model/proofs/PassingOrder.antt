@@ -10,10 +10,10 @@ use Rattle.emu_model.specs.Lists.{replace_first, remove_first}
 use Rattle.emu_model.specs.FlowIds.{flow_id}
 use Rattle.emu_model.specs.Delay.{first_item, leave}
 use Rattle.emu_model.specs.Pipes.{InService, PipeState, After, Drop, pipe_packets, instance_for, pipe_arrive, pipe_finish, pipe_exit, pipe_configure}
-use Rattle.emu_model.specs.Net.{Net, Setting, opening_net, note, note_all, drop_record, note_traced, identify_record, arrive_records, arrivals, make_record, packet_of, find_pipe, put_pipe, put_after, to_direct}
+use Rattle.emu_model.specs.Net.{Net, Setting, initial_net, note, note_all, drop_record, note_traced, identify_record, arrive_records, arrivals, make_record, packet_of, find_pipe, put_pipe, put_after, to_direct}
 use Rattle.emu_model.specs.Commands.{new_pipe, delete_pipe, obey}
 use Rattle.emu_model.specs.Events.{flying_in, served_in, note_finish}
-use Rattle.emu_model.specs.Step.{opening}
+use Rattle.emu_model.specs.Step.{initial_state}
 use Rattle.emu_model.specs.Alone.{alone}
 use Rattle.emu_model.specs.TraceLaws.{IsSublist, arrives_in, finishes_in, passes_in, flight_in, under_way, LeavesInOrder, FinishesKeepOrder, ExitsKeepOrder}
 use Rattle.emu_model.proofs.Numbers.{one_if, replaced-count, none-found, with_pipe-count, one_more, removed-le, pipe_arrive-kept, pipe_finish-kept}
@@ -21,7 +21,7 @@ use Rattle.emu_model.proofs.Sublists.{sub-refl, sub-same, sub-trans, sub-joined,
 use Rattle.emu_model.proofs.InstanceOrder.{served_numbers, first_number}
 use Rattle.emu_model.proofs.PipeOrder.{inside_in, PipeCame, PipeServed, pipe_arrive-came, finish-here, finish-other, exit-here, exit-other, exit-inside, configure-flight, configure-inside}
 use Rattle.emu_model.proofs.FoundPipes.{in_pipe, found-number, replaced-here, replaced-other, removed-here, removed-other, inserted-same}
-use Rattle.emu_model.proofs.Walk.{IsSilent, Keeps, Fits, walks, walks_on, all_fit}
+use Rattle.emu_model.proofs.ChangesWalk.{IsSilent, Keeps, Fits, walks, walks_on, all_fit}
 
 -- no two pipes have one number
 Few : List PipeState → Type 0
@@ -361,42 +361,42 @@ module _ (pipe k : ℕ) where
       (λ h. arrived-seen at p q n.trace (number ∙ h))
 
   -- what is recorded of a finish
-  finish_records : ℕ → ℕ → ℕ → Option InService → List Record
-  finish_records now at i o = map (λ s. PacketFinished now s.packet.number at i) (option_to_list o)
+  finish_records : ℕ → ℕ → ℕ → Option (InService Packet) → List Record
+  finish_records now at i o = map (λ s. PacketFinished now s.item.number at i) (option_to_list o)
 
-  finish-foreign : (now at i : ℕ) (o : Option InService) → (at ≡ pipe → ⊥) → Still (finish_records now at i o)
+  finish-foreign : (now at i : ℕ) (o : Option (InService Packet)) → (at ≡ pipe → ⊥) → Still (finish_records now at i o)
   unfolding finish_records
   finish-foreign now at i None h = still-nil
   finish-foreign now at i (Some s) h =
-      still-cons (PacketFinished now s.packet.number at i) [] (foreign-pipe at i (s.packet.number ∷ []) h) refl refl
+      still-cons (PacketFinished now s.item.number at i) [] (foreign-pipe at i (s.item.number ∷ []) h) refl refl
       still-nil
 
-  finish-own : (now at i : ℕ) (o : Option InService) → at ≡ pipe → i ≡ k →
+  finish-own : (now at i : ℕ) (o : Option (InService Packet)) → at ≡ pipe → i ≡ k →
       finished (finish_records now at i o) ≡ served_numbers o
   unfolding finish_records finished
   finish-own now at i None g h = refl
-  finish-own now at i (Some s) g h = ap (λ x. x ++ []) (its-own at i (s.packet.number ∷ []) g h)
+  finish-own now at i (Some s) g h = ap (λ x. x ++ []) (its-own at i (s.item.number ∷ []) g h)
 
-  finish-other-instance : (now at i : ℕ) (o : Option InService) → (i ≡ k → ⊥) →
+  finish-other-instance : (now at i : ℕ) (o : Option (InService Packet)) → (i ≡ k → ⊥) →
       finished (finish_records now at i o) ≡ []
   unfolding finish_records finished
   finish-other-instance now at i None h = refl
-  finish-other-instance now at i (Some s) h = ap (λ x. x ++ []) (foreign-instance at i (s.packet.number ∷ []) h)
+  finish-other-instance now at i (Some s) h = ap (λ x. x ++ []) (foreign-instance at i (s.item.number ∷ []) h)
 
-  finish-unpassed : (now at i : ℕ) (o : Option InService) → passed (finish_records now at i o) ≡ []
+  finish-unpassed : (now at i : ℕ) (o : Option (InService Packet)) → passed (finish_records now at i o) ≡ []
   unfolding finish_records passed
   finish-unpassed now at i None = refl
   finish-unpassed now at i (Some s) = refl
 
-  noted-finish : (now at i : ℕ) (o : Option InService) (n : Net) (a : After PipeState) →
+  noted-finish : (now at i : ℕ) (o : Option (InService Packet)) (n : Net) (a : After PipeState) →
       (put_after now at a (note_finish now at i o n)).records
       ≡ n.records ++ (finish_records now at i o ++ map (drop_record now) a.dropped)
   unfolding finish_records
   noted-finish now at i None n a = refl
   noted-finish now at i (Some s) n a =
-      append_assoc n.records (PacketFinished now s.packet.number at i ∷ []) (map (drop_record now) a.dropped)
+      append_assoc n.records (PacketFinished now s.item.number at i ∷ []) (map (drop_record now) a.dropped)
 
-  finish-same : (now at i : ℕ) (o : Option InService) (n : Net) →
+  finish-same : (now at i : ℕ) (o : Option (InService Packet)) (n : Net) →
       ((note_finish now at i o n).pipes ≡ n.pipes) × ((note_finish now at i o n).trace ≡ n.trace)
   finish-same now at i None n = (refl, refl)
   finish-same now at i (Some s) n = (refl, refl)
@@ -447,7 +447,7 @@ module _ (pipe k : ℕ) where
       (finish_records now at i (served_in i p) ++ map (drop_record now) a.dropped)
   finished-changes now at i p n e =
       let a : After PipeState = pipe_finish now i p in
-      let o : Option InService = served_in i p in
+      let o : Option (InService Packet) = served_in i p in
       let same : ((note_finish now at i o n).pipes ≡ n.pipes) × ((note_finish now at i o n).trace ≡ n.trace) = finish-same now at i o n in
       put-changes at p a.state n (put_after now at a (note_finish now at i o n))
       (finish_records now at i o ++ map (drop_record now) a.dropped) e (pipe_finish-kept now i p).number
@@ -598,7 +598,7 @@ module _ (pipe k : ℕ) where
   unfolding Few
   few-none j = omega arith
 
-  begun : Ordered false None opening_net
+  begun : Ordered false None initial_net
   begun = record {
     few = few-none;
     leaves = record { gone = []; first_left = refl; passed = tt };
@@ -631,7 +631,7 @@ module _ (pipe k : ℕ) where
   all-suit [] h = tt
   all-suit (t ∷ ts) h = (trace-suits t.command h.0, all-suit ts h.1)
 
-  traced-begun : (at : Setting) → Ordered true None (obey at 0 (Trace true) opening_net)
+  traced-begun : (at : Setting) → Ordered true None (obey at 0 (Trace true) initial_net)
   unfolding finished arrived inside
   traced-begun at = record {
     few = few-none;
@@ -642,7 +642,7 @@ module _ (pipe k : ℕ) where
 
 pub exits_keep_order : ExitsKeepOrder
 exits_keep_order spec c n pipe k =
-    (walks (Ordered pipe k false) (ordered-keeps pipe k false) n (opening spec c)
+    (walks (Ordered pipe k false) (ordered-keeps pipe k false) n (initial_state spec c)
     (all_fit (Ordered pipe k false) (ordered-keeps pipe k false) (trace-ordered pipe k) c) (begun pipe k)).leaves
 
 pub finishes_keep_order : FinishesKeepOrder
@@ -653,6 +653,6 @@ finishes_keep_order spec (t ∷ ts) (suc n) pipe k h =
     let net : Net = (alone spec (t ∷ ts) (suc n)).net in
     let o : Ordered pipe k true None net =
     walks_on (Ordered pipe k true) (ordered-keeps pipe k true) spec t ts n (all-suit pipe k ts h.1)
-    (λ at. subst (λ x. Ordered pipe k true None (obey at 0 x opening_net)) (sym h.0) (traced-begun pipe k at)) in
+    (λ at. subst (λ x. Ordered pipe k true None (obey at 0 x initial_net)) (sym h.0) (traced-begun pipe k at)) in
     sub-trans (finished pipe k net.records) (finished pipe k net.records ++ inside pipe k net) (arrived pipe k net.records)
     (sub-front (finished pipe k net.records) (inside pipe k net)) (o.comes refl)

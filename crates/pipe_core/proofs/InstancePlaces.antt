@@ -15,7 +15,7 @@ use Rattle.pipe_core.specs.Moves.{packet_at, AreNamed, Keeps}
 use Rattle.pipe_core.specs.Keyed.{KeyedPipe, seen_slot, view, ids_of, keys_of, IsSlot, IsPipe}
 use Rattle.pipe_core.specs.Steps.{HasRoom, HasRoomAt, IsSamePlace, Exits}
 use Rattle.pipe_core.proofs.KeyMoves.{AreNamed-kept}
-use Rattle.pipe_core.proofs.PipeFacts.{slice_get-at, change_at-with, Keeps-lift, AreNamed-part, IsPipe-change, IsPipe-at, ids-change, length-change, map-change, keys-change, first_exit-seen, finish-seen, view-left}
+use Rattle.pipe_core.proofs.PipeFacts.{slice_get-at, change_at-with, Keeps-lift, AreNamed-at, IsPipe-change, IsPipe-at, ids-change, length-change, map-change, keys-change, first_exit-seen, finish-seen, view-left}
 
 -- instance k, and those before and behind it
 pub record IsPlace (k : ℕ) (slots : List Slot) (x : Slot) : Type 0 where
@@ -48,7 +48,7 @@ room-change size (b ∷ before) behind x y moves (suc j) h s e = room-change siz
 
 module _ (k : ℕ) (slots : List Slot) (x : Slot) (at : IsPlace k slots x) where
   pub named_at : (p : Pocket) → AreNamed p (keys_of slots) → AreNamed p (keys_in x.instance)
-  named_at p n = AreNamed-part p at.before at.behind x (subst (λ ss. AreNamed p (keys_of ss)) at.was n)
+  named_at p n = AreNamed-at p at.before at.behind x (subst (λ ss. AreNamed p (keys_of ss)) at.was n)
 
   pub keeps_at : (p q : Pocket) (y : Slot) → Keeps p q (keys_in x.instance) (keys_in y.instance) →
       Keeps p q (keys_of slots) (keys_of (set slots k y))

@@ -4,7 +4,7 @@ use Rattle.std.specs.List.{prefix_len, position_or_len}
 use Rattle.std.proofs.lemmas.List.{length-drop, get_or-drop, drop-drop}
 use Rattle.std.proofs.lemmas.List.Sums.{prefix_len_stops, prefix_len-le-length}
 use Rattle.control_words.specs.Text.{words}
-use Rattle.control_words.proofs.Split.{skips, word}
+use Rattle.control_words.proofs.CallerLemmas.{skips, word}
 use Rattle.explain.specs.Lines.{IsFirstAt, IsPastWord, past_first}
 
 abbrev pub space : ℕ → Bool

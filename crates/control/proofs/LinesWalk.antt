@@ -19,7 +19,7 @@ use Rattle.control.specs.Scenario.{FaultsEntry, Stands, rank, IsFirst, IsFine, I
 use Rattle.control.specs.Steps.{cause_in_line, error_at, Sofar, step}
 use Rattle.control.specs.Builder.{Passes, GivesStep, OnMemory, Taken}
 use Rattle.control.specs.Answer.{Answer, IsFaultOf, IsFound, IsReading}
-use Rattle.control.proofs.Order.{Matches, Told, told, seen, busy_runs, idle_ends, nothing_before}
+use Rattle.control.proofs.LinesRead.{Matches, Told, told, seen, busy_runs, idle_ends, nothing_before}
 
 -- ---- one line
 abbrev failed : Cause → Result Sofar Cause

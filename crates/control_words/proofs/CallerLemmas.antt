@@ -1,0 +1,2 @@
+-- For crates above: how a line parts into words.
+pub use Rattle.control_words.proofs.Split.{skips, word}
