@@ -30,7 +30,8 @@ pub struct Bench {
     handed_out: Vec<u32>,
     resident: Vec<u32>,
     left: Vec<u32>,
-    pub ghost kept: { Kept admitted.items adopted.items ended.items resident.items handed_out.items (deque_view deque) },
+    pub ghost kept: { Kept admitted.items adopted.items ended.items resident.items
+        handed_out.items (deque_view deque) },
     pub ghost sits: { AreResidents resident.items shard.seats },
     pub ghost room_ended: { vec_len ended + vec_len resident ≤ vec_capacity ended },
     pub ghost counted: { length (deque_view deque).taken + out ≡ length (deque_view deque).pushed },

@@ -11,7 +11,7 @@ use Rattle.emu_model.specs.declared.records.DropCause.TheVariants.{Denied, NoPip
 use Rattle.emu_model.specs.FlowIds.{FlowId}
 use Rattle.emu_model.specs.DropTail.{Waiting}
 use Rattle.emu_model.specs.Codel.{CodelState, initial_control}
-use Rattle.emu_model.specs.Pipes.{Instance, PipeState, initial_instance, dequeue, enqueue, drawn_one, draw, pipe_arrive, instance_finish, instance_configure, instance_packets}
+use Rattle.emu_model.specs.Pipes.{Instance, PipeState, initial_instance, dequeue, enqueue, drawn_one, draw, pipe_arrive, instance_finish, instance_configure, held_in}
 use Rattle.emu_model.specs.Net.{cause_number}
 use Rattle.rand_chacha.specs.Block.{block_word, double_rounds, column_round, diagonal_round, quarter_round}
 use Rattle.rand_core.specs.Steps.{u32_at}
@@ -135,7 +135,7 @@ another_discipline_clears :
 another_discipline_clears = refl
 
 -- what it holds, in the order of deletion: on its way, in service, waiting
-held_in_order : instance_packets instance ≡ packet 9 ∷ packet 0 ∷ packet 1 ∷ packet 2 ∷ []
+held_in_order : held_in instance ≡ packet 9 ∷ packet 0 ∷ packet 1 ∷ packet 2 ∷ []
 held_in_order = refl
 
 -- the drops of the counters, in the order of docs/REPORT.md

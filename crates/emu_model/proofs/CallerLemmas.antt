@@ -1,5 +1,5 @@
--- For crates above: what a dequeue cuts, the control law's number, where the clock of an experiment goes, and
--- the next event against all dues.
+-- For crates above: what a dequeue cuts, the control law's number, where the clock of an experiment goes, the
+-- next event against all dues, and orders by one number after another.
 use Rattle.std.proofs.Common.{◌≡◌, ℕ, ◌+◌, ◌≤◌, List, [], ◌∷◌, Bool, true, false, refl, sym, subst, ◌∙◌, inl, inr, Option, Some, None, arith}
 use Rattle.std.specs.Prelude.{if◌then◌else◌, ◌==◌, ◌&&◌, ◌⊎◌, nat_lt, is_some}
 use Rattle.std.specs.List.{AllByRecursion, best_of}
@@ -9,6 +9,7 @@ use Rattle.emu_model.specs.declared.sources.Due.{Due}
 use Rattle.emu_model.specs.Dues.{due, dues_of, is_before}
 use Rattle.emu_model.specs.Step.{State, take_class, take_due, count_step, spend, is_last_step, next_event, step_with, step}
 pub use Rattle.emu_model.proofs.ControlRoot.{control_step_is}
+pub use Rattle.emu_model.proofs.FirstBy.{first_by, first_by-order, NotBefore, not_before, both_ways_equal}
 pub use Rattle.emu_model.proofs.Cuts.{IsCut, codel_dequeue-cut, dequeue-cut}
 
 before-le : (a b : Due) → is_before a b ≡ true → a.moment ≤ b.moment

@@ -23,6 +23,7 @@ mod AllFacts
 mod Holding
 mod Ahead
 mod Cuts
+mod FirstBy
 pub mod CallerLemmas
 mod PipeParts
 mod DueParts

@@ -29,7 +29,7 @@ impl<T: Drop> Device<T> {
     }
 
     /// A device that hasn't failed, of which so many calls can be interrupted at first.
-    pub(crate) fn with_patience(inner: T, patience: u32) -> Self
+    pub fn with_patience(inner: T, patience: u32) -> Self
         ensures inner { result.inner ≡ inner }
         ensures failed { result.failed ≡ false }
         ensures patience { result.patience ≡ patience }

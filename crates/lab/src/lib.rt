@@ -12,8 +12,6 @@ mod output;
 mod plan;
 mod progress;
 mod tenants;
-#[cfg(test)]
-mod tests;
 mod texts;
 mod together;
 mod worker;

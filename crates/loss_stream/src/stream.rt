@@ -86,7 +86,8 @@ impl LossStream {
     /// The count stays at 2^128 - 1. At the rates 0 and 1, which every word is above and below, none
     /// is computed.
     pub fn lose(&mut self, plr: LossRate) -> bool
-        ensures answer { result ≡ is_lost self.old.seed self.old.pipe self.old.instance self.old.drawn plr }
+        ensures answer { result
+            ≡ is_lost self.old.seed self.old.pipe self.old.instance self.old.drawn plr }
         ensures drawn { self.new
             ≡ record self.old { drawn = min (self.old.drawn + 1) (2 ^ 128 - 1) } }
     {

@@ -6,18 +6,21 @@ use Rattle.emu_model.specs.declared.records.Record.TheVariants.{PacketFinished}
 use Rattle.emu_model.specs.Delay.{Line, Leaving, leave, first_item}
 use Rattle.emu_model.specs.declared.commands.Setting.{Setting}
 use Rattle.emu_model.specs.Net.{Net, note, note_all, note_drops, drop_record, find_pipe}
-use Rattle.emu_model.specs.Events.{leave_pipe, pipe_exits, pipe_finishes}
+use Rattle.emu_model.specs.Events.{leave_pipe, leave_pipe_some, pipe_exits, pipe_finishes}
 use Rattle.link_core.specs.Lane.{Lane}
 use Rattle.packet_store.specs.Pocket.{Pocket, without}
 use Rattle.pipe_instance.specs.Keyed.{seen_leaving, seen_line}
 use Rattle.pipe_core.specs.Moves.{packet_at, Keeps}
 use Rattle.pipe_core.specs.Steps.{drops_by_codel}
 use Rattle.pipe_core.specs.Views.{ViewsAgree}
-use Rattle.pipe_table.specs.Table.{Table, with_pipes, pipe_keys}
+use Rattle.pipe_table.specs.Table.{Table, HasRoomIn, with_pipes, pipe_keys}
 use Rattle.traffic.specs.Kept.{KeptTraffic, with_traffic}
-use Rattle.network.specs.Kept.{KeptNet, net_of, line_keys, IsHoused}
+use Rattle.network.specs.Kept.{KeptNet, net_of, line_keys, IsHoused, Stands}
+use Rattle.network.specs.Ready.{CanLeave}
 use Rattle.network.specs.Changes.{Becomes, Notes}
-use Rattle.network.proofs.Frame.{direct-housed, direct-shown}
+use Rattle.network.proofs.Frame.{direct-housed, direct-shown, pipes-housed}
+use Rattle.network.proofs.AsReady.{as-leave}
+use Rattle.network.proofs.Readied.{Readied, from_readied}
 use Rattle.network.proofs.Direct.{leaves, front-there, none-leaves}
 use Rattle.network.proofs.Steps.{shown-as, notes-becomes, follow, pipes-become, rebase, turns-becomes}
 use Rattle.network.proofs.Sources.{traffic-turned}
@@ -78,36 +81,62 @@ direct-none p n l h none line =
       made = omega arith;
     })
 
--- a packet left a pipe, or none did; a packet finished
+-- a packet leaves a pipe, or none does; a packet finishes
+abbrev pub exits : Setting → ℕ → ℕ → Net → Net
+exits at k j m = option_map_or (pipe_exits at k j m) (find_pipe k m) m
+
+abbrev pub finishes : Setting → ℕ → ℕ → Net → Net
+finishes at k j m = option_map_or (pipe_finishes at k j m) (find_pipe k m) m
+
+module _ (at : Setting) (o p q : Pocket) (old n : KeptNet) (t : Table) (k j : ℕ) (r : Readied o p old n)
+    (keeps : Keeps p q (pipe_keys n.table.pipes) (pipe_keys t.pipes)) (seed : t.seed ≡ n.table.seed) where
+  pub exit-stands : Stands at o old → Stands at q (record n { table = t })
+  exit-stands stands = record {
+    early = stands.early;
+    seed = stands.seed ∙ sym (seed ∙ r.seed);
+    room = omega (arith, stands.room, keeps.budget, r.budget);
+    housed = pipes-housed p q n t r.housed keeps;
+  }
+
+  -- what needed no memory needs none
+  pub exit-leaves : (x : Packet) → ((i : ℕ) (y : Packet) → HasRoomIn i y n.table.pipes → HasRoomIn i y t.pipes) → CanLeave x n → CanLeave x (record n { table = t })
+  exit-leaves x rooms ready =
+      as-leave n (record n { table = t }) (record { roomy = record { rooms = rooms; spare = omega arith; book = refl }; traffic = refl; one_pass = refl }) x ready
+
+  module _ (gone : Option Packet) (is : exits at k j (net_of p n) ≡ leave_pipe_some at k j gone (with_pipes q t (net_of p n))) where
+    pub exit-none : None ≡ gone → Becomes 1 (exits at k j (net_of o old)) o q old (record n { table = t })
+    exit-none none =
+        let e : with_pipes q t (net_of p n) ≡ exits at k j (net_of p n) =
+        ap (λ (g : Option Packet). leave_pipe_some at k j g (with_pipes q t (net_of p n))) none ∙ sym is in
+        from_readied r (exits at k j) 1 q (record n { table = t })
+        (weaker (exits at k j (net_of p n)) p q n (record n { table = t })
+        (shown-as 0 (with_pipes q t (net_of p n)) (exits at k j (net_of p n)) p q n (record n { table = t }) e (pipes-become p q n t r.housed keeps seed)))
+
+    pub exit-some : (x : Packet) → Some x ≡ gone → (u : Pocket) (new : KeptNet) →
+        Becomes 1 (leave_pipe at k j x (net_of q (record n { table = t }))) q u (record n { table = t }) new →
+        Becomes 1 (exits at k j (net_of o old)) o u old new
+    exit-some x some u new b =
+        let e : leave_pipe at k j x (with_pipes q t (net_of p n)) ≡ exits at k j (net_of p n) =
+        ap (λ (g : Option Packet). leave_pipe_some at k j g (with_pipes q t (net_of p n))) some ∙ sym is in
+        from_readied r (exits at k j) 1 u new
+        (shown-as 1 (leave_pipe at k j x (with_pipes q t (net_of p n))) (exits at k j (net_of p n)) p u n new e
+        (follow (leave_pipe at k j x) 0 1 1 (with_pipes q t (net_of p n)) p q u n (record n { table = t }) new (omega arith)
+        (pipes-become p q n t r.housed keeps seed) b))
+
 module _ (p q : Pocket) (n : KeptNet) (t : Table) (k j : ℕ) (h : IsHoused p n)
     (keeps : Keeps p q (pipe_keys n.table.pipes) (pipe_keys t.pipes)) (seed : t.seed ≡ n.table.seed) where
-  pub exit-none : (at : Setting) → option_map_or (pipe_exits at k j (net_of p n)) (find_pipe k (net_of p n)) (net_of p n) ≡ with_pipes q t (net_of p n) →
-      Becomes 1 (option_map_or (pipe_exits at k j (net_of p n)) (find_pipe k (net_of p n)) (net_of p n)) p q n (record n { table = t })
-  exit-none at e =
-      weaker (option_map_or (pipe_exits at k j (net_of p n)) (find_pipe k (net_of p n)) (net_of p n)) p q n (record n { table = t })
-      (shown-as 0 (with_pipes q t (net_of p n)) (option_map_or (pipe_exits at k j (net_of p n)) (find_pipe k (net_of p n)) (net_of p n)) p q n (record n { table = t }) (sym e)
-      (pipes-become p q n t h keeps seed))
-
-  pub exit-some : (at : Setting) (r : Pocket) (new : KeptNet) (x : Packet) →
-      option_map_or (pipe_exits at k j (net_of p n)) (find_pipe k (net_of p n)) (net_of p n) ≡ leave_pipe at k j x (with_pipes q t (net_of p n)) →
-      Becomes 1 (leave_pipe at k j x (net_of q (record n { table = t }))) q r (record n { table = t }) new →
-      Becomes 1 (option_map_or (pipe_exits at k j (net_of p n)) (find_pipe k (net_of p n)) (net_of p n)) p r n new
-  exit-some at r new x e b =
-      shown-as 1 (leave_pipe at k j x (with_pipes q t (net_of p n))) (option_map_or (pipe_exits at k j (net_of p n)) (find_pipe k (net_of p n)) (net_of p n)) p r n new (sym e)
-      (follow (leave_pipe at k j x) 0 1 1 (with_pipes q t (net_of p n)) p q r n (record n { table = t }) new (omega arith) (pipes-become p q n t h keeps seed) b)
-
   pub finished : (at : Setting) (number : ℕ) (drops : List Packet) (mid new : KeptNet) →
-      option_map_or (pipe_finishes at k j (net_of p n)) (find_pipe k (net_of p n)) (net_of p n)
+      finishes at k j (net_of p n)
       ≡ note_drops at.now (drops_by_codel drops) (with_pipes q t (note (PacketFinished at.now number k j) (net_of p n))) →
       Notes (PacketFinished at.now number k j ∷ []) (record n { table = t }) mid →
       Notes (map (drop_record at.now) (drops_by_codel drops)) mid new →
-      Becomes 0 (option_map_or (pipe_finishes at k j (net_of p n)) (find_pipe k (net_of p n)) (net_of p n)) p q n new
+      Becomes 0 (finishes at k j (net_of p n)) p q n new
   finished at number drops mid new e one rest =
       let b0 = pipes-become p q n t h keeps seed in
       let b1 = follow (note_all (PacketFinished at.now number k j ∷ [])) 0 0 0 (with_pipes q t (net_of p n)) p q q n (record n { table = t }) mid (omega arith) b0
       (notes-becomes q (PacketFinished at.now number k j ∷ []) (record n { table = t }) mid b0.housed one) in
       shown-as 0 (note_all (map (drop_record at.now) (drops_by_codel drops)) (note_all (PacketFinished at.now number k j ∷ []) (with_pipes q t (net_of p n))))
-      (option_map_or (pipe_finishes at k j (net_of p n)) (find_pipe k (net_of p n)) (net_of p n)) p q n new (sym e)
+      (finishes at k j (net_of p n)) p q n new (sym e)
       (follow (note_all (map (drop_record at.now) (drops_by_codel drops))) 0 0 0 (note_all (PacketFinished at.now number k j ∷ []) (with_pipes q t (net_of p n))) p q q n mid new (omega arith) b1
       (notes-becomes q (map (drop_record at.now) (drops_by_codel drops)) mid new b1.housed rest))
 

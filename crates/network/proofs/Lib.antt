@@ -6,7 +6,7 @@ mod AsReady
 mod Arriving
 mod Sources
 mod Obeying
+mod Readied
 mod Leaving
 mod DueFacts
-mod Standing
 mod Rehoused

@@ -122,6 +122,22 @@ module _ (at : Setting) (k : ℕ) (n new : KeptNet) where
   end-done notes = done-obeys at k End n n new (λ p. refl)
       (record { moved = λ p. refl; line = refl; keys = refl; seed = refl; made = refl }) notes
 
+-- a command that is of this kind is obeyed, once room was made
+pub kind-obeyed : {E : Type 0} {kind command : Command} {p : Pocket} {old mid : KeptNet} → command ≡ kind → IsHoused p old → IsStill old mid →
+    (at : Setting) (k : ℕ) (q : Pocket) (new : KeptNet) (r : Result (Unit {0}) E) →
+    OnOk r (Becomes 1 (obey at k kind (net_of p mid)) p q mid new) → OnOk r (Becomes 1 (obey at k command (net_of p old)) p q old new)
+kind-obeyed {kind = kind} {command = command} {p = p} {old = old} {mid = mid} is housed still at k q new r =
+    on_ok (Becomes 1 (obey at k kind (net_of p mid)) p q mid new) (Becomes 1 (obey at k command (net_of p old)) p q old new) r
+    (λ b. subst (λ (c : Command). Becomes 1 (obey at k c (net_of p old)) p q old new) (sym is) (from_still (obey at k kind) 1 p q old mid new housed still b))
+
+-- the same, of one that asks for no packets
+pub kind-obeys : {E : Type 0} {kind command : Command} {p : Pocket} {old mid : KeptNet} → command ≡ kind → IsHoused p old → IsStill old mid →
+    (at : Setting) (k : ℕ) (new : KeptNet) (r : Result (Unit {0}) E) →
+    OnOk r (Obeys at k kind mid new) → OnOk r (Becomes 1 (obey at k command (net_of p old)) p p old new)
+kind-obeys {kind = kind} {p = p} {old = old} {mid = mid} is housed still at k new r obeys =
+    kind-obeyed is housed still at k p new r
+    (on_ok (Obeys at k kind mid new) (Becomes 1 (obey at k kind (net_of p mid)) p p mid new) r (λ b. b p (still-housed p old mid housed still)) obeys)
+
 -- it is recorded that the command is done, and then lines are listed
 pub listed-obeys : (at : Setting) (k : ℕ) (c : Command) (n mid new : KeptNet) (rs : Pocket → List Record) → ((p : Pocket) → refusal_of c (net_of p n) ≡ None) →
     ((p : Pocket) → effect_of at c (note (CommandDone at.now k) (net_of p n)) ≡ note_all (rs p) (note (CommandDone at.now k) (net_of p n))) →
@@ -181,21 +197,6 @@ module _ (at : Setting) (k j : ℕ) (p q : Pocket) (n : KeptNet) (t : Table) (h 
       shown-as 1 (note_all (CommandRefused at.now k NoSuchPipe ∷ []) (with_pipes q t (net_of p n))) (obey at k (PipeDelete j) (net_of p n)) p q n new
       (ap (note_all (CommandRefused at.now k NoSuchPipe ∷ [])) same
       ∙ sym (obeyed-refused at k (PipeDelete j) (net_of p n) NoSuchPipe (ap (λ (b : Bool). cond b None (Some NoSuchPipe)) (sym (there (net_of p n)))))) b1
-
--- a change from a net that is still the same, over the same pocket, seen from within
-pub from_ready : (f : Net → Net) (c : ℕ) (o p q : Pocket) (old mid n new : KeptNet) → IsHoused o old → IsStill old mid → p ≡ o → n ≡ mid →
-    Becomes c (f (net_of p n)) p q n new → Becomes c (f (net_of o old)) o q old new
-from_ready f c o p q old mid n new h still same is b =
-    from_still f c o q old mid new h still
-    (subst (λ (m : KeptNet). Becomes c (f (net_of o m)) o q m new) is
-    (subst (λ (x : Pocket). Becomes c (f (net_of x n)) x q n new) same b))
-
-pub ready-housed : (o p : Pocket) (old mid n : KeptNet) → IsHoused o old → IsStill old mid → p ≡ o → n ≡ mid → IsHoused p n
-ready-housed o p old mid n h still same is =
-    subst (λ (x : Pocket). IsHoused x n) (sym same) (subst (λ (m : KeptNet). IsHoused o m) (sym is) (still-housed o old mid h still))
-
-pub ready-shown : (o p : Pocket) (old mid n : KeptNet) → IsStill old mid → p ≡ o → n ≡ mid → net_of p n ≡ net_of o old
-ready-shown o p old mid n still same is = (λ i. net_of (same i) (is i)) ∙ still.shown o
 
 -- an event by its source
 pub event-exit : (at : Setting) (k : ℕ) (m : Net) → (k ≡ 0 → ⊥) → event_of at Exit k m ≡ option_map_or (pipe_exits at (k / 256) (k % 256) m) (find_pipe (k / 256) m) m

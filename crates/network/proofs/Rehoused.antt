@@ -1,6 +1,5 @@
 -- The packets of a net that move from one shelf to another.
-use Rattle.std.proofs.Common.{◌≡◌, ℕ, ◌+◌, ◌≤◌, ap, ◌∙◌, ◌++◌, length, None, arith}
-use Rattle.std.proofs.lemmas.List.{length-append}
+use Rattle.std.proofs.Common.{◌≡◌, ℕ, ◌+◌, ap, sym, subst, ◌∙◌, ◌++◌, None, arith}
 use Rattle.emu_model.specs.Net.{Net}
 use Rattle.link_core.specs.Lane.{Lane}
 use Rattle.packet_store.specs.Pocket.{Pocket, empty_pocket}
@@ -22,30 +21,18 @@ net-named p n h = record {
   within = omega (arith, h.count);
 }
 
--- first the link's packets move
-module _ (p r : Pocket) (n : KeptNet) (h : IsHoused p n) (empty : r ≡ empty_pocket r.budget) (fits : length (net_keys n) ≤ r.budget) where
+-- first the link's packets move, of a net whose view is n
+module _ (p r : Pocket) (view n : KeptNet) (is : n ≡ view) (housed : IsHoused p view) (empty : r ≡ empty_pocket r.budget) where
+  h : IsHoused p n
+  h = subst (IsHoused p) (sym is) housed
+
   pub line-named : AreNamed p (line_keys n.direct.line)
   line-named = AreNamed-front p (line_keys n.direct.line) (pipe_keys n.table.pipes) (net-named p n h)
-
-  pub line-fits : r.count + length (line_keys n.direct.line) ≤ r.budget
-  line-fits =
-      omega (arith, fits, ap (λ (x : Pocket). x.count) empty, length-append (line_keys n.direct.line) (pipe_keys n.table.pipes))
 
   -- and then those of the pipes
   module _ (q s : Pocket) (l : Lane ℕ) (line : Rehouses p q r s (line_keys n.direct.line) (line_keys l.line)) where
     pub pipes-left : AreNamed q (pipe_keys n.table.pipes)
     pipes-left = AreNamed-after p q (line_keys n.direct.line) (pipe_keys n.table.pipes) (net-named p n h) line.takes
-
-    pub pipes-fit : s.count + length (pipe_keys n.table.pipes) ≤ s.budget
-    pipes-fit = omega (
-      arith,
-      fits,
-      ap (λ (x : Pocket). x.count) empty,
-      line.gives.count,
-      line.gives.budget,
-      as-many p q r s (line_keys n.direct.line) (line_keys l.line) line,
-      length-append (line_keys n.direct.line) (pipe_keys n.table.pipes),
-    )
 
     module _ (t u : Pocket) (tb : Table) (pipes : Rehouses q t s u (pipe_keys n.table.pipes) (pipe_keys tb.pipes)) where
       all : Rehouses p t r u (net_keys n) (line_keys l.line ++ pipe_keys tb.pipes)
@@ -56,9 +43,6 @@ module _ (p r : Pocket) (n : KeptNet) (h : IsHoused p n) (empty : r ≡ empty_po
         each = λ k. omega (arith, all.gives.came k, ap (λ (x : Pocket). found (x.find k)) empty);
         count = omega (arith, all.gives.count, ap (λ (x : Pocket). x.count) empty);
       }
-
-      pub net-budget : u.budget ≡ r.budget
-      net-budget = all.gives.budget
 
       pub net-count : u.count ≡ p.count
       net-count = omega (
@@ -78,7 +62,7 @@ module _ (p r : Pocket) (n : KeptNet) (h : IsHoused p n) (empty : r ≡ empty_po
 
       pub net-shown : ViewsAgree → seen_line (packet_at s.find) l.line ≡ seen_line (packet_at p.find) n.direct.line →
           ((m : Net) → with_pipes u tb m ≡ with_pipes q n.table m) →
-          net_of u (record n { direct = l; table = tb }) ≡ net_of p n
+          net_of u (record n { direct = l; table = tb }) ≡ net_of p view
       net-shown agree link table =
           let stays : seen_line (packet_at u.find) l.line ≡ seen_line (packet_at s.find) l.line =
           line-agrees (packet_at s.find) (packet_at u.find) l.line (λ k used.
@@ -87,4 +71,6 @@ module _ (p r : Pocket) (n : KeptNet) (h : IsHoused p n) (empty : r ≡ empty_po
           shown-left agree p q (line_keys n.direct.line) n.table.pipes line.takes pipes-left in
           let shown : seen_pipes (packet_at u.find) tb.pipes ≡ seen_pipes (packet_at q.find) n.table.pipes =
           ap (λ (m : Net). m.pipes) (table (net_of p n)) in
-          λ i. record (net_of p n) { pipes = (shown ∙ left) i; direct = (stays ∙ link) i }
+          let moved : net_of u (record n { direct = l; table = tb }) ≡ net_of p n =
+          λ i. record (net_of p n) { pipes = (shown ∙ left) i; direct = (stays ∙ link) i } in
+          moved ∙ ap (net_of p) is

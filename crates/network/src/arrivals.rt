@@ -136,7 +136,9 @@ impl Network {
         requires { 1 < self.old.log.spare }
         ensures rest { self.new ≡ record self.old { log = self.new.log } }
         ensures records { (p : Pocket) → self.new.log.records ≡ self.old.log.records
-            ++ (if self.old.trace then option_map_or (arrivals now packet.now) (find_pipe number (net_of p self.old)) [] else []) }
+            ++ (if self.old.trace
+            then option_map_or (arrivals now packet.now) (find_pipe number (net_of p self.old)) []
+            else []) }
         ensures room { self.old.log.spare ≤ self.new.log.spare + 2 }
     {
         if !self.trace {

@@ -128,7 +128,8 @@ impl Network {
         ensures packet { result ≡ first_item
             (net_of (S.pocket shelf.old owner) self.old).direct.flight }
         ensures becomes { let n = net_of (S.pocket shelf.old owner) self.old in
-            Becomes 0 (record n { direct = leave n.direct }) (S.pocket shelf.old owner) (S.pocket shelf.new owner) self.old self.new }
+            Becomes 0 (record n { direct = leave n.direct })
+            (S.pocket shelf.old owner) (S.pocket shelf.new owner) self.old self.new }
         ensures rest { self.new ≡ record self.old { direct = self.new.direct } }
         ensures spare { self.old.direct.spare ≤ self.new.direct.spare }
         ensures freed { OnSome result (0 < S.room shelf.new owner) }
@@ -275,7 +276,8 @@ impl Network {
         requires made { self.old.made < 2 ^ 63 }
         requires log { 5 < self.old.log.spare }
         ensures ok { let n = net_of (S.pocket shelf.old owner) self.old in
-            OnOk result (Becomes 1 (option_map_or (pipe_exits at pipe instance n) (find_pipe pipe n) n)
+            OnOk result
+            (Becomes 1 (option_map_or (pipe_exits at pipe instance n) (find_pipe pipe n) n)
             (S.pocket shelf.old owner) (S.pocket shelf.new owner) self.old self.new) }
         ensures room { OnOk result (0 < self.new.log.spare) }
         ensures refused { OnErr result (IsStill self.old self.new) }
@@ -304,7 +306,8 @@ impl Network {
         requires stands { Stands at (S.pocket shelf.old owner) self.old }
         requires due { IsFinishing pipe instance at.now self.old.table.pipes }
         ensures ok { let n = net_of (S.pocket shelf.old owner) self.old in
-            OnOk result (Becomes 0 (option_map_or (pipe_finishes at pipe instance n) (find_pipe pipe n) n)
+            OnOk result
+            (Becomes 0 (option_map_or (pipe_finishes at pipe instance n) (find_pipe pipe n) n)
             (S.pocket shelf.old owner) (S.pocket shelf.new owner) self.old self.new) }
         ensures room { OnOk result (0 < self.new.log.spare) }
         ensures refused { OnErr result (IsStill self.old self.new) }
@@ -331,7 +334,8 @@ impl Network {
         requires stands { Stands at (S.pocket shelf.old owner) self.old }
         requires due { IsFinishing pipe instance at.now self.old.table.pipes }
         ensures ok { let n = net_of (S.pocket shelf.old owner) self.old in
-            OnOk result (Becomes 0 (option_map_or (pipe_finishes at pipe instance n) (find_pipe pipe n) n)
+            OnOk result
+            (Becomes 0 (option_map_or (pipe_finishes at pipe instance n) (find_pipe pipe n) n)
             (S.pocket shelf.old owner) (S.pocket shelf.new owner) self.old self.new) }
         ensures room { OnOk result (0 < self.new.log.spare) }
         ensures refused { OnErr result (IsStill self.old self.new) }

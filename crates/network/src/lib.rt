@@ -10,8 +10,6 @@ mod events;
 mod laws;
 mod rehousing;
 mod state;
-#[cfg(test)]
-mod tests;
 
 pub use laws::still_is_housed;
 pub use state::Network;

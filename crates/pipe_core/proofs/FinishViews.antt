@@ -1,6 +1,7 @@
 -- A finish in an instance, as the pipe shows it.
-use Rattle.std.proofs.Common.{◌≡◌, ℕ, zero, suc, ◌<◌, refl, sym, ap, ◌∙◌, subst, List, [], ◌∷◌, length, Some, set, arith}
+use Rattle.std.proofs.Common.{◌≡◌, ℕ, zero, suc, ◌<◌, refl, sym, ap, ◌∙◌, subst, List, [], ◌∷◌, map, length, Option, Some, get_or, set, arith}
 use Rattle.std.specs.Prelude.{Result, Ok, Err, IfOk, OnOk, OnErr, slice_get, option_map, option_and_then}
+use Rattle.std.proofs.lemmas.List.{length-map}
 use Rattle.emu_model.specs.declared.packets.Packet.{Packet}
 use Rattle.emu_model.specs.declared.pipes.PipeConfig.{PipeConfig}
 use Rattle.emu_model.specs.Events.{served_in}
@@ -13,7 +14,7 @@ use Rattle.pipe_core.specs.Keyed.{KeyedPipe, seen_slot, seen_pipe, view, keys_of
 use Rattle.pipe_core.specs.Steps.{HasRoom, IsGrown, IsSamePlace, Finishes, drops_by_codel}
 use Rattle.pipe_core.proofs.KeyMoves.{AreNamed-kept, Keeps-same}
 use Rattle.pipe_core.proofs.PipeFacts.{changed, view-left}
-use Rattle.pipe_core.proofs.InstancePlaces.{IsPlace, seen_at, keeps_at, seen_same, keys_same, room_same}
+use Rattle.pipe_core.proofs.InstancePlaces.{IsPlace, place_of, finish_due, seen_at, keeps_at, seen_same, keys_same, room_same}
 
 -- what is due is there
 pub due_within : (is : List Instance) (k now : ℕ) →
@@ -21,6 +22,28 @@ pub due_within : (is : List Instance) (k now : ℕ) →
 due_within [] k now e = absurd (cc)
 due_within (i ∷ is) zero now e = omega arith
 due_within (i ∷ is) (suc k) now e = omega (arith, due_within is k now e)
+
+-- what is due in a pipe e that is seen as v
+abbrev finish_in : ℕ → Pocket → KeyedPipe → Option ℕ
+finish_in k p e = option_map (λ s. s.period.finish) (served_in k (view p e))
+
+pub within_due : {e v : KeyedPipe} (p : Pocket) (k : ℕ) {now : ℕ} → e ≡ v → finish_in k p v ≡ Some now → k < length e.slots
+within_due {e = e} p k {now = now} is due =
+    omega (
+      arith,
+      due_within (map (seen_slot (packet_at p.find)) e.slots) k now (subst (λ (w : KeyedPipe). finish_in k p w ≡ Some now) (sym is) due),
+      length-map e.slots (seen_slot (packet_at p.find)),
+    )
+
+pub place_due : {e v : KeyedPipe} (p : Pocket) (k : ℕ) {now : ℕ} {x : Slot} → e ≡ v → finish_in k p v ≡ Some now → x ≡ get_or e.slots k x →
+    IsPlace k e.slots x
+place_due {e = e} p k {x = x} is due value = place_of e.slots k x value (within_due p k is due)
+
+pub due_at : {e v : KeyedPipe} (p : Pocket) (k : ℕ) {now : ℕ} {x : Slot} → e ≡ v → finish_in k p v ≡ Some now → x ≡ get_or e.slots k x →
+    option_map (λ s. s.period.finish) x.instance.service.busy ≡ Some now
+due_at {e = e} p k {now = now} {x = x} is due value =
+    sym (finish_due k e.slots x (place_due p k is due value) (packet_at p.find))
+    ∙ subst (λ (w : KeyedPipe). finish_in k p w ≡ Some now) (sym is) due
 
 -- a slot whose line has other room
 abbrev pub respaced : ℕ → Slot → Slot

@@ -36,6 +36,14 @@ place_of slots k x value within = record {
   place = sym (length-take-le k slots (omega (arith, within)));
 }
 
+-- the same of a pipe e that is seen as v
+pub place_inside : {e v : KeyedPipe} {k : ℕ} {x : Slot} → e ≡ v → k < length v.slots → x ≡ get_or e.slots k x → IsPlace k e.slots x
+place_inside {e = e} {k = k} {x = x} is within value =
+    place_of e.slots k x value (subst (λ (w : KeyedPipe). k < length w.slots) (sym is) within)
+
+pub named_inside : {e v : KeyedPipe} {p : Pocket} → e ≡ v → AreNamed p (keys_of v.slots) → AreNamed p (keys_of e.slots)
+named_inside {p = p} is n = subst (λ (w : KeyedPipe). AreNamed p (keys_of w.slots)) (sym is) n
+
 -- the room of an instance that changed is all that changed of rooms
 room-change : (size : ℕ) (before behind : List Slot) (x y : Slot) → (HasRoom size x.instance → HasRoom size y.instance) → (j : ℕ) →
     ((s : Slot) → slice_get (before ++ x ∷ behind) j ≡ Some s → HasRoom size s.instance) →

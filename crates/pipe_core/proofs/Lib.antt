@@ -9,7 +9,6 @@ mod Arrivals
 mod TakeFacts
 mod Finishings
 mod FinishViews
-mod BenchFacts
 mod Halves
 mod SlotMoves
 mod Rehousings

@@ -15,7 +15,7 @@ use Rattle.emu_model.specs.DropTail.{Waiting, bytes_of}
 use Rattle.emu_model.specs.Commands.{shown_words}
 use Rattle.emu_model.specs.FlowIds.{FlowId, flow_id, instance_of}
 use Rattle.emu_model.specs.Loss.{is_lost}
-use Rattle.emu_model.specs.Pipes.{InService, Instance, PipeState, After, Drop, no_drop, drop_one, drawn_one, instance_arrive, put_instance, change_one, with_instance, draw, arrive_at, pipe_arrive, instance_configure, instance_packets, pipe_packets}
+use Rattle.emu_model.specs.Pipes.{InService, Instance, PipeState, After, Drop, no_drop, drop_one, drawn_one, instance_arrive, put_instance, change_one, with_instance, draw, arrive_at, pipe_arrive, instance_configure, held_in, pipe_packets}
 use Rattle.packet_store.specs.Pocket.{Pocket}
 use Rattle.pipe_instance.specs.Uses.{total, uses, one_at, one}
 use Rattle.pipe_instance.specs.Keyed.{seen_waiting, seen_leaving, seen_service, keys_in, IsTuned}
@@ -270,7 +270,7 @@ served-seen : (f : ℕ → Packet) (busy : Option (InService ℕ)) →
 served-seen f None = refl
 served-seen f (Some s) = refl
 
-instance-packets : (f : ℕ → Packet) (s : Slot) → instance_packets (seen_slot f s) ≡ map f (keys_in s.instance)
+instance-packets : (f : ℕ → Packet) (s : Slot) → held_in (seen_slot f s) ≡ map f (keys_in s.instance)
 instance-packets f s =
     let flight : List ℕ = map (λ x. x.item) s.instance.lane.line.flight in
     let served : List ℕ = option_to_list (option_map (λ t. t.item) s.instance.service.busy) in
@@ -279,7 +279,7 @@ instance-packets f s =
     ∙ (λ i. sym (map-append f flight served) i ++ map f ws)
     ∙ sym (map-append f (flight ++ served) ws)
 
-packets-by : (f : ℕ → Packet) (ss : List Slot) → flat_map instance_packets (map (seen_slot f) ss) ≡ map f (keys_of ss)
+packets-by : (f : ℕ → Packet) (ss : List Slot) → flat_map held_in (map (seen_slot f) ss) ≡ map f (keys_of ss)
 packets-by f [] = ap (map f) (sym keys_of-nil)
 packets-by f (s ∷ ss) =
     (λ i. instance-packets f s i ++ packets-by f ss i)

@@ -7,9 +7,12 @@ use Rattle.emu_model.specs.DropTail.{Waiting}
 use Rattle.packet_store.specs.Pocket.{Pocket, without}
 use Rattle.pipe_instance.specs.Uses.{total, uses, one_at, one}
 use Rattle.pipe_instance.proofs.CallerLemmas.{total-nil, total-cons, total-append, total-length, one_at-same}
+use Rattle.pipe_instance.specs.Keyed.{keys_in}
+use Rattle.pipe_core.specs.declared.slot.Slot.{Slot}
+use Rattle.pipe_core.specs.Keyed.{keys_of}
 use Rattle.pipe_core.specs.Moves.{some_packet, packet_at, AreNamed, Keeps, Takes, Taking}
 use Rattle.pipe_core.proofs.KeyMoves.{found-some, Takes-none, Takes-then, Takes-first, Keeps-taken, named_first}
-use Rattle.pipe_core.proofs.PipeFacts.{drop_at}
+use Rattle.pipe_core.proofs.PipeFacts.{drop_at, keys_of-cons}
 
 -- nothing was taken yet
 pub taking_none : (p : Pocket) (all : List ℕ) (start : List Packet) → Taking p p all all start start
@@ -92,6 +95,15 @@ taking_one p q r all left key start now packet n t value taken =
     taking_more p q r all (key ∷ []) left start now (packet ∷ []) n t
     (Takes-first q r key left (left_named p q all (key ∷ left) start now n t) taken)
     (ap (λ o. unwrap_or o some_packet ∷ []) value)
+
+-- the keys of the next slot stand first among those that are left
+pub slot_keys : {ss rest : List Slot} {x : Slot} {ks : List ℕ} → ss ≡ x ∷ rest → ks ≡ keys_in x.instance → keys_of ss ≡ ks ++ keys_of rest
+slot_keys {rest = rest} {x = x} next is = ap keys_of next ∙ keys_of-cons x rest ∙ ap (λ l. l ++ keys_of rest) (sym is)
+
+pub taking_slot : {p q : Pocket} {all : List ℕ} {start now : List Packet} {ss rest : List Slot} {x : Slot} {ks : List ℕ} →
+    ss ≡ x ∷ rest → ks ≡ keys_in x.instance → Taking p q all (keys_of ss) start now → Taking p q all (ks ++ keys_of rest) start now
+taking_slot {p = p} {q = q} {all = all} {start = start} {now = now} next is t =
+    subst (λ l. Taking p q all l start now) (slot_keys next is) t
 
 -- the next is there
 pub next_found : (p q : Pocket) (all left : List ℕ) (key : ℕ) (start now : List Packet) → AreNamed p all →

@@ -5,10 +5,10 @@ use Rattle.emu_model.specs.declared.pipes.PipeConfig.{PipeConfig}
 use Rattle.emu_model.specs.FlowIds.{FlowId}
 use Rattle.emu_model.specs.DropTail.{bytes_of}
 use Rattle.emu_model.specs.Commands.{shown_words}
-use Rattle.emu_model.specs.Pipes.{Instance, PipeState}
+use Rattle.emu_model.specs.Pipes.{InstanceOf, Instance, PipeState}
 use Rattle.packet_store.specs.Pocket.{Pocket}
 use Rattle.pipe_instance.specs.declared.instance.Shown.{Shown}
-use Rattle.pipe_instance.specs.Keyed.{seen_instance, keys_in, IsTuned}
+use Rattle.pipe_instance.specs.Keyed.{seen, kept, keys_in, IsTuned}
 use Rattle.pipe_core.specs.declared.slot.Slot.{Slot}
 use Rattle.pipe_core.specs.Moves.{packet_at}
 
@@ -20,8 +20,12 @@ pub record KeyedPipe : Type 0 where
   pub slots : List Slot
   pub spare : ℕ
 
+-- the instance of keys
+abbrev pub kept_slot : Slot → InstanceOf ℕ
+kept_slot s = kept s.id s.instance
+
 abbrev pub seen_slot : (ℕ → Packet) → Slot → Instance
-seen_slot f s = seen_instance f s.id s.instance
+seen_slot f s = seen f (kept_slot s)
 
 -- the pipe that is shown, where f names the packet of each key
 abbrev pub seen_pipe : (ℕ → Packet) → KeyedPipe → PipeState

@@ -11,6 +11,3 @@ pub use laws::keys_say_all;
 pub use pipe::Pipe;
 pub use pipe_instance::{InstanceDues, Shown};
 pub use rehouse::rehouse_line;
-
-#[cfg(test)]
-mod tests;

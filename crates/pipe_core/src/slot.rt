@@ -97,7 +97,9 @@ impl Slot {
             (λ packet. Finishes config.now now packet drops.new.items (S.pocket shelf.old owner)
             (S.pocket shelf.new owner) self.old self.new) }
         ensures refused { OnErr result (self.new ≡ record self.old {
-          instance = record self.old.instance { lane = record self.old.instance.lane { spare = self.new.instance.lane.spare } };
+          instance = record self.old.instance {
+            lane = record self.old.instance.lane { spare = self.new.instance.lane.spare };
+          };
         }) }
         ensures refused_pocket { OnErr result
             (S.pocket shelf.new owner ≡ S.pocket shelf.old owner) }

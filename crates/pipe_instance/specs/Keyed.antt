@@ -1,6 +1,6 @@
 -- An instance whose packets are kept elsewhere, under keys, and the instance that it shows once
 -- each key is named.
-use Rattle.std.specs.Prelude.{◌≡◌, ℕ, Option, option_map, option_to_list, List, ◌++◌, map}
+use Rattle.std.specs.Prelude.{◌≡◌, ℕ, Option, option_map, List, map}
 use Rattle.emu_model.specs.declared.packets.Packet.{Packet}
 use Rattle.emu_model.specs.declared.pipes.PipeConfig.{PipeConfig}
 use Rattle.emu_model.specs.declared.pipes.QueueLimit.{QueueLimit}
@@ -9,7 +9,7 @@ use Rattle.emu_model.specs.FlowIds.{FlowId}
 use Rattle.emu_model.specs.DropTail.{Waiting}
 use Rattle.emu_model.specs.Codel.{CodelState}
 use Rattle.emu_model.specs.Delay.{Leaving, Line}
-use Rattle.emu_model.specs.Pipes.{InService, Instance}
+use Rattle.emu_model.specs.Pipes.{InService, InstanceOf, Instance, held_in}
 use Rattle.link_core.specs.Lane.{Lane}
 use Rattle.loss_stream.specs.Draws.{Draws}
 
@@ -45,21 +45,33 @@ abbrev pub seen_service : (ℕ → Packet) → InService ℕ → InService Packe
 seen_service f s = record { item = f s.item; period = s.period }
 
 -- the instance that is shown, where f names the packet of each key
-abbrev pub seen_instance : (ℕ → Packet) → FlowId → KeyedInstance → Instance
-seen_instance f id i = record {
+abbrev pub seen : (ℕ → Packet) → InstanceOf ℕ → Instance
+seen f i = record {
+  id = i.id;
+  waiting = map (seen_waiting f) i.waiting;
+  control = i.control;
+  service = option_map (seen_service f) i.service;
+  line = seen_line f i.line;
+  drawn = i.drawn;
+}
+
+-- the instance of keys
+abbrev pub kept : FlowId → KeyedInstance → InstanceOf ℕ
+kept id i = record {
   id = id;
-  waiting = map (seen_waiting f) i.queue.waiting;
+  waiting = i.queue.waiting;
   control = i.queue.control;
-  service = option_map (seen_service f) i.service.busy;
-  line = seen_line f i.lane.line;
+  service = i.service.busy;
+  line = i.lane.line;
   drawn = i.draws.drawn;
 }
 
--- the keys that stand in an instance: on their way, in service, waiting
+abbrev pub seen_instance : (ℕ → Packet) → FlowId → KeyedInstance → Instance
+seen_instance f id i = seen f (kept id i)
+
+-- the keys that stand in an instance, whatever its flow: on their way, in service, waiting
 abbrev pub keys_in : KeyedInstance → List ℕ
-keys_in i =
-    map (λ x. x.item) i.lane.line.flight ++ option_to_list (option_map (λ s. s.item) i.service.busy)
-    ++ map (λ w. w.item) i.queue.waiting
+keys_in i = held_in (kept (record { proto = 0; src = 0; dst = 0; sport = 0; dport = 0 }) i)
 
 -- the instance works by this configuration
 pub record IsTuned (config : PipeConfig) (i : KeyedInstance) : Type 0 where

@@ -98,7 +98,8 @@ impl Instance {
     /// Draws the loss word of the packet that comes, at every rate: whether it is lost. The count of
     /// words stays at 2^128 - 1.
     pub fn lose(&mut self, plr: LossRate) -> bool
-        ensures answer { result ≡ is_lost self.old.draws.seed self.old.draws.pipe self.old.draws.instance self.old.draws.drawn plr }
+        ensures answer { let d = self.old.draws in
+            result ≡ is_lost d.seed d.pipe d.instance d.drawn plr }
         ensures drawn { self.new ≡ record self.old {
           draws = record self.old.draws { drawn = min (self.old.draws.drawn + 1) (2 ^ 128 - 1) };
         } }
@@ -120,7 +121,9 @@ impl Instance {
             IsSome self.new.service.busy →
             length self.new.queue.waiting < self.new.queue.capacity) }
         ensures same { self.new
-            ≡ record self.old { queue = record self.old.queue { capacity = self.new.queue.capacity } } }
+            ≡ record self.old {
+              queue = record self.old.queue { capacity = self.new.queue.capacity };
+            } }
         ensures grows { self.old.queue.capacity ≤ self.new.queue.capacity }
         ensures unchanged { OnErr result (self.new ≡ self.old) }
         ensures refused { OnErr result
@@ -162,8 +165,9 @@ impl Instance {
         ensures unchanged { OnErr result
             (self.new
             ≡ record self.old { lane = record self.old.lane { spare = self.new.lane.spare } }) }
-        ensures succeeds { 0 < self.old.lane.spare →
-            (dequeue self.old.queue.discipline now self.old.queue.control self.old.queue.waiting).dropped ≡ [] → IsOk result }
+        ensures succeeds { let q = self.old.queue in
+            0 < self.old.lane.spare →
+            (dequeue q.discipline now q.control q.waiting).dropped ≡ [] → IsOk result }
     {
         let Some(key) = self.service.key() else {
             unreachable!();

@@ -9,6 +9,3 @@ mod service;
 
 pub use instance::{Finished, Instance, InstanceDues, Shown};
 pub use leftovers::Leftovers;
-
-#[cfg(test)]
-mod tests;

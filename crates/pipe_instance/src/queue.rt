@@ -114,7 +114,8 @@ impl Queue {
         ensures same { self.new
             ≡ record self.old { control = self.new.control; waiting = self.new.waiting } }
         ensures unchanged { OnErr result (self.new ≡ self.old) }
-        ensures no_drop { (dequeue self.old.discipline now self.old.control self.old.waiting).dropped ≡ [] → IsOk result }
+        ensures no_drop { let q = self.old in
+            (dequeue q.discipline now q.control q.waiting).dropped ≡ [] → IsOk result }
     {
         match &mut self.kind {
             Kind::Tail(queue) => {

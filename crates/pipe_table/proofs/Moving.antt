@@ -1,9 +1,8 @@
 -- Packets of many pipes that move from one shelf to another; also for the crates above.
-use Rattle.std.proofs.Common.{◌≡◌, ℕ, suc, ◌+◌, ◌<◌, ◌≤◌, true, refl, sym, ap, ◌∙◌, subst, List, [], ◌∷◌, ◌++◌, map, length, take, drop, set, get_or, IsSome, append-nil, append_assoc, arith}
+use Rattle.std.proofs.Common.{◌≡◌, ℕ, suc, ◌+◌, ◌<◌, ◌≤◌, refl, sym, ap, ◌∙◌, subst, List, [], ◌∷◌, ◌++◌, length, take, drop, set, get_or, append-nil, append_assoc, arith}
 use Rattle.std.specs.Prelude.{unwrap_or}
 use Rattle.std.proofs.lemmas.Grind.{drop_more_same}
 use Rattle.std.proofs.lemmas.List.{map-append, drop_more, take_more, take_more_set, drop-set-lt, set_split, set-get_or, length-append, length-map, length-set, take_all, take-append-drop}
-use Rattle.emu_model.specs.declared.packets.Packet.{Packet}
 use Rattle.packet_store.specs.Pocket.{Pocket}
 use Rattle.pipe_instance.specs.Uses.{uses}
 use Rattle.pipe_core.proofs.CallerLemmas.{AreNamed-after, AreNamed-front, found-some, Rehouses-none, Rehouses-then}

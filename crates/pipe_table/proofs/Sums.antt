@@ -1,5 +1,5 @@
 -- How often a key stands in the pipes.
-use Rattle.std.proofs.Common.{◌≡◌, ℕ, ◌+◌, refl, ap, ◌∙◌, List, [], ◌∷◌, ◌++◌, length, arith}
+use Rattle.std.proofs.Common.{◌≡◌, ℕ, ◌+◌, refl, ap, ◌∙◌, List, [], ◌∷◌, ◌++◌, arith}
 use Rattle.pipe_instance.specs.Uses.{total}
 use Rattle.pipe_instance.proofs.CallerLemmas.{total-nil, total-append}
 use Rattle.pipe_core.specs.Keyed.{KeyedPipe, keys_of}

@@ -1,5 +1,5 @@
 -- One pipe of the table changes.
-use Rattle.std.proofs.Common.{◌≡◌, ℕ, ◌+◌, ◌<◌, ◌≤◌, Bool, true, cond, refl, sym, ap, ◌∙◌, List, [], ◌∷◌, ◌++◌, Option, Some, None, IsSome, arith}
+use Rattle.std.proofs.Common.{◌≡◌, ℕ, ◌+◌, ◌<◌, Bool, true, cond, refl, sym, ap, ◌∙◌, List, [], ◌∷◌, ◌++◌, Some, None, arith}
 use Rattle.std.specs.Prelude.{◌==◌, find, unwrap_or, option_map}
 use Rattle.std.proofs.lemmas.List.{map-append}
 use Rattle.emu_model.specs.declared.packets.Packet.{Packet}
@@ -7,7 +7,7 @@ use Rattle.emu_model.specs.Lists.{replace_first, remove_first}
 use Rattle.emu_model.specs.Pipes.{PipeState}
 use Rattle.packet_store.specs.Pocket.{Pocket}
 use Rattle.pipe_instance.specs.Uses.{uses, one_at}
-use Rattle.pipe_core.specs.Moves.{some_packet, packet_at, found, AreNamed, Keeps}
+use Rattle.pipe_core.specs.Moves.{some_packet, packet_at, AreNamed, Keeps}
 use Rattle.pipe_core.specs.Keyed.{KeyedPipe, seen_pipe, view, keys_of}
 use Rattle.pipe_core.specs.Views.{ViewsAgree}
 use Rattle.pipe_table.specs.Table.{seen_pipes, pipe_keys, has_number, pipe_of}

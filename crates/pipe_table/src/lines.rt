@@ -17,7 +17,8 @@ use record_log::RecordLog;
 // The line of an instance.
 fn instance_line(pipe: PipeNumber, index: usize, shown: Shown) -> Record
     requires { index < 256 }
-    ensures { result ≡ InstanceLine pipe index shown.waiting shown.bytes shown.busy shown.flight shown.drawn }
+    ensures { result
+        ≡ InstanceLine pipe index shown.waiting shown.bytes shown.busy shown.flight shown.drawn }
 {
     Record::InstanceLine {
         pipe,

@@ -229,7 +229,8 @@ impl PipeTable {
             let m = with_pipes (S.pocket shelf.old owner) self.old n in
             option_map_or (pipe_finishes at number instance m) (find_pipe number m) m
             ≡ note_drops now (drops_by_codel drops.new.items)
-            (with_pipes (S.pocket shelf.new owner) self.new (note (PacketFinished now packet.number number instance) n))) }
+            (with_pipes (S.pocket shelf.new owner) self.new
+            (note (PacketFinished now packet.number number instance) n))) }
         ensures keys { Keeps (S.pocket shelf.old owner) (S.pocket shelf.new owner)
             (pipe_keys self.old.pipes) (pipe_keys self.new.pipes) }
         ensures others { OthersStay owner (S.pocket shelf.old) (S.pocket shelf.new) }

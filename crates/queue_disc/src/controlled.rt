@@ -153,7 +153,8 @@ impl<A> Codel<A> {
         ensures same { self.new
             ≡ record self.old { control = self.new.control; waiting = self.new.waiting } }
         ensures unchanged { OnErr result (self.new ≡ self.old) }
-        ensures no_drop { (codel_dequeue self.old.times now self.old.control self.old.waiting).dropped ≡ [] → IsOk result }
+        ensures no_drop { let q = self.old in
+            (codel_dequeue q.times now q.control q.waiting).dropped ≡ [] → IsOk result }
         ensures lone { length self.old.waiting ≤ 1 → IsOk result }
     {
         let Verdict { drops, control } = judge(&self.queue, self.times, self.control, now);

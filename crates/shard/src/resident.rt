@@ -92,7 +92,8 @@ impl<M: Mail> Resident<M> {
     // Makes one step, and leaves its entry as it was.
     fn advance(&mut self, store: &mut Store) -> Event
         requires going { IsGoing M.seen
-            (pocket_of store.old self.old.owner) self.old.experiment self.old.published self.old.mail }
+            (pocket_of store.old self.old.owner) self.old.experiment self.old.published
+            self.old.mail }
         requires next { IsSome self.old.experiment.next }
         ensures advances { Advances M.seen result (pocket_of store.old self.old.owner) self.old
             (pocket_of store.new self.old.owner) self.new }
@@ -109,7 +110,8 @@ impl<M: Mail> Resident<M> {
     // Makes one step and at most `more` others, and leaves its entry as it was.
     fn run_on<W: Watch>(&mut self, store: &mut Store, more: u32, watch: &mut W) -> Event
         requires going { IsGoing M.seen
-            (pocket_of store.old self.old.owner) self.old.experiment self.old.published self.old.mail }
+            (pocket_of store.old self.old.owner) self.old.experiment self.old.published
+            self.old.mail }
         requires next { IsSome self.old.experiment.next }
         ensures runs { (n : ℕ) × Heard W.hears self.old.name n watch.old watch.new
             × RunsOn M.seen W.may_refuse more n result

@@ -88,7 +88,8 @@ fn grow_owners(owners: &mut Ring, len: usize) -> Result<(), AllocError>
 fn grow(entries: &mut Vec<Entry>, owners: &mut Ring, slots: &mut Slots) -> Result<(), AllocError>
     requires entries { length slots.old ≤ length entries.old.items }
     requires owners { length slots.old ≤ length owners.old }
-    ensures grown { IsGrown entries.old.items slots.old owners.old entries.new.items slots.new owners.new }
+    ensures grown { IsGrown entries.old.items slots.old owners.old
+        entries.new.items slots.new owners.new }
     ensures ok { OnOk result (0 < count_by (λ l. l == 2050) slots.new) }
 {
     let len = slots.len();

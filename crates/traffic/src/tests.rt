@@ -96,6 +96,13 @@ fn command(moment: u64) -> Due
     }
 }
 
+fn due_of(class: Class, number: u32, moment: u64) -> Due {
+    Due {
+        moment,
+        source: Source { class, number },
+    }
+}
+
 /// What is sent next, if that is before another moment.
 fn sends(traffic: &mut Traffic, now: u64, end: u64) -> Option<Sending>
     requires { now < 2 * 10 ^ 15 }
@@ -140,18 +147,19 @@ fn answers(traffic: &mut Traffic, n: u16, first: u64) -> Option<Sending> {
     traffic.take(number, first)
 }
 
-fn answers_upto(rt: &impl Abort, traffic: &mut Traffic, first: u64, upto: u64) -> Result<(), Fail> {
-    let Sending { load, send } = answers(traffic, 1, first).ok_or("no answer")?;
+fn answers_upto(rt: &impl Abort, traffic: &mut Traffic, first: u64, upto: u64) {
+    let Some(Sending { load, send }) = answers(traffic, 1, first) else {
+        return assert!(rt; false, "no answer");
+    };
     assert_eq!(rt; send.size.get(), 40);
     assert_eq!(rt;
         (send.src, send.sport, send.dst, send.dport),
         (0x0a000002, 80, 0x0a000001, 1000)
     );
     let Load::Ack { flow, upto: byte } = load else {
-        return Err(Fail::from("no acknowledgement"));
+        return assert!(rt; false, "no acknowledgement");
     };
     assert_eq!(rt; (flow.get(), byte), (1, upto));
-    Ok(())
 }
 
 fn windows(rt: &impl Abort, window: Option<Window>, wanted: (u64, u64)) {
@@ -164,30 +172,31 @@ fn windows(rt: &impl Abort, window: Option<Window>, wanted: (u64, u64)) {
 // The example of four segments over 10 ms each way, by its report.
 #[test]
 fn four_segments_are_sent_and_answered(rt: HostRuntime) -> Result<(), Fail> {
-    let mut traffic = Traffic::new(rt.alloc());
     let one = number(1)?;
+    let mut traffic = Traffic::new(rt.alloc());
     let begun = begins_flow(&mut traffic, 1);
     assert!(rt; begun);
     sends_segments(&rt, &mut traffic, 0, &[0, 1460, 2920]);
-    answers_upto(&rt, &mut traffic, 0, 1460)?;
-    answers_upto(&rt, &mut traffic, 1460, 2920)?;
-    answers_upto(&rt, &mut traffic, 2920, 4380)?;
+    answers_upto(&rt, &mut traffic, 0, 1460);
+    answers_upto(&rt, &mut traffic, 1460, 2920);
+    answers_upto(&rt, &mut traffic, 2920, 4380);
     windows(&rt, traffic.take_ack(21_200_000, one, 1460), (5840, 65535));
     sends_segments(&rt, &mut traffic, 21_200_000, &[4380]);
     windows(&rt, traffic.take_ack(22_400_000, one, 2920), (7300, 65535));
     windows(&rt, traffic.take_ack(23_600_000, one, 4380), (8760, 65535));
-    answers_upto(&rt, &mut traffic, 4380, 5840)?;
+    answers_upto(&rt, &mut traffic, 4380, 5840);
     windows(&rt, traffic.take_ack(42_400_000, one, 5840), (10220, 65535));
     let last = traffic.earliest(42_400_000, command(100 * MS));
     assert!(rt; last.source.class == Class::NextCommand, "no timer runs");
+    drop(traffic);
     Ok(())
 }
 
 // The example of a flow that is stopped between its first and its second acknowledgement.
 #[test]
 fn stopped_flow_answers_and_sends_nothing(rt: HostRuntime) -> Result<(), Fail> {
-    let mut traffic = Traffic::new(rt.alloc());
     let one = number(1)?;
+    let mut traffic = Traffic::new(rt.alloc());
     let begun = begins_flow(&mut traffic, 1);
     assert!(rt; begun);
     sends_segments(&rt, &mut traffic, 0, &[0, 1460, 2920]);
@@ -198,20 +207,21 @@ fn stopped_flow_answers_and_sends_nothing(rt: HostRuntime) -> Result<(), Fail> {
         traffic.take_ack(22_400_000, one, 2920).is_none(),
         "it is stopped"
     );
-    answers_upto(&rt, &mut traffic, 0, 1460)?;
+    answers_upto(&rt, &mut traffic, 0, 1460);
     assert!(rt; traffic.has_flow(one), "it is there");
     assert!(rt;
         traffic.refusal(one) == Some(Refusal::FlowThere),
         "its number is in use"
     );
+    drop(traffic);
     Ok(())
 }
 
 // One segment is left at the start of slow start; the time of one second is doubled.
 #[test]
 fn timer_expires(rt: HostRuntime) -> Result<(), Fail> {
-    let mut traffic = Traffic::new(rt.alloc());
     let one = number(1)?;
+    let mut traffic = Traffic::new(rt.alloc());
     let begun = begins_flow(&mut traffic, 1);
     assert!(rt; begun);
     sends_segments(&rt, &mut traffic, 0, &[0, 1460, 2920]);
@@ -222,6 +232,7 @@ fn timer_expires(rt: HostRuntime) -> Result<(), Fail> {
     sends_segments(&rt, &mut traffic, 1000 * MS, &[0]);
     let due = traffic.earliest(1000 * MS, command(9000 * MS));
     assert_eq!(rt; (due.source.number, due.moment), (1, 3000 * MS));
+    drop(traffic);
     Ok(())
 }
 
@@ -240,6 +251,7 @@ fn sender(traffic: &mut Traffic, now: u64) -> Option<u16>
 // second, and one that is stopped has none.
 #[test]
 fn least_number_sends_and_first_timer_expires(rt: HostRuntime) -> Result<(), Fail> {
+    let (two, five, nine) = (number(2)?, number(5)?, number(9)?);
     let mut traffic = Traffic::new(rt.alloc());
     for n in [9, 2, 5] {
         let begun = begins_flow(&mut traffic, n);
@@ -251,50 +263,60 @@ fn least_number_sends_and_first_timer_expires(rt: HostRuntime) -> Result<(), Fai
         }
     }
     assert!(rt; sender(&mut traffic, 6).is_none(), "all windows are full");
-    for (now, n) in [(3, 2), (4, 5), (6, 9)] {
+    for (now, number) in [(3, two), (4, five), (6, nine)] {
         let due = traffic.earliest(6, command(9000 * MS));
-        assert!(rt; due.source.class == Class::Expiry, "the timer of {n}");
+        assert!(rt; due.source.class == Class::Expiry, "a timer");
         assert_eq!(rt;
             (due.source.number, due.moment),
-            (u32::from(n), now + 1000 * MS)
+            (u32::from(number.get()), now + 1000 * MS)
         );
-        traffic.stop(number(n)?);
+        traffic.stop(number);
     }
     let due = traffic.earliest(6, command(9000 * MS));
     assert!(rt; due.source.class == Class::NextCommand, "all are stopped");
+    drop(traffic);
     Ok(())
+}
+
+/// A plain packet of 1000 bytes with this header was sent.
+fn is_thousand(sent: Option<Sending>, header: Option<SendSpec>) -> bool {
+    let Some(Sending { load, send }) = sent else {
+        return false;
+    };
+    let size = send.size.get();
+    header == Some(send) && load == Load::Plain && size == 1000
 }
 
 // The example of a train of three packets, 5 ns apart.
 #[test]
 fn train_sends_its_packets(rt: HostRuntime) -> Result<(), Fail> {
-    let mut traffic = Traffic::new(rt.alloc());
     let one = number(1)?;
+    let mut traffic = Traffic::new(rt.alloc());
     let begun = begins_train(&mut traffic, 0, 1);
     assert!(rt; begun);
     for now in [0, 5, 10] {
         let due = traffic.earliest(now, command(20));
         assert_eq!(rt; (due.moment, due.source.number), (now, 1));
         let header = traffic.next_send(one);
-        let Some(Sending { load, send }) = sends(&mut traffic, now, 20) else {
-            return Err(Fail::from("nothing sent"));
-        };
-        assert!(rt;
-            load == Load::Plain && header == Some(send),
-            "a packet at {now}"
-        );
-        assert_eq!(rt; send.size.get(), 1000);
+        let sent = sends(&mut traffic, now, 20);
+        assert!(rt; is_thousand(sent, header), "a packet at {now}");
     }
     assert!(rt; sends(&mut traffic, 10, 20).is_none(), "three are all");
     traffic.stop(one);
     assert!(rt; !traffic.has_flow(one), "it is no flow");
     assert!(rt; traffic.reply(one).is_none(), "it has no receiver");
+    drop(traffic);
     Ok(())
 }
 
 // Flows and trains share one set of numbers, and the limit of 256.
 #[test]
 fn sources_are_refused_in_order(rt: HostRuntime) -> Result<(), Fail> {
+    let refusals = [
+        (number(1)?, Refusal::FlowThere),
+        (number(256)?, Refusal::FlowThere),
+        (number(257)?, Refusal::TooManyFlows),
+    ];
     let mut traffic = Traffic::new(rt.alloc());
     let begun = begins_flow(&mut traffic, 1);
     assert!(rt; begun);
@@ -302,20 +324,16 @@ fn sources_are_refused_in_order(rt: HostRuntime) -> Result<(), Fail> {
         let begun = begins_train(&mut traffic, 0, n);
         assert!(rt; begun, "{n}");
     }
-    for (n, wanted) in [
-        (1, Refusal::FlowThere),
-        (256, Refusal::FlowThere),
-        (257, Refusal::TooManyFlows),
-    ] {
-        let number = number(n)?;
-        assert!(rt; traffic.refusal(number) == Some(wanted), "{n}");
+    for (number, wanted) in refusals {
+        assert!(rt; traffic.refusal(number) == Some(wanted));
     }
+    drop(traffic);
     Ok(())
 }
 
 // A flow's timer, its segment, and a train's packet, in this order.
 #[test]
-fn dues_stand_in_order(rt: HostRuntime) -> Result<(), Fail> {
+fn dues_stand_in_order(rt: HostRuntime) {
     let mut traffic = Traffic::new(rt.alloc());
     let begun = begins_flow(&mut traffic, 1);
     assert!(rt; begun);
@@ -324,21 +342,15 @@ fn dues_stand_in_order(rt: HostRuntime) -> Result<(), Fail> {
     let sent = sends(&mut traffic, 3, 4);
     assert!(rt; sent.is_some(), "a segment");
     let mut dues = Vec::new(rt.alloc());
-    traffic.add_dues(9, &mut dues)?;
-    let mut seen = dues.iter();
-    for (class, number, moment) in [
-        (Class::Expiry, 1, 3 + 1000 * MS),
-        (Class::Emission, 1, 9),
-        (Class::Emission, 2, 7),
-    ] {
-        let Some(due) = seen.next() else {
-            return Err(Fail::from("too few"));
-        };
-        assert!(rt; due.source.class == class, "at {moment}");
-        assert_eq!(rt; (due.source.number, due.moment), (number, moment));
-    }
-    assert!(rt; seen.next().is_none(), "too many");
-    Ok(())
+    let added = traffic.add_dues(9, &mut dues).is_ok();
+    assert!(rt; added, "memory");
+    let wanted = [
+        due_of(Class::Expiry, 1, 3 + 1000 * MS),
+        due_of(Class::Emission, 1, 9),
+        due_of(Class::Emission, 2, 7),
+    ];
+    assert!(rt; dues[..] == wanted[..]);
+    drop(traffic);
 }
 
 /// Passes with ample memory, and where any one allocation is refused.
@@ -349,6 +361,7 @@ fn start_flow_may_be_refused_memory(rt: HostRuntime) {
         let begun = begins_flow(&mut traffic, n);
         assert!(rt; begun, "{n}");
     }
+    drop(traffic);
 }
 
 #[test]
@@ -358,23 +371,25 @@ fn start_train_may_be_refused_memory(rt: HostRuntime) {
         let begun = begins_train(&mut traffic, 0, n);
         assert!(rt; begun, "{n}");
     }
+    drop(traffic);
 }
 
 /// Takes segments past a gap, and then the one that was missing.
 #[test]
-fn take_ready_may_be_refused_memory(rt: HostRuntime) -> Result<(), Fail> {
+fn take_ready_may_be_refused_memory(rt: HostRuntime) {
     let mut traffic = Traffic::new(rt.alloc());
     let begun = begins_flow(&mut traffic, 1);
     assert!(rt; begun);
     for n in 1..20 {
-        answers_upto(&rt, &mut traffic, 1460 * n, 0)?;
+        answers_upto(&rt, &mut traffic, 1460 * n, 0);
     }
-    answers_upto(&rt, &mut traffic, 0, 29200)
+    answers_upto(&rt, &mut traffic, 0, 29200);
+    drop(traffic);
 }
 
 /// Where memory is refused the list is as it was.
 #[test]
-fn add_dues_may_be_refused_memory(rt: HostRuntime) -> Result<(), Fail> {
+fn add_dues_may_be_refused_memory(rt: HostRuntime) {
     let mut traffic = Traffic::new(rt.alloc());
     let begun = begins_flow(&mut traffic, 1);
     assert!(rt; begun);
@@ -383,9 +398,10 @@ fn add_dues_may_be_refused_memory(rt: HostRuntime) -> Result<(), Fail> {
         let before = dues.len();
         if traffic.add_dues(0, &mut dues).is_err() {
             assert!(rt; dues.len() == before, "as it was");
-            traffic.add_dues(0, &mut dues)?;
+            let added = traffic.add_dues(0, &mut dues).is_ok();
+            assert!(rt; added, "at the second try");
         }
         assert_eq!(rt; dues.len(), n);
     }
-    Ok(())
+    drop(traffic);
 }

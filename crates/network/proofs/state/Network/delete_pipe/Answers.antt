@@ -8,9 +8,10 @@ use Rattle.emu_model.specs.declared.records.Refusal.TheVariants.{NoSuchPipe}
 use Rattle.emu_model.specs.Net.{drop_record, find_pipe}
 use Rattle.emu_model.specs.Commands.{obey}
 use Rattle.network.specs.contracts.state.Network.{the_view}
-use Rattle.network.specs.Kept.{KeptNet, net_of, IsHoused}
-use Rattle.network.specs.Changes.{IsStill, Notes}
-use Rattle.network.proofs.Obeying.{none-there, refuse-obeys, from_ready, ready-housed, deleted, not-deleted}
+use Rattle.network.specs.Kept.{KeptNet, net_of}
+use Rattle.network.specs.Changes.{Notes}
+use Rattle.network.proofs.Obeying.{none-there, refuse-obeys, deleted, not-deleted}
+use Rattle.network.proofs.Readied.{readied, from_readied}
 use Rattle.network.proofs.Frame.{pipes-named}
 use Rattle.network.proofs.state.Network.delete_pipe.Goals as goal
 
@@ -20,31 +21,20 @@ refused-where there = cond there None (Some NoSuchPipe)
 
 pub delete-requires : goal.delete-requires
 delete-requires g c =
-    let p = g.S.Shelf.pocket c.args.shelf.now c.args.owner in
-    let still : IsStill c.args.self.now c.reserve_besides.new.self = c.reserve_besides.ensures.still in
-    let n = the_view c.self-2.inside in
-    let h : IsHoused p n = ready-housed p p c.args.self.now c.reserve_besides.new.self n c.requires.stands.housed still refl c.self-2.view_is in
-    pipes-named p n h
+    let r = readied c.requires.stands.housed c.reserve_besides.ensures.still refl c.self-2.view_is in
+    pipes-named _ _ r.housed
 
 pub returns-in-Ok-None-clause-ok : goal.returns-in-Ok-None-clause-ok
 returns-in-Ok-None-clause-ok g c =
-    let p = g.S.Shelf.pocket c.args.shelf.now c.args.owner in
-    let still : IsStill c.args.self.now c.reserve_besides.new.self = c.reserve_besides.ensures.still in
-    let n = the_view c.self-2.inside in
-    let h : IsHoused p n = ready-housed p p c.args.self.now c.reserve_besides.new.self n c.requires.stands.housed still refl c.self-2.view_is in
-    let q = g.S.Shelf.pocket c.delete.new.shelf c.args.owner in
-    from_ready (obey c.args.at c.args.number (PipeDelete c.args.pipe)) 1 p p q c.args.self.now c.reserve_besides.new.self n _ c.requires.stands.housed still refl c.self-2.view_is
-    (not-deleted c.args.at c.args.number c.args.pipe p q n c.delete.new.self h c.delete.ensures.keys c.delete.ensures.seed _ (rw c.in-Ok-None.field-0-is at c.in-Ok-None.ensures.ok) (rw c.in-Ok-None.field-0-is at c.in-Ok-None.ensures.there) c.refuse-in-Ok-None.ensures)
+    let r = readied c.requires.stands.housed c.reserve_besides.ensures.still refl c.self-2.view_is in
+    from_readied r (obey c.args.at c.args.number (PipeDelete c.args.pipe)) 1 _ _
+    (not-deleted c.args.at c.args.number c.args.pipe _ _ _ c.delete.new.self r.housed c.delete.ensures.keys c.delete.ensures.seed _ (rw c.in-Ok-None.field-0-is at c.in-Ok-None.ensures.ok) (rw c.in-Ok-None.field-0-is at c.in-Ok-None.ensures.there) c.refuse-in-Ok-None.ensures)
 
 pub returns-in-Ok-Some-clause-ok : goal.returns-in-Ok-Some-clause-ok
 returns-in-Ok-Some-clause-ok g c =
-    let p = g.S.Shelf.pocket c.args.shelf.now c.args.owner in
-    let still : IsStill c.args.self.now c.reserve_besides.new.self = c.reserve_besides.ensures.still in
-    let n = the_view c.self-2.inside in
-    let h : IsHoused p n = ready-housed p p c.args.self.now c.reserve_besides.new.self n c.requires.stands.housed still refl c.self-2.view_is in
-    let q = g.S.Shelf.pocket c.delete.new.shelf c.args.owner in
-    from_ready (obey c.args.at c.args.number (PipeDelete c.args.pipe)) 1 p p q c.args.self.now c.reserve_besides.new.self n _ c.requires.stands.housed still refl c.self-2.view_is
-    (deleted c.args.at c.args.number c.args.pipe p q n c.delete.new.self h c.delete.ensures.keys c.delete.ensures.seed c.in-Ok-Some.packets.items c.done.new.self _ (rw c.in-Ok-Some.field-0-is at c.in-Ok-Some.ensures.ok) (rw c.in-Ok-Some.field-0-is at c.in-Ok-Some.ensures.there) c.done.ensures
+    let r = readied c.requires.stands.housed c.reserve_besides.ensures.still refl c.self-2.view_is in
+    from_readied r (obey c.args.at c.args.number (PipeDelete c.args.pipe)) 1 _ _
+    (deleted c.args.at c.args.number c.args.pipe _ _ _ c.delete.new.self r.housed c.delete.ensures.keys c.delete.ensures.seed c.in-Ok-Some.packets.items c.done.new.self _ (rw c.in-Ok-Some.field-0-is at c.in-Ok-Some.ensures.ok) (rw c.in-Ok-Some.field-0-is at c.in-Ok-Some.ensures.there) c.done.ensures
     (subst (λ (xs : List Packet). Notes (map (drop_record c.args.at.now) (map (λ x. record { packet = x; cause = Deleted }) xs)) c.done.new.self c.drop_all.new.self) c.deref.ensures.value c.drop_all.ensures))
 
 pub returns-then-not-has-clause-ok : goal.returns-then-not-has-clause-ok

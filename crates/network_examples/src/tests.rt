@@ -1,0 +1,784 @@
+//! Worked examples: what a net records of a few commands, also where memory is refused once.
+
+ghost use Rattle.std.specs.Prelude.{IsTrue, IfSome, [], ◌≡◌, ◌+◌, ◌*◌, ◌^◌, ◌<◌, ◌≤◌, length};
+ghost use Rattle.emu_model.specs.Dues.{due};
+ghost use Rattle.network.specs.Kept.{net_keys, IsHoused, Stands};
+ghost use Rattle.network.specs.Due.{IsDue};
+ghost use Rattle.packet_store.specs.Own.{own_pocket};
+
+mod traces;
+
+use emu_model::{
+    Action, Amount, Bandwidth, Class, Command, Counters, Delay, Discipline, DropCause, Due,
+    FlowNumber, FlowSpec, Gap, Load, LossRate, Mask, PacketBudget, PipeConfig, PipeNumber, Prefix,
+    PrefixLength, Protocol, ProtocolMatch, QueueLimit, Record, Refusal, Rule, RuleNumber,
+    SegmentSize, SendSpec, Setting, Size, SlotLimit, Source, Threshold, Timed, Timing, TrainSpec,
+    Window,
+};
+use network::{Network, still_is_housed};
+use packet_store::{OwnShelf, Shelf};
+use std::alloc::Global;
+use std::test::Fail;
+
+/// The last moment of a test (ns).
+const LATEST: u64 = 1_000_000_000;
+
+/// What was recorded, and the counters.
+#[derive(Drop)]
+struct Played {
+    records: Vec<Record>,
+    counters: Counters,
+}
+
+fn at(packet_budget: PacketBudget, now: u64) -> Setting
+    ensures { result ≡ record { seed = 0; packet_budget = packet_budget; now = now } }
+{
+    Setting {
+        seed: 0,
+        packet_budget,
+        now,
+    }
+}
+
+/// The command behind which nothing comes that is due later.
+fn next_command(moment: u64) -> Due
+    ensures { result ≡ due Class.NextCommand 0 moment }
+{
+    Due {
+        moment,
+        source: Source {
+            class: Class::NextCommand,
+            number: 0,
+        },
+    }
+}
+
+/// A command is obeyed, or memory is refused.
+#[tactic(auto, using(crate::proofs::Standing::refused_made))]
+fn obeys_once(
+    net: &mut Network,
+    shelf: &mut OwnShelf,
+    at: Setting,
+    number: u64,
+    command: &Command,
+) -> bool
+    requires stands { Stands at (own_pocket shelf.old) net.old }
+    requires made { net.old.made < 2 ^ 63 }
+    ensures housed { IsHoused (own_pocket shelf.new) net.new }
+    ensures budget { (own_pocket shelf.new).budget ≡ (own_pocket shelf.old).budget }
+    ensures seed { net.new.table.seed ≡ net.old.table.seed }
+    ensures made { net.new.made ≤ net.old.made + 1 }
+    ensures room { IsTrue result → 0 < net.new.log.spare }
+{
+    still_is_housed();
+    let Ok(()) = net.obey(shelf, 0, at, number, command) else {
+        return false;
+    };
+    true
+}
+
+/// How many records, packets made and packets held there are, and what is due first.
+fn seen(net: &Network, shelf: &OwnShelf) -> (usize, u64, usize, Due) {
+    let held = shelf.count(0);
+    (
+        net.records().len(),
+        net.counters(held as u64).made,
+        held,
+        net.earliest(0, next_command(LATEST)),
+    )
+}
+
+/// A command is obeyed, at the second try where memory was refused, and nothing has changed before
+/// that.
+#[tactic(auto, using(crate::proofs::Standing::stands_at))]
+fn obeys(
+    net: &mut Network,
+    shelf: &mut OwnShelf,
+    room: PacketBudget,
+    now: u64,
+    number: u64,
+    command: &Command,
+) -> bool
+    requires now { now < 2 * 10 ^ 15 }
+    requires seed { net.old.table.seed ≡ 0 }
+    requires room { room ≤ (own_pocket shelf.old).budget }
+    requires housed { IsHoused (own_pocket shelf.old) net.old }
+    requires made { net.old.made < 2 ^ 62 }
+    ensures seed { net.new.table.seed ≡ 0 }
+    ensures budget { (own_pocket shelf.new).budget ≡ (own_pocket shelf.old).budget }
+    ensures housed { IsHoused (own_pocket shelf.new) net.new }
+    ensures made { net.new.made ≤ net.old.made + 2 }
+    ensures spare { IsTrue result → 0 < net.new.log.spare }
+{
+    let before = seen(net, shelf);
+    if obeys_once(net, shelf, at(room, now), number, command) {
+        return true;
+    }
+    if seen(net, shelf) != before {
+        return false;
+    }
+    obeys_once(net, shelf, at(room, now), number, command)
+}
+
+/// An event comes, or memory is refused.
+#[tactic(auto, using(crate::proofs::Standing::refused_made))]
+fn happens(net: &mut Network, shelf: &mut OwnShelf, at: Setting, due: Due) -> bool
+    requires stands { Stands at (own_pocket shelf.old) net.old }
+    requires made { net.old.made < 2 ^ 63 }
+    requires due { IsDue due net.old }
+    requires now { due.moment ≡ at.now }
+    ensures housed { IsHoused (own_pocket shelf.new) net.new }
+    ensures budget { (own_pocket shelf.new).budget ≡ (own_pocket shelf.old).budget }
+    ensures seed { net.new.table.seed ≡ net.old.table.seed }
+    ensures made { net.new.made ≤ net.old.made + 1 }
+{
+    still_is_housed();
+    let Ok(()) = net.event(shelf, 0, at, due) else {
+        return false;
+    };
+    true
+}
+
+/// All events before a moment come. One that is refused memory is tried again, and nothing has changed
+/// before that.
+#[tactic(auto, using(crate::proofs::Standing::stands_at, crate::proofs::Standing::next_is_due))]
+fn goes_on(
+    net: &mut Network,
+    shelf: &mut OwnShelf,
+    room: PacketBudget,
+    clock: u64,
+    end: u64,
+) -> bool
+    requires end { end < 2 * 10 ^ 15 }
+    requires seed { net.old.table.seed ≡ 0 }
+    requires room { room ≤ (own_pocket shelf.old).budget }
+    requires housed { IsHoused (own_pocket shelf.old) net.old }
+    requires made { net.old.made < 2 ^ 62 }
+    ensures seed { net.new.table.seed ≡ 0 }
+    ensures budget { (own_pocket shelf.new).budget ≡ (own_pocket shelf.old).budget }
+    ensures housed { IsHoused (own_pocket shelf.new) net.new }
+    ensures made { net.new.made ≤ net.old.made + 500 }
+{
+    let mut clock = clock;
+    for _ in 0..500_u64 {
+        let due = net.earliest(clock, next_command(end));
+        if due.source.class == Class::NextCommand {
+            return true;
+        }
+        let before = seen(net, shelf);
+        if happens(net, shelf, at(room, due.moment), due) {
+            clock = due.moment;
+        } else if seen(net, shelf) != before {
+            return false;
+        }
+    }
+    false
+}
+
+/// A net of seed 0, at the second try where memory was refused.
+fn opens(alloc: Global) -> Option<Network>
+    ensures keys { IfSome result (λ n. net_keys n ≡ []) }
+    ensures seed { IfSome result (λ n. n.table.seed ≡ 0) }
+    ensures made { IfSome result (λ n. n.made ≡ 0) }
+{
+    match Network::new(alloc, 0).ok() {
+        Some(net) => Some(net),
+        None => Network::new(alloc, 0).ok(),
+    }
+}
+
+/// Commands are obeyed, and the events before the last of them come.
+#[tactic(auto, using(crate::proofs::Standing::stands_at))]
+fn goes_through(
+    net: &mut Network,
+    shelf: &mut OwnShelf,
+    room: PacketBudget,
+    commands: &[Timed],
+) -> bool
+    requires few { length commands.now ≤ 100 }
+    requires seed { net.old.table.seed ≡ 0 }
+    requires room { room ≤ (own_pocket shelf.old).budget }
+    requires housed { IsHoused (own_pocket shelf.old) net.old }
+    requires made { net.old.made ≡ 0 }
+    ensures housed { IsHoused (own_pocket shelf.new) net.new }
+{
+    let mut clock = 0;
+    for (index, timed) in commands.iter().enumerate() {
+        if LATEST < timed.moment || !goes_on(net, shelf, room, clock, timed.moment) {
+            return false;
+        }
+        clock = timed.moment;
+        if !obeys(net, shelf, room, clock, index as u64, &timed.command) {
+            return false;
+        }
+    }
+    true
+}
+
+/// What becomes of commands and of the events before the last of them.
+fn plays(alloc: Global, room: PacketBudget, commands: &[Timed]) -> Option<Played>
+    requires { length commands.now ≤ 100 }
+{
+    let mut net = opens(alloc)?;
+    let mut shelf = OwnShelf::new(alloc, room);
+    let is_through = goes_through(&mut net, &mut shelf, room, commands);
+    let counters = net.counters(shelf.count(0) as u64);
+    let records = net.into_records();
+    drop(shelf);
+    if !is_through {
+        drop(records);
+        return None;
+    }
+    Some(Played { records, counters })
+}
+
+/// This bandwidth (bit/s) and delay (ms).
+fn config(bw: u64, delay: u16) -> Option<PipeConfig> {
+    Some(PipeConfig {
+        bw: Bandwidth::new(bw)?,
+        delay: Delay::new(delay)?,
+        queue: QueueLimit::Slots(SlotLimit::new(50)?),
+        plr: LossRate::new(0)?,
+        mask: Mask {
+            proto: 0,
+            src: 0,
+            dst: 0,
+            sport: 0,
+            dport: 0,
+        },
+        discipline: Discipline::TailDrop,
+    })
+}
+
+/// A pipe with this bandwidth (bit/s) and delay (ms).
+fn pipe(number: u16, bw: u64, delay: u16) -> Option<Command> {
+    let pipe = PipeNumber::new(number)?;
+    let config = config(bw, delay)?;
+    Some(Command::Config { pipe, config })
+}
+
+/// A rule for all packets.
+fn rule(number: u32, action: Action) -> Option<Rule> {
+    let any = Prefix::new(0, PrefixLength::new(0)?);
+    Some(Rule {
+        number: RuleNumber::new(number)?,
+        action,
+        proto: ProtocolMatch::AnyProtocol,
+        src: any,
+        sports: None,
+        dst: any,
+        dports: None,
+    })
+}
+
+fn send_to(pipe: u16) -> Option<Action> {
+    Some(Action::SendTo(PipeNumber::new(pipe)?))
+}
+
+/// A packet of 1000 bytes.
+fn thousand() -> Option<SendSpec> {
+    Some(SendSpec {
+        proto: Protocol::Udp,
+        src: 0x0a00_0001,
+        sport: 1000,
+        dst: 0x0a00_0002,
+        dport: 2000,
+        size: Size::new(1000)?,
+    })
+}
+
+/// Four segments of 1460 bytes.
+fn four_segments() -> Option<FlowSpec> {
+    Some(FlowSpec {
+        src: 0x0a00_0001,
+        sport: 1000,
+        dst: 0x0a00_0002,
+        dport: 80,
+        smss: SegmentSize::new(1460)?,
+        segments: Amount::new(4)?,
+        ssthresh: Threshold::new(65535)?,
+        window: Window::new(65535)?,
+        timing: Timing::Adaptive,
+    })
+}
+
+/// A rule for TCP from one host to another.
+fn between(number: u32, from: u32, to: u32, pipe: u16) -> Option<Command> {
+    let host = PrefixLength::new(32)?;
+    Some(Command::Add(Rule {
+        number: RuleNumber::new(number)?,
+        action: Action::SendTo(PipeNumber::new(pipe)?),
+        proto: ProtocolMatch::OnlyTcp,
+        src: Prefix::new(from, host),
+        sports: None,
+        dst: Prefix::new(to, host),
+        dports: None,
+    }))
+}
+
+fn timed(moment: u64, command: Command) -> Timed {
+    Timed { moment, command }
+}
+
+fn done(moment: u64, command: u64) -> Record {
+    Record::CommandDone { moment, command }
+}
+
+fn refused(moment: u64, command: u64, refusal: Refusal) -> Record {
+    Record::CommandRefused {
+        moment,
+        command,
+        refusal,
+    }
+}
+
+fn finished(moment: u64, packet: u64, pipe: PipeNumber) -> Record {
+    Record::PacketFinished {
+        moment,
+        packet,
+        pipe,
+        instance: 0,
+    }
+}
+
+fn passed(moment: u64, packet: u64, pipe: PipeNumber) -> Record {
+    Record::PacketPassed {
+        moment,
+        packet,
+        pipe,
+        instance: 0,
+    }
+}
+
+fn delivered(moment: u64, packet: u64, load: Load) -> Record {
+    Record::PacketDelivered {
+        moment,
+        packet,
+        load,
+    }
+}
+
+fn dropped(moment: u64, packet: u64, cause: DropCause) -> Record {
+    Record::PacketDropped {
+        moment,
+        packet,
+        load: Load::Plain,
+        cause,
+    }
+}
+
+fn counted(rule: Rule, packets: u64, bytes: u64) -> Record {
+    Record::RuleLine {
+        rule,
+        packets,
+        bytes,
+    }
+}
+
+/// Appends the dues, at the second try where memory was refused, and none before that.
+fn adds_dues(net: &Network, clock: u64, dues: &mut Vec<Due>) -> bool {
+    let before = dues.len();
+    if net.add_dues(clock, dues).is_ok() {
+        return true;
+    }
+    dues.len() == before && net.add_dues(clock, dues).is_ok()
+}
+
+// 1 Mbit/s and 10 ms: a packet of 1000 bytes at 0.
+#[test]
+fn one_packet(rt: HostRuntime) -> Result<(), Fail> {
+    let room = PacketBudget::new(10).ok_or("budget")?;
+    let one = PipeNumber::new(1).ok_or("1")?;
+    let config = pipe(1, 1_000_000, 10).ok_or("pipe")?;
+    let all = rule(100, Action::SendTo(one)).ok_or("rule")?;
+    let send = thousand().ok_or("packet")?;
+    let commands = [
+        timed(0, config),
+        timed(0, Command::Add(all)),
+        timed(0, Command::Inject(send)),
+        timed(20_000_000, Command::End),
+    ];
+    let expected = [
+        done(0, 0),
+        done(0, 1),
+        done(0, 2),
+        finished(8_000_000, 0, one),
+        delivered(18_000_000, 0, Load::Plain),
+        done(20_000_000, 3),
+    ];
+    let Played { records, counters } = plays(rt.alloc(), room, &commands).ok_or("memory")?;
+    assert_eq!(rt;
+        (counters.made, counters.delivered, counters.held),
+        (1, 1, 0)
+    );
+    assert!(rt; records[..] == expected[..]);
+    Ok(())
+}
+
+// The same at the moment at which the packet is due: the command comes first.
+#[test]
+fn held_packet(rt: HostRuntime) -> Result<(), Fail> {
+    let room = PacketBudget::new(10).ok_or("budget")?;
+    let one = PipeNumber::new(1).ok_or("1")?;
+    let config = pipe(1, 1_000_000, 10).ok_or("pipe")?;
+    let all = rule(100, Action::SendTo(one)).ok_or("rule")?;
+    let send = thousand().ok_or("packet")?;
+    let commands = [
+        timed(0, config),
+        timed(0, Command::Add(all)),
+        timed(0, Command::Inject(send)),
+        timed(18_000_000, Command::End),
+    ];
+    let Some(mut net) = opens(rt.alloc()) else {
+        return Err(Fail::from("memory"));
+    };
+    let mut shelf = OwnShelf::new(rt.alloc(), room);
+    assert!(rt; goes_through(&mut net, &mut shelf, room, &commands));
+    let counters = net.counters(shelf.count(0) as u64);
+    assert_eq!(rt;
+        (counters.made, counters.delivered, counters.held),
+        (1, 0, 1)
+    );
+    let mut dues = Vec::new(rt.alloc());
+    assert!(rt; adds_dues(&net, 18_000_000, &mut dues));
+    let exit = Source {
+        class: Class::Exit,
+        number: 256,
+    };
+    let due = Due {
+        moment: 18_000_000,
+        source: exit,
+    };
+    assert!(rt; dues[..] == [due][..]);
+    assert!(rt; net.earliest(18_000_000, next_command(18_000_001)) == due);
+    drop(net);
+    drop(shelf);
+    Ok(())
+}
+
+// 1 Mbit/s, and three packets at 0 where two may be held.
+#[test]
+fn packet_budget(rt: HostRuntime) -> Result<(), Fail> {
+    let room = PacketBudget::new(2).ok_or("budget")?;
+    let one = PipeNumber::new(1).ok_or("1")?;
+    let config = pipe(1, 1_000_000, 0).ok_or("pipe")?;
+    let all = rule(100, Action::SendTo(one)).ok_or("rule")?;
+    let train = TrainSpec {
+        packet: thousand().ok_or("packet")?,
+        count: Amount::new(3).ok_or("count")?,
+        gap: Gap::new(0).ok_or("gap")?,
+    };
+    let number = FlowNumber::new(7).ok_or("7")?;
+    let commands = [
+        timed(0, config),
+        timed(0, Command::Add(all)),
+        timed(0, Command::Train { number, train }),
+        timed(20_000_000, Command::End),
+    ];
+    let expected = [
+        done(0, 0),
+        done(0, 1),
+        done(0, 2),
+        dropped(0, 2, DropCause::Budget),
+        finished(8_000_000, 0, one),
+        delivered(8_000_001, 0, Load::Plain),
+        finished(16_000_000, 1, one),
+        delivered(16_000_001, 1, Load::Plain),
+        done(20_000_000, 3),
+    ];
+    let played = plays(rt.alloc(), room, &commands).ok_or("memory")?;
+    assert!(rt; played.records[..] == expected[..]);
+    Ok(())
+}
+
+// A packet goes on in the rules behind each pipe.
+#[test]
+fn two_pipes_in_turn(rt: HostRuntime) -> Result<(), Fail> {
+    let room = PacketBudget::new(1000).ok_or("budget")?;
+    let (one, two) = (
+        PipeNumber::new(1).ok_or("1")?,
+        PipeNumber::new(2).ok_or("2")?,
+    );
+    let slow = pipe(1, 0, 10).ok_or("pipe 1")?;
+    let fast = pipe(2, 0, 5).ok_or("pipe 2")?;
+    let first = rule(100, Action::SendTo(one)).ok_or("100")?;
+    let second = rule(200, Action::SendTo(two)).ok_or("200")?;
+    let third = rule(300, Action::Permit).ok_or("300")?;
+    let send = thousand().ok_or("packet")?;
+    let commands = [
+        timed(0, Command::OnePass(false)),
+        timed(0, slow),
+        timed(0, fast),
+        timed(0, Command::Add(first)),
+        timed(0, Command::Add(second)),
+        timed(0, Command::Add(third)),
+        timed(0, Command::Inject(send)),
+        timed(20_000_000, Command::End),
+    ];
+    let expected = [
+        finished(0, 0, one),
+        passed(10_000_000, 0, one),
+        finished(10_000_000, 0, two),
+        passed(15_000_000, 0, two),
+        delivered(15_000_001, 0, Load::Plain),
+        done(20_000_000, 7),
+    ];
+    let played = plays(rt.alloc(), room, &commands).ok_or("memory")?;
+    let records = played.records;
+    assert_eq!(rt; records.len(), 13);
+    assert!(rt; records[7..] == expected[..]);
+    Ok(())
+}
+
+// What a pipe held goes with it, and nothing comes to it then.
+#[test]
+fn pipe_deleted(rt: HostRuntime) -> Result<(), Fail> {
+    let room = PacketBudget::new(1000).ok_or("budget")?;
+    let one = PipeNumber::new(1).ok_or("1")?;
+    let config = pipe(1, 0, 100).ok_or("pipe")?;
+    let all = rule(100, Action::SendTo(one)).ok_or("rule")?;
+    let other = thousand().ok_or("packet")?;
+    let send = thousand().ok_or("packet")?;
+    let commands = [
+        timed(0, config),
+        timed(0, Command::Add(all)),
+        timed(0, Command::Inject(send)),
+        timed(10_000_000, Command::PipeDelete(one)),
+        timed(10_000_000, Command::Inject(other)),
+        timed(200_000_000, Command::End),
+    ];
+    let expected = [
+        done(0, 0),
+        done(0, 1),
+        done(0, 2),
+        finished(0, 0, one),
+        done(10_000_000, 3),
+        dropped(10_000_000, 0, DropCause::Deleted),
+        done(10_000_000, 4),
+        dropped(10_000_000, 1, DropCause::NoPipe),
+        done(200_000_000, 5),
+    ];
+    let played = plays(rt.alloc(), room, &commands).ok_or("memory")?;
+    assert!(rt; played.records[..] == expected[..]);
+    Ok(())
+}
+
+// Each refusal, at its moment.
+#[test]
+fn refused_commands(rt: HostRuntime) -> Result<(), Fail> {
+    let room = PacketBudget::new(1000).ok_or("budget")?;
+    let last = rule(65535, Action::Permit).ok_or("65535")?;
+    let to_itself = RuleNumber::new(300).ok_or("300")?;
+    let skip = rule(300, Action::SkipTo(to_itself)).ok_or("300")?;
+    let seven = RuleNumber::new(7).ok_or("7")?;
+    let nine = PipeNumber::new(9).ok_or("9")?;
+    let commands = [
+        timed(0, Command::Add(last)),
+        timed(5, Command::Add(skip)),
+        timed(5, Command::Delete(seven)),
+        timed(9, Command::PipeDelete(nine)),
+        timed(20, Command::End),
+    ];
+    let expected = [
+        refused(0, 0, Refusal::BadNumber),
+        refused(5, 1, Refusal::BadSkip),
+        refused(5, 2, Refusal::NoRule),
+        refused(9, 3, Refusal::NoSuchPipe),
+        done(20, 4),
+    ];
+    let played = plays(rt.alloc(), room, &commands).ok_or("memory")?;
+    assert!(rt; played.records[..] == expected[..]);
+    Ok(())
+}
+
+// 10 Mbit/s and 10 ms there, 10 ms back: what a stopped flow has sent still comes, and is not taken.
+#[test]
+fn stopped_flow(rt: HostRuntime) -> Result<(), Fail> {
+    let room = PacketBudget::new(100).ok_or("budget")?;
+    let (one, two) = (
+        PipeNumber::new(1).ok_or("1")?,
+        PipeNumber::new(2).ok_or("2")?,
+    );
+    let number = FlowNumber::new(1).ok_or("flow")?;
+    let there = pipe(1, 10_000_000, 10).ok_or("pipe 1")?;
+    let back = pipe(2, 0, 10).ok_or("pipe 2")?;
+    let data = between(100, 0x0a00_0001, 0x0a00_0002, 1).ok_or("100")?;
+    let answers = between(200, 0x0a00_0002, 0x0a00_0001, 2).ok_or("200")?;
+    let flow = four_segments().ok_or("segments")?;
+    let commands = [
+        timed(0, there),
+        timed(0, back),
+        timed(0, data),
+        timed(0, answers),
+        timed(0, Command::Flow { number, flow }),
+        timed(21_300_000, Command::Stop(number)),
+        timed(100_000_000, Command::End),
+    ];
+    let expected = [
+        finished(1_200_000, 0, one),
+        finished(2_400_000, 1, one),
+        finished(3_600_000, 2, one),
+        delivered(
+            11_200_000,
+            0,
+            Load::Seg {
+                flow: number,
+                first: 0,
+            },
+        ),
+        finished(11_200_000, 3, two),
+        delivered(
+            12_400_000,
+            1,
+            Load::Seg {
+                flow: number,
+                first: 1460,
+            },
+        ),
+        finished(12_400_000, 4, two),
+        delivered(
+            13_600_000,
+            2,
+            Load::Seg {
+                flow: number,
+                first: 2920,
+            },
+        ),
+        finished(13_600_000, 5, two),
+        delivered(
+            21_200_000,
+            3,
+            Load::Ack {
+                flow: number,
+                upto: 1460,
+            },
+        ),
+        Record::AckTaken {
+            moment: 21_200_000,
+            flow: number,
+            cwnd: 5840,
+            ssthresh: 65535,
+        },
+        done(21_300_000, 5),
+        delivered(
+            22_400_000,
+            4,
+            Load::Ack {
+                flow: number,
+                upto: 2920,
+            },
+        ),
+        finished(22_400_000, 6, one),
+        delivered(
+            23_600_000,
+            5,
+            Load::Ack {
+                flow: number,
+                upto: 4380,
+            },
+        ),
+        delivered(
+            32_400_000,
+            6,
+            Load::Seg {
+                flow: number,
+                first: 4380,
+            },
+        ),
+        finished(32_400_000, 7, two),
+        delivered(
+            42_400_000,
+            7,
+            Load::Ack {
+                flow: number,
+                upto: 5840,
+            },
+        ),
+        done(100_000_000, 6),
+    ];
+    let played = plays(rt.alloc(), room, &commands).ok_or("memory")?;
+    let records = played.records;
+    assert_eq!(rt; records.len(), 24);
+    assert!(rt; records[5..] == expected[..]);
+    Ok(())
+}
+
+/// The rules of the listing, of which the last sends to this pipe.
+fn listed_rules(pipe: PipeNumber) -> Option<[Rule; 4]> {
+    let place = RuleNumber::new(300)?;
+    Some([
+        rule(100, Action::Count)?,
+        rule(100, Action::SkipTo(place))?,
+        rule(200, Action::Forbid)?,
+        rule(300, Action::SendTo(pipe))?,
+    ])
+}
+
+// The rules with what they counted, and the pipe with its instance, which serves the packet.
+#[test]
+fn listings(rt: HostRuntime) -> Result<(), Fail> {
+    let room = PacketBudget::new(10).ok_or("budget")?;
+    let one = PipeNumber::new(1).ok_or("1")?;
+    let made = pipe(1, 1_000_000, 0).ok_or("pipe")?;
+    let [count, skip, deny, send] = listed_rules(one).ok_or("rules")?;
+    let packet = thousand().ok_or("packet")?;
+    let commands = [
+        timed(0, Command::Add(send)),
+        timed(0, Command::Add(count)),
+        timed(0, Command::Add(skip)),
+        timed(0, Command::Add(deny)),
+        timed(0, made),
+        timed(0, Command::Inject(packet)),
+        timed(0, Command::Show),
+        timed(0, Command::PipeShow),
+    ];
+    let [count, skip, deny, send] = listed_rules(one).ok_or("rules")?;
+    let default = rule(65535, Action::Forbid).ok_or("default")?;
+    let config = config(1_000_000, 0).ok_or("config")?;
+    let expected = [
+        done(0, 6),
+        counted(count, 1, 1000),
+        counted(skip, 1, 1000),
+        counted(deny, 0, 0),
+        counted(send, 1, 1000),
+        counted(default, 0, 0),
+        done(0, 7),
+        Record::PipeLine { pipe: one, config },
+        Record::InstanceLine {
+            pipe: one,
+            instance: 0,
+            waiting: 0,
+            bytes: 0,
+            busy: true,
+            flight: 0,
+            drawn: 1,
+        },
+    ];
+    let played = plays(rt.alloc(), room, &commands).ok_or("memory")?;
+    let records = played.records;
+    assert_eq!(rt; records.len(), 15);
+    assert!(rt; records[6..] == expected[..]);
+    Ok(())
+}
+
+// The steps are spent behind a listing.
+#[test]
+fn steps_are_spent(rt: HostRuntime) -> Result<(), Fail> {
+    let room = PacketBudget::new(10).ok_or("budget")?;
+    let default = rule(65535, Action::Forbid).ok_or("default")?;
+    let expected = [
+        done(0, 0),
+        counted(default, 0, 0),
+        Record::StepsSpent { moment: 0 },
+    ];
+    let Some(mut net) = opens(rt.alloc()) else {
+        return Err(Fail::from("memory"));
+    };
+    let mut shelf = OwnShelf::new(rt.alloc(), room);
+    assert!(rt; obeys(&mut net, &mut shelf, room, 0, 0, &Command::Show));
+    net.note_spent(0);
+    assert!(rt; net.records() == &expected[..]);
+    drop(net);
+    drop(shelf);
+    Ok(())
+}

@@ -1,0 +1,172 @@
+//! What `trace` records.
+
+use super::*;
+
+fn made(moment: u64, packet: u64) -> Option<Record> {
+    Some(made_of(moment, packet, &thousand()?))
+}
+
+fn made_of(moment: u64, packet: u64, send: &SendSpec) -> Record {
+    Record::PacketMade {
+        moment,
+        packet,
+        load: Load::Plain,
+        proto: send.proto,
+        src: send.src,
+        sport: send.sport,
+        dst: send.dst,
+        dport: send.dport,
+        size: send.size,
+    }
+}
+
+fn arrived(moment: u64, packet: u64, pipe: PipeNumber, instance: u8) -> Record {
+    Record::PacketArrived {
+        moment,
+        packet,
+        pipe,
+        instance,
+    }
+}
+
+/// The packets from this address have this instance.
+fn identified(pipe: PipeNumber, instance: u8, src: u32) -> Record {
+    Record::InstanceIdentified {
+        moment: 0,
+        pipe,
+        instance,
+        proto: 0,
+        src,
+        dst: 0,
+        sport: 0,
+        dport: 0,
+    }
+}
+
+fn finished_in(moment: u64, packet: u64, pipe: PipeNumber, instance: u8) -> Record {
+    Record::PacketFinished {
+        moment,
+        packet,
+        pipe,
+        instance,
+    }
+}
+
+/// 1 Mbit/s and 10 ms for each source.
+fn pipe_for_each_source(pipe: PipeNumber) -> Option<Command> {
+    let mut config = config(1_000_000, 10)?;
+    config.mask.src = 0xffff_ffff;
+    Some(Command::Config { pipe, config })
+}
+
+/// A packet of 1000 bytes from another source.
+fn other_thousand() -> Option<SendSpec> {
+    let mut send = thousand()?;
+    send.src = 0x0a00_0003;
+    Some(send)
+}
+
+// With `trace` a making, the instance that it makes, and an arrival are recorded, and a making that the
+// budget drops; without it none.
+#[test]
+fn traced_budget(rt: HostRuntime) -> Result<(), Fail> {
+    let room = PacketBudget::new(1).ok_or("budget")?;
+    let one = PipeNumber::new(1).ok_or("1")?;
+    let config = pipe(1, 0, 100).ok_or("pipe")?;
+    let all = rule(100, Action::SendTo(one)).ok_or("rule")?;
+    let commands = [
+        timed(0, Command::Trace(true)),
+        timed(0, config),
+        timed(0, Command::Add(all)),
+        timed(0, Command::Inject(thousand().ok_or("packet")?)),
+        timed(0, Command::Inject(thousand().ok_or("packet")?)),
+        timed(5, Command::Trace(false)),
+        timed(5, Command::Inject(thousand().ok_or("packet")?)),
+        timed(6, Command::End),
+    ];
+    let expected = [
+        done(0, 3),
+        made(0, 0).ok_or("size")?,
+        Record::InstanceIdentified {
+            moment: 0,
+            pipe: one,
+            instance: 0,
+            proto: 0,
+            src: 0,
+            dst: 0,
+            sport: 0,
+            dport: 0,
+        },
+        Record::PacketArrived {
+            moment: 0,
+            packet: 0,
+            pipe: one,
+            instance: 0,
+        },
+        done(0, 4),
+        made(0, 1).ok_or("size")?,
+        dropped(0, 1, DropCause::Budget),
+        finished(0, 0, one),
+        done(5, 5),
+        done(5, 6),
+        dropped(5, 2, DropCause::Budget),
+        done(6, 7),
+    ];
+    let played = plays(rt.alloc(), room, &commands).ok_or("memory")?;
+    let records = played.records;
+    assert_eq!(rt; records.len(), 15);
+    assert!(rt; records[3..] == expected[..]);
+    Ok(())
+}
+
+// A command and an event that each make an instance, and an event that makes none. Passes with ample
+// memory, and where any one allocation is refused: what is refused leaves all as it was (`obeys` and
+// `goes_on` look at that), and makes its three lines at the second try.
+#[test]
+fn refused_trace_changes_nothing(rt: HostRuntime) -> Result<(), Fail> {
+    let room = PacketBudget::new(10).ok_or("budget")?;
+    let one = PipeNumber::new(1).ok_or("1")?;
+    let masked = pipe_for_each_source(one).ok_or("pipe")?;
+    let all = rule(100, Action::SendTo(one)).ok_or("rule")?;
+    let send = thousand().ok_or("packet")?;
+    let other = other_thousand().ok_or("packet")?;
+    let train = TrainSpec {
+        packet: other,
+        count: Amount::new(2).ok_or("count")?,
+        gap: Gap::new(4_000_000).ok_or("gap")?,
+    };
+    let number = FlowNumber::new(7).ok_or("7")?;
+    let commands = [
+        timed(0, Command::Trace(true)),
+        timed(0, masked),
+        timed(0, Command::Add(all)),
+        timed(0, Command::Inject(send)),
+        timed(0, Command::Train { number, train }),
+        timed(30_000_000, Command::End),
+    ];
+    let expected = [
+        done(0, 0),
+        done(0, 1),
+        done(0, 2),
+        done(0, 3),
+        made_of(0, 0, &send),
+        identified(one, 0, 0x0a00_0001),
+        arrived(0, 0, one, 0),
+        done(0, 4),
+        made_of(0, 1, &other),
+        identified(one, 1, 0x0a00_0003),
+        arrived(0, 1, one, 1),
+        made_of(4_000_000, 2, &other),
+        arrived(4_000_000, 2, one, 1),
+        finished_in(8_000_000, 0, one, 0),
+        finished_in(8_000_000, 1, one, 1),
+        finished_in(16_000_000, 2, one, 1),
+        delivered(18_000_000, 0, Load::Plain),
+        delivered(18_000_000, 1, Load::Plain),
+        delivered(26_000_000, 2, Load::Plain),
+        done(30_000_000, 5),
+    ];
+    let played = plays(rt.alloc(), room, &commands).ok_or("refused twice, or changed")?;
+    assert!(rt; played.records[..] == expected[..]);
+    Ok(())
+}
