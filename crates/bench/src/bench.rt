@@ -3,6 +3,7 @@
 ghost use Rattle.std.specs.Prelude.{◌≡◌, ◌+◌, ◌≤◌, vec_len, vec_capacity, length};
 ghost use Rattle.bench.specs.Custody.{Kept, AreResidents};
 ghost use Rattle.bench.specs.Ends.{deque_view};
+ghost use Rattle.crossbeam_deque.specs.Handles.{stealer_deque, worker_deque};
 
 use crate::closing::{Closing, drain};
 use crate::deque::{Deque, Peer};
@@ -100,6 +101,8 @@ impl Bench {
         requires { self.old.peered ≡ false }
         ensures same { SameBench self.old self.new }
         ensures ok { IfOk result (λ p. (peer_view p ≡ hand [] []) × (self.new.peered ≡ true)) }
+        ensures deque { IfOk result
+            (λ p. stealer_deque p.thief ≡ worker_deque self.new.deque.owner) }
         ensures err { OnErr result (self.new.peered ≡ false) }
     {
         let peer = self.deque.peer()?;

@@ -1,7 +1,7 @@
 //! A bench's deque: the owner's end and the thief's.
 
 ghost use Rattle.std.specs.Prelude.{◌≡◌};
-ghost use Rattle.crossbeam_deque.specs.Handles.{IsPassOf, stealer_deque, worker_flavor, worker_port, worker_view};
+ghost use Rattle.crossbeam_deque.specs.Handles.{IsPassOf, stealer_deque, worker_deque, worker_flavor, worker_port, worker_view};
 ghost use Rattle.bench.specs.Custody.{TookLess};
 
 use crate::custody::{Custody, Owner, Pushed, Retaken, Taken, Thief, ThiefPass};
@@ -44,7 +44,8 @@ impl Deque {
 
     // The thief's end.
     pub(crate) fn peer(&self) -> Result<Peer, AllocError>
-        ensures { IfOk result (λ p. peer_view p ≡ hand [] []) }
+        ensures view { IfOk result (λ p. peer_view p ≡ hand [] []) }
+        ensures same { IfOk result (λ p. stealer_deque p.thief ≡ worker_deque self.now.owner) }
     {
         let thief = self.owner.stealer()?;
         let pass = thief.pass();

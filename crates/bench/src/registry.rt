@@ -5,6 +5,7 @@ ghost use Rattle.shard.specs.Stand.{opened_stand};
 ghost use Rattle.bench.specs.Rings.{ring_seen, IsOpened};
 ghost use Rattle.bench.specs.Tenants.{posted, letters_read};
 ghost use Rattle.bench.specs.Registries.{OpenFails};
+ghost use Rattle.rtrb.specs.Ring.{IsPair};
 
 use crate::mail::{Moments, RingMail};
 use crate::tenant::Tenant;
@@ -69,6 +70,8 @@ impl Registry {
             (λ r. (r.0.name ≡ self.old.next) × (r.0.spec ≡ spec) × (posted r.0 ≡ [])
             × (letters_read r.0 ≡ [])) }
         ensures parcel { IfOk result (λ r. IsOpened self.old.next spec r.1) }
+        ensures commands { IfOk result (λ r. IsPair r.0.to r.1.mail.from) }
+        ensures letters { IfOk result (λ r. IsPair r.1.mail.to r.0.from) }
         ensures next { IfOk result
             (λ _. (self.new.next ≡ self.old.next + 1) × (self.old.next < 10 ^ 6)) }
         ensures err { OnErr result (self.new.next ≡ self.old.next) }

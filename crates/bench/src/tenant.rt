@@ -78,8 +78,9 @@ impl Tenant {
         requires sends { sent to ≡ [] }
         requires gets { received from ≡ [] }
         requires slots { producer_capacity to ≡ 64 }
-        ensures { (result.name ≡ name) × (result.spec ≡ spec) × (posted result ≡ [])
+        ensures given { (result.name ≡ name) × (result.spec ≡ spec) × (posted result ≡ [])
             × (letters_read result ≡ []) }
+        ensures ends { (result.to ≡ to) × (result.from ≡ from) }
     {
         Tenant {
             name,

@@ -12,6 +12,3 @@ pub use laws::{texts_join, texts_part, texts_spell_one};
 pub use names::ExperimentName;
 pub use reading::parse_scenario;
 pub use scenario::{CommandList, Experiment, Scenario};
-
-#[cfg(test)]
-mod tests;

@@ -6,6 +6,3 @@ mod tree;
 
 pub use index::DueIndex;
 pub use tree::lesser;
-
-#[cfg(test)]
-mod tests;

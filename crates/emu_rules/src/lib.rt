@@ -6,6 +6,3 @@ mod list;
 
 pub use list::{AddError, RuleList};
 pub use rule_search::CountedRule;
-
-#[cfg(test)]
-mod tests;

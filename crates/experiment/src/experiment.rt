@@ -1,14 +1,16 @@
 //! An experiment: commands are applied one at a time, and events are made one at a time.
 
 ghost use Rattle.std.specs.Prelude.{◌≡◌, ◌≢◌, ℕ, ◌+◌, ◌^◌, ◌≤◌, ◌<◌, ◌++◌, ◌==◌, if◌then◌else◌, true, false, [], ◌∷◌, Option, Some, None, IsSome, IfSome, IsOk, IfOk, OnOk, OnErr, List, is_some};
-ghost use Rattle.emu_model.specs.declared.sources.Class.TheVariants.{NextCommand};
+ghost use Rattle.emu_model.specs.declared.sources.Class.TheVariants.{NextCommand, Expiry};
 ghost use Rattle.emu_model.specs.declared.records.Ending.TheVariants.{Ended};
 ghost use Rattle.emu_model.specs.declared.records.Record.{Record};
+ghost use Rattle.emu_model.specs.declared.commands.Timed.{Timed as TimedCommand};
 ghost use Rattle.emu_model.specs.Step.{initial_state, next_event};
 ghost use Rattle.emu_model.specs.Commands.{is_end};
 ghost use Rattle.packet_store.specs.Pocket.{Pocket, empty_pocket, OthersStay};
 ghost use Rattle.network.specs.Kept.{net_of, IsHoused};
 ghost use Rattle.network.specs.Due.{IsDue};
+ghost use Rattle.network.specs.Ready.{TakesNoMemory};
 ghost use Rattle.experiment.specs.Kept.{view, IsAlone, IsHousedIn, last_moment};
 ghost use Rattle.experiment.specs.Moves.{Makes, Steps, Halts, Closes};
 
@@ -203,6 +205,13 @@ impl Experiment {
         ensures budget { (S.pocket shelf.new owner).budget ≡ (S.pocket shelf.old owner).budget }
         ensures steps { self.new.steps ≤ self.new.spec.budget.steps }
         ensures noted { self.new.noted ≡ self.old.noted }
+        ensures expires { (c : TimedCommand) → self.old.next ≡ Some c →
+            (next_event (view (S.pocket shelf.old owner) self.old) c).source.class ≡ Expiry →
+            6 ≤ self.old.net.log.spare → result ≢ Event.Halted }
+        ensures obeys { (c : TimedCommand) → self.old.next ≡ Some c →
+            (next_event (view (S.pocket shelf.old owner) self.old) c).source.class ≡ NextCommand →
+            TakesNoMemory c.command (net_of (S.pocket shelf.old owner) self.old.net) →
+            6 ≤ self.old.net.log.spare → result ≢ Event.Halted }
         ensures others { OthersStay owner (S.pocket shelf.old) (S.pocket shelf.new) }
     {
         records_grow();
@@ -239,6 +248,13 @@ impl Experiment {
             (Halts (S.pocket shelf.old owner) self.old (S.pocket shelf.new owner) self.new) }
         ensures housed { IsHousedIn (S.pocket shelf.new owner) self.new }
         ensures noted { self.new.noted ≡ self.old.noted }
+        ensures expires { (next_event (view (S.pocket shelf.old owner) self.old)
+            command.now).source.class ≡ Expiry →
+            6 ≤ self.old.net.log.spare → IsOk result }
+        ensures obeys { (next_event (view (S.pocket shelf.old owner) self.old)
+            command.now).source.class ≡ NextCommand →
+            TakesNoMemory command.now.command (net_of (S.pocket shelf.old owner) self.old.net) →
+            6 ≤ self.old.net.log.spare → IsOk result }
         ensures consumed { self.new.consumed ≡ self.old.consumed }
         ensures spec { self.new.spec ≡ self.old.spec }
         ensures budget { (S.pocket shelf.new owner).budget ≡ (S.pocket shelf.old owner).budget }
@@ -282,6 +298,9 @@ impl Experiment {
             (Halts (S.pocket shelf.old owner) self.old (S.pocket shelf.new owner) self.new) }
         ensures housed { IsHousedIn (S.pocket shelf.new owner) self.new }
         ensures noted { self.new.noted ≡ self.old.noted }
+        ensures obeys { TakesNoMemory command.now.command
+            (net_of (S.pocket shelf.old owner) self.old.net) →
+            6 ≤ self.old.net.log.spare → IsOk result }
         ensures consumed { self.new.consumed ≡ self.old.consumed }
         ensures spec { self.new.spec ≡ self.old.spec }
         ensures budget { (S.pocket shelf.new owner).budget ≡ (S.pocket shelf.old owner).budget }
@@ -326,6 +345,7 @@ impl Experiment {
             (Halts (S.pocket shelf.old owner) self.old (S.pocket shelf.new owner) self.new) }
         ensures housed { IsHousedIn (S.pocket shelf.new owner) self.new }
         ensures noted { self.new.noted ≡ self.old.noted }
+        ensures expires { due.source.class ≡ Expiry → 6 ≤ self.old.net.log.spare → IsOk result }
         ensures consumed { self.new.consumed ≡ self.old.consumed }
         ensures spec { self.new.spec ≡ self.old.spec }
         ensures budget { (S.pocket shelf.new owner).budget ≡ (S.pocket shelf.old owner).budget }

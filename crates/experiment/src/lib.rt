@@ -4,10 +4,6 @@
 
 mod experiment;
 mod rehousing;
-#[cfg(test)]
-mod rehousing_tests;
-#[cfg(test)]
-mod tests;
 mod told;
 mod touched;
 

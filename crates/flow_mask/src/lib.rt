@@ -4,8 +4,6 @@
 
 mod ids;
 mod instances;
-#[cfg(test)]
-mod tests;
 
 pub use ids::{ApplyMask, FlowId};
 pub use instances::{InstanceError, Instances};

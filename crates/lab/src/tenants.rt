@@ -1,9 +1,9 @@
 //! The side of the tenants, in the calling thread: each posts the commands of its experiment, and settles in the end.
 
-ghost use Rattle.std.specs.Prelude.{◌≡◌, ◌<◌, length, map, Some, is_some, IsSome, IsTrue, IfOk, IfErr};
+ghost use Rattle.std.specs.Prelude.{◌≡◌, ◌<◌, length, map, Some, is_some, IsSome, IsTrue, IfOk, IfErr, IfSome, Err};
 ghost use Rattle.experiment.specs.Kept.{shown_ending};
 ghost use Rattle.bench.specs.Commands.{BeginsWith};
-ghost use Rattle.bench.specs.Tenants.{posted, SameTenant};
+ghost use Rattle.bench.specs.Tenants.{posted, SameTenant, Fits};
 ghost use Rattle.lab.specs.Plans.{IsMemory, IsSettleFault};
 ghost use Rattle.lab.specs.Reports.{trace_alone};
 ghost use Rattle.lab.specs.Serving.{Serves, ServesAll, IsServed};
@@ -178,6 +178,7 @@ fn settle_one(
     requires { Serves tenant experiment.now }
     ensures ok { IfOk result (λ o. o ≡ trace_alone experiment.now) }
     ensures err { IfErr result IsSettleFault }
+    ensures strange { result ≡ Err RunFault.Strange → IfSome dossier (λ d. ¬ Fits tenant d) }
 {
     let Some(dossier) = dossier else {
         return Err(RunFault::Strange);

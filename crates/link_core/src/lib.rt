@@ -8,6 +8,3 @@ mod rate;
 pub use delay::DelayLine;
 pub use laws::{configuration_begins_anew, periods_are_rounded_once};
 pub use rate::RateServer;
-
-#[cfg(test)]
-mod tests;

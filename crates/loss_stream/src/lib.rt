@@ -4,6 +4,3 @@
 mod stream;
 
 pub use stream::LossStream;
-
-#[cfg(test)]
-mod tests;

@@ -1,6 +1,6 @@
 //! What commands do.
 
-ghost use Rattle.std.specs.Prelude.{◌≡◌, ◌+◌, ◌*◌, ◌^◌, ◌<◌, ◌≤◌, ◌++◌, ◌∷◌, [], Some, None, IsOk, IsSome, OnOk, OnErr, map, length};
+ghost use Rattle.std.specs.Prelude.{◌≡◌, ℕ, ◌+◌, ◌*◌, ◌^◌, ◌<◌, ◌≤◌, ◌++◌, ◌∷◌, [], Some, None, IsOk, IsSome, OnOk, OnErr, map, length};
 ghost use Rattle.emu_model.specs.declared.commands.Command.TheVariants.{Add, Delete, Config, PipeDelete, PipeShow, Show, Inject, Train, Flow, Stop, OnePass, Trace, End};
 ghost use Rattle.emu_model.specs.declared.records.Record.TheVariants.{CommandDone, CommandRefused, RuleLine};
 ghost use Rattle.emu_model.specs.Commands.{obey as obeyed, config_refusal, refusal_of as obey_refusal, source_refusal};
@@ -9,6 +9,7 @@ ghost use Rattle.packet_store.specs.Pocket.{Pocket, OthersStay};
 ghost use Rattle.network.specs.Kept.{net_of, Stands};
 ghost use Rattle.network.specs.Changes.{Becomes, IsStill, Notes, Obeys};
 ghost use Rattle.network.specs.Ready.{TakesNoMemory};
+ghost use Rattle.pipe_table.specs.Table.{pipe_of};
 
 use crate::events::MOST_RECORDS;
 use crate::state::Network;
@@ -44,6 +45,8 @@ impl Network {
         ensures refused { OnErr result (IsStill self.old self.new) }
         ensures succeeds { TakesNoMemory command.now (net_of (S.pocket shelf.old owner) self.old) →
             6 ≤ self.old.log.spare → IsOk result }
+        ensures kept { (k : ℕ) (config : PipeConfig) → command.now ≡ Config k config →
+            IsSome (pipe_of k self.old.table.pipes) → 6 ≤ self.old.log.spare → IsOk result }
         ensures refused_pocket { OnErr result
             (S.pocket shelf.new owner ≡ S.pocket shelf.old owner) }
         ensures others { OthersStay owner (S.pocket shelf.old) (S.pocket shelf.new) }
@@ -152,6 +155,7 @@ impl Network {
         ensures refused { OnErr result (IsStill self.old self.new) }
         ensures succeeds { (p : Pocket) →
             IsSome (config_refusal pipe config.now (net_of p self.old)) → IsOk result }
+        ensures kept { IsSome (pipe_of pipe self.old.table.pipes) → IsOk result }
     {
         match self.table.configure(pipe, config) {
             Ok(()) => {
@@ -227,6 +231,7 @@ impl Network {
         ensures ok { OnOk result (Obeys at number Show self.old self.new) }
         ensures room { OnOk result (0 < self.new.log.spare) }
         ensures refused { OnErr result (IsStill self.old self.new) }
+        ensures fits { length self.old.book.rules + 3 ≤ self.old.log.spare → IsOk result }
     {
         let lines = self.book.list().len();
         self.reserve_besides(lines)?;

@@ -1,6 +1,6 @@
 //! What a delivered packet does.
 
-ghost use Rattle.std.specs.Prelude.{◌≡◌, ℕ, ◌+◌, ◌*◌, ◌^◌, ◌<◌, ◌≤◌, ◌∷◌, [], OnOk};
+ghost use Rattle.std.specs.Prelude.{◌≡◌, ℕ, ◌+◌, ◌*◌, ◌^◌, ◌<◌, ◌≤◌, ◌∷◌, [], IsOk, OnOk};
 ghost use Rattle.std.specs.Option.{option_map_or};
 ghost use Rattle.emu_model.specs.declared.packets.Load.TheVariants.{Plain, Seg, Ack};
 ghost use Rattle.emu_model.specs.Net.{deliver as delivered, find_flow, take_ack as acknowledged, take_load};
@@ -33,6 +33,7 @@ impl Network {
         ensures pockets { AllStay (S.pocket shelf.old) (S.pocket shelf.new) }
         ensures rooms { (o : ℕ) → S.room shelf.old o ≤ S.room shelf.new o }
         ensures ready { OnOk result (CanDeliver load self.new) }
+        ensures plain { load ≡ Plain → IsOk result }
     {
         match load {
             Load::Plain => return Ok(()),

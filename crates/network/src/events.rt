@@ -1,8 +1,9 @@
 //! The events but the next command: exits, finishes, expiries and emissions.
 
-ghost use Rattle.std.specs.Prelude.{◌≡◌, ◌+◌, ◌*◌, ◌/◌, ◌%◌, ◌^◌, ◌<◌, ◌≤◌, ◌∷◌, [], Some, None, IsOk, OnOk, OnErr, IfSome, OnSome, option_and_then, map, length};
+ghost use Rattle.std.specs.Prelude.{◌≡◌, ◌+◌, ◌*◌, ◌/◌, ◌%◌, ◌^◌, ◌<◌, ◌≤◌, ◌∷◌, [], Some, None, true, IsOk, OnOk, OnErr, IfSome, OnSome, option_and_then, map, length};
 ghost use Rattle.std.specs.Option.{option_map_or};
 ghost use Rattle.emu_model.specs.declared.sources.Class.TheVariants.{Expiry};
+ghost use Rattle.emu_model.specs.declared.packets.Load.TheVariants.{Plain};
 ghost use Rattle.emu_model.specs.Delay.{first_item, leave};
 ghost use Rattle.emu_model.specs.Net.{Net, drop_record, find_flow, find_pipe};
 ghost use Rattle.emu_model.specs.Events.{direct_exit as exits_direct, emission as emitted, event_of, expire_flow, flying_in, leave_pipe as leaves_pipe, pipe_exits, pipe_finishes};
@@ -190,6 +191,7 @@ impl Network {
             } }
         ensures pockets { AllStay (S.pocket shelf.old) (S.pocket shelf.new) }
         ensures ready { OnOk result (CanLeave packet.now self.new) }
+        ensures plain { self.old.one_pass ≡ true → packet.now.load ≡ Plain → IsOk result }
     {
         if self.one_pass {
             return self.deliver_ready(shelf, owner, now, packet.load);
@@ -221,6 +223,10 @@ impl Network {
             option_and_then (flying_in instance)
             (find_pipe pipe (net_of (S.pocket shelf.old owner) self.old)) ≡ Some p →
             CanLeave p self.new) }
+        ensures plain { self.old.one_pass ≡ true → ((p : Packet) →
+            option_and_then (flying_in instance)
+            (find_pipe pipe (net_of (S.pocket shelf.old owner) self.old)) ≡ Some p →
+            p.load ≡ Plain) → IsOk result }
     {
         let Some(packet) = self.table.front(shelf, owner, pipe, instance) else {
             return Ok(());
@@ -281,6 +287,10 @@ impl Network {
             (S.pocket shelf.old owner) (S.pocket shelf.new owner) self.old self.new) }
         ensures room { OnOk result (0 < self.new.log.spare) }
         ensures refused { OnErr result (IsStill self.old self.new) }
+        ensures plain { self.old.one_pass ≡ true → ((p : Packet) →
+            option_and_then (flying_in instance)
+            (find_pipe pipe (net_of (S.pocket shelf.old owner) self.old)) ≡ Some p →
+            p.load ≡ Plain) → IsOk result }
         ensures refused_pocket { OnErr result
             (S.pocket shelf.new owner ≡ S.pocket shelf.old owner) }
         ensures others { OthersStay owner (S.pocket shelf.old) (S.pocket shelf.new) }

@@ -1,6 +1,6 @@
 //! What an experiment holds.
 
-ghost use Rattle.std.specs.Prelude.{◌≡◌, ℕ, ◌+◌, ◌<◌, ◌≤◌, ◌∷◌, [], IfOk, IsOk, OnOk};
+ghost use Rattle.std.specs.Prelude.{◌≡◌, ℕ, ◌+◌, ◌^◌, ◌<◌, ◌≤◌, ◌∷◌, [], IfOk, IsOk, OnOk};
 ghost use Rattle.emu_model.specs.Net.{initial_net};
 ghost use Rattle.packet_store.specs.Pocket.{Pocket};
 ghost use Rattle.network.specs.Kept.{net_of, net_keys};
@@ -102,6 +102,7 @@ impl Network {
         ensures records { self.new.log.records ≡ self.old.log.records }
         ensures still { IsStill self.old self.new }
         ensures ready { OnOk result (lines + 3 ≤ self.new.log.spare) }
+        ensures succeeds { lines < 2 ^ 63 → lines + 3 ≤ self.old.log.spare → IsOk result }
     {
         let Some(additional) = lines.checked_add(3) else {
             return Err(AllocError);

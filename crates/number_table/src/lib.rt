@@ -4,6 +4,3 @@
 mod table;
 
 pub use table::NumberTable;
-
-#[cfg(test)]
-mod tests;

@@ -4,8 +4,6 @@
 
 mod own;
 mod shared;
-#[cfg(test)]
-mod tests;
 
 ghost use Rattle.std.specs.Prelude.{◌≡◌, ◌≢◌, ℕ, ◌+◌, ◌<◌, ◌≤◌, ◌↔◌, Option, Some, None, IsOk, IfOk, OnOk, OnErr, OnSome, IfNone};
 ghost use Rattle.packet_store.specs.Pocket.{Pocket, with_packet, without};

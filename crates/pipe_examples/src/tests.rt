@@ -3,6 +3,7 @@
 mod bench;
 mod instances;
 mod pipes;
+mod tables;
 
 use emu_model::{Bandwidth, Delay, Discipline, LossRate, Mask, PipeConfig, QueueLimit};
 

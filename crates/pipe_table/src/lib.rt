@@ -6,7 +6,5 @@ mod dues;
 mod lines;
 mod rehousing;
 mod table;
-#[cfg(test)]
-mod tests;
 
 pub use table::{ConfigureError, PipeTable};

@@ -8,8 +8,6 @@ mod entries;
 mod law;
 mod state;
 mod tail;
-#[cfg(test)]
-mod tests;
 mod verdict;
 
 pub use controlled::{Codel, Dequeued};

@@ -2,7 +2,5 @@
 #![tactic(auto)]
 
 mod log;
-#[cfg(test)]
-mod tests;
 
 pub use log::RecordLog;

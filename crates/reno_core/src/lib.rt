@@ -15,6 +15,3 @@ pub use laws::{
 };
 pub use receiver::Receiver;
 pub use sender::Sender;
-
-#[cfg(test)]
-mod tests;

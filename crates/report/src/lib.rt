@@ -9,8 +9,6 @@ mod moments;
 mod pieces;
 mod report;
 mod runs;
-#[cfg(test)]
-mod tests;
 mod words;
 
 pub use lines::{write_counters, write_heading, write_record};

@@ -163,6 +163,11 @@ abbrev pub ComesBack : {M : Type 0} → Stand M → Seating M → TakeInError M 
 ComesBack parcel old (Crowded p) = (p ≡ parcel) × ((k : ℕ) → k < 256 → IsSome (seat_at old.seats k))
 ComesBack parcel old (NoRoom p) = p ≡ parcel
 
+-- a slot is vacant where it is said that memory was refused
+abbrev pub HasVacancy : {M : Type 0} → Seating M → TakeInError M → Type 0
+HasVacancy old (Crowded p) = Unit {0}
+HasVacancy old (NoRoom p) = (k : ℕ) × (k < 256) × (seat_at old.seats k ≡ None)
+
 -- a resident became a parcel
 pub record PackedAt {M : Type 0} (parcel : Stand M) (old new : Seating M) (slot : ℕ) (s : Seat M) : Type 0 where
   pub was : seat_at old.seats slot ≡ Some s

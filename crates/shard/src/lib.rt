@@ -9,8 +9,6 @@ mod parcel;
 mod posts;
 mod resident;
 mod shard;
-#[cfg(test)]
-mod tests;
 mod watch;
 
 pub use dossier::Dossier;

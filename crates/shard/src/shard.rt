@@ -93,7 +93,7 @@ impl<A: Agenda, M: Mail> Model for Shard<A, M> {
 impl<A: Agenda, M: Mail> Shard<A, M> {
     ghost use Rattle.std.specs.Prelude.{◌≡◌, ◌≢◌, ℕ, ◌≤◌, ◌<◌, ◌^◌, None, Some, IfOk, IfErr, IfSome, IfNone, OnErr, IsSome, MatchOption, length, IsTrue, IsFalse};
     ghost use Rattle.shard.specs.Stand.{seat_at, stands_of, Seat, IsTold};
-    ghost use Rattle.shard.specs.Turns.{TurnsSettled, ManyTurns, ManyTurnsSettled, Heard, NamesIt, TakenIn, ComesBack, PackedAt, IsPoll, IsRebased};
+    ghost use Rattle.shard.specs.Turns.{TurnsSettled, ManyTurns, ManyTurnsSettled, Heard, NamesIt, TakenIn, ComesBack, HasVacancy, PackedAt, IsPoll, IsRebased};
 
     /// A shard without residents, whose clock is 0.
     pub fn new(alloc: Global) -> Result<Self, AllocError>
@@ -189,6 +189,7 @@ impl<A: Agenda, M: Mail> Shard<A, M> {
         ensures ok { IfOk result (λ slot. (s : Seat M) × TakenIn parcel self.old self.new slot s) }
         ensures back { IfErr result (ComesBack parcel self.old) }
         ensures err { OnErr result (self.new ≡ self.old) }
+        ensures memory { IfErr result (HasVacancy self.old) }
     {
         let Some(slot) = first_vacant(self.slots.as_slice()) else {
             return Err(TakeInError::Crowded(parcel));

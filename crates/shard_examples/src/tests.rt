@@ -3,6 +3,7 @@
 mod calls;
 mod desk;
 mod refusals;
+mod turns;
 
 use calls::{
     Desk, arrive, counted, is_crowded, pack, packs_nobody, poll, put, seen_back, seen_in, slot_of,

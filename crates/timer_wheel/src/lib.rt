@@ -12,8 +12,6 @@ mod place;
 mod ring;
 mod slots;
 mod stock;
-#[cfg(test)]
-mod tests;
 mod ties;
 mod wheel;
 

@@ -11,6 +11,3 @@ mod train;
 
 pub use sends::{Sending, Window};
 pub use sources::Traffic;
-
-#[cfg(test)]
-mod tests;

@@ -53,7 +53,7 @@ pub record Registers (spec : Spec) (old new : Places) : Type 0 where
 abbrev pub IsRegistered : Spec → Did → Places → Places → Type 0
 IsRegistered spec Done old new = Registers spec old new
 IsRegistered spec Still old new = (new ≡ old) × (10 ^ 6 ≤ length old.desks)
-IsRegistered spec NoMemory old new = new ≡ old
+IsRegistered spec NoMemory old new = (new ≡ old) × (length old.desks < 10 ^ 6)
 
 -- one more command waits in a mail that had room
 abbrev pub Puts : Timed → MailBook → MailBook → Type 0
@@ -153,7 +153,7 @@ IsOffer i slot Done old new =
     × (new.deques ≡ slice_set old.deques i (deque_at old.deques i ++ n ∷ []))
 IsOffer i slot Still old new = (new ≡ old) × (seat_at (shard_at old.shards i).seats slot ≡ None)
 IsOffer i slot NoMemory old new =
-    (new ≡ old)
+    ((new ≡ old) × IsSome (seat_at (shard_at old.shards i).seats slot))
     ⊎ ((n : ℕ) × (s : Tenant) × (sh : Seating MailBook) × (p : Stand MailBook) × (seat : Seat MailBook)
     × Offers i slot old new n HandedOut s sh p seat × (new.deques ≡ old.deques))
 

@@ -30,3 +30,11 @@ returns-clause-ready g c =
     on_ok (CanLeave c.in-Some.packet c.leave_ready.new.self) ((x : Packet) → option_and_then (flying_in c.args.instance) (find_pipe c.args.pipe (net_of p c.args.self.now)) ≡ Some x → CanLeave x c.leave_ready.new.self) c.leave_ready.result
     (only_one (λ (x : Packet). CanLeave x c.leave_ready.new.self) c.in-Some.packet (option_and_then (flying_in c.args.instance) (find_pipe c.args.pipe (net_of p c.args.self.now)))
     (c.in-Some.ensures (net_of p n) ∙ ap (λ (m : KeptNet). option_and_then (flying_in c.args.instance) (find_pipe c.args.pipe (net_of p m))) c.self.view_is)) c.leave_ready.ensures.ready
+
+pub returns-clause-plain : goal.returns-clause-plain
+returns-clause-plain g c = λ one plain.
+    let p = g.S.Shelf.pocket c.args.shelf.now c.args.owner in
+    let n = the_view c.self.inside in
+    c.leave_ready.ensures.plain one
+    (plain c.in-Some.packet
+    (sym (c.in-Some.ensures (net_of p n) ∙ ap (λ (m : KeptNet). option_and_then (flying_in c.args.instance) (find_pipe c.args.pipe (net_of p m))) c.self.view_is)))

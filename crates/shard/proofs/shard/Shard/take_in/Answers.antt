@@ -16,6 +16,14 @@ returns-in_default-clause-back g c =
           (subst (λ (l : List (Option (Resident _))). IsSome (resident_at l k)) c.as_slice.ensures.value (c.in_default.ensures.none k (omega (arith, within, c.self.invariant.long, ap length c.as_slice.ensures.value)))),
     )
 
+pub returns-in_default-admit-clause-memory : goal.returns-in_default-admit-clause-memory
+returns-in_default-admit-clause-memory g c =
+    let s = c.self.inside in
+    let k : ℕ = c.in-Some.slot in
+    let found = subst (λ (l : List (Option (Resident _))). (k < length l) × (resident_at l k ≡ None) × ((j : ℕ) → j < k → IsSome (resident_at l j))) c.as_slice.ensures.value c.in-Some.ensures.some in
+    let inside : k < 256 = omega (arith, found.0, c.self.invariant.long) in
+    (k, inside, vacant_seat (pocket_of s.store) s.slots.items c.args.self.now.seats k (ap (λ (x : Seating _). x.seats) c.self.view_is) found.1)
+
 pub invariant_of-self-2 : goal.invariant_of-self-2
 invariant_of-self-2 g c =
     let s = c.self.inside in

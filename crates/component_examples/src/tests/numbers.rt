@@ -1,0 +1,75 @@
+ghost use Rattle.std.specs.Prelude.{◌^◌, ◌<◌};
+
+use number_table::NumberTable;
+use std::test::Fail;
+
+/// A number leads to a place from now on, at the second try where memory was refused; what the numbers around it lead
+/// to is as it was then.
+fn leads(table: &mut NumberTable, number: u16, place: usize) -> Result<(), Fail>
+    requires { place < 2 ^ 16 }
+{
+    let before = around(table, number);
+    if table.ready(number).is_ok() {
+        table.set(number, place);
+        return Ok(());
+    }
+    if around(table, number) != before {
+        return Err(Fail::from("it has changed"));
+    }
+    table.ready(number)?;
+    table.set(number, place);
+    Ok(())
+}
+
+/// The places of a number and of those beside it.
+fn around(table: &NumberTable, number: u16) -> [Option<usize>; 3] {
+    [
+        table.get(number.saturating_sub(1)),
+        table.get(number),
+        table.get(number.saturating_add(1)),
+    ]
+}
+
+// Numbers far apart, in no order, and the last of all.
+#[test]
+fn numbers_lead_to_their_places(rt: HostRuntime) -> Result<(), Fail> {
+    let mut table = NumberTable::new(rt.alloc());
+    assert!(rt; table.get(0).is_none(), "nothing is there");
+    for (number, place) in [(7, 0), (1, 1), (65535, 2), (300, 65535), (0, 4)] {
+        leads(&mut table, number, place)?;
+    }
+    for (number, place) in [
+        (0, Some(4)),
+        (1, Some(1)),
+        (2, None),
+        (6, None),
+        (7, Some(0)),
+        (8, None),
+        (300, Some(65535)),
+        (65534, None),
+        (65535, Some(2)),
+    ] {
+        assert!(rt; table.get(number) == place, "{number}");
+    }
+    leads(&mut table, 7, 9)?;
+    assert!(rt; table.get(7) == Some(9), "another place");
+    assert!(rt; table.get(1) == Some(1), "as it was");
+    Ok(())
+}
+
+/// Passes with ample memory, and where any one allocation is refused.
+#[test]
+fn growth_may_be_refused_memory(rt: HostRuntime) -> Result<(), Fail> {
+    let mut table = NumberTable::new(rt.alloc());
+    for number in 1..40 {
+        leads(&mut table, number, usize::from(40 - number))?;
+        assert!(rt;
+            table.get(number) == Some(usize::from(40 - number)),
+            "{number}"
+        );
+    }
+    for number in 1..40 {
+        assert!(rt; table.get(number).is_some(), "{number} still");
+    }
+    Ok(())
+}

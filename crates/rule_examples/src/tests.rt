@@ -1,0 +1,323 @@
+//! Worked numbers, each counted by hand. A test is proved safe too, so the calls stand in functions
+//! of their own, and the tests are tables.
+
+use emu_model::{
+    Action, Load, Packet, PipeNumber, Place, Prefix, PrefixLength, Protocol, ProtocolMatch,
+    Refusal, Rule, RuleNumber, Size, Verdict,
+};
+use emu_rules::{AddError, RuleList};
+use std::alloc::Global;
+use std::test::Fail;
+
+/// A call, with the numbers of a rule and of what it names; behind a place its number and order.
+#[derive(Clone, Copy)]
+enum Call {
+    Allow(u32),
+    Deny(u32),
+    Count(u32),
+    Skip(u32, u32),
+    Pipe(u32, u16),
+    Delete(u32),
+    Send,
+    Look,
+    SendAfter(u32, u64),
+    LookAfter(u32, u64),
+    Foresee,
+    ForeseeAfter(u32, u64),
+}
+
+// What is out of range is the nearest value in it: the tables hold no such number.
+
+fn number(n: u32) -> RuleNumber {
+    RuleNumber::new(n.min(99999)).unwrap()
+}
+
+fn pipe_number(n: u16) -> PipeNumber {
+    PipeNumber::new(n.max(1)).unwrap()
+}
+
+fn prefix(address: u32, len: u8) -> Prefix {
+    Prefix::new(address, PrefixLength::new(len.min(32)).unwrap())
+}
+
+fn place(n: u32, order: u64) -> Place {
+    Place {
+        number: number(n),
+        order,
+    }
+}
+
+/// A rule that matches every packet.
+fn rule(n: u32, action: Action) -> Rule {
+    Rule {
+        number: number(n),
+        action,
+        proto: ProtocolMatch::AnyProtocol,
+        src: prefix(0, 0),
+        sports: None,
+        dst: prefix(0, 0),
+        dports: None,
+    }
+}
+
+/// 1000 bytes.
+fn packet(proto: Protocol, src: u32, sport: u16, dst: u32, dport: u16) -> Packet {
+    Packet {
+        proto,
+        src,
+        sport,
+        dst,
+        dport,
+        size: Size::new(1000).unwrap(),
+        number: 0,
+        load: Load::Plain,
+        place: place(0, 0),
+    }
+}
+
+/// 1000 bytes of udp from 10.0.0.1:1000 to 10.0.0.2:2000.
+fn udp() -> Packet {
+    packet(Protocol::Udp, 0x0a00_0001, 1000, 0x0a00_0002, 2000)
+}
+
+fn word(verdict: Verdict) -> &'static str {
+    match verdict {
+        Verdict::Allow => "allow",
+        Verdict::Deny => "deny",
+        Verdict::Pipe(_, _) => "pipe",
+    }
+}
+
+fn refusal_word(refusal: Refusal) -> &'static str {
+    match refusal as u8 {
+        10 => "bad number",
+        11 => "bad skip",
+        12 => "rules full",
+        13 => "no rule",
+        _ => "another",
+    }
+}
+
+fn add(list: &mut RuleList, added: Rule) -> &'static str {
+    match list.add(added) {
+        Ok(()) => "ok",
+        Err(AddError::NoMemory) => "no memory",
+        Err(AddError::Refused(refusal)) => refusal_word(refusal),
+    }
+}
+
+fn add_plain(list: &mut RuleList, n: u32, action: Action) -> &'static str {
+    add(list, rule(n, action))
+}
+
+fn delete(list: &mut RuleList, n: u32) -> &'static str {
+    match list.delete(number(n)) {
+        Ok(()) => "ok",
+        Err(refusal) => refusal_word(refusal),
+    }
+}
+
+fn send(list: &mut RuleList) -> &'static str {
+    word(list.verdict(&udp()))
+}
+
+fn look(list: &RuleList) -> &'static str {
+    word(list.find(&udp()))
+}
+
+fn send_after(list: &mut RuleList, n: u32, order: u64) -> &'static str {
+    word(list.verdict_after(place(n, order), &udp()))
+}
+
+fn look_after(list: &RuleList, n: u32, order: u64) -> &'static str {
+    word(list.find_after(place(n, order), &udp()))
+}
+
+fn foresee(list: &mut RuleList) -> &'static str {
+    word(list.foresee(&udp()))
+}
+
+fn foresee_after(list: &mut RuleList, n: u32, order: u64) -> &'static str {
+    word(list.foresee_after(place(n, order), &udp()))
+}
+
+fn answer(list: &mut RuleList, call: Call) -> &'static str {
+    match call {
+        Call::Allow(n) => add_plain(list, n, Action::Permit),
+        Call::Deny(n) => add_plain(list, n, Action::Forbid),
+        Call::Count(n) => add_plain(list, n, Action::Count),
+        Call::Skip(n, to) => add_plain(list, n, Action::SkipTo(number(to))),
+        Call::Pipe(n, pipe) => add_plain(list, n, Action::SendTo(pipe_number(pipe))),
+        Call::Delete(n) => delete(list, n),
+        Call::Send => send(list),
+        Call::Look => look(list),
+        Call::SendAfter(n, order) => send_after(list, n, order),
+        Call::LookAfter(n, order) => look_after(list, n, order),
+        Call::Foresee => foresee(list),
+        Call::ForeseeAfter(n, order) => foresee_after(list, n, order),
+    }
+}
+
+/// Each call has its answer.
+fn answers(list: &mut RuleList, wanted: &[(Call, &'static str)]) -> bool {
+    for (call, want) in wanted {
+        if answer(list, *call) != *want {
+            return false;
+        }
+    }
+    true
+}
+
+/// The listing has these lines: number, order, packets, bytes.
+fn lists(list: &RuleList, wanted: &[(u32, u64, u64, u64)]) -> bool {
+    let lines = list.list();
+    lines.len() == wanted.len()
+        && lines.iter().zip(wanted).all(|(counted, want)| {
+            let place = counted.place();
+            counted.rule().number.get() == want.0
+                && place.order == want.1
+                && counted.packets() == want.2
+                && counted.bytes() == want.3
+        })
+}
+
+/// A packet of 1000 bytes gets this pipe, with this place.
+fn finds_pipe(list: &RuleList, wanted: (u16, u32, u64)) -> bool {
+    let verdict = list.find(&udp());
+    match verdict {
+        Verdict::Pipe(pipe, place) => { (pipe.get(), place.number.get(), place.order) == wanted }
+        _ => false,
+    }
+}
+
+#[test]
+fn jump_to_a_pipe(rt: HostRuntime) -> Result<(), Fail> {
+    let mut list = RuleList::new(rt.alloc())?;
+    let steps = [
+        (Call::Pipe(300, 1), "ok"),
+        (Call::Count(100), "ok"),
+        (Call::Skip(100, 300), "ok"),
+        (Call::Deny(200), "ok"),
+        (Call::Look, "pipe"),
+        (Call::Send, "pipe"),
+    ];
+    let answered = answers(&mut list, &steps);
+    let lines = [
+        (100, 1, 1, 1000),
+        (100, 2, 1, 1000),
+        (200, 3, 0, 0),
+        (300, 0, 1, 1000),
+        (65535, 0, 0, 0),
+    ];
+    let listed = lists(&list, &lines);
+    let told = finds_pipe(&list, (1, 300, 0));
+    assert!(rt; answered && listed && told);
+    Ok(())
+}
+
+#[test]
+fn refusals(rt: HostRuntime) -> Result<(), Fail> {
+    let mut list = RuleList::new(rt.alloc())?;
+    let steps = [
+        (Call::Allow(65535), "bad number"),
+        (Call::Skip(300, 300), "bad skip"),
+        (Call::Delete(7), "no rule"),
+        (Call::Delete(65535), "bad number"),
+    ];
+    let mut answered = answers(&mut list, &steps);
+    for n in 1..257 {
+        answered = answered && answer(&mut list, Call::Skip(n, 65535)) == "ok";
+    }
+    let steps = [
+        (Call::Allow(300), "rules full"),
+        (Call::Skip(300, 65536), "bad skip"),
+        (Call::Send, "deny"),
+    ];
+    let full = answers(&mut list, &steps);
+    assert!(rt; answered && full);
+    Ok(())
+}
+
+#[test]
+fn rule_replaced_behind_a_pipe(rt: HostRuntime) -> Result<(), Fail> {
+    let mut list = RuleList::new(rt.alloc())?;
+    let steps = [
+        (Call::Pipe(100, 1), "ok"),
+        (Call::Allow(300), "ok"),
+        (Call::Send, "pipe"),
+        (Call::SendAfter(100, 0), "allow"),
+        (Call::Delete(100), "ok"),
+        (Call::LookAfter(100, 0), "allow"),
+        (Call::Deny(100), "ok"),
+        (Call::LookAfter(100, 0), "deny"),
+        (Call::SendAfter(100, 0), "deny"),
+    ];
+    let answered = answers(&mut list, &steps);
+    let lines = [(100, 2, 1, 1000), (300, 1, 1, 1000), (65535, 0, 0, 0)];
+    let listed = lists(&list, &lines);
+    assert!(rt; answered && listed);
+    Ok(())
+}
+
+/// Rules come and go between packets of one flow, in a list that is long enough for its memory.
+#[test]
+fn what_was_found_before_changes(rt: HostRuntime) -> Result<(), Fail> {
+    let mut list = made_at_last(rt.alloc())?;
+    let mut grown = true;
+    for n in 1..6 {
+        grown = grown && grows(&mut list, n);
+    }
+    let steps = [
+        (Call::Foresee, "deny"),
+        (Call::Send, "deny"),
+        (Call::Allow(6), "ok"),
+        (Call::Foresee, "allow"),
+        (Call::Send, "allow"),
+        (Call::ForeseeAfter(1, 0), "allow"),
+        (Call::Delete(3), "ok"),
+        (Call::SendAfter(1, 0), "allow"),
+        (Call::Delete(6), "ok"),
+        (Call::Foresee, "deny"),
+        (Call::SendAfter(1, 0), "deny"),
+    ];
+    let answered = answers(&mut list, &steps);
+    let lines = [
+        (1, 0, 2, 2000),
+        (2, 1, 4, 4000),
+        (4, 3, 4, 4000),
+        (5, 4, 4, 4000),
+        (65535, 0, 2, 2000),
+    ];
+    let listed = lists(&list, &lines);
+    assert!(rt; grown && answered && listed);
+    Ok(())
+}
+
+/// Tries once more where memory was refused.
+fn made_at_last(alloc: Global) -> Result<RuleList, Fail> {
+    match RuleList::new(alloc) {
+        Ok(list) => Ok(list),
+        Err(_) => Ok(RuleList::new(alloc)?),
+    }
+}
+
+/// One rule more, at the second try where memory was refused; the list was as before then.
+fn grows(list: &mut RuleList, n: u32) -> bool {
+    let before = list.list().len();
+    let first = answer(list, Call::Count(n));
+    if first == "ok" {
+        return list.list().len() > before;
+    }
+    list.list().len() == before && answer(list, Call::Count(n)) == "ok"
+}
+
+/// Passes with ample memory, and where any one allocation is refused.
+#[test]
+fn memory_may_be_refused(rt: HostRuntime) -> Result<(), Fail> {
+    let mut list = made_at_last(rt.alloc())?;
+    for n in 1..20 {
+        let grown = grows(&mut list, n);
+        assert!(rt; grown);
+    }
+    Ok(())
+}

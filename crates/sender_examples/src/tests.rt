@@ -1,0 +1,4 @@
+//! One sender, and all sources of an experiment.
+
+mod senders;
+mod sources;

@@ -1,0 +1,183 @@
+ghost use Rattle.std.specs.Prelude.{◌*◌, ◌^◌, ◌<◌};
+
+use emu_model::{Amount, FlowSpec, SegmentSize, Threshold, Timeout, Timing, Window};
+use reno_core::{Receiver, Sender};
+use std::process::Abort;
+use std::test::Fail;
+
+fn segment_size(bytes: u16) -> Result<SegmentSize, Fail> {
+    Ok(SegmentSize::new(bytes).ok_or("no segment size")?)
+}
+
+fn fixed(milliseconds: u16) -> Result<Timing, Fail> {
+    Ok(Timing::Fixed(Timeout::new(milliseconds).ok_or("no time")?))
+}
+
+fn sender(smss: u16, segments: u32, ssthresh: u32, timing: Timing) -> Result<Sender, Fail> {
+    Ok(Sender::new(FlowSpec {
+        src: 0x0a000001,
+        sport: 1000,
+        dst: 0x0a000002,
+        dport: 80,
+        smss: segment_size(smss)?,
+        segments: Amount::new(segments).ok_or("no count")?,
+        ssthresh: Threshold::new(ssthresh).ok_or("no threshold")?,
+        window: Window::new(65535).ok_or("no window")?,
+        timing,
+    }))
+}
+
+/// Sends just the segments that begin at these bytes.
+fn sends(rt: &impl Abort, sender: &mut Sender, now: u64, firsts: &[u64])
+    requires { now < 2 * 10 ^ 15 }
+{
+    for first in firsts {
+        assert!(rt; sender.may_emit(), "at {first}");
+        let sent = sender.emit(now);
+        assert_eq!(rt; sent, *first);
+    }
+    assert!(rt; !sender.may_emit(), "no more");
+}
+
+/// What an acknowledgement leaves as cwnd and ssthresh.
+fn acked(rt: &impl Abort, sender: &mut Sender, now: u64, upto: u64, wanted: (u64, u64))
+    requires { now < 2 * 10 ^ 15 }
+{
+    sender.ack(now, upto);
+    assert_eq!(rt; (sender.cwnd(), sender.ssthresh()), wanted, "after {upto}");
+}
+
+/// What an expiry leaves as cwnd and ssthresh.
+fn expired(rt: &impl Abort, sender: &mut Sender, now: u64, wanted: (u64, u64))
+    requires { now < 2 * 10 ^ 15 }
+{
+    sender.expire(now);
+    assert_eq!(rt; (sender.cwnd(), sender.ssthresh()), wanted, "at {now}");
+}
+
+fn due_at(rt: &impl Abort, sender: &Sender, wanted: Option<u64>) {
+    assert_eq!(rt; sender.due(), wanted);
+}
+
+#[test]
+fn adaptive_times_follow_samples(rt: HostRuntime) -> Result<(), Fail> {
+    let mut adaptive = sender(1000, 100, 65535, Timing::Adaptive)?;
+    sends(&rt, &mut adaptive, 0, &[0, 1000, 2000, 3000]);
+    due_at(&rt, &adaptive, Some(1_000_000_000));
+    acked(&rt, &mut adaptive, 800_000_000, 1000, (5000, 65535));
+    due_at(&rt, &adaptive, Some(3_200_000_000));
+    sends(&rt, &mut adaptive, 1_000_000_000, &[4000, 5000]);
+    acked(&rt, &mut adaptive, 1_400_000_000, 5000, (6000, 65535));
+    due_at(&rt, &adaptive, Some(3_750_000_000));
+    expired(&rt, &mut adaptive, 3_750_000_000, (1000, 2000));
+    due_at(&rt, &adaptive, Some(8_450_000_000));
+    Ok(())
+}
+
+#[test]
+fn adaptive_times_are_one_second_at_least(rt: HostRuntime) -> Result<(), Fail> {
+    let mut quick = sender(1000, 100, 65535, Timing::Adaptive)?;
+    sends(&rt, &mut quick, 0, &[0, 1000, 2000, 3000]);
+    acked(&rt, &mut quick, 1, 1000, (5000, 65535));
+    due_at(&rt, &quick, Some(1_000_000_001));
+    Ok(())
+}
+
+#[test]
+fn slow_start_adds_a_segment(rt: HostRuntime) -> Result<(), Fail> {
+    let mut slow = sender(1460, 4, 65535, fixed(1000)?)?;
+    assert_eq!(rt; slow.cwnd(), 4380);
+    sends(&rt, &mut slow, 0, &[0, 1460, 2920]);
+    due_at(&rt, &slow, Some(1_000_000_000));
+    acked(&rt, &mut slow, 10, 1460, (5840, 65535));
+    due_at(&rt, &slow, Some(1_000_000_010));
+    sends(&rt, &mut slow, 20, &[4380]);
+    for (upto, cwnd) in [(2920, 7300), (4380, 8760), (5840, 10220), (5840, 10220)] {
+        acked(&rt, &mut slow, 30, upto, (cwnd, 65535));
+    }
+    due_at(&rt, &slow, None);
+    Ok(())
+}
+
+#[test]
+fn third_duplicate_sends_again(rt: HostRuntime) -> Result<(), Fail> {
+    let mut fast = sender(1000, 8, 4000, fixed(1000)?)?;
+    sends(&rt, &mut fast, 0, &[0, 1000, 2000, 3000]);
+    for (upto, cwnd, next) in [
+        (1000, 4250, 4000),
+        (2000, 4485, 5000),
+        (3000, 4707, 6000),
+        (4000, 4919, 7000),
+    ] {
+        acked(&rt, &mut fast, 10, upto, (cwnd, 4000));
+        sends(&rt, &mut fast, 10, &[next]);
+    }
+    for wanted in [(4919, 4000), (4919, 4000), (5000, 2000)] {
+        acked(&rt, &mut fast, 20, 4000, wanted);
+    }
+    sends(&rt, &mut fast, 20, &[4000]);
+    acked(&rt, &mut fast, 30, 8000, (2000, 2000));
+    Ok(())
+}
+
+// Duplicates let new segments through after the first expiry, so 10 segments are under way at the
+// second: half of them would be 5000.
+#[test]
+fn second_expiry_holds_the_threshold(rt: HostRuntime) -> Result<(), Fail> {
+    let mut late = sender(1000, 20, 65535, fixed(1000)?)?;
+    sends(&rt, &mut late, 0, &[0, 1000, 2000, 3000]);
+    for (upto, cwnd) in [(1000, 5000), (2000, 6000), (3000, 7000), (4000, 8000)] {
+        acked(&rt, &mut late, 20_000_000, upto, (cwnd, 65535));
+    }
+    let eight = [4000, 5000, 6000, 7000, 8000, 9000, 10000, 11000];
+    sends(&rt, &mut late, 20_000_000, &eight);
+    expired(&rt, &mut late, 1_020_000_000, (1000, 4000));
+    due_at(&rt, &late, Some(3_020_000_000));
+    sends(&rt, &mut late, 1_020_000_000, &[4000]);
+    for cwnd in [1000, 1000, 7000] {
+        acked(&rt, &mut late, 1_030_000_000, 4000, (cwnd, 4000));
+    }
+    let again = [4000, 5000, 6000, 7000, 8000, 9000, 10000];
+    sends(&rt, &mut late, 1_030_000_000, &again);
+    for cwnd in [8000, 9000, 10000] {
+        acked(&rt, &mut late, 1_040_000_000, 4000, (cwnd, 4000));
+    }
+    sends(&rt, &mut late, 1_040_000_000, &[11000, 12000, 13000]);
+    expired(&rt, &mut late, 3_020_000_000, (1000, 4000));
+    due_at(&rt, &late, Some(7_020_000_000));
+    acked(&rt, &mut late, 7_000_000_000, 14000, (2000, 4000));
+    sends(&rt, &mut late, 7_000_000_000, &[14000, 15000]);
+    due_at(&rt, &late, Some(8_000_000_000));
+    Ok(())
+}
+
+#[test]
+fn receiver_acknowledges_the_first_gap(rt: HostRuntime) -> Result<(), Fail> {
+    let mut receiver = Receiver::new(rt.alloc(), segment_size(1000)?);
+    for (first, wanted) in [(0, 1000), (2000, 1000), (1000, 3000), (2000, 3000)] {
+        receiver.take_ready(first)?;
+        assert_eq!(rt; receiver.take(first)?, wanted, "{first}");
+    }
+    Ok(())
+}
+
+/// Every second segment comes first. What is refused leaves the receiver as it was, and a segment
+/// that was made ready isn't refused. A run in which an allocation fails shows it.
+#[test]
+fn refused_segments_change_nothing(rt: HostRuntime) -> Result<(), Fail> {
+    let mut receiver = Receiver::new(rt.alloc(), segment_size(64)?);
+    assert_eq!(rt; receiver.take(0)?, 64);
+    for place in 1..40u64 {
+        let first = 128 * place;
+        if receiver.take(first).is_err() {
+            assert_eq!(rt; receiver.take(0), Ok(64), "as it was");
+            if receiver.take_ready(first).is_ok() {
+                assert_eq!(rt; receiver.take(first), Ok(64));
+            }
+        }
+    }
+    for place in 0..39u64 {
+        assert_eq!(rt; receiver.take(128 * place + 64), Ok(128 * place + 192));
+    }
+    Ok(())
+}

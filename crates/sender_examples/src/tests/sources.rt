@@ -1,0 +1,407 @@
+ghost use Rattle.std.specs.Prelude.{◌≡◌, ◌*◌, ◌^◌, ◌<◌};
+ghost use Rattle.emu_model.specs.Dues.{due};
+
+use emu_model::{
+    Amount, Class, Due, FlowNumber, FlowSpec, Gap, Load, Protocol, Refusal, SegmentSize, SendSpec,
+    Size, Source, Threshold, Timing, TrainSpec, Window as Offered,
+};
+use std::process::Abort;
+use std::test::Fail;
+use traffic::{Sending, Traffic, Window};
+
+/// One millisecond (ns).
+const MS: u64 = 1_000_000;
+
+fn number(n: u16) -> Result<FlowNumber, Fail> {
+    Ok(FlowNumber::new(n).ok_or("no number")?)
+}
+
+/// The flow of the worked examples: four segments of 1460 bytes.
+fn four_segments() -> Option<FlowSpec> {
+    Some(FlowSpec {
+        src: 0x0a000001,
+        sport: 1000,
+        dst: 0x0a000002,
+        dport: 80,
+        smss: SegmentSize::new(1460)?,
+        segments: Amount::new(4)?,
+        ssthresh: Threshold::new(65535)?,
+        window: Offered::new(65535)?,
+        timing: Timing::Adaptive,
+    })
+}
+
+/// The train of the worked example: three packets of 1000 bytes, 5 ns apart.
+fn three_packets() -> Option<TrainSpec> {
+    Some(TrainSpec {
+        packet: SendSpec {
+            proto: Protocol::Udp,
+            src: 0x0a000001,
+            sport: 1000,
+            dst: 0x0a000002,
+            dport: 2000,
+            size: Size::new(1000)?,
+        },
+        count: Amount::new(3)?,
+        gap: Gap::new(5)?,
+    })
+}
+
+/// Begins a flow; at the second try where memory was refused, and it isn't there before that.
+fn begins_flow(traffic: &mut Traffic, n: u16) -> bool {
+    let (Some(number), Some(flow)) = (FlowNumber::new(n), four_segments()) else {
+        return false;
+    };
+    let None = traffic.refusal(number) else {
+        return false;
+    };
+    if traffic.start_flow(number, &flow).is_ok() {
+        return traffic.has_flow(number);
+    }
+    let None = traffic.refusal(number) else {
+        return false;
+    };
+    traffic.start_flow(number, &flow).is_ok()
+}
+
+/// Begins a train likewise.
+fn begins_train(traffic: &mut Traffic, now: u64, n: u16) -> bool
+    requires { now < 2 * 10 ^ 15 }
+{
+    let (Some(number), Some(train)) = (FlowNumber::new(n), three_packets()) else {
+        return false;
+    };
+    let None = traffic.refusal(number) else {
+        return false;
+    };
+    if traffic.start_train(now, number, &train).is_ok() {
+        return traffic.next_send(number).is_some();
+    }
+    let None = traffic.refusal(number) else {
+        return false;
+    };
+    traffic.start_train(now, number, &train).is_ok()
+}
+
+/// A command at a moment, behind which nothing comes that is due later.
+fn command(moment: u64) -> Due
+    ensures { result ≡ due Class.NextCommand 0 moment }
+{
+    Due {
+        moment,
+        source: Source {
+            class: Class::NextCommand,
+            number: 0,
+        },
+    }
+}
+
+fn due_of(class: Class, number: u32, moment: u64) -> Due {
+    Due {
+        moment,
+        source: Source { class, number },
+    }
+}
+
+/// What is sent next, if that is before another moment.
+fn sends(traffic: &mut Traffic, now: u64, end: u64) -> Option<Sending>
+    requires { now < 2 * 10 ^ 15 }
+{
+    let due = traffic.earliest(now, command(end));
+    let Class::Emission = due.source.class else {
+        return None;
+    };
+    let number = FlowNumber::new(due.source.number as u16)?;
+    traffic.emit(now, number)
+}
+
+/// Just the segments that begin at these bytes are sent.
+fn sends_segments(rt: &impl Abort, traffic: &mut Traffic, now: u64, firsts: &[u64])
+    requires { now < 2 * 10 ^ 15 }
+{
+    for first in firsts {
+        let Some(Sending { load, send }) = sends(traffic, now, now.saturating_add(1)) else {
+            return assert!(rt; false, "nothing sent");
+        };
+        assert_eq!(rt; send.size.get(), 1500);
+        assert_eq!(rt;
+            (send.src, send.sport, send.dst, send.dport),
+            (0x0a000001, 1000, 0x0a000002, 80)
+        );
+        let Load::Seg { flow, first: byte } = load else {
+            return assert!(rt; false, "no segment");
+        };
+        assert_eq!(rt; flow.get(), 1);
+        assert_eq!(rt; byte, *first);
+    }
+    let more = sends(traffic, now, now.saturating_add(1));
+    assert!(rt; more.is_none(), "one more at {now}");
+}
+
+/// The acknowledgement of a segment, at the second try where memory was refused.
+fn answers(traffic: &mut Traffic, n: u16, first: u64) -> Option<Sending> {
+    let number = FlowNumber::new(n)?;
+    if traffic.take_ready(number, first).is_err() {
+        traffic.take_ready(number, first).ok()?;
+    }
+    traffic.take(number, first)
+}
+
+fn answers_upto(rt: &impl Abort, traffic: &mut Traffic, first: u64, upto: u64) {
+    let Some(Sending { load, send }) = answers(traffic, 1, first) else {
+        return assert!(rt; false, "no answer");
+    };
+    assert_eq!(rt; send.size.get(), 40);
+    assert_eq!(rt;
+        (send.src, send.sport, send.dst, send.dport),
+        (0x0a000002, 80, 0x0a000001, 1000)
+    );
+    let Load::Ack { flow, upto: byte } = load else {
+        return assert!(rt; false, "no acknowledgement");
+    };
+    assert_eq!(rt; (flow.get(), byte), (1, upto));
+}
+
+fn windows(rt: &impl Abort, window: Option<Window>, wanted: (u64, u64)) {
+    let Some(Window { cwnd, ssthresh }) = window else {
+        return assert!(rt; false, "no windows");
+    };
+    assert_eq!(rt; (cwnd, ssthresh), wanted);
+}
+
+// The example of four segments over 10 ms each way, by its report.
+#[test]
+fn four_segments_are_sent_and_answered(rt: HostRuntime) -> Result<(), Fail> {
+    let one = number(1)?;
+    let mut traffic = Traffic::new(rt.alloc());
+    let begun = begins_flow(&mut traffic, 1);
+    assert!(rt; begun);
+    sends_segments(&rt, &mut traffic, 0, &[0, 1460, 2920]);
+    answers_upto(&rt, &mut traffic, 0, 1460);
+    answers_upto(&rt, &mut traffic, 1460, 2920);
+    answers_upto(&rt, &mut traffic, 2920, 4380);
+    windows(&rt, traffic.take_ack(21_200_000, one, 1460), (5840, 65535));
+    sends_segments(&rt, &mut traffic, 21_200_000, &[4380]);
+    windows(&rt, traffic.take_ack(22_400_000, one, 2920), (7300, 65535));
+    windows(&rt, traffic.take_ack(23_600_000, one, 4380), (8760, 65535));
+    answers_upto(&rt, &mut traffic, 4380, 5840);
+    windows(&rt, traffic.take_ack(42_400_000, one, 5840), (10220, 65535));
+    let last = traffic.earliest(42_400_000, command(100 * MS));
+    assert!(rt; last.source.class == Class::NextCommand, "no timer runs");
+    drop(traffic);
+    Ok(())
+}
+
+// The example of a flow that is stopped between its first and its second acknowledgement.
+#[test]
+fn stopped_flow_answers_and_sends_nothing(rt: HostRuntime) -> Result<(), Fail> {
+    let one = number(1)?;
+    let mut traffic = Traffic::new(rt.alloc());
+    let begun = begins_flow(&mut traffic, 1);
+    assert!(rt; begun);
+    sends_segments(&rt, &mut traffic, 0, &[0, 1460, 2920]);
+    windows(&rt, traffic.take_ack(21_200_000, one, 1460), (5840, 65535));
+    traffic.stop(one);
+    sends_segments(&rt, &mut traffic, 21_300_000, &[]);
+    assert!(rt;
+        traffic.take_ack(22_400_000, one, 2920).is_none(),
+        "it is stopped"
+    );
+    answers_upto(&rt, &mut traffic, 0, 1460);
+    assert!(rt; traffic.has_flow(one), "it is there");
+    assert!(rt;
+        traffic.refusal(one) == Some(Refusal::FlowThere),
+        "its number is in use"
+    );
+    drop(traffic);
+    Ok(())
+}
+
+// One segment is left at the start of slow start; the time of one second is doubled.
+#[test]
+fn timer_expires(rt: HostRuntime) -> Result<(), Fail> {
+    let one = number(1)?;
+    let mut traffic = Traffic::new(rt.alloc());
+    let begun = begins_flow(&mut traffic, 1);
+    assert!(rt; begun);
+    sends_segments(&rt, &mut traffic, 0, &[0, 1460, 2920]);
+    let due = traffic.earliest(0, command(2000 * MS));
+    assert!(rt; due.source.class == Class::Expiry, "the timer is due");
+    assert_eq!(rt; (due.source.number, due.moment), (1, 1000 * MS));
+    windows(&rt, traffic.expire(1000 * MS, one), (1460, 2920));
+    sends_segments(&rt, &mut traffic, 1000 * MS, &[0]);
+    let due = traffic.earliest(1000 * MS, command(9000 * MS));
+    assert_eq!(rt; (due.source.number, due.moment), (1, 3000 * MS));
+    drop(traffic);
+    Ok(())
+}
+
+/// Which flow sends a segment now, if any does.
+fn sender(traffic: &mut Traffic, now: u64) -> Option<u16>
+    requires { now < 2 * 10 ^ 15 }
+{
+    let Sending { load, .. } = sends(traffic, now, now + 1)?;
+    match load {
+        Load::Seg { flow, .. } => Some(flow.get()),
+        _ => None,
+    }
+}
+
+// Of flows that may send, the least number does, whichever began first; their first timers come after a
+// second, and one that is stopped has none.
+#[test]
+fn least_number_sends_and_first_timer_expires(rt: HostRuntime) -> Result<(), Fail> {
+    let (two, five, nine) = (number(2)?, number(5)?, number(9)?);
+    let mut traffic = Traffic::new(rt.alloc());
+    for n in [9, 2, 5] {
+        let begun = begins_flow(&mut traffic, n);
+        assert!(rt; begun, "{n}");
+    }
+    for (now, n) in [(3, 2), (4, 5), (6, 9)] {
+        for _ in 0..3 {
+            assert!(rt; sender(&mut traffic, now) == Some(n), "at {now}");
+        }
+    }
+    assert!(rt; sender(&mut traffic, 6).is_none(), "all windows are full");
+    for (now, number) in [(3, two), (4, five), (6, nine)] {
+        let due = traffic.earliest(6, command(9000 * MS));
+        assert!(rt; due.source.class == Class::Expiry, "a timer");
+        assert_eq!(rt;
+            (due.source.number, due.moment),
+            (u32::from(number.get()), now + 1000 * MS)
+        );
+        traffic.stop(number);
+    }
+    let due = traffic.earliest(6, command(9000 * MS));
+    assert!(rt; due.source.class == Class::NextCommand, "all are stopped");
+    drop(traffic);
+    Ok(())
+}
+
+/// A plain packet of 1000 bytes with this header was sent.
+fn is_thousand(sent: Option<Sending>, header: Option<SendSpec>) -> bool {
+    let Some(Sending { load, send }) = sent else {
+        return false;
+    };
+    let size = send.size.get();
+    header == Some(send) && load == Load::Plain && size == 1000
+}
+
+// The example of a train of three packets, 5 ns apart.
+#[test]
+fn train_sends_its_packets(rt: HostRuntime) -> Result<(), Fail> {
+    let one = number(1)?;
+    let mut traffic = Traffic::new(rt.alloc());
+    let begun = begins_train(&mut traffic, 0, 1);
+    assert!(rt; begun);
+    for now in [0, 5, 10] {
+        let due = traffic.earliest(now, command(20));
+        assert_eq!(rt; (due.moment, due.source.number), (now, 1));
+        let header = traffic.next_send(one);
+        let sent = sends(&mut traffic, now, 20);
+        assert!(rt; is_thousand(sent, header), "a packet at {now}");
+    }
+    assert!(rt; sends(&mut traffic, 10, 20).is_none(), "three are all");
+    traffic.stop(one);
+    assert!(rt; !traffic.has_flow(one), "it is no flow");
+    assert!(rt; traffic.reply(one).is_none(), "it has no receiver");
+    drop(traffic);
+    Ok(())
+}
+
+// Flows and trains share one set of numbers, and the limit of 256.
+#[test]
+fn sources_are_refused_in_order(rt: HostRuntime) -> Result<(), Fail> {
+    let refusals = [
+        (number(1)?, Refusal::FlowThere),
+        (number(256)?, Refusal::FlowThere),
+        (number(257)?, Refusal::TooManyFlows),
+    ];
+    let mut traffic = Traffic::new(rt.alloc());
+    let begun = begins_flow(&mut traffic, 1);
+    assert!(rt; begun);
+    for n in 2..257 {
+        let begun = begins_train(&mut traffic, 0, n);
+        assert!(rt; begun, "{n}");
+    }
+    for (number, wanted) in refusals {
+        assert!(rt; traffic.refusal(number) == Some(wanted));
+    }
+    drop(traffic);
+    Ok(())
+}
+
+// A flow's timer, its segment, and a train's packet, in this order.
+#[test]
+fn dues_stand_in_order(rt: HostRuntime) {
+    let mut traffic = Traffic::new(rt.alloc());
+    let begun = begins_flow(&mut traffic, 1);
+    assert!(rt; begun);
+    let begun = begins_train(&mut traffic, 7, 2);
+    assert!(rt; begun);
+    let sent = sends(&mut traffic, 3, 4);
+    assert!(rt; sent.is_some(), "a segment");
+    let mut dues = Vec::new(rt.alloc());
+    let added = traffic.add_dues(9, &mut dues).is_ok();
+    assert!(rt; added, "memory");
+    let wanted = [
+        due_of(Class::Expiry, 1, 3 + 1000 * MS),
+        due_of(Class::Emission, 1, 9),
+        due_of(Class::Emission, 2, 7),
+    ];
+    assert!(rt; dues[..] == wanted[..]);
+    drop(traffic);
+}
+
+/// Passes with ample memory, and where any one allocation is refused.
+#[test]
+fn start_flow_may_be_refused_memory(rt: HostRuntime) {
+    let mut traffic = Traffic::new(rt.alloc());
+    for n in 1..20 {
+        let begun = begins_flow(&mut traffic, n);
+        assert!(rt; begun, "{n}");
+    }
+    drop(traffic);
+}
+
+#[test]
+fn start_train_may_be_refused_memory(rt: HostRuntime) {
+    let mut traffic = Traffic::new(rt.alloc());
+    for n in 1..20 {
+        let begun = begins_train(&mut traffic, 0, n);
+        assert!(rt; begun, "{n}");
+    }
+    drop(traffic);
+}
+
+/// Takes segments past a gap, and then the one that was missing.
+#[test]
+fn take_ready_may_be_refused_memory(rt: HostRuntime) {
+    let mut traffic = Traffic::new(rt.alloc());
+    let begun = begins_flow(&mut traffic, 1);
+    assert!(rt; begun);
+    for n in 1..20 {
+        answers_upto(&rt, &mut traffic, 1460 * n, 0);
+    }
+    answers_upto(&rt, &mut traffic, 0, 29200);
+    drop(traffic);
+}
+
+/// Where memory is refused the list is as it was.
+#[test]
+fn add_dues_may_be_refused_memory(rt: HostRuntime) {
+    let mut traffic = Traffic::new(rt.alloc());
+    let begun = begins_flow(&mut traffic, 1);
+    assert!(rt; begun);
+    let mut dues = Vec::new(rt.alloc());
+    for n in 1..9 {
+        let before = dues.len();
+        if traffic.add_dues(0, &mut dues).is_err() {
+            assert!(rt; dues.len() == before, "as it was");
+            let added = traffic.add_dues(0, &mut dues).is_ok();
+            assert!(rt; added, "at the second try");
+        }
+        assert_eq!(rt; dues.len(), n);
+    }
+    drop(traffic);
+}
