@@ -101,6 +101,7 @@ impl DueIndex {
     }
 
     /// What is due at a place from now on. Takes no memory.
+    #[inline(always)]
     pub fn set(&mut self, place: usize, due: Option<Due>)
         requires { place < length self.old.leaves }
         ensures { self.new ≡ record self.old { leaves = slice_set self.old.leaves place due } }
@@ -126,6 +127,7 @@ impl DueIndex {
     }
 
     /// The least of all dues, by moment, class and number; None where nothing is due.
+    #[inline(always)]
     pub fn least(&self) -> Option<Due>
         ensures { result ≡ least_of (dues_in self.now.leaves) }
     {

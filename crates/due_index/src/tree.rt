@@ -8,6 +8,7 @@ ghost use Rattle.due_index.specs.Tree.{node_at, below, IsTree, IsTreeBut};
 use emu_model::Due;
 
 /// They are the same.
+#[inline(always)]
 pub(crate) fn is_same(first: &Option<Due>, second: &Option<Due>) -> bool
     ensures { result ≡ true → first.now ≡ second.now }
 {
@@ -15,6 +16,7 @@ pub(crate) fn is_same(first: &Option<Due>, second: &Option<Due>) -> bool
 }
 
 /// The lesser of two dues that may be there, by moment, class and number.
+#[inline(always)]
 pub fn lesser(first: Option<Due>, second: Option<Due>) -> Option<Due>
     ensures { result ≡ lesser first second }
 {
@@ -28,6 +30,7 @@ pub fn lesser(first: Option<Due>, second: Option<Due>) -> Option<Due>
 }
 
 // The first is there, and comes before the second where that is there.
+#[inline(always)]
 fn is_less(first: &Option<Due>, second: &Option<Due>) -> bool
     ensures { (if result then first.now else second.now) ≡ lesser second.now first.now }
 {
@@ -39,6 +42,7 @@ fn is_less(first: &Option<Due>, second: &Option<Due>) -> bool
 }
 
 // Which of the two below a node is the lesser; only one that moves up is copied.
+#[inline(always)]
 fn lesser_below(nodes: &[Option<Due>], at: usize) -> usize
     requires { 2 * at + 1 < length nodes.now }
     ensures inside { result < length nodes.now }
@@ -54,6 +58,7 @@ fn lesser_below(nodes: &[Option<Due>], at: usize) -> usize
 }
 
 // The nodes above one that changed are set anew, as far as anything changes.
+#[inline(always)]
 fn mend(nodes: &mut [Option<Due>], changed: usize)
     requires inside { 2 * (changed / 2) + 1 < length nodes.old }
     requires met { IsTreeBut (changed / 2) nodes.old }
@@ -73,6 +78,7 @@ fn mend(nodes: &mut [Option<Due>], changed: usize)
 }
 
 /// What is due at a leaf from now on.
+#[inline(always)]
 pub(crate) fn put(nodes: &mut [Option<Due>], leaf: usize, due: Option<Due>)
     requires inside { leaf < length nodes.old }
     requires lowest { length nodes.old ≤ 2 * leaf }

@@ -57,6 +57,7 @@ impl Instances {
     }
 
     /// The number of the identifier's instance, if it came before.
+    #[inline(always)]
     pub fn find(&self, id: FlowId) -> Option<u8>
         ensures index { result ≡ position (same_flow id) self.now.ids }
         ensures found { is_some result ≡ list_any (same_flow id) self.now.ids }

@@ -48,6 +48,7 @@ fn no_delay() -> Delay
 
 impl Network {
     // Makes the growths of handing on a packet by this verdict.
+    #[inline(always)]
     pub(crate) fn arrival_ready<S: Shelf>(
         &mut self,
         shelf: &mut S,
@@ -76,6 +77,7 @@ impl Network {
     }
 
     // Makes the growths of making a packet with this header.
+    #[inline(always)]
     pub(crate) fn make_ready<S: Shelf>(
         &mut self,
         shelf: &mut S,
@@ -170,6 +172,7 @@ impl Network {
     }
 
     // A packet comes into a pipe.
+    #[inline(always)]
     fn enter_pipe<S: Shelf>(
         &mut self,
         shelf: &mut S,
@@ -200,6 +203,7 @@ impl Network {
     }
 
     // A packet comes to a pipe.
+    #[inline(always)]
     fn to_pipe<S: Shelf>(
         &mut self,
         shelf: &mut S,
@@ -224,6 +228,7 @@ impl Network {
     }
 
     // A packet is handed on by a verdict.
+    #[inline(always)]
     fn hand_on<S: Shelf>(
         &mut self,
         shelf: &mut S,
@@ -301,6 +306,7 @@ impl Network {
     }
 
     // A packet of the next number is made, and passes the rules if it may be held.
+    #[inline(always)]
     pub(crate) fn make<S: Shelf>(
         &mut self,
         shelf: &mut S,

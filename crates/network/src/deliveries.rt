@@ -16,6 +16,7 @@ use std::alloc::AllocError;
 
 impl Network {
     // Makes the growths of delivering this load.
+    #[inline(always)]
     pub(crate) fn deliver_ready<S: Shelf>(
         &mut self,
         shelf: &mut S,
@@ -45,6 +46,7 @@ impl Network {
     }
 
     // Makes the growths of delivering a segment.
+    #[inline(always)]
     fn segment_ready<S: Shelf>(
         &mut self,
         shelf: &mut S,
@@ -72,6 +74,7 @@ impl Network {
     }
 
     // A packet is delivered.
+    #[inline(always)]
     pub(crate) fn deliver<S: Shelf>(
         &mut self,
         shelf: &mut S,
@@ -99,6 +102,7 @@ impl Network {
     }
 
     // What a delivered load does.
+    #[inline(always)]
     fn take_load<S: Shelf>(&mut self, shelf: &mut S, owner: Owner, at: Setting, load: Load)
         requires stands { Stands at (S.pocket shelf.old owner) self.old }
         requires made { self.old.made < 2 ^ 63 }
@@ -124,6 +128,7 @@ impl Network {
     }
 
     // A flow's receiver takes a segment, and acknowledges it.
+    #[inline(always)]
     fn take_segment<S: Shelf>(
         &mut self,
         shelf: &mut S,

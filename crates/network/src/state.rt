@@ -75,6 +75,7 @@ impl Network {
     }
 
     // Records one thing more, for which there is room.
+    #[inline(always)]
     pub(crate) fn note(&mut self, entry: &Record)
         requires { 0 < self.old.log.spare }
         ensures { Notes (entry.now ∷ []) self.old self.new }
@@ -85,6 +86,7 @@ impl Network {
 
 impl Network {
     // Makes room for so many records more.
+    #[inline(always)]
     pub(crate) fn reserve(&mut self, additional: usize) -> Result<(), AllocError>
         ensures rest { self.new ≡ record self.old { log = self.new.log } }
         ensures records { self.new.log.records ≡ self.old.log.records }

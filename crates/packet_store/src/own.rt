@@ -76,6 +76,7 @@ impl Shelf for OwnShelf {
 
     ghost room = { own_room };
 
+    #[inline(always)]
     fn put_ready(&mut self, owner: Owner) -> Result<(), AllocError> {
         if self.is_full(owner) {
             return Ok(());
@@ -83,6 +84,7 @@ impl Shelf for OwnShelf {
         self.slab.reserve(1)
     }
 
+    #[inline(always)]
     fn put(&mut self, owner: Owner, packet: Packet) -> Result<Key, PutError> {
         if self.is_full(owner) {
             return Err(PutError::OverBudget);
@@ -94,6 +96,7 @@ impl Shelf for OwnShelf {
         Ok(Key { place })
     }
 
+    #[inline(always)]
     fn look(&self, owner: Owner, key: Key) -> Option<Packet> {
         match self.slab.get(key.place) {
             Some(stored) if owner == 0 => Some(stored.packet),
@@ -101,6 +104,7 @@ impl Shelf for OwnShelf {
         }
     }
 
+    #[inline(always)]
     fn take(&mut self, owner: Owner, key: Key) -> Option<Packet> {
         if owner != 0 {
             return None;

@@ -140,6 +140,7 @@ impl<A> Codel<A> {
 
     /// `dequeue` of RFC 8289 at the moment `now`, in nanoseconds. It takes memory only where it drops.
     /// Refused, the queue is as before.
+    #[inline(always)]
     pub fn dequeue(&mut self, now: u64) -> Result<Dequeued<A>, AllocError>
         requires { now < 2 * 10 ^ 15 }
         ensures ok { IfOk result

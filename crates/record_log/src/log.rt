@@ -66,6 +66,7 @@ impl RecordLog {
     }
 
     /// Makes room for so many records more.
+    #[inline(always)]
     pub fn reserve(&mut self, additional: usize) -> Result<(), AllocError>
         ensures ready { OnOk result (additional ≤ self.new.spare) }
         ensures succeeds { additional ≤ self.old.spare → IsOk result }
@@ -80,6 +81,7 @@ impl RecordLog {
     }
 
     /// Records one thing more, where there is room.
+    #[inline(always)]
     pub fn note(&mut self, entry: &Record)
         requires { 0 < self.old.spare }
         ensures records { self.new.records ≡ self.old.records ++ entry.now ∷ [] }

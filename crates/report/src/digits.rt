@@ -80,6 +80,7 @@ fn put_eight(text: &mut [u8], end: usize, number: u32) -> usize
 
 // Puts a number of two digits or more, and returns where it begins.
 #[tactic(auto, using(crate::proofs::Decimals::at_most_twenty))]
+#[inline(always)]
 fn put_long(text: &mut [u8], end: usize, number: u64) -> usize
     requires { (20 ≤ end) × (end ≤ length text.old) }
     ensures start { (end ≤ result + 20) × (result ≤ end) }

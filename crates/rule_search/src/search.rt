@@ -39,6 +39,7 @@ pub fn judge(rules: &[CountedRule], jumps: &[usize], start: usize, packet: &Pack
 }
 
 /// The same place, by the memory where it knows.
+#[inline(always)]
 fn recalled_match(
     memory: &mut SearchMemory,
     rules: &[CountedRule],
