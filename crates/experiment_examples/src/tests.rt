@@ -205,6 +205,15 @@ fn a_command_is_busy_then_backward_then_over(rt: HostRuntime) -> Result<(), Fail
     Ok(())
 }
 
+/// The numbers that refusals have outside.
+#[test]
+fn refusals_have_their_numbers(rt: HostRuntime) {
+    assert_eq!(rt; ApplyError::Busy as u8, 27);
+    assert_eq!(rt; ApplyError::Backward as u8, 28);
+    assert_eq!(rt; ApplyError::Over as u8, 29);
+    assert_eq!(rt; ApplyError::NoMemory as u8, 99);
+}
+
 /// Takes commands of the moment 0, each with its event. Whether all went on.
 fn takes_all(bench: &mut Bench, commands: &[Command]) -> bool {
     for command in commands {

@@ -70,25 +70,6 @@ fn one_packet(rt: HostRuntime) {
     writes(&rt, texts::ONE_PACKET, texts::ONE_PACKET_REPORT);
 }
 
-#[test]
-fn codel_two_drops(rt: HostRuntime) {
-    writes(&rt, texts::CODEL_TWO_DROPS, texts::CODEL_TWO_DROPS_REPORT);
-}
-
-#[test]
-fn reno_four_segments(rt: HostRuntime) {
-    writes(
-        &rt,
-        texts::RENO_FOUR_SEGMENTS,
-        texts::RENO_FOUR_SEGMENTS_REPORT,
-    );
-}
-
-#[test]
-fn no_experiment(rt: HostRuntime) {
-    writes(&rt, "", "");
-}
-
 /// Wants `check` to write this.
 fn checks(rt: &(impl Abort + AllocGlobal), scenario: &str, line: &str) {
     let (outcome, written) = check_text(rt.alloc(), scenario);

@@ -9,11 +9,10 @@ ghost use Rattle.packet_store.specs.Own.{own_pocket};
 mod traces;
 
 use emu_model::{
-    Action, Amount, Bandwidth, Class, Command, Counters, Delay, Discipline, DropCause, Due,
-    FlowNumber, FlowSpec, Gap, Load, LossRate, Mask, PacketBudget, PipeConfig, PipeNumber, Prefix,
-    PrefixLength, Protocol, ProtocolMatch, QueueLimit, Record, Refusal, Rule, RuleNumber,
-    SegmentSize, SendSpec, Setting, Size, SlotLimit, Source, Threshold, Timed, Timing, TrainSpec,
-    Window,
+    Action, Amount, Bandwidth, Class, Command, Delay, Discipline, DropCause, Due, FlowNumber,
+    FlowSpec, Gap, Load, LossRate, Mask, PacketBudget, PipeConfig, PipeNumber, Prefix,
+    PrefixLength, Protocol, ProtocolMatch, QueueLimit, Record, Rule, RuleNumber, SegmentSize,
+    SendSpec, Setting, Size, SlotLimit, Source, Threshold, Timed, Timing, TrainSpec, Window,
 };
 use network::{Network, still_is_housed};
 use packet_store::{OwnShelf, Shelf};
@@ -22,13 +21,6 @@ use std::test::Fail;
 
 /// The last moment of a test (ns).
 const LATEST: u64 = 1_000_000_000;
-
-/// What was recorded, and the counters.
-#[derive(Drop)]
-struct Played {
-    records: Vec<Record>,
-    counters: Counters,
-}
 
 fn at(packet_budget: PacketBudget, now: u64) -> Setting
     ensures { result ≡ record { seed = 0; packet_budget = packet_budget; now = now } }
@@ -215,21 +207,20 @@ fn goes_through(
     true
 }
 
-/// What becomes of commands and of the events before the last of them.
-fn plays(alloc: Global, room: PacketBudget, commands: &[Timed]) -> Option<Played>
+/// What is recorded of commands and of the events before the last of them.
+fn plays(alloc: Global, room: PacketBudget, commands: &[Timed]) -> Option<Vec<Record>>
     requires { length commands.now ≤ 100 }
 {
     let mut net = opens(alloc)?;
     let mut shelf = OwnShelf::new(alloc, room);
     let is_through = goes_through(&mut net, &mut shelf, room, commands);
-    let counters = net.counters(shelf.count(0) as u64);
     let records = net.into_records();
     drop(shelf);
     if !is_through {
         drop(records);
         return None;
     }
-    Some(Played { records, counters })
+    Some(records)
 }
 
 /// This bandwidth (bit/s) and delay (ms).
@@ -324,14 +315,6 @@ fn done(moment: u64, command: u64) -> Record {
     Record::CommandDone { moment, command }
 }
 
-fn refused(moment: u64, command: u64, refusal: Refusal) -> Record {
-    Record::CommandRefused {
-        moment,
-        command,
-        refusal,
-    }
-}
-
 fn finished(moment: u64, packet: u64, pipe: PipeNumber) -> Record {
     Record::PacketFinished {
         moment,
@@ -375,122 +358,6 @@ fn counted(rule: Rule, packets: u64, bytes: u64) -> Record {
     }
 }
 
-/// Appends the dues, at the second try where memory was refused, and none before that.
-fn adds_dues(net: &Network, clock: u64, dues: &mut Vec<Due>) -> bool {
-    let before = dues.len();
-    if net.add_dues(clock, dues).is_ok() {
-        return true;
-    }
-    dues.len() == before && net.add_dues(clock, dues).is_ok()
-}
-
-// 1 Mbit/s and 10 ms: a packet of 1000 bytes at 0.
-#[test]
-fn one_packet(rt: HostRuntime) -> Result<(), Fail> {
-    let room = PacketBudget::new(10).ok_or("budget")?;
-    let one = PipeNumber::new(1).ok_or("1")?;
-    let config = pipe(1, 1_000_000, 10).ok_or("pipe")?;
-    let all = rule(100, Action::SendTo(one)).ok_or("rule")?;
-    let send = thousand().ok_or("packet")?;
-    let commands = [
-        timed(0, config),
-        timed(0, Command::Add(all)),
-        timed(0, Command::Inject(send)),
-        timed(20_000_000, Command::End),
-    ];
-    let expected = [
-        done(0, 0),
-        done(0, 1),
-        done(0, 2),
-        finished(8_000_000, 0, one),
-        delivered(18_000_000, 0, Load::Plain),
-        done(20_000_000, 3),
-    ];
-    let Played { records, counters } = plays(rt.alloc(), room, &commands).ok_or("memory")?;
-    assert_eq!(rt;
-        (counters.made, counters.delivered, counters.held),
-        (1, 1, 0)
-    );
-    assert!(rt; records[..] == expected[..]);
-    Ok(())
-}
-
-// The same at the moment at which the packet is due: the command comes first.
-#[test]
-fn held_packet(rt: HostRuntime) -> Result<(), Fail> {
-    let room = PacketBudget::new(10).ok_or("budget")?;
-    let one = PipeNumber::new(1).ok_or("1")?;
-    let config = pipe(1, 1_000_000, 10).ok_or("pipe")?;
-    let all = rule(100, Action::SendTo(one)).ok_or("rule")?;
-    let send = thousand().ok_or("packet")?;
-    let commands = [
-        timed(0, config),
-        timed(0, Command::Add(all)),
-        timed(0, Command::Inject(send)),
-        timed(18_000_000, Command::End),
-    ];
-    let Some(mut net) = opens(rt.alloc()) else {
-        return Err(Fail::from("memory"));
-    };
-    let mut shelf = OwnShelf::new(rt.alloc(), room);
-    assert!(rt; goes_through(&mut net, &mut shelf, room, &commands));
-    let counters = net.counters(shelf.count(0) as u64);
-    assert_eq!(rt;
-        (counters.made, counters.delivered, counters.held),
-        (1, 0, 1)
-    );
-    let mut dues = Vec::new(rt.alloc());
-    assert!(rt; adds_dues(&net, 18_000_000, &mut dues));
-    let exit = Source {
-        class: Class::Exit,
-        number: 256,
-    };
-    let due = Due {
-        moment: 18_000_000,
-        source: exit,
-    };
-    assert!(rt; dues[..] == [due][..]);
-    assert!(rt; net.earliest(18_000_000, next_command(18_000_001)) == due);
-    drop(net);
-    drop(shelf);
-    Ok(())
-}
-
-// 1 Mbit/s, and three packets at 0 where two may be held.
-#[test]
-fn packet_budget(rt: HostRuntime) -> Result<(), Fail> {
-    let room = PacketBudget::new(2).ok_or("budget")?;
-    let one = PipeNumber::new(1).ok_or("1")?;
-    let config = pipe(1, 1_000_000, 0).ok_or("pipe")?;
-    let all = rule(100, Action::SendTo(one)).ok_or("rule")?;
-    let train = TrainSpec {
-        packet: thousand().ok_or("packet")?,
-        count: Amount::new(3).ok_or("count")?,
-        gap: Gap::new(0).ok_or("gap")?,
-    };
-    let number = FlowNumber::new(7).ok_or("7")?;
-    let commands = [
-        timed(0, config),
-        timed(0, Command::Add(all)),
-        timed(0, Command::Train { number, train }),
-        timed(20_000_000, Command::End),
-    ];
-    let expected = [
-        done(0, 0),
-        done(0, 1),
-        done(0, 2),
-        dropped(0, 2, DropCause::Budget),
-        finished(8_000_000, 0, one),
-        delivered(8_000_001, 0, Load::Plain),
-        finished(16_000_000, 1, one),
-        delivered(16_000_001, 1, Load::Plain),
-        done(20_000_000, 3),
-    ];
-    let played = plays(rt.alloc(), room, &commands).ok_or("memory")?;
-    assert!(rt; played.records[..] == expected[..]);
-    Ok(())
-}
-
 // A packet goes on in the rules behind each pipe.
 #[test]
 fn two_pipes_in_turn(rt: HostRuntime) -> Result<(), Fail> {
@@ -523,8 +390,7 @@ fn two_pipes_in_turn(rt: HostRuntime) -> Result<(), Fail> {
         delivered(15_000_001, 0, Load::Plain),
         done(20_000_000, 7),
     ];
-    let played = plays(rt.alloc(), room, &commands).ok_or("memory")?;
-    let records = played.records;
+    let records = plays(rt.alloc(), room, &commands).ok_or("memory")?;
     assert_eq!(rt; records.len(), 13);
     assert!(rt; records[7..] == expected[..]);
     Ok(())
@@ -558,36 +424,8 @@ fn pipe_deleted(rt: HostRuntime) -> Result<(), Fail> {
         dropped(10_000_000, 1, DropCause::NoPipe),
         done(200_000_000, 5),
     ];
-    let played = plays(rt.alloc(), room, &commands).ok_or("memory")?;
-    assert!(rt; played.records[..] == expected[..]);
-    Ok(())
-}
-
-// Each refusal, at its moment.
-#[test]
-fn refused_commands(rt: HostRuntime) -> Result<(), Fail> {
-    let room = PacketBudget::new(1000).ok_or("budget")?;
-    let last = rule(65535, Action::Permit).ok_or("65535")?;
-    let to_itself = RuleNumber::new(300).ok_or("300")?;
-    let skip = rule(300, Action::SkipTo(to_itself)).ok_or("300")?;
-    let seven = RuleNumber::new(7).ok_or("7")?;
-    let nine = PipeNumber::new(9).ok_or("9")?;
-    let commands = [
-        timed(0, Command::Add(last)),
-        timed(5, Command::Add(skip)),
-        timed(5, Command::Delete(seven)),
-        timed(9, Command::PipeDelete(nine)),
-        timed(20, Command::End),
-    ];
-    let expected = [
-        refused(0, 0, Refusal::BadNumber),
-        refused(5, 1, Refusal::BadSkip),
-        refused(5, 2, Refusal::NoRule),
-        refused(9, 3, Refusal::NoSuchPipe),
-        done(20, 4),
-    ];
-    let played = plays(rt.alloc(), room, &commands).ok_or("memory")?;
-    assert!(rt; played.records[..] == expected[..]);
+    let records = plays(rt.alloc(), room, &commands).ok_or("memory")?;
+    assert!(rt; records[..] == expected[..]);
     Ok(())
 }
 
@@ -696,8 +534,7 @@ fn stopped_flow(rt: HostRuntime) -> Result<(), Fail> {
         ),
         done(100_000_000, 6),
     ];
-    let played = plays(rt.alloc(), room, &commands).ok_or("memory")?;
-    let records = played.records;
+    let records = plays(rt.alloc(), room, &commands).ok_or("memory")?;
     assert_eq!(rt; records.len(), 24);
     assert!(rt; records[5..] == expected[..]);
     Ok(())
@@ -754,8 +591,7 @@ fn listings(rt: HostRuntime) -> Result<(), Fail> {
             drawn: 1,
         },
     ];
-    let played = plays(rt.alloc(), room, &commands).ok_or("memory")?;
-    let records = played.records;
+    let records = plays(rt.alloc(), room, &commands).ok_or("memory")?;
     assert_eq!(rt; records.len(), 15);
     assert!(rt; records[6..] == expected[..]);
     Ok(())

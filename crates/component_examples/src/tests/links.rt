@@ -1,6 +1,5 @@
 use emu_model::{Bandwidth, Delay, Size};
 use link_core::{DelayLine, RateServer};
-use std::alloc::AllocError;
 use std::test::Fail;
 
 fn rate(bits: u64) -> Result<Bandwidth, Fail> {

@@ -104,6 +104,11 @@ fn benches_at_once(rt: HostRuntime) -> Result<(), Fail> {
     let (outcome, written) = ran(&rt, rt.alloc(), TWICE, plan, &gate);
     assert!(rt; outcome == Ok(()));
     assert!(rt; written.as_slice() == TWICE_REPORTS.as_bytes());
+    let (left, right) = (
+        gate.left.load(Ordering::SeqCst),
+        gate.right.load(Ordering::SeqCst),
+    );
+    assert_eq!(rt; (left, right), (5, 5));
     Ok(())
 }
 

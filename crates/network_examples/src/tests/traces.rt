@@ -112,8 +112,7 @@ fn traced_budget(rt: HostRuntime) -> Result<(), Fail> {
         dropped(5, 2, DropCause::Budget),
         done(6, 7),
     ];
-    let played = plays(rt.alloc(), room, &commands).ok_or("memory")?;
-    let records = played.records;
+    let records = plays(rt.alloc(), room, &commands).ok_or("memory")?;
     assert_eq!(rt; records.len(), 15);
     assert!(rt; records[3..] == expected[..]);
     Ok(())
@@ -166,7 +165,7 @@ fn refused_trace_changes_nothing(rt: HostRuntime) -> Result<(), Fail> {
         delivered(26_000_000, 2, Load::Plain),
         done(30_000_000, 5),
     ];
-    let played = plays(rt.alloc(), room, &commands).ok_or("refused twice, or changed")?;
-    assert!(rt; played.records[..] == expected[..]);
+    let records = plays(rt.alloc(), room, &commands).ok_or("refused twice, or changed")?;
+    assert!(rt; records[..] == expected[..]);
     Ok(())
 }

@@ -5,16 +5,13 @@ ghost use Rattle.pipe_core.specs.Moves.{AreNamed};
 
 use super::*;
 use emu_model::{
-    CodelTime, DropCause, KByteLimit, Load, Packet, PacketBudget, PipeNumber, Place, Protocol,
-    Refusal, RuleNumber, Size, SlotLimit,
+    DropCause, Load, Packet, PacketBudget, PipeNumber, Place, Protocol, Refusal, RuleNumber, Size,
 };
-use link_core::DelayLine;
 use packet_store::{Key, OwnShelf, Owner, Shelf, Store};
-use pipe_core::{Pipe, Shown, rehouse_line};
+use pipe_core::{Pipe, Shown};
 use std::alloc::Global;
 use std::marker::Model;
 use std::mem;
-use std::test::Fail;
 
 /// The destinations 10.0.0.2 and 10.0.0.3.
 pub const FIRST: u32 = 0x0a00_0002;

@@ -2,8 +2,7 @@
 
 use super::*;
 use emu_model::{
-    CodelTime, KByteLimit, Load, Packet, PacketBudget, PipeNumber, Place, Protocol, RuleNumber,
-    Size, SlotLimit,
+    Load, Packet, PacketBudget, PipeNumber, Place, Protocol, RuleNumber, Size, SlotLimit,
 };
 use packet_store::{Key, OwnShelf, Shelf};
 use pipe_instance::Instance;
@@ -66,164 +65,27 @@ fn number_at(shelf: &OwnShelf, key: Key) -> u64 {
     }
 }
 
-/// What was full, what finished, what left, and what CoDel dropped: moments (ns) and packets' numbers.
-#[derive(Drop)]
-struct Log {
-    full: Vec<u64>,
-    finished: Vec<(u64, u64)>,
-    left: Vec<(u64, u64)>,
-    dropped: Vec<(u64, u64)>,
-}
-
-impl Log {
-    fn new(alloc: Global) -> Self {
-        Log {
-            full: Vec::new(alloc),
-            finished: Vec::new(alloc),
-            left: Vec::new(alloc),
-            dropped: Vec::new(alloc),
-        }
-    }
-
-    /// Makes the next exit or finish, an exit before a finish: None where there is none. What is
-    /// refused for memory is made again.
-    fn step(&mut self, instance: &mut Instance, shelf: &OwnShelf, delay: Delay) -> Option<()> {
-        let dues = instance.dues();
-        if let Some(exit) = dues.exit {
-            if dues.finish.is_none_or(|finish| exit <= finish) {
-                let key = instance.exit()?;
-                return self.left.push((exit, number_at(shelf, key))).ok();
-            }
-        }
-        let finish = dues.finish?;
-        if finish >= END {
-            return None;
-        }
-        let Ok(done) = instance.finish(finish, delay) else {
-            return Some(());
-        };
-        for waiting in &done.dropped {
-            self.dropped
-                .push((finish, number_at(shelf, waiting.item)))
-                .ok()?;
-        }
-        self.finished
-            .push((finish, number_at(shelf, done.key)))
-            .ok()
-    }
-}
-
-/// Packets of these sizes come at 0, and all of them go through.
-fn drive_through(
+/// Makes the next exit or finish, an exit before a finish: None where there is none. What left is noted, with its
+/// moment (ns). What is refused for memory is made again.
+fn step(
     instance: &mut Instance,
-    shelf: &mut OwnShelf,
-    log: &mut Log,
+    shelf: &OwnShelf,
     delay: Delay,
-    sizes: &[Size],
+    left: &mut Vec<(u64, u64)>,
 ) -> Option<()> {
-    for (number, size) in sizes.iter().enumerate() {
-        let number = number as u64;
-        let arrival = match arrive(instance, shelf, 0, number, *size) {
-            Some(arrival) => arrival,
-            None => arrive(instance, shelf, 0, number, *size)?,
-        };
-        if arrival == Arrival::Full {
-            log.full.push(number).ok()?;
+    let dues = instance.dues();
+    if let Some(exit) = dues.exit {
+        if dues.finish.is_none_or(|finish| exit <= finish) {
+            let key = instance.exit()?;
+            return left.push((exit, number_at(shelf, key))).ok();
         }
     }
-    for _ in 0..200 {
-        if log.step(instance, shelf, delay).is_none() {
-            break;
-        }
-    }
-    Some(())
-}
-
-/// The same, in a new instance on a new shelf.
-fn drive(alloc: Global, config: &PipeConfig, sizes: &[Size]) -> Option<Log> {
-    let (number, budget) = (PipeNumber::new(1)?, PacketBudget::new(64)?);
-    let mut instance = Instance::new(alloc, config, 0, number, 0);
-    let mut shelf = OwnShelf::new(alloc, budget);
-    let mut log = Log::new(alloc);
-    let driven = drive_through(&mut instance, &mut shelf, &mut log, config.delay, sizes);
-    drop(instance);
-    drop(shelf);
-    if driven.is_none() {
-        drop(log);
+    let finish = dues.finish?;
+    if finish >= END {
         return None;
     }
-    Some(log)
-}
-
-#[test]
-fn one_packet_and_shared_rounding(rt: HostRuntime) -> Result<(), Fail> {
-    let slots = QueueLimit::Slots(SlotLimit::new(50).ok_or("slots")?);
-    let size = Size::new(1000).ok_or("size")?;
-    let config = pipe(1_000_000, 10, slots, Discipline::TailDrop).ok_or("pipe")?;
-    let one = drive(rt.alloc(), &config, &[size]).ok_or("one packet")?;
-    assert_eq!(rt; one.finished.as_slice(), [(8_000_000, 0)].as_slice());
-    assert_eq!(rt; one.left.as_slice(), [(18_000_000, 0)].as_slice());
-    let config = pipe(3_000_000, 0, slots, Discipline::TailDrop).ok_or("pipe")?;
-    let three = drive(rt.alloc(), &config, &[size; 3]).ok_or("three packets")?;
-    assert_eq!(rt;
-        three.finished.as_slice(),
-        [(2_666_667, 0), (5_333_334, 1), (8_000_000, 2)].as_slice()
-    );
-    assert_eq!(rt;
-        three.left.as_slice(),
-        [(2_666_668, 0), (5_333_335, 1), (8_000_001, 2)].as_slice()
-    );
-    Ok(())
-}
-
-#[test]
-fn one_slot_and_byte_limit(rt: HostRuntime) -> Result<(), Fail> {
-    let slot = QueueLimit::Slots(SlotLimit::new(1).ok_or("slot")?);
-    let size = Size::new(1000).ok_or("size")?;
-    let config = pipe(1_000_000, 0, slot, Discipline::TailDrop).ok_or("pipe")?;
-    let log = drive(rt.alloc(), &config, &[size; 3]).ok_or("one slot")?;
-    assert_eq!(rt; log.full.as_slice(), [2].as_slice());
-    assert_eq!(rt;
-        log.finished.as_slice(),
-        [(8_000_000, 0), (16_000_000, 1)].as_slice()
-    );
-    let bytes = QueueLimit::KBytes(KByteLimit::new(1).ok_or("bytes")?);
-    let large = Size::new(1500).ok_or("large")?;
-    let small = Size::new(600).ok_or("small")?;
-    let config = pipe(1_000_000, 0, bytes, Discipline::TailDrop).ok_or("pipe")?;
-    let log = drive(rt.alloc(), &config, &[large, small, small, small]).ok_or("byte limit")?;
-    assert_eq!(rt; log.full.as_slice(), [0, 3].as_slice());
-    assert_eq!(rt;
-        log.left.as_slice(),
-        [(4_800_001, 1), (9_600_001, 2)].as_slice()
-    );
-    Ok(())
-}
-
-/// CoDel with a target of 5 ms and an interval of 100 ms (RFC 8289, sections 4.3 and 4.4): one drop of
-/// 30 packets, two of 40, each at the finish before.
-#[test]
-fn codel_drops(rt: HostRuntime) -> Result<(), Fail> {
-    let slots = QueueLimit::Slots(SlotLimit::new(50).ok_or("slots")?);
-    let size = Size::new(1000).ok_or("size")?;
-    let codel = Discipline::ControlledDelay {
-        target: CodelTime::new(5_000_000).ok_or("target")?,
-        interval: CodelTime::new(100_000_000).ok_or("interval")?,
-    };
-    let config = pipe(1_000_000, 0, slots, codel).ok_or("pipe")?;
-    let log = drive(rt.alloc(), &config, &[size; 30]).ok_or("one drop")?;
-    assert_eq!(rt; log.dropped.as_slice(), [(112_000_000, 14)].as_slice());
-    assert_eq!(rt; log.finished.get(13).copied(), Some((112_000_000, 13)));
-    assert_eq!(rt; log.finished.get(14).copied(), Some((120_000_000, 15)));
-    assert_eq!(rt; log.left.get(28).copied(), Some((232_000_001, 29)));
-    let log = drive(rt.alloc(), &config, &[size; 40]).ok_or("two drops")?;
-    assert_eq!(rt;
-        log.dropped.as_slice(),
-        [(112_000_000, 14), (216_000_000, 28)].as_slice()
-    );
-    assert_eq!(rt; log.finished.get(27).copied(), Some((224_000_000, 29)));
-    assert_eq!(rt; log.left.get(37).copied(), Some((304_000_001, 39)));
-    Ok(())
+    drop(instance.finish(finish, delay));
+    Some(())
 }
 
 /// Nothing came: a configuration changes the rate, and nothing is left.
@@ -254,11 +116,11 @@ fn configured_and_given_up(rt: HostRuntime) -> Result<(), Fail> {
 }
 
 /// Three packets, of which one is on its way, one in service and one waits, change places by their
-/// keys; what leaves is logged.
+/// keys; what leaves is noted.
 fn change_places(
     instance: &mut Instance,
     shelf: &mut OwnShelf,
-    log: &mut Log,
+    left: &mut Vec<(u64, u64)>,
     keys: &mut Vec<Key>,
     delay: Delay,
 ) -> Option<()> {
@@ -266,7 +128,7 @@ fn change_places(
     for packet in 0..3 {
         arrive(instance, shelf, 0, packet, size)?;
     }
-    log.step(instance, shelf, delay)?;
+    step(instance, shelf, delay, left)?;
     for place in 0..3 {
         let key = instance.key_at(place)?;
         if number_at(shelf, key) != place as u64 {
@@ -282,7 +144,7 @@ fn change_places(
         instance.replace_key(place, keys[keys.len() - 1 - place]);
     }
     for _ in 0..5 {
-        log.step(instance, shelf, delay)?;
+        step(instance, shelf, delay, left)?;
     }
     Some(())
 }
@@ -297,16 +159,21 @@ fn keys_are_replaced_in_place(rt: HostRuntime) -> Result<(), Fail> {
     let mut instance = Instance::new(rt.alloc(), &config, 0, number, 0);
     assert_eq!(rt; (instance.held(), instance.key_at(0).is_none()), (0, true));
     let mut shelf = OwnShelf::new(rt.alloc(), budget);
-    let mut log = Log::new(rt.alloc());
+    let mut left = Vec::new(rt.alloc());
     let mut keys = Vec::new(rt.alloc());
-    let changed = change_places(&mut instance, &mut shelf, &mut log, &mut keys, config.delay);
+    let changed = change_places(
+        &mut instance,
+        &mut shelf,
+        &mut left,
+        &mut keys,
+        config.delay,
+    );
     assert!(rt; changed.is_some());
     assert_eq!(rt;
-        log.left.as_slice(),
+        left.as_slice(),
         [(28_000_000, 2), (36_000_000, 1), (44_000_000, 0)].as_slice()
     );
     drop(instance);
     drop(shelf);
-    drop(log);
     Ok(())
 }

@@ -1,9 +1,9 @@
 //! What stands in the table, with numbers chosen by hand.
 
 use emu_model::{
-    Bandwidth, Class, Delay, Discipline, DropCause, Due, Load, LossRate, Mask, Packet,
-    PacketBudget, PipeConfig, PipeNumber, Place, Protocol, QueueLimit, Record, Refusal, RuleNumber,
-    Size, SlotLimit, Source,
+    Bandwidth, Class, Delay, Discipline, Due, Load, LossRate, Mask, Packet, PacketBudget,
+    PipeConfig, PipeNumber, Place, Protocol, QueueLimit, Record, Refusal, RuleNumber, Size,
+    SlotLimit, Source,
 };
 use packet_store::{OwnShelf, Shelf};
 use pipe_table::*;
