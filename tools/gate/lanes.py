@@ -6,9 +6,9 @@ import subprocess
 import time
 from typing import Callable, Dict, List, NamedTuple, Sequence
 
-# The most processors that one command gets.
+# The most processors that one command gets, where a task says nothing else.
 MOST_JOBS = 4
-# What each job past the first takes of the memory of one.
+# What each job past the first takes of the memory of one, where a task says nothing else.
 MORE_MEMORY = 0.6
 # Seconds between two looks at what runs, and those that a command has for ending when it is told to.
 PAUSE, PATIENCE = 0.05, 3.0
@@ -24,6 +24,7 @@ class Task(NamedTuple):
     start: Callable[[int], "subprocess.Popen[bytes]"]
     ended: Callable[[int, float], None]
     most_jobs: int = MOST_JOBS
+    more_memory: float = MORE_MEMORY
 
 
 class Running(NamedTuple):
@@ -37,7 +38,7 @@ class Running(NamedTuple):
 
 
 def needed(task: Task, jobs: int) -> float:
-    return task.memory * (1 + MORE_MEMORY * (jobs - 1))
+    return task.memory * (1 + task.more_memory * (jobs - 1))
 
 
 def chains(tasks: Sequence[Task]) -> Dict[str, int]:
@@ -53,7 +54,7 @@ def chains(tasks: Sequence[Task]) -> Dict[str, int]:
 def jobs_for(task: Task, ready: Sequence[Task], idle: int, room: float) -> int:
     """How many of the idle processors a task gets: its share by work among those that are ready, as memory allows."""
     share = round(idle * task.work / max(sum(it.work for it in ready), 1))
-    jobs = max(1, min(share, idle, task.most_jobs, MOST_JOBS))
+    jobs = max(1, min(share, idle, task.most_jobs))
     while jobs > 1 and needed(task, jobs) > room:
         jobs -= 1
     return jobs

@@ -8,7 +8,7 @@ import pathlib
 import shutil
 import subprocess
 import time
-from typing import Callable, Dict, Iterable, List
+from typing import Callable, Iterable, List
 
 import crates
 import lanes
@@ -56,6 +56,21 @@ def replace(one: pathlib.Path, other: pathlib.Path, aside: pathlib.Path) -> None
         lanes.remove(str(aside))
     elif aside.exists():
         aside.unlink()
+
+
+def start_rt(words: List[str], folder: pathlib.Path, log: pathlib.Path, tmp: pathlib.Path, **more: str) -> "subprocess.Popen[bytes]":
+    """Starts rt in a session of its own, so that it can be ended with all that it started; its temporary files lie in `tmp`."""
+    tmp.mkdir(parents=True, exist_ok=True)
+    with open(log, "wb") as out:
+        return subprocess.Popen(
+            ["rt", *words],
+            cwd=folder,
+            stdin=subprocess.DEVNULL,
+            stdout=out,
+            stderr=subprocess.STDOUT,
+            start_new_session=True,
+            env={**os.environ, "TMPDIR": str(tmp), **more},
+        )
 
 
 class Proving:
@@ -119,9 +134,7 @@ class Proving:
             shutil.copy2(self.root / "HANDLES", copy)
         is_program = (copy / "crates" / name / "src" / "main.rt").is_file()
         words = ["run", "--jobs", str(jobs), "--", "--version"] if is_program else ["lib", "--jobs", str(jobs)]
-        how: Dict[str, object] = {"cwd": copy / "crates" / name, "stdin": subprocess.DEVNULL, "stderr": subprocess.STDOUT, "start_new_session": True}
-        with open(self.room / f"{name}.log", "wb") as log:
-            return subprocess.Popen(["rt", *words], stdout=log, **how)  # type: ignore[call-overload,no-any-return]
+        return start_rt(words, copy / "crates" / name, self.room / f"{name}.log", self.room / "tmp")
 
     def give(self, one: pathlib.Path, other: pathlib.Path) -> None:
         """Gives a copy a part of an out/; the folder of the copies themselves may lie in one."""
