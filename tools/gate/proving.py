@@ -7,6 +7,7 @@ import os
 import pathlib
 import shutil
 import subprocess
+import sys
 import time
 from typing import Callable, Iterable, List
 
@@ -71,6 +72,32 @@ def start_rt(words: List[str], folder: pathlib.Path, log: pathlib.Path, tmp: pat
             start_new_session=True,
             env={**os.environ, "TMPDIR": str(tmp), **more},
         )
+
+
+class Progress:
+    """Says how far it is: by one line that is written again where standard error is a terminal, and else by a line for each change."""
+
+    def __init__(self, who: str, what: str, after: float = 0):
+        self.who, self.what, self.after = who, what, after
+        self.is_terminal = sys.stderr.isatty()
+        self.last: List[str] = []
+
+    def told(self, running: List[str], done: int, many: int, seconds: float) -> None:
+        """Takes what runs, and how many of how many are done after so many seconds; at first nothing is said."""
+        if seconds < self.after:
+            return
+        line = f"{self.who}: proved {done} of {many} {self.what} in {seconds:.0f} s"
+        line += f"; now {', '.join(running)}" if running else ""
+        if self.is_terminal:
+            wide = shutil.get_terminal_size().columns
+            print(f"\r\033[K{line[: wide - 1]}", end="", file=sys.stderr, flush=True)
+        elif running and running != self.last:
+            print(line, file=sys.stderr, flush=True)
+        self.last = list(running)
+
+    def end(self) -> None:
+        if self.is_terminal:
+            print(file=sys.stderr, flush=True)
 
 
 class Proving:
