@@ -27,6 +27,10 @@ class Task(NamedTuple):
     more_memory: float = MORE_MEMORY
 
 
+# How many jobs the first of those that are ready shall get of the idle processors.
+Wanted = Callable[[Sequence[Task], int], int]
+
+
 class Running(NamedTuple):
     task: Task
     process: "subprocess.Popen[bytes]"
@@ -51,16 +55,25 @@ def chains(tasks: Sequence[Task]) -> Dict[str, int]:
     return longest
 
 
-def jobs_for(task: Task, ready: Sequence[Task], idle: int, room: float) -> int:
-    """How many of the idle processors a task gets: its share by work among those that are ready, as memory allows."""
-    share = round(idle * task.work / max(sum(it.work for it in ready), 1))
-    jobs = max(1, min(share, idle, task.most_jobs))
+def spare_jobs(ready: Sequence[Task], idle: int) -> int:
+    """Gives the first of those that are ready the processors that are left when each other one has got one."""
+    return 1 + idle - len(ready)
+
+
+def shared_jobs(ready: Sequence[Task], idle: int) -> int:
+    """Gives the first of those that are ready its share by work: where twice the jobs take half the time."""
+    return round(idle * ready[0].work / max(sum(it.work for it in ready), 1))
+
+
+def jobs_for(task: Task, wanted: int, idle: int, room: float) -> int:
+    """How many of the idle processors a task gets: as many as are wanted, as far as memory allows."""
+    jobs = max(1, min(wanted, idle, task.most_jobs))
     while jobs > 1 and needed(task, jobs) > room:
         jobs -= 1
     return jobs
 
 
-def run_all(tasks: Sequence[Task], cores: int, memory: float, told: Callable[[List[str], int], None]) -> None:
+def run_all(tasks: Sequence[Task], cores: int, memory: float, told: Callable[[List[str], int], None], wanted: Wanted = spare_jobs) -> None:
     """Runs the tasks and tells, whenever one started or ended and each second, which run and how many have ended.
     However it ends, nothing of theirs runs on."""
     longest = chains(tasks)
@@ -70,7 +83,7 @@ def run_all(tasks: Sequence[Task], cores: int, memory: float, told: Callable[[Li
     last = 0.0
     try:
         while left or running:
-            started = start_ready(left, running, done, cores, memory)
+            started = start_ready(left, running, done, cores, memory, wanted)
             if started or time.monotonic() - last > 1:
                 told([it.task.name for it in running], len(done))
                 last = time.monotonic()
@@ -87,7 +100,7 @@ def run_all(tasks: Sequence[Task], cores: int, memory: float, told: Callable[[Li
         end([it.process for it in running])
 
 
-def start_ready(left: List[Task], running: List[Running], done: List[str], cores: int, memory: float) -> bool:
+def start_ready(left: List[Task], running: List[Running], done: List[str], cores: int, memory: float, wanted: Wanted) -> bool:
     """Starts what waits for nothing any more, as long as there is room, and returns whether something was started."""
     ready = [it for it in left if all(name in done for name in it.waits)]
     has_started = False
@@ -97,7 +110,7 @@ def start_ready(left: List[Task], running: List[Running], done: List[str], cores
         if idle <= 0 or running and needed(ready[0], 1) > room:
             # The first of them is not passed by: it has the longest chain, and shall get the next room.
             break
-        jobs = jobs_for(ready[0], ready, idle, room)
+        jobs = jobs_for(ready[0], wanted(ready, idle), idle, room)
         task = ready.pop(0)
         left.remove(task)
         running.append(Running(task, task.start(jobs), jobs, time.monotonic()))
