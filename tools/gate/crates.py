@@ -1,0 +1,94 @@
+"""What the tools of the gate share: the crates of crates.txt, how large they are, and what the machine has."""
+import os
+import pathlib
+import re
+import subprocess
+from typing import Dict, Iterable, Iterator, List, Optional
+
+# What a check of a crate reads.
+PARTS = ("src", "specs", "proofs")
+GIGABYTE = 1_000_000_000
+# Where a control group bounds the processors (a quota, its period) and the memory (the most, what is held).
+QUOTAS = (
+    ("/sys/fs/cgroup/cpu.max", r"^(\d+)", "/sys/fs/cgroup/cpu.max", r"^\d+ (\d+)"),
+    ("/sys/fs/cgroup/cpu/cpu.cfs_quota_us", r"^(\d+)", "/sys/fs/cgroup/cpu/cpu.cfs_period_us", r"^(\d+)"),
+)
+BOUNDS = (
+    ("/sys/fs/cgroup/memory.max", r"^(\d+)", "/sys/fs/cgroup/memory.current", r"^(\d+)"),
+    ("/sys/fs/cgroup/memory/memory.limit_in_bytes", r"^(\d+)", "/sys/fs/cgroup/memory/memory.usage_in_bytes", r"^(\d+)"),
+)
+
+
+def read_uses(root: pathlib.Path) -> Dict[str, List[str]]:
+    """The crates of crates.txt, in its order, each with the crates (not the kit's libraries) that its line names."""
+    lines = lines_of_crates(root)
+    return {name: [it for it in re.split(r"[\s,]+", line.partition(":")[2]) if it in lines] for name, line in lines.items()}
+
+
+def lines_of_crates(root: pathlib.Path) -> Dict[str, str]:
+    """The lines of crates.txt by the crates that they are of."""
+    return lines_in((root / "crates.txt").read_text(encoding="utf-8"))
+
+
+def lines_in(text: str) -> Dict[str, str]:
+    rows = [row.partition("#")[0].strip() for row in text.splitlines()]
+    return {re.split(r"[\s:]", row, maxsplit=1)[0]: row for row in rows if row}
+
+
+def below(uses: Dict[str, List[str]], names: Iterable[str]) -> List[str]:
+    """These crates and all that they stand on, lowest first."""
+    found: List[str] = []
+
+    def visit(name: str) -> None:
+        if name not in found:
+            for it in uses[name]:
+                visit(it)
+            found.append(name)
+
+    for name in names:
+        visit(name)
+    return found
+
+
+def files_of(folder: pathlib.Path, parts: Iterable[str] = PARTS) -> Iterator[pathlib.Path]:
+    """The files of these parts of a crate, in order."""
+    for part in parts:
+        yield from sorted(it for it in (folder / part).rglob("*") if it.is_file())
+
+
+def count_lines(folder: pathlib.Path, parts: Iterable[str] = ("src", "proofs")) -> int:
+    return sum(it.read_bytes().count(b"\n") for it in files_of(folder, parts))
+
+
+def number_in(file: str, pattern: str) -> Optional[int]:
+    try:
+        found = re.search(pattern, pathlib.Path(file).read_text(encoding="utf-8"), re.M)
+    except OSError:
+        return None
+    return int(found[1]) if found else None
+
+
+def processors() -> int:
+    """The processors that there are to use: those that the process may run on, or fewer by the quota of its group."""
+    found = len(os.sched_getaffinity(0))
+    for file, words, of_period, period_words in QUOTAS:
+        quota, period = number_in(file, words), number_in(of_period, period_words)
+        if quota and period:
+            found = min(found, max(quota // period, 1))
+    return found
+
+
+def free_memory() -> int:
+    """The free memory in bytes, under the group's bound too."""
+    found = [1024 * (number_in("/proc/meminfo", r"^MemAvailable:\s+(\d+)") or 4_000_000)]
+    for file, words, of_held, held_words in BOUNDS:
+        most, held = number_in(file, words), number_in(of_held, held_words)
+        if most and held is not None:
+            found.append(most - held)
+    return max(min(found), 0)
+
+
+def kit_version() -> str:
+    """What `rt version` says."""
+    said = subprocess.run(["rt", "version"], stdin=subprocess.DEVNULL, stdout=subprocess.PIPE, stderr=subprocess.STDOUT, check=False)
+    return said.stdout.decode(errors="replace").strip()
