@@ -3,7 +3,7 @@ use Rattle.packet_store.specs.Pocket.{Pocket}
 use Rattle.pipe_instance.specs.Uses.{total, one_at}
 use Rattle.pipe_core.specs.Moves.{AreNamed}
 use Rattle.pipe_table.specs.Table.{Table, pipe_keys}
-use Rattle.pipe_table.proofs.tests.dues_are_appended.Goals as goal
+use Rattle.pipe_examples.proofs.tests.tables.dues_are_appended.Goals as goal
 
 total-nil : (weight : ℕ → ℕ) → total weight [] ≡ 0
 unfolding total
