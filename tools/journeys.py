@@ -1,7 +1,7 @@
 """What became of each packet of an experiment, and when each was made.
 
 A report has a line for when a packet was made under `trace 1` alone. With the scenario it can be worked out by the rules of
-docs/ORDER.md and docs/RENO.md, since serial numbers count the packets as they are made: an injected packet
+docs/use/ORDER.md and docs/use/RENO.md, since serial numbers count the packets as they are made: an injected packet
 at its command, an acknowledgement where its data packet is delivered, a train's packets by their gap, and a
 flow's segments at the moment of the `flow` command, `ack` or `expire` line that allowed them, behind all
 else of that moment, by number. Windows are the report's; what is worked out is compared with each line that
@@ -96,7 +96,7 @@ class Sender:
 
 
 def first_window(smss):
-    """RFC 5681, section 3.1, as docs/RENO.md has it."""
+    """RFC 5681, section 3.1, as docs/use/RENO.md has it."""
     return (4 if smss <= 1095 else 3) * smss
 
 

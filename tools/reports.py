@@ -1,4 +1,4 @@
-"""The one reader of report texts (docs/REPORT.md), for the tools beside it.
+"""The one reader of report texts (docs/use/REPORT.md), for the tools beside it.
 
 `read(data)` gives the experiments of a report, in order, or raises `Refused` with the line and the cause.
 What a report says twice is compared: the commands' numbers go up by one, moments don't fall, a packet ends

@@ -1,4 +1,4 @@
-"""What docs/SCENARIO.md says of a text, and what docs/REPORT.md says a report looks like, in Python.
+"""What docs/use/SCENARIO.md says of a text, and what docs/use/REPORT.md says a report looks like, in Python.
 
 It is written from those two pages alone, so that tools/hostile, tools/limits and tools/differ have a second
 word on which texts are scenarios, which fault stands where, and whether a report is whole. It has no

@@ -1,4 +1,4 @@
-"""Reads scenario texts (docs/SCENARIO.md) as far as the tools beside it need: who sends what, and when.
+"""Reads scenario texts (docs/use/SCENARIO.md) as far as the tools beside it need: who sends what, and when.
 
 What these lines don't need is not judged: `dnlab check` says whether a text is a scenario.
 """

@@ -1,5 +1,5 @@
-"""Parts of tools/second: loss words, one instance of a pipe, one sender. Written from docs/RULES.md, docs/CODEL.md and
-docs/RENO.md alone, for reading and not for speed."""
+"""Parts of tools/second: loss words, one instance of a pipe, one sender. Written from docs/use/RULES.md, docs/use/CODEL.md and
+docs/use/RENO.md alone, for reading and not for speed."""
 from collections import deque
 from math import isqrt
 

@@ -1,5 +1,5 @@
-"""Parts of tools/second: rules and configurations as they are read and listed, written from docs/RULES.md,
-docs/SCENARIO.md and docs/REPORT.md. The words are taken to be a line of a scenario."""
+"""Parts of tools/second: rules and configurations as they are read and listed, written from docs/use/RULES.md,
+docs/use/SCENARIO.md and docs/use/REPORT.md. The words are taken to be a line of a scenario."""
 from collections import deque
 
 import scenario_text

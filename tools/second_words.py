@@ -1,5 +1,5 @@
-"""Parts of tools/second: what commands do, and the report of a text, written from docs/SCENARIO.md, docs/RULES.md and
-docs/ORDER.md."""
+"""Parts of tools/second: what commands do, and the report of a text, written from docs/use/SCENARIO.md, docs/use/RULES.md and
+docs/use/ORDER.md."""
 from collections import deque
 from types import SimpleNamespace
 
