@@ -2,6 +2,18 @@
 
 use emu_model::*;
 
+// Which of four numbers a maker takes. A closure each would be proved each.
+macro_rules! taken {
+    ($range:ident; $a:expr, $b:expr, $c:expr, $d:expr) => {
+        [
+            $range::new($a).is_some(),
+            $range::new($b).is_some(),
+            $range::new($c).is_some(),
+            $range::new($d).is_some(),
+        ]
+    };
+}
+
 // Each range of a scenario: what its maker takes at both ends and next to them. Where the
 // integer holds nothing below or above the range, an end stands twice.
 #[test]
@@ -10,99 +22,75 @@ fn makers_keep_their_ranges(rt: HostRuntime) {
     let from_zero = [true, true, true, false];
     let to_the_last = [false, true, true, true];
     for (name, taken, wanted) in [
-        (
-            "size",
-            [39, 40, 1500, 1501].map(|n| Size::new(n).is_some()),
-            inside,
-        ),
+        ("size", taken!(Size; 39, 40, 1500, 1501), inside),
         (
             "rule number",
-            [0, 1, 99999, 100000].map(|n| RuleNumber::new(n).is_some()),
+            taken!(RuleNumber; 0, 1, 99999, 100000),
             from_zero,
         ),
         (
             "prefix length",
-            [0, 1, 32, 33].map(|n| PrefixLength::new(n).is_some()),
+            taken!(PrefixLength; 0, 1, 32, 33),
             from_zero,
         ),
         (
             "pipe number",
-            [0, 1, 65534, 65535].map(|n| PipeNumber::new(n).is_some()),
+            taken!(PipeNumber; 0, 1, 65534, 65535),
             to_the_last,
         ),
         (
             "flow number",
-            [0, 1, 65534, 65535].map(|n| FlowNumber::new(n).is_some()),
+            taken!(FlowNumber; 0, 1, 65534, 65535),
             to_the_last,
         ),
         (
             "bandwidth",
-            [0, 1, 10000000000, 10000000001].map(|n| Bandwidth::new(n).is_some()),
+            taken!(Bandwidth; 0, 1, 10000000000, 10000000001),
             from_zero,
         ),
-        (
-            "delay",
-            [0, 1, 60000, 60001].map(|n| Delay::new(n).is_some()),
-            from_zero,
-        ),
-        (
-            "slots",
-            [0, 1, 1000, 1001].map(|n| SlotLimit::new(n).is_some()),
-            inside,
-        ),
-        (
-            "KBytes",
-            [0, 1, 1024, 1025].map(|n| KByteLimit::new(n).is_some()),
-            inside,
-        ),
+        ("delay", taken!(Delay; 0, 1, 60000, 60001), from_zero),
+        ("slots", taken!(SlotLimit; 0, 1, 1000, 1001), inside),
+        ("KBytes", taken!(KByteLimit; 0, 1, 1024, 1025), inside),
         (
             "loss rate",
-            [0, 1, 1000000, 1000001].map(|n| LossRate::new(n).is_some()),
+            taken!(LossRate; 0, 1, 1000000, 1000001),
             from_zero,
         ),
         (
             "target or interval",
-            [999, 1000, 60000000000, 60000000001].map(|n| CodelTime::new(n).is_some()),
+            taken!(CodelTime; 999, 1000, 60000000000, 60000000001),
             inside,
         ),
         (
             "segment size",
-            [63, 64, 1460, 1461].map(|n| SegmentSize::new(n).is_some()),
+            taken!(SegmentSize; 63, 64, 1460, 1461),
             inside,
         ),
         (
             "segments or count",
-            [0, 1, 1000000, 1000001].map(|n| Amount::new(n).is_some()),
+            taken!(Amount; 0, 1, 1000000, 1000001),
             inside,
         ),
         (
             "gap",
-            [0, 1, 1000000000000, 1000000000001].map(|n| Gap::new(n).is_some()),
+            taken!(Gap; 0, 1, 1000000000000, 1000000000001),
             from_zero,
         ),
         (
             "ssthresh",
-            [0, 1, 1000000000, 1000000001].map(|n| Threshold::new(n).is_some()),
+            taken!(Threshold; 0, 1, 1000000000, 1000000001),
             inside,
         ),
-        (
-            "window",
-            [0, 1, 65534, 65535].map(|n| Window::new(n).is_some()),
-            to_the_last,
-        ),
-        (
-            "rto",
-            [0, 1, 60000, 60001].map(|n| Timeout::new(n).is_some()),
-            inside,
-        ),
+        ("window", taken!(Window; 0, 1, 65534, 65535), to_the_last),
+        ("rto", taken!(Timeout; 0, 1, 60000, 60001), inside),
         (
             "packets",
-            [0, 1, 65534, 65535].map(|n| PacketBudget::new(n).is_some()),
+            taken!(PacketBudget; 0, 1, 65534, 65535),
             to_the_last,
         ),
         (
             "steps",
-            [0, 1, 10000000, 10000001].map(|n| StepBudget::new(n).is_some()),
+            taken!(StepBudget; 0, 1, 10000000, 10000001),
             inside,
         ),
     ] {
