@@ -1,8 +1,7 @@
 //! Orders and dues chosen by hand.
 
 use emu_model::{Class, Source};
-use std::alloc::AllocError;
-use std::test::Fail;
+use std::alloc::{AllocError, Global};
 use timer_wheel::*;
 
 // In rising order; the last is the latest due that a shard sets.
@@ -54,17 +53,15 @@ fn pop<A: Agenda>(agenda: &mut A) -> Option<(u64, Owner, u8, u32)> {
     ))
 }
 
-// Sets all dues in falling order, with rising numbers.
-fn put_falling<A: Agenda>(agenda: &mut A) -> Result<(), AllocError> {
+// Sets all dues in falling order, with rising numbers, and pops them in rising order.
+fn falls_and_rises<A: Agenda>(agenda: &mut A) -> bool {
     let mut number = 0;
     for due in DUES.iter().rev() {
-        put(agenda, 0, expiry(number), *due)?;
+        if put(agenda, 0, expiry(number), *due).is_err() {
+            return false;
+        }
         number = 7u32.min(number.saturating_add(1));
     }
-    Ok(())
-}
-
-fn pops_rising<A: Agenda>(agenda: &mut A) -> bool {
     let mut number = 7u32;
     for due in DUES.iter() {
         number = number.saturating_sub(1);
@@ -75,193 +72,202 @@ fn pops_rising<A: Agenda>(agenda: &mut A) -> bool {
     pop(agenda) == None
 }
 
-// Three owners at one due, and two sources of one of them.
-fn put_ties<A: Agenda>(agenda: &mut A) -> Result<(), AllocError> {
-    put(agenda, 2, expiry(4), 256)?;
-    put(agenda, 1, expiry(9), 256)?;
-    put(agenda, 0, expiry(1), 256)?;
-    put(agenda, 1, expiry(5), 256)?;
+// Three owners at one due, and two sources of one of them: by owner, class and number.
+fn ties<A: Agenda>(agenda: &mut A) -> bool {
     let finish = Source {
         class: Class::Finish,
         number: 7,
     };
-    put(agenda, 1, finish, 256)
+    for (owner, source) in [
+        (2, expiry(4)),
+        (1, expiry(9)),
+        (0, expiry(1)),
+        (1, expiry(5)),
+        (1, finish),
+    ] {
+        if put(agenda, owner, source, 256).is_err() {
+            return false;
+        }
+    }
+    for popped in [
+        Some((256, 0, 3, 1)),
+        Some((256, 1, 2, 7)),
+        Some((256, 1, 3, 5)),
+        Some((256, 1, 3, 9)),
+        Some((256, 2, 3, 4)),
+        None,
+    ] {
+        if pop(agenda) != popped {
+            return false;
+        }
+    }
+    true
 }
 
-fn pops_ties<A: Agenda>(agenda: &mut A) -> bool {
-    pop(agenda) == Some((256, 0, 3, 1))
-        && pop(agenda) == Some((256, 1, 2, 7))
-        && pop(agenda) == Some((256, 1, 3, 5))
-        && pop(agenda) == Some((256, 1, 3, 9))
-        && pop(agenda) == Some((256, 2, 3, 4))
-        && pop(agenda) == None
-}
-
-#[test]
-fn list_pops_in_rising_order(rt: HostRuntime) -> Result<(), Fail> {
-    let mut agenda: ListAgenda = Agenda::new(rt.alloc(), 0)?;
-    put_falling(&mut agenda)?;
-    assert!(rt; pops_rising(&mut agenda));
-    Ok(())
-}
-
-#[test]
-fn list_pops_ties_by_owner_class_and_number(rt: HostRuntime) -> Result<(), Fail> {
-    let mut agenda: ListAgenda = Agenda::new(rt.alloc(), 256)?;
-    put_ties(&mut agenda)?;
-    assert!(rt; pops_ties(&mut agenda));
-    Ok(())
-}
-
-#[test]
-fn list_replaces_and_clears(rt: HostRuntime) -> Result<(), Fail> {
-    let mut agenda: ListAgenda = Agenda::new(rt.alloc(), 5)?;
-    assert!(rt; replaces_and_clears(&mut agenda)?);
-    Ok(())
-}
-
-fn replaces_and_clears<A: Agenda>(agenda: &mut A) -> Result<bool, AllocError> {
-    put(agenda, 0, expiry(1), 900)?;
-    put(agenda, 0, expiry(1), 70)?;
-    put(agenda, 0, expiry(2), 60)?;
-    put(agenda, 1, expiry(2), 50)?;
-    put(agenda, 1, expiry(3), 40)?;
+// A due takes another's place; an owner's dues, one, and all are taken away.
+fn replaces_and_clears<A: Agenda>(agenda: &mut A) -> bool {
+    for (owner, number, due) in [(0, 1, 900), (0, 1, 70), (0, 2, 60), (1, 2, 50), (1, 3, 40)] {
+        if put(agenda, owner, expiry(number), due).is_err() {
+            return false;
+        }
+    }
     agenda.clear_owner(1);
     agenda.clear(0, expiry(2));
     agenda.clear(0, expiry(9));
     let first = pop(agenda) == Some((70, 0, 3, 1)) && pop(agenda) == None;
     let clock = agenda.clock();
-    put(agenda, 3, expiry(1), 80)?;
+    let again = put(agenda, 3, expiry(1), 80).is_ok();
     agenda.restart();
-    Ok(first && clock == 70 && agenda.clock() == 0 && pop(agenda) == None)
+    first && clock == 70 && again && agenda.clock() == 0 && pop(agenda) == None
+}
+
+// A set that is refused memory is made again, and is made then.
+fn puts_twice<A: Agenda>(agenda: &mut A, owner: Owner, source: Source, due: u64) -> bool {
+    put(agenda, owner, source, due).is_ok() || put(agenda, owner, source, due).is_ok()
 }
 
 // Passes with ample memory, and where any one allocation of it is refused: a refused call left all as
-// it was, and goes when it is made again.
-#[test]
-fn list_refused_set_changes_nothing(rt: HostRuntime) -> Result<(), Fail> {
-    let mut agenda: ListAgenda = match Agenda::new(rt.alloc(), 0) {
-        Ok(agenda) => agenda,
-        Err(_) => Agenda::new(rt.alloc(), 0)?,
-    };
+// it was.
+fn refused_changes_nothing<A: Agenda>(agenda: &mut A) -> bool {
     for number in 0..40 {
-        if put(&mut agenda, 0, expiry(number), 300).is_err() {
-            put(&mut agenda, 0, expiry(number), 300)?;
+        if !puts_twice(agenda, 0, expiry(number), 300) {
+            return false;
         }
     }
     for number in 0..40 {
-        assert_eq!(rt; pop(&mut agenda), Some((300, 0, 3, number)));
+        if pop(agenda) != Some((300, 0, 3, number)) {
+            return false;
+        }
     }
-    assert_eq!(rt; pop(&mut agenda), None);
-    Ok(())
+    pop(agenda) == None
 }
 
-#[test]
-fn wheel_pops_in_rising_order(rt: HostRuntime) -> Result<(), Fail> {
-    let mut agenda: Wheel = Agenda::new(rt.alloc(), 0)?;
-    put_falling(&mut agenda)?;
-    assert!(rt; pops_rising(&mut agenda));
-    Ok(())
-}
-
-#[test]
-fn wheel_pops_ties_by_owner_class_and_number(rt: HostRuntime) -> Result<(), Fail> {
-    for clock in [0, 1, 255, 256] {
-        let mut agenda: Wheel = Agenda::new(rt.alloc(), clock)?;
-        put_ties(&mut agenda)?;
-        assert!(rt; pops_ties(&mut agenda));
+// The same of a source's new due: refused, it keeps the one that it had.
+fn refused_keeps_the_due<A: Agenda>(agenda: &mut A) -> bool {
+    if !puts_twice(agenda, 4, expiry(6), 65_536) {
+        return false;
     }
-    Ok(())
+    let due = match put(agenda, 4, expiry(6), 255) {
+        Ok(()) => 255,
+        Err(_) => 65_536,
+    };
+    pop(agenda) == Some((due, 4, 3, 6)) && pop(agenda) == None
+}
+
+// An agenda whose making may be refused once.
+fn made<A: Agenda>(alloc: Global, clock: u64) -> Option<A> {
+    match A::new(alloc, clock).ok() {
+        Some(agenda) => Some(agenda),
+        None => A::new(alloc, clock).ok(),
+    }
+}
+
+// All of it by new agendas of a kind: what failed first. Each is given up by a call, since each place where one may be
+// dropped is proved with all its parts.
+fn fault_of<A: Agenda + Drop>(alloc: Global) -> Option<&'static str> {
+    for (name, clock) in [
+        ("rising order", 0),
+        ("ties", 256),
+        ("ties from 0 on", 0),
+        ("ties from 1 on", 1),
+        ("ties from 255 on", 255),
+        ("replaced and cleared", 5),
+        ("refused", 0),
+        ("refused replacement", 0),
+    ] {
+        let Some(mut agenda) = made::<A>(alloc, clock) else {
+            return Some("no agenda");
+        };
+        let passed = match name {
+            "rising order" => falls_and_rises(&mut agenda),
+            "replaced and cleared" => replaces_and_clears(&mut agenda),
+            "refused" => refused_changes_nothing(&mut agenda),
+            "refused replacement" => refused_keeps_the_due(&mut agenda),
+            _ => ties(&mut agenda),
+        };
+        drop(agenda);
+        if !passed {
+            return Some(name);
+        }
+    }
+    None
 }
 
 #[test]
-fn wheel_replaces_and_clears(rt: HostRuntime) -> Result<(), Fail> {
-    let mut agenda: Wheel = Agenda::new(rt.alloc(), 5)?;
-    assert!(rt; replaces_and_clears(&mut agenda)?);
-    Ok(())
+fn a_list_in_order_and_refused(rt: HostRuntime) {
+    assert_eq!(rt; fault_of::<ListAgenda>(rt.alloc()), None);
 }
 
-// The wheel answers as the list does, over a walk of 500 sets with numbers from a generator of
-// Lehmer's (multiplier 48271, modulus 2^31 - 1).
 #[test]
-fn wheel_answers_as_the_list(rt: HostRuntime) -> Result<(), Fail> {
-    let mut wheel: Wheel = Agenda::new(rt.alloc(), 0)?;
-    let mut list: ListAgenda = Agenda::new(rt.alloc(), 0)?;
+fn a_wheel_in_order_and_refused(rt: HostRuntime) {
+    assert_eq!(rt; fault_of::<Wheel>(rt.alloc()), None);
+}
+
+// Over a walk of 500 sets with numbers from a generator of Lehmer's (multiplier 48271, modulus 2^31 - 1), and what is
+// left then.
+fn answer_alike<A: Agenda, B: Agenda>(one: &mut A, other: &mut B) -> bool {
     let mut word = 1u64;
     for _ in 0..500 {
         word = word % 2_147_483_647 * 48_271 % 2_147_483_647;
         let owner = (word % 5) as usize;
         let source = expiry((word / 5 % 7) as u32);
         let step = word % 9 * (word / 35 % 9000);
-        let due = list.clock().saturating_add(step << (word / 7 % 4 * 12));
-        put(&mut wheel, owner, source, due)?;
-        put(&mut list, owner, source, due)?;
-        if word % 3 == 0 {
-            assert_eq!(rt; pop(&mut wheel), pop(&mut list));
+        let due = other.clock().saturating_add(step << (word / 7 % 4 * 12));
+        if put(one, owner, source, due).is_err() || put(other, owner, source, due).is_err() {
+            return false;
+        }
+        if word % 3 == 0 && pop(one) != pop(other) {
+            return false;
         }
         if word % 11 == 0 {
-            wheel.clear(owner, expiry(2));
-            list.clear(owner, expiry(2));
+            one.clear(owner, expiry(2));
+            other.clear(owner, expiry(2));
         }
         if word % 97 == 0 {
-            wheel.clear_owner(owner);
-            list.clear_owner(owner);
+            one.clear_owner(owner);
+            other.clear_owner(owner);
         }
     }
     for _ in 0..36 {
-        assert_eq!(rt; pop(&mut wheel), pop(&mut list));
+        if pop(one) != pop(other) {
+            return false;
+        }
     }
-    assert_eq!(rt; pop(&mut wheel), None);
-    Ok(())
+    pop(one) == None
+}
+
+#[test]
+fn wheel_answers_as_the_list(rt: HostRuntime) {
+    let (Some(mut wheel), Some(mut list)) = (
+        made::<Wheel>(rt.alloc(), 0),
+        made::<ListAgenda>(rt.alloc(), 0),
+    ) else {
+        return assert!(rt; false, "no agenda");
+    };
+    let alike = answer_alike(&mut wheel, &mut list);
+    drop(wheel);
+    drop(list);
+    assert!(rt; alike);
 }
 
 // More entries in one slot than a call for each would have room for on the stack.
-#[test]
-fn wheel_drops_a_long_slot(rt: HostRuntime) -> Result<(), Fail> {
-    let mut agenda: Wheel = Agenda::new(rt.alloc(), 0)?;
+fn takes_many<A: Agenda>(agenda: &mut A) -> bool {
     for number in 0..200_000 {
-        put(&mut agenda, 0, expiry(number), 4_294_967_296)?;
-    }
-    agenda.restart();
-    for number in 0..200_000 {
-        put(&mut agenda, 0, expiry(number), 4_294_967_296)?;
-    }
-    Ok(())
-}
-
-#[test]
-fn wheel_refused_set_changes_nothing(rt: HostRuntime) -> Result<(), Fail> {
-    let mut agenda: Wheel = match Agenda::new(rt.alloc(), 0) {
-        Ok(agenda) => agenda,
-        Err(_) => Agenda::new(rt.alloc(), 0)?,
-    };
-    for number in 0..40 {
-        if put(&mut agenda, 0, expiry(number), 300).is_err() {
-            put(&mut agenda, 0, expiry(number), 300)?;
+        if put(agenda, 0, expiry(number), 4_294_967_296).is_err() {
+            return false;
         }
     }
-    for number in 0..40 {
-        assert_eq!(rt; pop(&mut agenda), Some((300, 0, 3, number)));
-    }
-    assert_eq!(rt; pop(&mut agenda), None);
-    Ok(())
+    true
 }
 
-// A source whose new due is refused keeps the one that it had.
 #[test]
-fn wheel_refused_replacement_keeps_the_due(rt: HostRuntime) -> Result<(), Fail> {
-    let mut agenda: Wheel = match Agenda::new(rt.alloc(), 0) {
-        Ok(agenda) => agenda,
-        Err(_) => Agenda::new(rt.alloc(), 0)?,
+fn wheel_drops_a_long_slot(rt: HostRuntime) {
+    let Some(mut wheel) = made::<Wheel>(rt.alloc(), 0) else {
+        return assert!(rt; false, "no wheel");
     };
-    if put(&mut agenda, 4, expiry(6), 65_536).is_err() {
-        put(&mut agenda, 4, expiry(6), 65_536)?;
-    }
-    let due = match put(&mut agenda, 4, expiry(6), 255) {
-        Ok(()) => 255,
-        Err(_) => 65_536,
-    };
-    assert_eq!(rt; pop(&mut agenda), Some((due, 4, 3, 6)));
-    assert_eq!(rt; pop(&mut agenda), None);
-    Ok(())
+    let first = takes_many(&mut wheel);
+    wheel.restart();
+    let second = takes_many(&mut wheel);
+    drop(wheel);
+    assert!(rt; first && second);
 }
