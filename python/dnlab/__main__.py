@@ -68,6 +68,21 @@ def main(words: Optional[Sequence[str]] = None) -> int:
         return 1
 
 
+def summary() -> int:
+    """The script dnlab-summary."""
+    return main(["summary", *sys.argv[1:]])
+
+
+def plot() -> int:
+    """The script dnlab-plot."""
+    return main(["plot", *sys.argv[1:]])
+
+
+def spread() -> int:
+    """The script dnlab-spread."""
+    return main(["spread", *sys.argv[1:]])
+
+
 if __name__ == "__main__":
     if not __package__:
         sys.path[0] = str(Path(__file__).resolve().parent.parent)
