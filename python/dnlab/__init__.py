@@ -11,6 +11,7 @@ Moments and times are whole nanoseconds (int64), sizes bytes, rates bits per sec
 `read` and `run` need numpy and pandas, pictures matplotlib (Debian: apt-get install python3-numpy python3-pandas
 python3-matplotlib). `dnlab.scenario` and `dnlab.splitting` need Python alone.
 """
+import importlib
 from typing import TYPE_CHECKING, Any
 
 from dnlab.errors import Failed, Faulty, Refused
@@ -30,12 +31,11 @@ def __getattr__(name: str) -> Any:
     """Loads what is asked for, so that what needs no numpy works without it."""
     if name not in _PLACES:
         raise AttributeError(f"module 'dnlab' has no attribute {name!r}")
-    import importlib
-
-    try:
-        return getattr(importlib.import_module(f"dnlab.{_PLACES[name]}"), name)
-    except ModuleNotFoundError as missing:
-        if missing.name in ("numpy", "pandas", "matplotlib"):
-            raise ModuleNotFoundError(f"{missing.name} is missing (Debian: apt-get install python3-{missing.name})",
-                                      name=missing.name) from None
-        raise
+    place = _PLACES[name]
+    for needed in () if place == "figures" else ("numpy", "pandas"):
+        try:
+            importlib.import_module(needed)
+        except ModuleNotFoundError:
+            raise ModuleNotFoundError(f"{needed} is missing (Debian: apt-get install python3-{needed})",
+                                      name=needed) from None
+    return getattr(importlib.import_module(f"dnlab.{place}"), name)

