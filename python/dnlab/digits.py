@@ -4,7 +4,7 @@ A `Text` is a block of bytes with an array of where its words end. Eight bytes a
 number (the first byte lowest), so that a column of numbers costs some twenty operations on whole arrays, however
 many digits it has. All arrays of places are int64 and have the shape (n,) of the words that are asked for.
 """
-from typing import Optional
+from typing import Any, Optional
 
 import numpy as np
 from numpy.typing import NDArray
@@ -41,7 +41,7 @@ class Text:
         self.bytes: Bytes = np.frombuffer(block, dtype=np.uint8)
         padded = np.frombuffer(block + bytes(24), dtype=np.uint8)
         # The eight bytes at each place, overlapping: a view of the same bytes, with a stride of one.
-        self._eights: Words = np.lib.stride_tricks.as_strided(
+        self._eights: Any = np.lib.stride_tricks.as_strided(
             padded[:8].view("<u8"), shape=(len(block) + 16,), strides=(1,), writeable=False)
         self.ends: Ints = np.flatnonzero(self.bytes <= 32)
 
@@ -52,7 +52,8 @@ class Text:
 
     def words(self, begins: Ints, lengths: Ints) -> Words:
         """Words of at most eight bytes as numbers, to be compared with `word_key`. Longer ones are cut."""
-        return self.eight(begins) & _KEEP[np.minimum(lengths, 8)]
+        words: Words = self.eight(begins) & _KEEP[np.minimum(lengths, 8)]
+        return words
 
     def numbers(self, begins: Ints, ends: Ints) -> tuple[Ints, Flags]:
         """The decimal numbers between places, and of each whether it is one: 1 to 16 digits without a zero in front."""

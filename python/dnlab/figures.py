@@ -1,7 +1,8 @@
 """Figures over many values: ranks, fairness, means with intervals. They need nothing but Python itself."""
 import math
+from dataclasses import dataclass
 from fractions import Fraction
-from typing import Iterable, NamedTuple, Optional, Sequence, Union
+from typing import Iterable, Optional, Sequence, Union
 
 Percentile = Union[int, float, str]
 
@@ -35,7 +36,8 @@ def jain(values: Sequence[float]) -> Optional[float]:
     return float(Fraction(sum(values)) ** 2 / (len(values) * Fraction(squares))) if squares else None
 
 
-class Interval(NamedTuple):
+@dataclass(frozen=True)
+class Interval:
     """A mean of `count` values and half the width of its 95 % interval; None where there are too few for it."""
     count: int
     mean: Optional[float]

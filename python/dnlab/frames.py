@@ -58,7 +58,7 @@ def windows(view: View) -> pd.DataFrame:
     begun = [(moment, sends) for moment, sends in view.sends.values() if sends.word == "flow"]
     event = np.concatenate((np.zeros(len(begun), dtype=np.int64), np.where(columns.word[rows] == ACK, 1, 2)))
 
-    def column(first: Sequence[Optional[int]], rest: Ints) -> Ints:
+    def column(first: Sequence[Optional[int]], rest: Any) -> Ints:
         return np.concatenate((np.array(first, dtype=np.int64), rest))
 
     frame = pd.DataFrame({

@@ -7,7 +7,7 @@ of the `flow` command, `ack` or `expire` line that allowed them, behind all else
 the report's; what is worked out is compared with each line that names a packet, and with the counters.
 """
 from dataclasses import dataclass
-from typing import NamedTuple
+from typing import Any, NamedTuple
 
 import numpy as np
 from numpy.typing import NDArray
@@ -70,7 +70,7 @@ def first_window(smss: int) -> int:
 def commands_of(experiment: Experiment, plan: Plan) -> list[int]:
     """The rows of the scenario's commands, in order; a report with others is refused."""
     columns = experiment.columns
-    rows = np.flatnonzero((columns.word == OK) | (columns.word == REFUSED)).tolist()
+    rows: list[int] = np.flatnonzero((columns.word == OK) | (columns.word == REFUSED)).tolist()
     for number, (row, command) in enumerate(zip(rows, plan.commands)):
         moment = int(columns.moment[row])
         if command.moment != moment:
@@ -246,8 +246,8 @@ class Maker:
         return Emissions(sent.moment[:count], sent.first[:count])
 
 
-def _arrays(makings: Makings) -> list[NDArray[np.int64]]:
-    return [makings.moment, makings.size, makings.who, makings.kind, makings.flow, makings.number]  # type: ignore
+def _arrays(makings: Makings) -> list[Any]:
+    return [makings.moment, makings.size, makings.who, makings.kind, makings.flow, makings.number]
 
 
 def by_flow(flows: NDArray[np.int32]) -> list[tuple[int, Ints]]:
@@ -314,7 +314,8 @@ def resends(moment: Ints, expires: Flags, upto: Ints, una: Ints, nxt: Ints, last
     third = np.maximum.accumulate(np.where(is_duplicate & (since == 3), events, -1))[last]
     reset = np.maximum.accumulate(np.where(resets, events, -1))[last]
     begin = np.concatenate((np.zeros(1, dtype=np.int64), last[:-1] + 1))
-    return ((third >= begin) & (third > reset)).astype(np.int64)
+    sent: Ints = ((third >= begin) & (third > reset)).astype(np.int64)
+    return sent
 
 
 def shown(makings: Makings, packet: int) -> str:

@@ -180,7 +180,8 @@ def _servers(experiment: Experiment, rows: Ints) -> NDArray[np.int32]:
     lonely = np.flatnonzero(at < 0)
     if len(lonely):
         raise experiment.refused(int(rows[lonely].min()), "a drop by CoDel before any finish")
-    return experiment.columns.pipe[finishes[at]]
+    pipes: NDArray[np.int32] = experiment.columns.pipe[finishes[at]]
+    return pipes
 
 
 def nowhere(packets: Packets, visits: Visits) -> int:

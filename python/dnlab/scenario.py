@@ -4,6 +4,7 @@
 needs nothing but Python itself, and has no simulation.
 """
 import re
+from dataclasses import dataclass
 from typing import Callable, NamedTuple, Optional, Union
 
 from dnlab.errors import Refused
@@ -27,7 +28,8 @@ SSTHRESH = 65535
 HEADER = 40
 
 
-class Sends(NamedTuple):
+@dataclass(frozen=True)
+class Sends:
     """What a command sends: a packet of `inject`, a train or a flow.
 
     `size` is a packet's in bytes, with 40 bytes of header in a flow's; `count` packets or segments; `gap` in ns;

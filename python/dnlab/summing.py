@@ -80,8 +80,8 @@ def grouped(rows: Sequence[Row], by: Sequence[str], columns: Sequence[str]) -> l
     for key, members in groups.items():
         made: Row = {**dict(zip(keys, key)), "rows": len(members)}
         for column in columns:
-            count, mean, half = interval(float(row[column]) for row in members if row[column] is not None)
-            made |= {f"{column} n": count, f"{column} mean": mean, f"{column} half": half}
+            one = interval(float(row[column]) for row in members if row[column] is not None)
+            made |= {f"{column} n": one.count, f"{column} mean": one.mean, f"{column} half": one.half}
         found.append(made)
     return found
 

@@ -6,6 +6,7 @@ from pathlib import Path
 from typing import Callable
 
 import pytest
+from hypothesis import settings
 
 ROOT = Path(__file__).resolve().parent.parent.parent
 sys.path.insert(0, str(ROOT / "python"))
@@ -15,6 +16,9 @@ from dnlab.programs import proved_program  # noqa: E402
 from dnlab.view import View  # noqa: E402
 
 EXAMPLES = ROOT / "examples"
+# The same examples each time, and no files of them are left.
+settings.register_profile("dnlab", derandomize=True, database=None, deadline=None)
+settings.load_profile("dnlab")
 
 
 def text_of(name: str, file: str) -> bytes:

@@ -62,7 +62,7 @@ WRONG = [
     (["-", "--jobs", "0"], "--jobs 0"), (["-", "--part", "2"], "--part"), (["-", "--resume"], "--resume"),
     (["-", "--slurm", "--ssh", "x"], "--ssh"), (["-", "--program", "x"], "--program"),
     (["-", "--out", "/dev/null"], "/dev/null"), (["-", "--out", "/nowhere/report"], "/nowhere/report"),
-    (["-", "other"], "other"), (["-", "--resume", "--out", "/tmp/no-such-report"], "no-such-report"),
+    (["-", "-"], "standard input"), (["-", "--resume", "--out", "/tmp/no-such-report"], "no-such-report"),
 ]
 
 

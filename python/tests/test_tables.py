@@ -7,7 +7,7 @@ from hypothesis import given
 from hypothesis import strategies as some
 
 from dnlab import report, scenario
-from dnlab.figures import interval, jain, percentile_name, place, student
+from dnlab.figures import Interval, interval, jain, percentile_name, place, student
 from dnlab.layout import milliseconds, table
 from dnlab.summing import grouped, varied
 from dnlab.tables import Tables, losses, times_of, windows
@@ -174,7 +174,7 @@ def test_intervals() -> None:
     # Mean 4, squares 4 + 0 + 0 + 4, so the spread is sqrt(8 / 3), over sqrt(4).
     assert found.count == 4 and found.mean == 4.0
     assert math.isclose(found.half, 3.182446 * math.sqrt(8 / 3) / 2, rel_tol=1e-6)
-    assert interval([7.0]) == (1, 7.0, None) and interval([]) == (0, None, None)
+    assert interval([7.0]) == Interval(1, 7.0, None) and interval([]) == Interval(0, None, None)
 
 
 def test_groups() -> None:
