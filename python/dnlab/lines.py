@@ -23,8 +23,7 @@ WORDS = ("ok", "refused", "make", "identify", "arrive", "finish", "pass", "deliv
 (OK, REFUSED, MAKE, IDENTIFY, ARRIVE, FINISH, PASS, DELIVER, DROP, ACK, EXPIRE, SPENT,
  RULE, PIPE, INSTANCE) = range(len(WORDS))
 _TIMED = WORDS[:12]
-# Words of lines that name a packet, and those that name a pipe.
-_PACKETS = (MAKE, ARRIVE, FINISH, PASS, DELIVER, DROP)
+# Words of lines that name a packet and a pipe.
 _PIPES = (ARRIVE, FINISH, PASS)
 
 N = r"(?:0|[1-9][0-9]*)"
@@ -44,6 +43,8 @@ _HEADER = re.compile(rb"(?:tcp|udp) (?:0|[1-9][0-9]*)(?:\.(?:0|[1-9][0-9]*)){3} 
 _PIPE_NAME = re.compile(rb"(0|[1-9][0-9]{0,4})\.(0|[1-9][0-9]{0,2})")
 _COUNTERS = re.compile(rf"counters ({N}(?: {N}){{10}})")
 
+# Where words begin and end: two arrays of places.
+Bounds = tuple[Ints, Ints]
 # Of a word its first letter and its length tell which it is, if it is one.
 _PLACES = np.full(512, -1, dtype=np.int8)
 for _code, _word in enumerate(_TIMED):
@@ -211,20 +212,19 @@ class _Block:
         self.fault: Optional[tuple[int, str]] = None
         ends = self.text.ends
         is_line = self.text.bytes[ends] == 10
+        # Word k begins behind mark k and ends at mark k + 1.
+        self.marks: Ints = np.concatenate((np.full(1, -1, dtype=np.int64), ends))
         self.last: Ints = np.flatnonzero(is_line)
         self.first: Ints = np.concatenate((np.zeros(1, dtype=np.int64), self.last[:-1] + 1))
         self.count: Ints = self.last - self.first + 1
-        # A place before the first word, so that each word begins behind an end.
-        self.begins: Ints = np.concatenate((np.zeros(1, dtype=np.int64), ends[:-1] + 1))
         self.bad: Flags = np.zeros(len(self.last), dtype=np.bool_)
         self.columns = no_rows(len(self.last))
         self.classify()
-        odd = np.flatnonzero(~is_line & (self.text.bytes[ends] != 32))
-        self.bad[np.searchsorted(self.last, odd)] = True
-        self.moments()
-        self.packets()
+        if 2 * len(self.last) < len(ends):
+            odd = np.flatnonzero(~is_line & (self.text.bytes[ends] != 32))
+            self.bad[np.searchsorted(self.last, odd)] = True
         for word, read in self.readers().items():
-            rows = self.rows_of(word)
+            rows = np.flatnonzero(self.columns.word == word)
             if len(rows):
                 read(rows)
         self.others()
@@ -232,14 +232,14 @@ class _Block:
 
     def readers(self) -> dict[int, Callable[[Ints], None]]:
         return {OK: self.oks, REFUSED: self.refusals, MAKE: self.makes, IDENTIFY: self.identities,
-                DELIVER: self.loads, DROP: self.drops, ACK: self.windows, EXPIRE: self.windows,
+                DELIVER: self.delivers, DROP: self.drops, ACK: self.windows, EXPIRE: self.windows, SPENT: self.spent,
                 **dict.fromkeys(_PIPES, self.pipes)}
 
     def classify(self) -> None:
         """Which line each is, by its second word and how many it has; what begins with no digit is for `others`."""
-        second = np.minimum(self.first + 1, self.last)
-        at = self.begins[second]
-        lengths = self.text.ends[second] - at
+        before = self.marks[self.first]
+        at = self.marks[self.first + 1] + 1
+        lengths = self.marks[np.minimum(self.first + 2, len(self.marks) - 1)] - at
         keys = self.text.words(at, lengths)
         places = (keys & _LETTER).view(np.int64)
         places <<= 4
@@ -247,57 +247,72 @@ class _Block:
         codes = _PLACES[places]
         good = keys == _KEYS[codes]
         good &= (self.count == _COUNTED[codes]) | (self.count == _COUNTED_LONG[codes])
-        digit = (self.text.bytes[self.begins[self.first]] - 48) <= 9
+        digit = (self.text.bytes[before + 1] - 48) <= 9
         self.other: Ints = np.flatnonzero(~digit)
         good &= digit
         np.copyto(self.columns.word, codes, where=good)
         self.bad |= digit
         self.bad &= ~good
 
-    def rows_of(self, *words: int) -> Ints:
-        """The rows of some words, with the right number of words each; others are bad."""
-        word = self.columns.word
-        is_one = word == words[0]
-        for more in words[1:]:
-            is_one |= word == more
-        return np.flatnonzero(is_one)
-
-    def word_at(self, rows: Ints, place: int) -> tuple[Ints, Ints]:
-        """Where the words of a place in their lines begin and end."""
+    def bounds(self, rows: Ints, place: int, count: int) -> list[Bounds]:
+        """Where so many words in a row begin and end, from a place of their lines on."""
         at = self.first[rows]
         at += place
-        return self.begins[at], self.text.ends[at]
+        edge = self.marks[at]
+        found = []
+        for _ in range(count):
+            at += 1
+            end = self.marks[at]
+            edge += 1
+            found.append((edge, end))
+            edge = end.copy()
+        return found
 
-    def numbers_at(self, rows: Ints, place: int, most: int = 2**63 - 1) -> Ints:
-        """The numbers of a place; lines where none stands there, or a greater one than `most`, are bad."""
-        values, good = self.text.numbers(*self.word_at(rows, place))
-        good &= values <= most
+    def at_end(self, rows: Ints) -> Bounds:
+        """Where the last words begin and end."""
+        at = self.last[rows]
+        return self.marks[at] + 1, self.marks[at + 1]
+
+    def numbers(self, rows: Ints, bounds: Bounds, most: int = 2**63 - 1) -> Ints:
+        """The numbers in some places; lines where none stands there, or a greater one than `most`, are bad."""
+        values, good = self.text.numbers(*bounds)
+        if most < 2**53:
+            good &= values <= most
         if not good.all():
             self.bad[rows[~good]] = True
             values = np.where(good, values, 0)
         return values
 
+    def began(self, rows: Ints, count: int) -> list[Bounds]:
+        """Takes the moments of some lines; gives where so many words behind the line's own word begin and end."""
+        moment, _, *others = self.bounds(rows, 0, count + 2)
+        self.columns.moment[rows] = self.numbers(rows, moment)
+        return others
+
     def keep(self, rows: Ints, good: Flags) -> None:
         if not good.all():
             self.bad[rows[~good]] = True
 
-    def moments(self) -> None:
-        rows = np.flatnonzero(self.columns.word >= 0)
-        self.columns.moment[rows] = self.numbers_at(rows, 0)
+    def packet(self, rows: Ints, count: int) -> list[Bounds]:
+        """Takes moments and packets; gives where so many words behind them begin and end."""
+        packet, *others = self.began(rows, count + 1)
+        self.columns.packet[rows] = self.numbers(rows, packet, 2**31 - 1)
+        return others
 
-    def packets(self) -> None:
-        rows = self.rows_of(*_PACKETS)
-        if len(rows):
-            self.columns.packet[rows] = self.numbers_at(rows, 2, 2**31 - 1)
+    def spent(self, rows: Ints) -> None:
+        self.began(rows, 0)
 
     def pipes(self, rows: Ints) -> None:
-        codes, good = self.reader.pipe_codes(self.text, *self.word_at(rows, 3))
+        codes, good = self.reader.pipe_codes(self.text, *self.packet(rows, 1)[0])
         self.keep(rows, good)
         self.columns.pipe[rows] = codes
 
-    def loads(self, rows: Ints) -> None:
-        """The loads: one word `plain`, or three."""
-        begins, ends = self.word_at(rows, 3)
+    def delivers(self, rows: Ints) -> None:
+        self.loads(rows, self.packet(rows, 1)[0])
+
+    def loads(self, rows: Ints, bounds: Bounds) -> None:
+        """The loads: one word `plain`, or three, of which the first is given."""
+        begins, ends = bounds
         keys = self.text.words(begins, ends - begins)
         is_long = self.count[rows] == _COUNTED_LONG[self.columns.word[rows]]
         kinds = np.full(len(rows), -1, dtype=np.int8)
@@ -307,13 +322,13 @@ class _Block:
         self.columns.kind[rows] = kinds
         long = rows[is_long]
         if len(long):
-            self.columns.flow[long] = self.numbers_at(long, 4, 65535)
-            self.columns.number[long] = self.numbers_at(long, 5)
+            flow, number = self.bounds(long, 4, 2)
+            self.columns.flow[long] = self.numbers(long, flow, 65535)
+            self.columns.number[long] = self.numbers(long, number)
 
     def drops(self, rows: Ints) -> None:
-        self.loads(rows)
-        at = self.last[rows]
-        begins, ends = self.begins[at], self.text.ends[at]
+        self.loads(rows, self.packet(rows, 1)[0])
+        begins, ends = self.at_end(rows)
         keys = self.text.words(begins, ends - begins)
         causes = np.full(len(rows), -1, dtype=np.int64)
         for cause, key in enumerate(_CAUSE_KEYS):
@@ -326,27 +341,27 @@ class _Block:
         self.columns.more[rows] = causes
 
     def windows(self, rows: Ints) -> None:
-        self.columns.flow[rows] = self.numbers_at(rows, 2, 65535)
-        self.columns.number[rows] = self.numbers_at(rows, 3)
-        self.columns.more[rows] = self.numbers_at(rows, 4)
+        flow, window, threshold = self.began(rows, 3)
+        self.columns.flow[rows] = self.numbers(rows, flow, 65535)
+        self.columns.number[rows] = self.numbers(rows, window)
+        self.columns.more[rows] = self.numbers(rows, threshold)
 
     def oks(self, rows: Ints) -> None:
-        self.columns.number[rows] = self.numbers_at(rows, 2)
+        self.columns.number[rows] = self.numbers(rows, self.began(rows, 1)[0])
 
     def refusals(self, rows: Ints) -> None:
-        self.columns.number[rows] = self.numbers_at(rows, 2)
-        codes = self.numbers_at(rows, 3)
+        number, code = self.began(rows, 2)
+        self.columns.number[rows] = self.numbers(rows, number)
+        codes = self.numbers(rows, code)
         self.keep(rows, np.isin(codes, CODES))
         self.columns.more[rows] = codes
 
     def makes(self, rows: Ints) -> None:
-        self.loads(rows)
-        at = self.last[rows]
-        sizes, good = self.text.numbers(self.begins[at], self.text.ends[at])
-        self.keep(rows, good)
-        self.columns.more[rows] = sizes
-        begins = self.begins[np.maximum(at - 5, 0)].tolist()
-        ends = (self.begins[at] - 1).tolist()
+        self.loads(rows, self.packet(rows, 1)[0])
+        last = self.at_end(rows)
+        self.columns.more[rows] = self.numbers(rows, last)
+        begins = (self.marks[self.last[rows] - 5] + 1).tolist()
+        ends = (last[0] - 1).tolist()
         headers, block = self.reader.headers, self.text.block
         codes = []
         for row, begin, end in zip(rows.tolist(), begins, ends):
@@ -361,24 +376,19 @@ class _Block:
         self.columns.header[rows] = codes
 
     def identities(self, rows: Ints) -> None:
-        self.pipes_of_identities(rows)
-        begins, ends = self.word_at(rows, 3)
-        for row, begin, end, pipe in zip(rows.tolist(), begins.tolist(), ends.tolist(),
-                                         self.columns.pipe[rows].tolist()):
+        pipe, (begins, ends) = self.began(rows, 2)
+        codes, good = self.reader.pipe_codes(self.text, *pipe)
+        self.keep(rows, good)
+        self.columns.pipe[rows] = codes
+        for row, begin, end, code in zip(rows.tolist(), begins.tolist(), ends.tolist(), codes.tolist()):
             text = self.text.block[begin:end].decode("ascii", "replace")
             if re.fullmatch(IDENTIFIER, text):
-                self.reader.identified[self.reader.rows + row] = pipe, text
+                self.reader.identified[self.reader.rows + row] = code, text
             else:
                 self.bad[row] = True
 
-    def pipes_of_identities(self, rows: Ints) -> None:
-        codes, good = self.reader.pipe_codes(self.text, *self.word_at(rows, 2))
-        self.keep(rows, good)
-        self.columns.pipe[rows] = codes
-
     def line(self, row: int) -> bytes:
-        begin = int(self.begins[self.first[row]])
-        return self.text.block[begin:int(self.text.ends[self.last[row]])]
+        return self.text.block[int(self.marks[self.first[row]]) + 1:int(self.marks[self.last[row] + 1])]
 
     def others(self) -> None:
         """Lines that begin with no number: listings, and the counters, which are the last."""
