@@ -1,5 +1,6 @@
 """What became of each packet of an experiment, and its way through pipes, in columns."""
 from dataclasses import dataclass
+from functools import cached_property
 from typing import Optional
 
 import numpy as np
@@ -42,22 +43,36 @@ class Packets:
     def __len__(self) -> int:
         return len(self.made)
 
-    @property
+    @cached_property
     def delay(self) -> Ints:
         """The time from being made to delivery, in ns; -1 where one of them isn't known. Shape (packets,), int64."""
         known = (self.made >= 0) & (self.fate == DELIVERED)
         return np.where(known, self.ended - self.made, -1)
 
-    @property
+    @cached_property
     def again(self) -> Flags:
         """Whether a segment was sent before. Shape (packets,); False of all that is no segment."""
         rows = np.flatnonzero(self.kind == DATA)
-        key = (self.flow[rows].astype(np.int64) << 40) | self.number[rows]
-        _, first = np.unique(key, return_index=True)
         again = np.zeros(len(self), dtype=np.bool_)
         again[rows] = True
-        again[rows[first]] = False
+        again[self._first_of_each(rows)] = False
         return again
+
+    @cached_property
+    def is_new(self) -> Flags:
+        """Whether a packet was delivered and brought something new: a plain one, or a segment for the first time.
+        Shape (packets,)."""
+        delivered = self.fate == DELIVERED
+        rows = np.flatnonzero(delivered & (self.kind == DATA))
+        new: Flags = delivered & (self.kind == PLAIN)
+        new[self._first_of_each(rows[np.argsort(self.ended[rows], kind="stable")])] = True
+        return new
+
+    def _first_of_each(self, rows: Ints) -> Ints:
+        """Of each segment the first among some packets."""
+        key = (self.flow[rows].astype(np.int64) << 40) | self.number[rows]
+        _, first = np.unique(key, return_index=True)
+        return rows[first]
 
     def senders(self) -> list[tuple[str, Ints]]:
         """Who made packets, in the order of the first, with the packets of each."""

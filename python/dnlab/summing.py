@@ -9,7 +9,7 @@ from typing import Iterable, NamedTuple, Optional, Sequence
 from dnlab.figures import Percentile, interval
 from dnlab.scenario import Plan
 from dnlab.tables import PERCENTILES, Row, Tables, losses, windows
-from dnlab.view import Note, View
+from dnlab.view import KINDS, Note, View
 from dnlab.work import Given, over
 
 
@@ -97,7 +97,7 @@ def tell(tool: str, notes: Iterable[tuple[str, Note]], total: int) -> None:
         if len(found) == 1:
             said = f"experiment {name}: {note.text}"
         elif len(names) == 1:
-            said = f"experiment {name}: {note.text} (and {len(found) - 1} more of this kind: {kind})"
+            said = f"experiment {name}: {note.text} (and {len(found) - 1} more like it)"
         else:
-            said = f"{len(names)} of {total} experiments: {kind}; the first is {name}: {note.text}"
+            said = f"{len(names)} of {total} experiments: {KINDS.get(kind, kind)}; the first is {name}: {note.text}"
         print(f"{tool}: {said}", file=sys.stderr)

@@ -39,8 +39,8 @@ def spread(times: Optional[Ints], percentiles: Sequence[Percentile]) -> Row:
     names = times_of(percentiles)
     if times is None or not len(times) or int(times.min()) < 0:
         return dict.fromkeys(names)
-    ordered = np.sort(times)
     places = [0, *(place(len(times), one) for one in percentiles), len(times) - 1]
+    ordered = np.partition(times, sorted(set(places)))
     return {name: int(ordered[at]) for name, at in zip(names, places)}
 
 
@@ -108,18 +108,9 @@ class Tables:
         delivered = packets[table.fate[packets] == DELIVERED]
         if not len(packets) or (len(delivered) and int(table.size[delivered].min()) < 0):
             return {}
-        once = self.once(delivered)
+        once = packets[table.is_new[packets]]
         size = int(table.size[once].sum()) - HEADER * int(np.count_nonzero(table.kind[once] == DATA))
         return {"useful": size, "goodput": span(table.made[packets], table.ended[once], size)["rate"]}
-
-    def once(self, delivered: Ints) -> Ints:
-        """Of delivered packets those that brought something new: plain ones, and of each segment the first."""
-        table = self.view.packets
-        data = delivered[table.kind[delivered] == DATA]
-        data = data[np.argsort(table.ended[data], kind="stable")]
-        key = (table.flow[data].astype(np.int64) << 40) | table.number[data]
-        _, first = np.unique(key, return_index=True)
-        return np.concatenate((delivered[table.kind[delivered] != DATA], data[first]))
 
     def progress(self, of: str, packets: Ints) -> Row:
         """Of a flow how many segments were sent again, and the time from its command to its last missing byte."""
@@ -128,7 +119,7 @@ class Tables:
             return {}
         again = int(np.count_nonzero(table.again[packets]))
         moment, sends = self.view.sends.get(of, (0, None))
-        once = self.once(packets[table.fate[packets] == DELIVERED])
+        once = packets[table.is_new[packets]]
         whole = sends is not None and len(once) == sends.count
         return {"again": again, "completion": int(table.ended[once].max()) - moment if whole else None}
 
@@ -169,9 +160,9 @@ class Tables:
         if back.all() or not back.any():
             return [{**self.packets("all", packets), **(self.useful(packets) if len(packets) else {}), **fair}]
         there = {**self.packets("there", packets[~back]), **self.useful(packets[~back]), **fair}
-        everything = self.packets("all", packets)
-        unknown = dict.fromkeys(("bytes", "first", "last", "time", "rate", *times_of(self.percentiles)))
-        return [there, self.packets("back", packets[back]), {**everything, **unknown, **fair}]
+        behind = self.packets("back", packets[back])
+        sums = {column: there[column] + behind[column] for column in ("packets", "delivered", "held", *CAUSES)}
+        return [there, behind, {"of": "all", **sums, **fair}]
 
     def fairness(self) -> Optional[float]:
         """Jain's index over the flows' goodputs; None where there is no flow or sizes aren't known."""
@@ -187,7 +178,7 @@ def windows(view: View, every: int) -> list[Row]:
     Columns: experiment, of, begin, end (ns), packets and bytes delivered, rate (bit/s), useful bytes (each once) and
     goodput (bit/s); seed and varied aren't repeated here.
     """
-    tables, table = Tables(view), view.packets
+    table = view.packets
     until = max(view.ended.moment, 1)
     count = -(-until // every)
     begins = np.arange(count, dtype=np.int64) * every
@@ -201,7 +192,7 @@ def windows(view: View, every: int) -> list[Row]:
         bytes_in = _sums(at, table.size[delivered], count)
         useful_in = bytes_in
         if told and int(table.kind[packets[0]]) != PLAIN:
-            once = tables.once(delivered) if int(table.kind[packets[0]]) == DATA else delivered[:0]
+            once = delivered[table.is_new[delivered]]
             useful_in = _sums(np.minimum(table.ended[once] // every, count - 1), table.size[once] - HEADER, count)
         for k in range(count):
             time = int(ends[k] - begins[k])

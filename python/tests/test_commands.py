@@ -83,7 +83,7 @@ def test_several_processes_and_experiments() -> None:
 def test_notes_are_counted() -> None:
     """Of many experiments each kind is said once."""
     status, _, err = tool("summary", EXAMPLES / "four_experiments" / "expected.txt")
-    assert status == 0 and err.count("no scenario") == 1 and "of 4 experiments" in err
+    assert status == 0 and err.count("no scenario") == 1 and "3 of 4 experiments" in err
 
 
 def test_scenarios_in_several_texts(tmp_path: Path) -> None:
