@@ -1,4 +1,5 @@
 """Rows as a text with columns under each other."""
+import re
 from typing import Optional, Sequence
 
 from dnlab.figures import Percentile
@@ -64,9 +65,21 @@ def table(rows: Sequence[Row], percentiles: Sequence[Percentile] = PERCENTILES) 
     return lines_of(cells, (0, 1, 8, width - 2, width - 1))
 
 
+# Columns of times in ns, and what `grouped` makes of them.
+_TIME = re.compile(r"^(p[0-9.]+|least|median|greatest|time|first|last|begin|end|completion|ended_at)( mean| half)?$")
+
+
+def _shown(name: str, value: object) -> str:
+    """A value of a column as it is printed."""
+    if value is None or not _TIME.match(name):
+        return plain(value)
+    return milliseconds(value) if isinstance(value, int) else f"{float(str(value)) / 10**6:.6g}"
+
+
 def bare_table(rows: Sequence[Row]) -> str:
-    """Any rows, with their own names of columns."""
+    """Any rows, with their own names of columns; times, and means of times, in ms."""
     names = list(rows[0])
-    cells = [names, *([plain(row[name]) for name in names] for row in rows)]
+    heading = [_TIME.sub(r"\1 ms\2", name) for name in names]
+    cells = [heading, *([_shown(name, row[name]) for name in names] for row in rows)]
     texts = [place for place, name in enumerate(names) if all(isinstance(row[name], str) for row in rows)]
     return lines_of(cells, texts)

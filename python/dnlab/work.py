@@ -103,9 +103,10 @@ def _task(function: Callable[[View], T], piece: Piece, plans: Optional[dict[str,
 
 
 def over(given: Given, function: Callable[[View], T], plans: Optional[dict[str, Plan]], wanted: Sequence[str] = (),
-         workers: Optional[int] = None, tool: str = "dnlab") -> Iterator[T]:
+         workers: Optional[int] = None, tool: str = "dnlab", most: Optional[int] = None) -> Iterator[T]:
     """What a function makes of each experiment, in the report's order, by so many processes (all cores where it isn't
-    given and the report is long). The function must be one that another process finds by its name."""
+    given and the report is long). The function must be one that another process finds by its name. Where
+    a file has more than `most` experiments it is refused before one is read."""
     found: Iterable[Piece] = pieces_of(given.report, wanted)
     total = None
     if given.report != "-":
@@ -114,6 +115,9 @@ def over(given: Given, function: Callable[[View], T], plans: Optional[dict[str, 
         if workers is None:
             workers = cores() if sum(map(len, found)) >= _WORTH else 1
         workers = max(1, min(workers, total))
+        if most is not None and total > most:
+            raise Faulty(f"{given.report}: {total} experiments are too many, where {most} can be taken: name some by"
+                         " --experiment")
     progress = Progress(tool, total)
     try:
         if (workers or 1) == 1:

@@ -70,6 +70,14 @@ def test_other_tables() -> None:
                                                 "median mean": 120000001.0, "median half": None}]
 
 
+def test_times_for_people_are_ms() -> None:
+    out = tool("summary", REPORT, SCENARIO, "--by", "varied", "--columns", "median", "--of", "train*")[1].split("\n")
+    assert out[0].split() == ["varied", "of", "rows", "median", "n", "median", "ms", "mean", "median", "ms", "half"]
+    assert out[1].split() == ["train", "1", "1", "1", "120", "-"]
+    out = tool("summary", REPORT, SCENARIO, "--every", "100ms")[1].split("\n")
+    assert out[0].split()[2:6] == ["begin", "ms", "end", "ms"] and out[1].split()[3:5] == ["0.000000", "100.000000"]
+
+
 def test_several_processes_and_experiments() -> None:
     report, scenario = (EXAMPLES / "four_experiments" / name for name in ("expected.txt", "scenario.txt"))
     one = tool("summary", report, scenario, "--csv", "--workers", "1")

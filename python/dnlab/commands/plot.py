@@ -75,11 +75,11 @@ def draw(given: argparse.Namespace) -> list[Drawn]:
     plans = plans_of(given.scenarios)
     texts = Given(given.report, tuple(given.scenarios))
     drawn = []
-    for one in over(texts, partial(draw_one, what=tuple(given.what)), plans, given.experiment, given.workers, "plot"):
+    for one in over(texts, partial(draw_one, what=tuple(given.what)), plans, given.experiment, given.workers, "plot",
+                    _MOST):
         drawn.append(one)
         if len(drawn) > _MOST:
-            raise Faulty(f"{given.report}: more than {_MOST} experiments are too many for one picture: name some by"
-                         " --experiment")
+            raise Faulty(f"{given.report}: more than {_MOST} experiments are too many: name some by --experiment")
     if not drawn:
         raise Faulty(f"{given.report}: it has no experiment, so there is nothing to draw")
     return drawn
