@@ -41,7 +41,7 @@ _LISTED = {WORDS[code]: code for code in LISTINGS}
 _HEADER = re.compile(rb"(?:tcp|udp) (?:0|[1-9][0-9]*)(?:\.(?:0|[1-9][0-9]*)){3} (?:0|[1-9][0-9]*)"
                      rb" (?:0|[1-9][0-9]*)(?:\.(?:0|[1-9][0-9]*)){3} (?:0|[1-9][0-9]*)")
 _PIPE_NAME = re.compile(rb"(0|[1-9][0-9]{0,4})\.(0|[1-9][0-9]{0,2})")
-_COUNTERS = re.compile(rf"counters ({N}(?: {N}){{10}})")
+_COUNTERS = re.compile(r"counters(?: (?:0|[1-9][0-9]{0,15})){11}")
 
 # Where words begin and end: two arrays of places.
 Bounds = tuple[Ints, Ints]

@@ -8,6 +8,7 @@ from typing import Any, Optional, Sequence
 import numpy as np
 
 from dnlab.digits import Ints
+from dnlab.errors import Faulty
 from dnlab.figures import Percentile, jain, percentile_name, place
 from dnlab.lines import CAUSES, pipe_name
 from dnlab.makings import DATA, PLAIN
@@ -18,6 +19,8 @@ from dnlab.view import View, flows_of
 Row = dict[str, Any]
 # Rows of all senders, or of those of one direction; they carry all marks.
 WHOLE = ("there", "back", "all")
+# No table of windows of time has more rows of one experiment.
+_MOST_WINDOWS = 10**6
 PERCENTILES: tuple[Percentile, ...] = (50, 99)
 _COUNTS = ("packets", "delivered", "held", "bytes", "first", "last", "time", "rate")
 _MORE = ("useful", "goodput", "again", "completion", "jain", "seed", "budget_packets", "budget_steps", "settings",
@@ -181,6 +184,9 @@ def windows(view: View, every: int) -> list[Row]:
     table = view.packets
     until = max(view.ended.moment, 1)
     count = -(-until // every)
+    if count * len(view.senders) > _MOST_WINDOWS:
+        raise Faulty(f"experiment {view.name}: {count} windows of {every} ns for each of {len(view.senders)} senders are"
+                     f" more than {_MOST_WINDOWS} rows: take a longer time")
     begins = np.arange(count, dtype=np.int64) * every
     ends = np.minimum(begins + every, until)
     rows: list[Row] = []

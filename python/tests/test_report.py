@@ -53,6 +53,7 @@ FAULTS = [
     ("0 0 0\n", "0 0 0\nexperiment a\n", 9, "second experiment"),
     ("finish", "fin\u00ecsh", 5, "byte"),
     # What the reader in columns could overlook.
+    ("counters 1", "counters " + "1" * 5000, 8, "no line of a report"),
     ("0 ok 1", "0\tok 1", 3, "no line of a report"),
     ("0 ok 1", "0 ok 1 ", 3, "no line of a report"),
     ("0 ok 1", " 0 ok 1", 3, "no line of a report"),

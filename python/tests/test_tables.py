@@ -7,6 +7,7 @@ from hypothesis import given
 from hypothesis import strategies as some
 
 from dnlab import report, scenario
+from dnlab.errors import Faulty
 from dnlab.figures import Interval, interval, jain, percentile_name, place, student
 from dnlab.layout import milliseconds, table
 from dnlab.summing import grouped, varied
@@ -110,6 +111,8 @@ def test_windows() -> None:
         (0, 2000001, 1, 1000, 960), (2000001, 4000002, 1, 1000, 960), (4000002, 6000003, 0, 0, 0)]
     assert (rows[0]["rate"], rows[0]["goodput"]) == (1000 * 8 * 10**9 // 2000001, 960 * 8 * 10**9 // 2000001)
     assert rows[-1]["end"] == 10**9 and len(rows) == 500
+    with pytest.raises(Faulty, match="take a longer time"):
+        windows(view, 1)
 
 
 def test_losses() -> None:
