@@ -60,19 +60,19 @@ class Text:
         lengths = ends - begins
         if not len(lengths):
             return lengths, np.ones(0, dtype=np.bool_)
-        longest = int(lengths.max())
+        shortest, longest = int(lengths.min()), int(lengths.max())
         fits = None
-        if longest > MOST_DIGITS or int(lengths.min()) < 1:
+        if longest > MOST_DIGITS or shortest < 1:
             fits = (lengths >= 1) & (lengths <= MOST_DIGITS)
             lengths = np.where(fits, lengths, 1)
             ends = begins + lengths
-            longest = int(lengths.max())
+            shortest, longest = 1, int(lengths.max())
         if longest <= 8:
             front = self.eight(begins)
             values, good = _eight_digits(front, lengths)
         else:
-            front = self.eight(np.maximum(begins, ends - 8))
-            values, good = _eight_digits(front, np.minimum(lengths, 8))
+            low = self.eight(np.maximum(begins, ends - 8))
+            values, good = _digits(low) if shortest >= 8 else _eight_digits(low, np.minimum(lengths, 8))
             front = self.eight(begins)
             more, digits = _eight_digits(front, np.maximum(lengths - 8, 0))
             more *= 10**8
@@ -89,6 +89,11 @@ def _eight_digits(eights: Words, lengths: Ints) -> tuple[Ints, Flags]:
     empty = lengths == 0
     if empty.any():
         value[empty] = _ZEROS
+    return _digits(value)
+
+
+def _digits(value: Words) -> tuple[Ints, Flags]:
+    """The numbers that eight digits each are, and whether they are digits; the array is used up."""
     check = value + _SIXES
     check &= _HIGH
     check >>= _FOUR
