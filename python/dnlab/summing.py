@@ -54,6 +54,9 @@ def sum_one(view: View, percentiles: Sequence[Percentile], shown: dict[str, str]
         rows = losses(view)
     else:
         rows = Tables(view, percentiles, shown.get(view.name)).rows()
+    if kind != "summary":
+        own = {"seed": view.plan.seed if view.plan else None, "varied": shown.get(view.name), "ended": view.ended.how}
+        rows = [{**row, **own} for row in rows]
     if patterns:
         rows = [row for row in rows if any(fnmatchcase(row["of"], pattern) for pattern in patterns)]
     return Summed(view.name, rows, view.notes)

@@ -179,7 +179,7 @@ def windows(view: View, every: int) -> list[Row]:
     """What each sender's packets brought in each window of so many ns, from 0 on; the last ends with the experiment.
 
     Columns: experiment, of, begin, end (ns), packets and bytes delivered, rate (bit/s), useful bytes (each once) and
-    goodput (bit/s); seed and varied aren't repeated here.
+    goodput (bit/s).
     """
     table = view.packets
     until = max(view.ended.moment, 1)

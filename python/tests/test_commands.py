@@ -60,11 +60,11 @@ def test_summary_percentiles_and_rows() -> None:
 
 def test_other_tables() -> None:
     status, out, _ = tool("summary", REPORT, SCENARIO, "--every", "100ms", "--csv")
-    assert status == 0 and out.startswith("experiment,of,begin,end,packets,bytes,rate,useful,goodput\n")
+    assert status == 0 and out.startswith("experiment,of,begin,end,packets,bytes,rate,useful,goodput,seed,varied,ended\n")
     # Packet k is delivered at 8 ms * k + 1 ns: twelve before 100 ms.
-    assert out.split("\n")[1] == "codel-one-drop,train 1,0,100000000,12,12000,960000,12000,960000"
+    assert out.split("\n")[1] == "codel-one-drop,train 1,0,100000000,12,12000,960000,12000,960000,0,,end"
     status, out, _ = tool("summary", REPORT, SCENARIO, "--losses")
-    assert status == 0 and out.split("\n")[1].split() == ["codel-one-drop", "train", "1", "codel", "1.0", "1"]
+    assert status == 0 and out.split("\n")[1].split() == ["codel-one-drop", "train", "1", "codel", "1.0", "1", "0", "end"]
     status, out, _ = tool("summary", REPORT, SCENARIO, "--by", "varied", "--columns", "median", "--of", "train*", "--json")
     assert status == 0 and json.loads(out) == [{"varied": "", "of": "train 1", "rows": 1, "median n": 1,
                                                 "median mean": 120000001.0, "median half": None}]
