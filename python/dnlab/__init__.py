@@ -1,0 +1,41 @@
+"""Reports of dnlab, for those who script.
+
+    import dnlab
+    r = dnlab.run(text, workers=4)            # or dnlab.read("report.txt", "scenario.txt")
+    p = r["q50-s1"].packets()                 # made, delivered, delay, size, of, pipe, fate
+    p[p.of == "train 9"].delay.quantile(.95)
+    r["q50-s1"].windows(), .queues(), .drops(), .commands(), .counters, .ended
+    r.summary(percentiles=(50, 95, 99))       # a row for each sender, pipe and experiment, with seed and settings
+
+Moments and times are whole nanoseconds (int64), sizes bytes, rates bits per second; nothing is rounded on the way.
+`read` and `run` need numpy and pandas, pictures matplotlib (Debian: apt-get install python3-numpy python3-pandas
+python3-matplotlib). `dnlab.scenario` and `dnlab.splitting` need Python alone.
+"""
+import importlib
+from typing import TYPE_CHECKING, Any
+
+from dnlab.errors import Failed, Faulty, Refused
+
+if TYPE_CHECKING:
+    from dnlab.figures import interval, jain
+    from dnlab.results import Experiment, Report, intervals, read
+    from dnlab.runs import run
+
+__version__ = "0.1.0"
+__all__ = ["Experiment", "Failed", "Faulty", "Refused", "Report", "interval", "intervals", "jain", "read", "run"]
+_PLACES = {"Experiment": "results", "Report": "results", "intervals": "results", "read": "results", "run": "runs",
+           "interval": "figures", "jain": "figures"}
+
+
+def __getattr__(name: str) -> Any:
+    """Loads what is asked for, so that what needs no numpy works without it."""
+    if name not in _PLACES:
+        raise AttributeError(f"module 'dnlab' has no attribute {name!r}")
+    place = _PLACES[name]
+    for needed in () if place == "figures" else ("numpy", "pandas"):
+        try:
+            importlib.import_module(needed)
+        except ModuleNotFoundError:
+            raise ModuleNotFoundError(f"{needed} is missing (Debian: apt-get install python3-{needed})",
+                                      name=needed) from None
+    return getattr(importlib.import_module(f"dnlab.{place}"), name)

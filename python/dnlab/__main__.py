@@ -1,0 +1,89 @@
+"""`python3 -m dnlab COMMAND ..`: the commands of the package."""
+import importlib
+import os
+import sys
+from pathlib import Path
+from typing import Optional, Sequence
+
+COMMANDS = ("summary", "plot", "spread")
+# Debian's packages serve Debian's own Python, which may not be the first on the PATH.
+SYSTEM = "/usr/bin/python3"
+NEEDS = {"summary": ("numpy",), "plot": ("numpy", "matplotlib"), "spread": ()}
+HELP = """Tools for reports of dnlab, in Python.
+
+  python3 -m dnlab summary REPORT [SCENARIO ..]   prints a table, or rows for other programs
+  python3 -m dnlab plot REPORT [SCENARIO ..]      draws windows, queues, times under way, bytes and drops
+  python3 -m dnlab spread SCENARIO ..             runs scenarios in parts, here, by ssh or by Slurm
+
+Each has --help. In Python: import dnlab; help(dnlab).
+
+Example: python3 -m dnlab summary report.txt scenario.txt
+Exit status: that of the command; 2 wrong usage.
+"""
+
+
+def missing(modules: Sequence[str]) -> Optional[str]:
+    """The first of some modules that isn't there."""
+    for module in modules:
+        try:
+            importlib.import_module(module)
+        except ModuleNotFoundError as fault:
+            return fault.name or module
+    return None
+
+
+def begin_anew(command: str, module: str) -> int:
+    """Begins anew under Debian's Python, where this is another one; else says what to install."""
+    here = os.path.realpath(sys.executable)
+    if here != os.path.realpath(SYSTEM) and os.path.exists(SYSTEM):
+        sys.stdout.flush()
+        os.execv(SYSTEM, [SYSTEM, *sys.argv])
+    print(f"{command}: {module} is missing (Debian: apt-get install python3-{module})", file=sys.stderr)
+    return 1
+
+
+def main(words: Optional[Sequence[str]] = None) -> int:
+    """Runs a command by its words, the command first; gives the status."""
+    words = sys.argv[1:] if words is None else words
+    if list(words[:1]) in (["--help"], ["-h"]):
+        print(HELP, end="")
+        return 0
+    if not words or words[0] not in COMMANDS:
+        print(HELP, end="", file=sys.stderr)
+        return 2
+    lacking = missing(NEEDS[words[0]])
+    if lacking is not None:
+        return begin_anew(words[0], lacking)
+    module = importlib.import_module(f"dnlab.commands.{words[0]}")
+    try:
+        status: int = module.main(words[1:])
+        sys.stdout.flush()
+        return status
+    except KeyboardInterrupt:
+        print(f"{words[0]}: ended from outside", file=sys.stderr)
+        return 3
+    except BrokenPipeError:
+        # Who read the output has left; nothing more is written, by Python's own flush neither.
+        os.dup2(os.open(os.devnull, os.O_WRONLY), sys.stdout.fileno())
+        return 1
+
+
+def summary() -> int:
+    """The script dnlab-summary."""
+    return main(["summary", *sys.argv[1:]])
+
+
+def plot() -> int:
+    """The script dnlab-plot."""
+    return main(["plot", *sys.argv[1:]])
+
+
+def spread() -> int:
+    """The script dnlab-spread."""
+    return main(["spread", *sys.argv[1:]])
+
+
+if __name__ == "__main__":
+    if not __package__:
+        sys.path[0] = str(Path(__file__).resolve().parent.parent)
+    sys.exit(main())

@@ -1,0 +1,183 @@
+"""Runs the experiments of scenarios in parts, on this machine, on others by ssh or as a Slurm array.
+
+    tools/spread SCENARIO .. [--parts N] [--jobs J] [--ssh HOSTS | --slurm] [--program PATH]
+                 [--out REPORT] [--work FOLDER] [--resume]
+
+The scenarios (- is standard input) are split at their experiments into N parts, each with about as many commands;
+each part is run by `dnlab alone`, and the reports are put together in order: the bytes of `dnlab alone < SCENARIO`.
+A text may have more than 256 experiments and 16777216 bytes, which `dnlab` itself refuses: then there are as many
+parts as it takes. The whole text is checked first by `dnlab check`, so that a fault has the line of the whole text;
+of several texts the fault has its text's name before it. The report is written when it is whole, or not at all. The
+program is that of the environment variable DNLAB, else the proved one of the repository, made first where it isn't
+there. Here and by ssh the engine is GNU parallel (Debian: parallel, and for ssh rsync on both sides).
+docs/use/MANY_MACHINES.md says more.
+
+Example: tools/spread scenario.txt --parts 8 --ssh 4/alpha,4/beta --program /usr/bin/dnlab --out report.txt
+Exit status: 0 done, 1 a fault in the scenario (`line L: CAUSE`), 2 wrong usage, 3 a part failed, memory was
+refused, or a read or write failed."""
+import argparse
+import os
+import shutil
+import signal
+import subprocess
+import sys
+import tempfile
+from pathlib import Path
+from typing import Optional, Sequence
+
+from dnlab.engines import Job, Stop, put_together, run
+from dnlab.errors import Failed
+from dnlab.programs import proved_program
+from dnlab.scenario import MOST_BYTES, MOST_EXPERIMENTS, Judged
+from dnlab.splitting import Fault, Part, experiments_in, heading_fault, lines_in, repeated, shares, texts_of
+
+
+def parser_of_words() -> argparse.ArgumentParser:
+    parser = argparse.ArgumentParser(prog="spread", description=__doc__, usage=argparse.SUPPRESS,
+                                     formatter_class=argparse.RawDescriptionHelpFormatter, allow_abbrev=False)
+    parser.add_argument("scenarios", metavar="SCENARIO", nargs="+", help="a scenario, or - for standard input")
+    parser.add_argument("--parts", type=int, default=16, metavar="N",
+                        help="how many parts (16), at most as many as there are experiments")
+    parser.add_argument("--jobs", type=int, metavar="J",
+                        help="how many at once: on each machine (its cores), or of the array (as Slurm grants)")
+    engine = parser.add_mutually_exclusive_group()
+    engine.add_argument("--ssh", metavar="HOSTS", help="machines, as parallel's --sshlogin has them: 4/alpha,beta")
+    engine.add_argument("--slurm", action="store_true", help="as an array of Slurm; needs --out or --work")
+    parser.add_argument("--program", metavar="PATH", help="where dnlab is on the other machines (as here)")
+    parser.add_argument("--out", metavar="REPORT", help="the report's file; else standard output")
+    parser.add_argument("--work", metavar="FOLDER", help="where the parts are (REPORT.parts, else a temporary one)")
+    parser.add_argument("--resume", action="store_true", help="keep the parts of the folder that are done")
+    return parser
+
+
+def words(given: Sequence[str]) -> argparse.Namespace:
+    parser = parser_of_words()
+    args = parser.parse_intermixed_args(list(given))
+    for name, number in ("--parts", args.parts), ("--jobs", args.jobs):
+        if number is not None and number < 1:
+            parser.error(f"{name} {number}: 1 or more are needed")
+    if args.scenarios.count("-") > 1:
+        parser.error("standard input can't be two scenarios")
+    if args.work is None and args.out is not None:
+        args.work = args.out + ".parts"
+    if args.work is None and (args.slurm or args.resume):
+        parser.error("--slurm and --resume need --out or --work")
+    if args.program is not None and not (args.slurm or args.ssh):
+        parser.error("--program goes with --ssh or --slurm (here DNLAB names the program)")
+    if args.out is not None and os.path.exists(args.out) and not os.path.isfile(args.out):
+        parser.error(f"--out {args.out}: it is no regular file")
+    if args.out is not None and not os.path.isdir(os.path.dirname(args.out) or "."):
+        parser.error(f"--out {args.out}: its folder isn't there")
+    engine = "sbatch" if args.slurm else "parallel"
+    if shutil.which(engine) is None:
+        parser.error(f"{engine} isn't there (Debian: {'slurm-client' if args.slurm else 'parallel'})")
+    return args
+
+
+def text_of(name: str) -> bytes:
+    try:
+        # Descriptor 0 itself, since Python has no standard input where it is closed.
+        with open(0 if name == "-" else name, "rb") as file:
+            return file.read()
+    except OSError as error:
+        raise Stop(3, f"spread: {name}: {error.strerror}\n") from error
+
+
+def counted(program: str, text: bytes) -> "Fault | tuple[int, int]":
+    """How many experiments and commands the program finds, or the fault; what isn't either ends the run."""
+    done = subprocess.run([program, "check"], input=text, capture_output=True, check=False)
+    said = done.stderr.decode(errors="replace")
+    if done.returncode == 1 and said.startswith("line "):
+        number, _, cause = said[5:].strip().partition(": ")
+        return Fault(int(number), cause)
+    if done.returncode != 0:
+        raise Stop(done.returncode if done.returncode in (1, 3) else 3, said)
+    fields = done.stdout.split()
+    if len(fields) != 3 or fields[0] != b"ok" or not (fields[1] + fields[2]).isdigit():
+        raise Stop(3, f"spread: {program} check answered {done.stdout[:60]!r}\n")
+    return int(fields[1]), int(fields[2])
+
+
+def judged(program: str, text: bytes, parts: Sequence[Part], names: set[str]) -> "Fault | tuple[int, int]":
+    """The same of a text of any length: it is checked in as many texts as the program takes. A name that another text
+    has is a fault too."""
+    if len(text) <= MOST_BYTES and len(parts) <= MOST_EXPERIMENTS:
+        found = counted(program, text)
+        return first_of(found, repeated(parts, names))
+    head = Judged(text[:next(lines_in(text), (len(text), b"", 0))[0]], limited=False).fault
+    if head:
+        return Fault(*head)
+    experiments = commands = 0
+    pieces = texts_of(parts)
+    for place, piece in enumerate(pieces):
+        own = b"".join(part.text for part in piece)
+        if len(own) > MOST_BYTES:
+            return Fault(piece[0].line, "toobig")
+        found = counted(program, own)
+        if isinstance(found, Fault):
+            found = Fault(found.line + piece[0].line - 1, found.cause)
+            if found.cause == "noend" and place + 1 < len(pieces):
+                # The heading behind it: its own words are judged before that an `end` is missing.
+                found = Fault(found.line, heading_fault(pieces[place + 1][0].text) or "noend")
+        found = first_of(found, repeated(piece, names))
+        if isinstance(found, Fault):
+            return found
+        experiments, commands = experiments + found[0], commands + found[1]
+    return experiments, commands
+
+
+def first_of(found: "Fault | tuple[int, int]", again: Optional[Part]) -> "Fault | tuple[int, int]":
+    """The first of a fault that was found and a name that stood before."""
+    if again is None or (isinstance(found, Fault) and found.line <= again.line):
+        return found
+    return Fault(again.line, "samename")
+
+
+def experiments_of(args: argparse.Namespace, program: str) -> list[Part]:
+    """The experiments of all texts; a fault ends the run with its line, and its text's name where there are several."""
+    everything: list[Part] = []
+    names: set[str] = set()
+    for name in args.scenarios:
+        text = text_of(name)
+        parts = experiments_in([text])
+        found = judged(program, text, parts, names)
+        if isinstance(found, Fault):
+            said = f"line {found.line}: {found.cause}\n"
+            raise Stop(1, said if len(args.scenarios) == 1 else f"{name}: {said}")
+        own = len(parts), sum(part.commands for part in parts)
+        if own != found:
+            raise Stop(3, f"spread: {program} counts {found[0]} experiments and {found[1]} commands, spread others\n")
+        everything += parts
+    return everything
+
+
+def spread(args: argparse.Namespace) -> None:
+    try:
+        program = proved_program()
+    except Failed as failed:
+        raise Stop(failed.status, f"spread: {failed.said}\n") from failed
+    everything = experiments_of(args, program)
+    with tempfile.TemporaryDirectory(prefix="spread.") as passing:
+        folder = Path(args.work or passing).absolute()
+        jobs = [Job(folder, number, [part.name for part in share], b"".join(part.text for part in share))
+                for number, share in enumerate(shares(everything, args.parts), 1)]
+        run(args, program, jobs, folder)
+        put_together(args.out, jobs)
+        if args.work is not None:
+            shutil.rmtree(folder)
+
+
+def main(words_given: Sequence[str]) -> int:
+    signal.signal(signal.SIGTERM, lambda *_: sys.exit(3))
+    try:
+        spread(words(words_given))
+    except Stop as stop:
+        sys.stderr.write(str(stop))
+        return stop.status
+    except OSError as error:
+        sys.stderr.write(f"spread: {error.filename}: {error.strerror}\n")
+        return 3
+    except KeyboardInterrupt:
+        sys.stderr.write("spread: ended from outside; nothing was written\n")
+        return 3
+    return 0

@@ -1,0 +1,58 @@
+"""What the commands' words have in common."""
+import argparse
+import re
+from fractions import Fraction
+
+_UNITS = {"ns": 1, "us": 10**3, "ms": 10**6, "s": 10**9}
+
+
+def parser_of(name: str, about: str, more: str) -> argparse.ArgumentParser:
+    """A parser whose help has an example and the exit statuses at its end."""
+    return argparse.ArgumentParser(prog=name, description=about, epilog=more,
+                                   formatter_class=argparse.RawDescriptionHelpFormatter)
+
+
+def add_texts(parser: argparse.ArgumentParser) -> None:
+    """The report and its scenarios, and which experiments are asked for."""
+    parser.add_argument("report", metavar="REPORT", help="a report, or - for standard input")
+    parser.add_argument("scenarios", metavar="SCENARIO", nargs="*",
+                        help="its scenario, or - for standard input; several where it was run from several")
+    parser.add_argument("--experiment", action="append", default=[], metavar="NAME",
+                        help="only this experiment, the others stay unread; may be said again [all]")
+
+
+def taken(parser: argparse.ArgumentParser, words: list[str]) -> argparse.Namespace:
+    """The words, options anywhere; standard input can be one text only."""
+    given = parser.parse_intermixed_args(words)
+    if [given.report, *given.scenarios].count("-") > 1:
+        parser.error("standard input can't be both the report and the scenario")
+    return given
+
+
+def time_of(text: str) -> int:
+    """A time with its unit, in ns.
+
+    >>> time_of("100ms"), time_of("1.5us")
+    (100000000, 1500)
+    """
+    found = re.fullmatch(r"([0-9]+(?:\.[0-9]+)?)(ns|us|ms|s)", text)
+    time = Fraction(found[1]) * _UNITS[found[2]] if found else Fraction(0)
+    if time < 1 or time.denominator != 1:
+        raise argparse.ArgumentTypeError(f"{text!r} is no time of whole nanoseconds, as 100ms, 20us or 1s")
+    return int(time)
+
+
+def count_of(text: str) -> int:
+    """A number from 1 on."""
+    if not re.fullmatch(r"[1-9][0-9]{0,5}", text):
+        raise argparse.ArgumentTypeError(f"{text!r} is no number from 1 on")
+    return int(text)
+
+
+def percentiles_of(text: str) -> list[str]:
+    """Percentiles with commas between, each above 0 and at most 100."""
+    found = text.split(",")
+    for one in found:
+        if not re.fullmatch(r"[0-9]{1,3}(?:\.[0-9]{1,6})?", one) or not 0 < Fraction(one) <= 100:
+            raise argparse.ArgumentTypeError(f"{one!r} is no percentile above 0 and up to 100")
+    return found

@@ -1,0 +1,31 @@
+"""What the package refuses, and how it says so."""
+
+
+class Refused(Exception):
+    """A text is not what it should be: its line (counted from 1) and the cause.
+
+    >>> str(Refused(3, "no line of a report"))
+    'line 3: no line of a report'
+    """
+
+    def __init__(self, line: int, cause: str) -> None:
+        super().__init__(f"line {line}: {cause}")
+        self.line = line
+        self.cause = cause
+
+    def __reduce__(self) -> tuple[type, tuple[int, str]]:
+        """So that it passes from one process to another whole."""
+        return Refused, (self.line, self.cause)
+
+
+class Faulty(Exception):
+    """An input that can't be used: the file, where there is one the line, and the cause."""
+
+
+class Failed(Exception):
+    """The program `dnlab` ended with a status that isn't 0: `status` and what it said."""
+
+    def __init__(self, status: int, said: str) -> None:
+        super().__init__(f"dnlab ended with status {status}: {said}")
+        self.status = status
+        self.said = said

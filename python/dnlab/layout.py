@@ -1,0 +1,85 @@
+"""Rows as a text with columns under each other."""
+import re
+from typing import Optional, Sequence
+
+from dnlab.figures import Percentile
+from dnlab.lines import CAUSES
+from dnlab.tables import PERCENTILES, Row, times_of
+
+
+def milliseconds(value: Optional[int]) -> str:
+    """Nanoseconds as milliseconds, exactly.
+
+    >>> milliseconds(1234567)
+    '1.234567'
+    """
+    return "-" if value is None else f"{value // 10**6}.{value % 10**6:06}"
+
+
+def plain(value: object) -> str:
+    """A value as it stands in a table.
+
+    >>> plain(None), plain(0.123456789), plain(7)
+    ('-', '0.123457', '7')
+    """
+    return "-" if value is None else f"{value:.6g}" if isinstance(value, float) else str(value)
+
+
+def loss_of(row: Row) -> str:
+    """The drops by cause, in words; of a pipe only CoDel's may be known."""
+    parts = [f"{cause}:{row[cause]}" for cause in CAUSES if row[cause] or (cause == "codel" and row["full"] is None)]
+    return " ".join(parts) or "none"
+
+
+def ended_of(row: Row) -> str:
+    """How the experiment ended, with both moments where it was cut short."""
+    if row["ended"] == "end":
+        return "end"
+    of = "" if row["end"] is None else f" of {milliseconds(row['end'])}"
+    return f"spent {milliseconds(row['ended_at'])}{of} ms"
+
+
+def lines_of(cells: Sequence[Sequence[str]], left: Sequence[int]) -> str:
+    """Cells as lines, the first the heading; the columns in `left` are flush left, the others right."""
+    widths = [max(len(line[place]) for line in cells) for place in range(len(cells[0]))]
+    lines = []
+    for line in cells:
+        shown = [cell.ljust(width) if place in left else cell.rjust(width)
+                 for place, (cell, width) in enumerate(zip(line, widths))]
+        lines.append("  ".join(shown).rstrip())
+    return "\n".join(lines) + "\n"
+
+
+def table(rows: Sequence[Row], percentiles: Sequence[Percentile] = PERCENTILES) -> str:
+    """The rows of a summary; times in ms."""
+    times = times_of(percentiles)
+    cells = [["experiment", "of", "packets", "delivered", "held", "bytes", "time ms", "bit/s", "drops",
+              *(f"{name} ms" for name in times), "goodput", "again", "done ms", "jain", "ended", "marks"]]
+    for row in rows:
+        cells.append([row["experiment"], row["of"],
+                      *(plain(row[name]) for name in ("packets", "delivered", "held", "bytes")),
+                      milliseconds(row["time"]), plain(row["rate"]), loss_of(row),
+                      *(milliseconds(row[name]) for name in times), plain(row["goodput"]), plain(row["again"]),
+                      milliseconds(row["completion"]), plain(row["jain"]), ended_of(row), row["marks"] or "-"])
+    width = len(cells[0])
+    return lines_of(cells, (0, 1, 8, width - 2, width - 1))
+
+
+# Columns of times in ns, and what `grouped` makes of them.
+_TIME = re.compile(r"^(p[0-9.]+|least|median|greatest|time|first|last|begin|end|completion|ended_at)( mean| half)?$")
+
+
+def _shown(name: str, value: object) -> str:
+    """A value of a column as it is printed."""
+    if value is None or not _TIME.match(name):
+        return plain(value)
+    return milliseconds(value) if isinstance(value, int) else f"{float(str(value)) / 10**6:.6g}"
+
+
+def bare_table(rows: Sequence[Row]) -> str:
+    """Any rows, with their own names of columns; times, and means of times, in ms."""
+    names = list(rows[0])
+    heading = [_TIME.sub(r"\1 ms\2", name) for name in names]
+    cells = [heading, *([_shown(name, row[name]) for name in names] for row in rows)]
+    texts = [place for place, name in enumerate(names) if all(isinstance(row[name], str) for row in rows)]
+    return lines_of(cells, texts)

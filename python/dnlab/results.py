@@ -1,0 +1,185 @@
+"""Reports for those who script: `read` and `run` give a `Report`, whose experiments have their tables as DataFrames."""
+from collections.abc import Mapping
+from dataclasses import dataclass
+from functools import cached_property
+from pathlib import Path
+from typing import Any, Iterator, Optional, Sequence, Union
+
+import pandas as pd
+
+from dnlab import frames
+from dnlab.errors import Faulty
+from dnlab.figures import Percentile
+from dnlab.figures import interval as interval_of
+from dnlab.report import Counters, Piece
+from dnlab.scenario import Plan
+from dnlab.summing import summed, varied
+from dnlab.tables import PERCENTILES, Tables, columns_of, losses, windows
+from dnlab.view import Ended, Note, View, view_of
+from dnlab.work import Given, pieces_of, plans_of
+
+Names = Union[str, Path, Sequence[Union[str, Path]]]
+
+
+@dataclass
+class Experiment:
+    """One experiment of a report. Moments and times are whole nanoseconds, sizes bytes, rates bits per second."""
+    view: View
+    varied: Optional[str] = None
+
+    @property
+    def name(self) -> str:
+        return self.view.name
+
+    @property
+    def counters(self) -> Counters:
+        """Packets made, delivered and held, and `drops` by cause."""
+        return self.view.counters
+
+    @property
+    def ended(self) -> Ended:
+        """`how` it ended, `end` or `spent`; the `moment`; and the moment of the scenario's `end`."""
+        return self.view.ended
+
+    @property
+    def seed(self) -> Optional[int]:
+        return self.view.plan.seed if self.view.plan else None
+
+    @property
+    def settings(self) -> Optional[str]:
+        """The configurations of its pipes, as the scenario has them."""
+        return self.view.plan.settings() if self.view.plan else None
+
+    @property
+    def notes(self) -> list[Note]:
+        """What couldn't be told of it, and what may be silently wrong in it."""
+        return self.view.notes
+
+    def packets(self) -> pd.DataFrame:
+        """A row for each packet, by serial number: made, delivered, delay (ns), size (bytes, with headers), of (who sent
+        it), pipe (the last that it is known to have come to), fate (`held`, `delivered`, or the cause of its drop),
+        ended (ns, also of a drop), kind, flow and number of its load, again (a segment that was sent before)."""
+        return frames.packets(self.view)
+
+    def visits(self) -> pd.DataFrame:
+        """A row for each visit of a packet to an instance: packet, pipe, arrival, finish and exit (ns)."""
+        return frames.visits(self.view)
+
+    def windows(self) -> pd.DataFrame:
+        """A row for each `ack` and `expire` line and each flow's begin: moment (ns), flow, event, cwnd and ssthresh (bytes)."""
+        return frames.windows(self.view)
+
+    def queues(self) -> pd.DataFrame:
+        """A row for each moment at which an instance changed: moment (ns), pipe, waiting (packets that wait or are in
+        service), flying (packets in the delay line); they hold until its next row."""
+        return frames.queues(self.view)
+
+    def drops(self) -> pd.DataFrame:
+        """A row for each drop: moment (ns), packet, of, cause, pipe where a line tells it, size (bytes)."""
+        return frames.drops(self.view)
+
+    def commands(self) -> pd.DataFrame:
+        """A row for each command: moment (ns), text and line of the scenario, answer (`ok`, `refused`), code."""
+        return frames.commands(self.view)
+
+    def records(self) -> pd.DataFrame:
+        """The report's own lines, by line: word, moment, packet, pipe, kind, flow, number, more (see
+        `dnlab.lines.Columns`)."""
+        return frames.records(self.view)
+
+    def summary(self, percentiles: Sequence[Percentile] = PERCENTILES) -> pd.DataFrame:
+        """The rows of this experiment in a summary (docs/use/TOOLS.md has the columns)."""
+        return frames.of_rows(Tables(self.view, percentiles, self.varied).rows(), columns_of(percentiles))
+
+    def throughput(self, every: int) -> pd.DataFrame:
+        """What each sender's packets brought in each window of `every` ns: of, begin, end (ns), packets, bytes, rate
+        (bit/s), useful (bytes, each once), goodput (bit/s)."""
+        rows = windows(self.view, every)
+        return frames.of_rows(rows, list(rows[0]) if rows else ["experiment", "of", "begin", "end"])
+
+    def losses(self) -> pd.DataFrame:
+        """Drops by sender, cause and pipe: of, cause, pipe (<NA> where no line tells it), packets."""
+        return frames.of_rows(losses(self.view), ["experiment", "of", "cause", "pipe", "packets"])
+
+    def plot(self, what: Sequence[str] = ("window", "queue", "sojourn", "rate", "drops")) -> Any:
+        """A matplotlib figure with a panel for each of `what`."""
+        from dnlab import pictures
+
+        return pictures.figure_of([self.view], what)
+
+
+class Report(Mapping[str, Experiment]):
+    """A report with its scenario: `report["name"]` reads that experiment, one at a time stays in memory.
+
+    Its experiments are found when it is opened; each is read, judged and joined when it is asked for."""
+
+    def __init__(self, report: Union[str, Path], scenario: Names = (), keep: Any = None) -> None:
+        names = [scenario] if isinstance(scenario, (str, Path)) else scenario
+        self.given = Given(str(report), tuple(str(name) for name in names))
+        # What must live as long as the report does: the file of a run that nobody named.
+        self._keep = keep
+        self.plans: Optional[dict[str, Plan]] = plans_of(self.given.scenarios)
+        self._pieces: dict[str, Piece] = {piece.name: piece for piece in pieces_of(self.given.report)}
+        self._last: Optional[Experiment] = None
+        for name in self._pieces:
+            if self.plans is not None and name not in self.plans:
+                raise Faulty(f"{self.given.scenario()}: it has no experiment {name}")
+
+    @cached_property
+    def _varied(self) -> dict[str, str]:
+        return varied(self.plans) if self.plans else {}
+
+    def __getitem__(self, name: str) -> Experiment:
+        if self._last is None or self._last.name != name:
+            piece = self._pieces[name]
+            self._last = None
+            view = view_of(piece, self.plans, self.given.report, self.given.scenario())
+            self._last = Experiment(view, self._varied.get(name))
+        return self._last
+
+    def __iter__(self) -> Iterator[str]:
+        return iter(self._pieces)
+
+    def __len__(self) -> int:
+        return len(self._pieces)
+
+    def __repr__(self) -> str:
+        return f"Report({self.given.report!r}, {len(self)} experiments)"
+
+    def summary(self, percentiles: Sequence[Percentile] = PERCENTILES, of: Sequence[str] = (),
+                experiments: Sequence[str] = (), workers: Optional[int] = None) -> pd.DataFrame:
+        """The rows of all experiments (or of some, by name), by several processes where the report is long; `of` keeps
+        the rows of some names, as "train *". docs/use/TOOLS.md has the columns."""
+        patterns = [of] if isinstance(of, str) else of
+        rows = [row for one in summed(self.given, self.plans, experiments, percentiles, patterns, workers=workers)
+                for row in one.rows]
+        return frames.of_rows(rows, columns_of(percentiles))
+
+
+def read(report: Union[str, Path], scenario: Names = ()) -> Report:
+    """Opens a report, with its scenario where there is one (or the several that it was run from).
+
+    A scenario given for another's report is refused with the line at which they part, when the experiment is read."""
+    return Report(report, scenario)
+
+
+def intervals(rows: pd.DataFrame, by: Union[str, Sequence[str]], columns: Union[str, Sequence[str]]) -> pd.DataFrame:
+    """Of each group of rows and each column: how many have a value (`n`), the `mean`, and `half` the width of its 95 %
+    interval (Student). Groups stand in the order of their first row.
+
+    by       the columns that a group has in common
+    columns  of what the means are
+    """
+    keys = [by] if isinstance(by, str) else list(by)
+    names = [columns] if isinstance(columns, str) else list(columns)
+    found: dict[Any, dict[tuple[str, str], Any]] = {}
+    for key, group in rows.groupby(keys if len(keys) > 1 else keys[0], sort=False, observed=True):
+        found[key] = {}
+        for name in names:
+            made = interval_of(float(value) for value in group[name].dropna())
+            found[key].update({(name, part): getattr(made, field) for part, field in
+                               (("n", "count"), ("mean", "mean"), ("half", "half"))})
+    frame = pd.DataFrame.from_dict(found, orient="index")
+    frame.columns = pd.MultiIndex.from_tuples(frame.columns, names=(None, None)) if len(frame) else frame.columns
+    frame.index.names = keys if len(keys) > 1 else [keys[0]]
+    return frame if len(names) > 1 or not len(frame) else frame[names[0]]

@@ -1,0 +1,220 @@
+"""What a picture shows of an experiment, as numbers: panels, each with its unit and its series.
+
+Moments are nanoseconds here; `pictures` scales them. A panel that needs what can't be told has no series but `words`,
+which say why.
+"""
+from dataclasses import dataclass
+from typing import Callable, NamedTuple, Optional, Sequence
+
+import numpy as np
+from numpy.typing import NDArray
+
+from dnlab.digits import Ints
+from dnlab.lines import ACK, CAUSES, DROP, EXPIRE, pipe_name
+from dnlab.makings import DATA, first_window
+from dnlab.packets import DELIVERED, DROPPED
+from dnlab.view import Note, View
+
+WHAT = ("window", "queue", "sojourn", "rate", "drops")
+# So many lines can be told apart in one panel without colour; thresholds are drawn of so many flows.
+MOST = 8
+THRESHOLDS = 2
+# A panel is some 750 dots wide. What has more moments than this many times four is thinned to so many stretches.
+STRETCHES = 1500
+
+Values = NDArray[np.float64]
+
+
+class Series(NamedTuple):
+    """`form` is `steps` (a value holds until the next), `points` or `marks` (what happened at a moment).
+
+    `moments` are int64, ns, in order; `values` have the same shape (n,)."""
+    label: str
+    form: str
+    moments: Ints
+    values: "Ints | Values"
+
+
+@dataclass
+class Panel:
+    """`words` stand in a panel that has no series; `top`, where it is given, is the frame's greatest value."""
+    title: str
+    unit: str
+    series: list[Series]
+    words: str = ""
+    top: Optional[float] = None
+
+
+def panel_of(view: View, what: str) -> Panel:
+    """A panel of an experiment, by its name in `WHAT`; long series are thinned."""
+    makers: dict[str, Callable[[View], Panel]] = {
+        "window": windows, "queue": queues, "sojourn": sojourns, "rate": rates, "drops": drops}
+    panel = makers[what](view)
+    panel.series = [thinned(one) for one in panel.series]
+    return panel
+
+
+def thinned(one: Series, stretches: int = STRETCHES) -> Series:
+    """A series of which each stretch of time keeps the first, the least, the greatest and the last value, so that a
+    picture is the same to a dot; a short one as it is."""
+    if len(one.moments) <= 4 * stretches:
+        return one
+    begin, end = int(one.moments[0]), int(one.moments[-1])
+    at = (one.moments - begin) * stretches // (end - begin + 1)
+    first = np.flatnonzero(np.concatenate((np.ones(1, dtype=np.bool_), at[1:] != at[:-1])))
+    last = np.append(first[1:], len(at)) - 1
+    # Sorted by value within a stretch, its least and greatest stand at its ends.
+    order = np.lexsort((one.values, at))
+    kept = np.unique(np.concatenate((first, last, order[first], order[last])))
+    return one._replace(moments=one.moments[kept], values=one.values[kept])
+
+
+def steps(view: View, label: str, moments: Ints, amounts: "Ints | int") -> Series:
+    """The running sum of changes, from 0 to the experiment's last moment; changes of one moment are one step."""
+    if not len(moments):
+        return Series(label, "steps", moments, moments)
+    amounts = np.broadcast_to(np.asarray(amounts, dtype=np.int64), moments.shape)
+    order = np.argsort(moments, kind="stable")
+    moments = moments[order]
+    values = np.cumsum(amounts[order])
+    last = np.flatnonzero(np.append(moments[1:] != moments[:-1], True))
+    moments, values = moments[last], values[last]
+    zero = np.zeros(1, dtype=np.int64)
+    if moments[0] > 0:
+        moments, values = np.concatenate((zero, moments)), np.concatenate((zero, values))
+    if moments[-1] < view.last:
+        moments, values = np.append(moments, view.last), np.append(values, values[-1])
+    return Series(label, "steps", moments, values)
+
+
+def most(view: View, panel_name: str, series: Sequence[Series]) -> list[Series]:
+    """The series with most steps or points, where there are too many to be told apart."""
+    series = [one for one in series if len(one.moments)]
+    if len(series) <= MOST:
+        return series
+    view.more_notes.append(Note(f"{panel_name} lines", f"{panel_name}: {len(series)} lines are too many to be told"
+                                f" apart, so the {MOST} with most changes are drawn"))
+    kept = sorted(range(len(series)), key=lambda place: -len(series[place].moments))[:MOST]
+    return [series[place] for place in sorted(kept)]
+
+
+def windows(view: View) -> Panel:
+    """cwnd and ssthresh of each flow, as the lines have them, with losses and timeouts."""
+    columns = view.experiment.columns
+    rows = np.flatnonzero((columns.word == ACK) | (columns.word == EXPIRE))
+    flows = np.unique(columns.flow[rows]).tolist()
+    found = [flow_windows(view, flow, rows[columns.flow[rows] == flow]) for flow in flows]
+    if not found:
+        return Panel("Windows", "bytes", [], "no flow: no `ack` or `expire` line")
+    if len(flows) > THRESHOLDS:
+        view.more_notes.append(Note("thresholds", f"window: the thresholds of {len(flows)} flows can't be told apart,"
+                                    " so none is drawn"))
+        marks = [Series(label, "marks", *merged([parts[place] for parts in found]))
+                 for place, label in ((2, "loss"), (3, "timeout"))]
+        series = most(view, "window", [parts[0] for parts in found]) + [one for one in marks if len(one.moments)]
+    else:
+        series = [one for parts in found for one in parts if len(one.moments)]
+    return Panel("Windows", "bytes", series, top=1.25 * max(int(parts[0].values.max()) for parts in found))
+
+
+def merged(marks: Sequence[Series]) -> tuple[Ints, Ints]:
+    """Moments and values of all marks, in order."""
+    moments = np.concatenate([one.moments for one in marks])
+    values = np.concatenate([one.values for one in marks])
+    order = np.lexsort((values, moments))
+    return moments[order], values[order].astype(np.int64)
+
+
+def flow_windows(view: View, flow: int, rows: Ints) -> list[Series]:
+    """cwnd, ssthresh, losses and timeouts of a flow; marks stand on the window of their moment."""
+    columns = view.experiment.columns
+    moments, cwnd, ssthresh = columns.moment[rows], columns.number[rows], columns.more[rows]
+    moment, sends = view.sends.get(f"flow {flow}", (0, None))
+    if sends is not None:
+        moments = np.concatenate((np.array([moment]), moments))
+        cwnd = np.concatenate((np.array([first_window(sends.smss)]), cwnd))
+        ssthresh = np.concatenate((np.array([sends.ssthresh]), ssthresh))
+    dropped = (columns.word == DROP) & (columns.kind == DATA) & (columns.flow == flow)
+    timeouts = columns.moment[rows[columns.word[rows] == EXPIRE]]
+    marks = []
+    for label, at in (("loss", columns.moment[dropped]), ("timeout", timeouts)):
+        held = np.maximum(np.searchsorted(moments, at, side="right") - 1, 0)
+        marks.append(Series(f"{label} {flow}", "marks", at, cwnd[held]))
+    return [Series(f"cwnd {flow}", "steps", moments, cwnd), Series(f"ssthresh {flow}", "steps", moments, ssthresh),
+            *marks]
+
+
+def queues(view: View) -> Panel:
+    """Packets that wait or are in service, by pipe, and all that are under way."""
+    pipes = view.visits.pipes()
+    if not view.is_told:
+        flights = [steps(view, f"in the delay line of {pipe_name(pipe)}", *in_flight(view, own)) for pipe, own in pipes]
+        return Panel("Packets in delay lines (how many wait needs the scenario)", "packets",
+                     most(view, "queue", flights), "" if flights else "no packet finished in a pipe")
+    series = [steps(view, f"at {pipe_name(pipe)}", *waiting(view, own)) for pipe, own in pipes]
+    made, ended = view.packets.made, view.packets.ended
+    changes = _changes(made, ended[ended >= 0])
+    series = most(view, "queue", series)
+    return Panel("Packets waiting or in service, by pipe, and all under way", "packets",
+                 series + [steps(view, "under way", *changes)], "" if len(made) else "no packet was made")
+
+
+def _changes(more: Ints, less: Ints) -> tuple[Ints, Ints]:
+    return np.concatenate((more, less)), np.repeat(np.array([1, -1], dtype=np.int64), [len(more), len(less)])
+
+
+def waiting(view: View, own: Ints) -> tuple[Ints, Ints]:
+    """The changes of how many packets wait or are in service, of some visits: moments and amounts."""
+    visits = view.visits
+    left = np.where(visits.finish[own] >= 0, visits.finish[own], visits.exit[own])
+    came = visits.arrival[own]
+    return _changes(came[came >= 0], left[(came >= 0) & (left >= 0)])
+
+
+def in_flight(view: View, own: Ints) -> tuple[Ints, Ints]:
+    """The changes of how many packets are in the delay line, of some visits: moments and amounts."""
+    visits = view.visits
+    own = own[visits.finish[own] >= 0]
+    left = np.where(visits.exit[own] >= 0, visits.exit[own], view.packets.ended[visits.packet[own]])
+    return _changes(visits.finish[own], left[left >= 0])
+
+
+def sojourns(view: View) -> Panel:
+    """Of each delivered packet the time from being made, at the moment of its delivery."""
+    if not view.is_told:
+        return Panel("Time from being made to delivery", "ms", [],
+                     "When packets were made can't be told\nwithout the scenario.")
+    table, delay = view.packets, view.packets.delay
+    series = []
+    for who, packets in view.senders:
+        delivered = packets[table.fate[packets] == DELIVERED]
+        # In the order of delivery, as long series are thinned by it.
+        delivered = delivered[np.argsort(table.ended[delivered], kind="stable")]
+        series.append(Series(who, "points", table.ended[delivered], delay[delivered] / 10**6))
+    series = most(view, "sojourn", series)
+    return Panel("Time from being made to delivery", "ms", series, "" if series else "nothing was delivered")
+
+
+def rates(view: View) -> Panel:
+    """What was delivered, by who sent it, and what went through each pipe, added up over time."""
+    known = view.is_told
+    table, visits = view.packets, view.visits
+    amounts = table.size if known else np.ones(len(table), dtype=np.int64)
+    series = []
+    for who, packets in view.senders:
+        delivered = packets[table.fate[packets] == DELIVERED]
+        series.append(steps(view, who, table.ended[delivered], amounts[delivered]))
+    for pipe, own in visits.pipes():
+        served = own[visits.finish[own] >= 0]
+        series.append(steps(view, f"through {pipe_name(pipe)}", visits.finish[served], amounts[visits.packet[served]]))
+    series = most(view, "rate", series)
+    title = "Delivered, and through each pipe" + ("" if known else " (bytes need the scenario)")
+    return Panel(title, "bytes" if known else "packets", series, "" if series else "nothing was delivered")
+
+
+def drops(view: View) -> Panel:
+    """Drops by cause, added up over time."""
+    table = view.packets
+    series = [steps(view, cause, table.ended[table.fate == DROPPED + place], 1) for place, cause in enumerate(CAUSES)]
+    series = [one for one in series if len(one.moments)]
+    return Panel("Drops by cause", "packets", series, "" if series else "no packet was dropped")

@@ -1,0 +1,150 @@
+"""Goes over the experiments of a report, one at a time or by several processes, and says how far it is."""
+import os
+import sys
+import time
+from collections import deque
+from concurrent.futures import Future, ProcessPoolExecutor
+from pathlib import Path
+from typing import BinaryIO, Callable, Iterable, Iterator, NamedTuple, Optional, Sequence, TypeVar, Union
+
+from dnlab.errors import Faulty, Refused
+from dnlab.report import Piece, pieces
+from dnlab.scenario import Plan, read
+from dnlab.view import View, view_of
+
+T = TypeVar("T")
+# Below so many bytes of report a second process costs more than it saves.
+_WORTH = 20_000_000
+
+
+class Given(NamedTuple):
+    """A report and its scenarios, as they are named on a command line; `-` is standard input."""
+    report: str
+    scenarios: tuple[str, ...] = ()
+
+    def scenario(self) -> str:
+        """The scenarios' names, for a message."""
+        return ", ".join(self.scenarios)
+
+
+def cores() -> int:
+    """How many cores this process may use."""
+    return len(os.sched_getaffinity(0)) if hasattr(os, "sched_getaffinity") else os.cpu_count() or 1
+
+
+def bytes_of(name: str) -> bytes:
+    """The bytes of a file, or of standard input."""
+    try:
+        return sys.stdin.buffer.read() if name == "-" else Path(name).read_bytes()
+    except OSError as fault:
+        raise Faulty(f"{name}: {fault.strerror}") from None
+
+
+def plans_of(names: Sequence[str]) -> Optional[dict[str, Plan]]:
+    """The experiments of some scenario texts, by name; None where no text is named."""
+    plans: dict[str, Plan] = {}
+    for name in names:
+        try:
+            found = read(bytes_of(name))
+        except Refused as refused:
+            raise Faulty(f"{name}: {refused}") from None
+        for plan in found.values():
+            if plan.name in plans:
+                raise Faulty(f"{name}: line {plan.line}: a second experiment {plan.name}")
+            plans[plan.name] = plan
+    return plans if names else None
+
+
+def pieces_of(report: str, wanted: Sequence[str] = ()) -> Iterator[Piece]:
+    """The experiments of a report's file, or of standard input; what is refused is told with the file's name."""
+    source: Union[str, BinaryIO] = sys.stdin.buffer if report == "-" else report
+    missing = set(wanted)
+    try:
+        for piece in pieces(source, wanted):
+            missing.discard(piece.name)
+            yield piece
+    except OSError as fault:
+        raise Faulty(f"{report}: {fault.strerror}") from None
+    except Refused as refused:
+        raise Faulty(f"{report}: {refused}") from None
+    for name in wanted:
+        if name in missing:
+            raise Faulty(f"{report}: it has no experiment {name}")
+
+
+class Progress:
+    """Says on standard error, where that is a terminal, how many experiments are done; at most twice a second."""
+
+    def __init__(self, tool: str, total: Optional[int] = None) -> None:
+        self.tool = tool
+        self.total = total
+        self.done = 0
+        self.shown = 0
+        self.last = time.monotonic()
+        self.is_seen = sys.stderr.isatty()
+
+    def step(self) -> None:
+        self.done += 1
+        now = time.monotonic()
+        if self.is_seen and now - self.last >= 0.5:
+            self.last = now
+            of = f" of {self.total}" if self.total is not None else ""
+            text = f"{self.tool}: {self.done}{of} experiments"
+            print(f"\r{text.ljust(self.shown)}", end="", file=sys.stderr, flush=True)
+            self.shown = len(text)
+
+    def close(self) -> None:
+        if self.shown:
+            print(f"\r{' ' * self.shown}\r", end="", file=sys.stderr, flush=True)
+
+
+def _task(function: Callable[[View], T], piece: Piece, plans: Optional[dict[str, Plan]], given: Given) -> T:
+    return function(view_of(piece, plans, given.report, given.scenario()))
+
+
+def over(given: Given, function: Callable[[View], T], plans: Optional[dict[str, Plan]], wanted: Sequence[str] = (),
+         workers: Optional[int] = None, tool: str = "dnlab", most: Optional[int] = None) -> Iterator[T]:
+    """What a function makes of each experiment, in the report's order, by so many processes (all cores where it isn't
+    given and the report is long). The function must be one that another process finds by its name. Where
+    a file has more than `most` experiments it is refused before one is read."""
+    found: Iterable[Piece] = pieces_of(given.report, wanted)
+    total = None
+    if given.report != "-":
+        found = list(found)
+        total = len(found)
+        if workers is None:
+            workers = cores() if sum(map(len, found)) >= _WORTH else 1
+        workers = max(1, min(workers, total))
+        if most is not None and total > most:
+            raise Faulty(f"{given.report}: {total} experiments are too many, where {most} can be taken: name some by"
+                         " --experiment")
+    progress = Progress(tool, total)
+    try:
+        if (workers or 1) == 1:
+            for piece in found:
+                yield _task(function, piece, plans, given)
+                progress.step()
+        else:
+            for made in _by_processes(given, function, plans, found, workers or 1):
+                yield made
+                progress.step()
+    finally:
+        progress.close()
+
+
+def _by_processes(given: Given, function: Callable[[View], T], plans: Optional[dict[str, Plan]],
+                  found: Iterable[Piece], workers: int) -> Iterator[T]:
+    with ProcessPoolExecutor(workers) as pool:
+        waiting: deque[Future[T]] = deque()
+        try:
+            for piece in found:
+                own = None if plans is None else {piece.name: plans[piece.name]} if piece.name in plans else {}
+                waiting.append(pool.submit(_task, function, piece, own, given))
+                # A few ahead, so that no more texts are kept than are worked on.
+                while len(waiting) > workers + 1:
+                    yield waiting.popleft().result()
+            while waiting:
+                yield waiting.popleft().result()
+        finally:
+            for future in waiting:
+                future.cancel()

@@ -1,0 +1,55 @@
+"""What the tests have in common: where things are, the program, and examples opened."""
+import os
+import subprocess
+import sys
+from pathlib import Path
+from typing import Callable
+
+import pytest
+from hypothesis import settings
+
+ROOT = Path(__file__).resolve().parent.parent.parent
+sys.path.insert(0, str(ROOT / "python"))
+
+from dnlab import report, scenario  # noqa: E402
+from dnlab.programs import proved_program  # noqa: E402
+from dnlab.view import View  # noqa: E402
+
+EXAMPLES = ROOT / "examples"
+# The same examples each time, and no files of them are left.
+settings.register_profile("dnlab", derandomize=True, database=None, deadline=None)
+settings.load_profile("dnlab")
+
+
+def text_of(name: str, file: str) -> bytes:
+    return (EXAMPLES / name / file).read_bytes()
+
+
+def view_of(name: str, joined: bool = True) -> View:
+    """The view of an example with one experiment."""
+    experiment = next(report.read(text_of(name, "expected.txt")))
+    plan = scenario.read(text_of(name, "scenario.txt"))[experiment.name] if joined else None
+    return View(experiment, plan)
+
+
+@pytest.fixture(scope="session")
+def program() -> str:
+    """The program that DNLAB names, else the proved one."""
+    return proved_program()
+
+
+@pytest.fixture(scope="session")
+def alone(program: str) -> Callable[[bytes], bytes]:
+    """Runs a scenario by `dnlab alone`; gives the report."""
+    def run(text: bytes) -> bytes:
+        done = subprocess.run([program, "alone"], input=text, capture_output=True, timeout=300, check=False)
+        assert done.returncode == 0, done.stderr
+        return done.stdout
+    return run
+
+
+def tool(name: str, *words: object, text: bytes = b"", **more: str) -> tuple[int, str, str]:
+    """Calls a script of tools/; its status, standard output and standard error."""
+    done = subprocess.run([ROOT / "tools" / name, *map(str, words)], input=text, capture_output=True, timeout=120,
+                          check=False, env={**os.environ, **more})
+    return done.returncode, done.stdout.decode(), done.stderr.decode()

@@ -1,0 +1,54 @@
+"""What the pages show is what comes out: the ten lines of docs/use/QUESTION.md and the notebook docs/use/queues.ipynb."""
+import os
+import re
+import subprocess
+import sys
+
+import pytest
+from conftest import ROOT
+
+pytest.importorskip("pandas", reason="pandas is missing (Debian: python3-pandas)")
+WORDS = {"PYTHONPATH": str(ROOT / "python"), "PYTHONDONTWRITEBYTECODE": "1"}
+
+
+def plain(text: str) -> str:
+    """A text without spaces at the ends of lines."""
+    return "\n".join(line.rstrip() for line in text.strip().split("\n"))
+
+
+def test_the_ten_lines(program: str) -> None:
+    page = (ROOT / "docs" / "use" / "QUESTION.md").read_text()
+    code, shown = re.findall(r"```(?:python)?\n(.*?)```", page, re.S)[:2]
+    assert len([line for line in code.split("\n") if line.strip()]) == 9
+    done = subprocess.run([sys.executable, "-c", code], cwd=ROOT, capture_output=True, text=True, check=False,
+                          env={**os.environ, **WORDS, "DNLAB": program})
+    assert done.returncode == 0, done.stderr
+    assert plain(done.stdout) == plain(shown)
+
+
+def told(cell) -> list[str]:
+    """What a cell put out, as text; of pictures that there is one."""
+    found = []
+    for output in cell.get("outputs", []):
+        data = output.get("data", {})
+        if "image/png" in data:
+            found.append("a picture")
+        elif "text/plain" in data:
+            found.append(plain(data["text/plain"]))
+        elif output.get("name") == "stdout":
+            found.append(plain(output["text"]))
+    return found
+
+
+def test_the_notebook(program: str, monkeypatch: pytest.MonkeyPatch) -> None:
+    nbformat = pytest.importorskip("nbformat", reason="nbconvert is missing (Debian: python3-nbconvert)")
+    execute = pytest.importorskip("nbconvert.preprocessors", reason="nbconvert is missing (Debian: python3-nbconvert)")
+    pytest.importorskip("ipykernel", reason="ipykernel is missing (Debian: python3-ipykernel)")
+    pytest.importorskip("matplotlib_inline", reason="matplotlib is missing (Debian: python3-matplotlib)")
+    for name, value in {**WORDS, "DNLAB": program}.items():
+        monkeypatch.setenv(name, value)
+    book = nbformat.read(ROOT / "docs" / "use" / "queues.ipynb", 4)
+    wanted = [told(cell) for cell in book.cells]
+    execute.ExecutePreprocessor(timeout=600, kernel_name="python3").preprocess(book, {"metadata": {"path": str(ROOT)}})
+    assert [told(cell) for cell in book.cells] == wanted
+    assert sum("a picture" in one for one in wanted) == 2

@@ -1,0 +1,212 @@
+"""Report and scenario joined: times worked out by hand, pairs that don't belong together, random scenarios."""
+import os
+import random
+
+import pytest
+from conftest import text_of, view_of
+
+from dnlab import report, scenario
+from dnlab.errors import Refused
+from dnlab.lines import INSTANCE, LISTINGS, pipe_code, pipe_name
+from dnlab.makings import DATA, makings_of
+from dnlab.packets import FATES
+from dnlab.packets import nowhere as lost_in
+from dnlab.view import View
+
+# What is changed in the scenario or the report of reno_four_segments: the text, by what, which, line and cause.
+JOINS = [
+    ("report", "11200000 deliver 0 data 1 0", "11200000 deliver 0 data 1 1460", 10, "isn't this scenario's"),
+    ("report", "21200000 deliver 3 ack 1 1460", "21200000 deliver 3 plain", 17, "doesn't follow its delivery"),
+    ("report", "100000000 ok 5", "100000001 ok 5", 27, "at 100000001"),
+    ("report", "22400000 finish 6 1.0", "22400000 finish 7 1.0", 20, "before it is made"),
+    # The fifth segment is sent with the fourth, as packet 7, which the report calls an acknowledgement.
+    ("scenario", "segments 4", "segments 5", 25, "isn't this scenario's"),
+    ("scenario", "smss 1460", "smss 1000", 12, "isn't this scenario's"),
+    ("scenario", "segments 4", "segment 4", 6, "no line of a scenario"),
+    ("scenario", "@0 add 100", "@0 ad 100", 4, "no line of a scenario"),
+    # A packet more, of which no line tells: only the counters do.
+    ("scenario", "@100000000 end", "@99999999 inject udp 10.0.0.1 1 10.0.1.1 2 100\n@100000000 end", 27, "command 5"),
+    ("scenario", "@100000000 end", "@100000000 show\n@100000000 end", 28, "ends before command 6"),
+]
+
+
+@pytest.mark.parametrize("which,old,new,line,word", JOINS)
+def test_pairs_that_dont_belong_together(which: str, old: str, new: str, line: int, word: str) -> None:
+    texts = {"report": text_of("reno_four_segments", "expected.txt").decode(),
+             "scenario": text_of("reno_four_segments", "scenario.txt").decode()}
+    assert old in texts[which]
+    texts[which] = texts[which].replace(old, new, 1)
+    with pytest.raises(Refused) as refused:
+        makings_of(next(report.read(texts["report"].encode())), scenario.read(texts["scenario"].encode())["r"])
+    assert refused.value.line == line and word in refused.value.cause
+
+
+def test_a_packet_that_no_line_names() -> None:
+    """A train's last packet is held at the end: only the counters tell of it."""
+    text = b"experiment t seed 0 budget 9\n@0 pipe 1 config delay 50\n@0 add 1 pipe 1 ip from any to any\n" \
+           b"@0 train 1 udp 10.0.0.1 1 10.0.0.2 2 100 count 2 gap 60000000\n@100000000 end\n"
+    told = b"experiment t\n0 ok 0\n0 ok 1\n0 ok 2\n0 finish 0 1.0\n50000000 deliver 0 plain\n60000000 finish 1 1.0\n" \
+           b"100000000 ok 3\ncounters 2 1 1 0 0 0 0 0 0 0 0\n"
+    plan = scenario.read(text)["t"]
+    assert len(makings_of(next(report.read(told)), plan)) == 2
+    shorter = told.replace(b"60000000 finish 1 1.0\n", b"").replace(b"counters 2 1 1", b"counters 1 1 0")
+    with pytest.raises(Refused) as refused:
+        makings_of(next(report.read(shorter)), plan)
+    assert refused.value.line == 1 and "1 packets were made, where the scenario tells of 2" in refused.value.cause
+
+
+def test_makings_by_hand() -> None:
+    table = view_of("reno_four_segments").packets
+    made = [(table.names[who], moment, size) for who, moment, size in zip(table.who, table.made, table.size)]
+    # Three segments at once; each delivery makes an acknowledgement; the fourth segment at the first of these.
+    assert made == [("flow 1", 0, 1500), ("flow 1", 0, 1500), ("flow 1", 0, 1500), ("flow 1 acks", 11200000, 40),
+                    ("flow 1 acks", 12400000, 40), ("flow 1 acks", 13600000, 40), ("flow 1", 21200000, 1500),
+                    ("flow 1 acks", 32400000, 40)]
+    timeouts = view_of("reno_timeouts").packets
+    assert timeouts.made.tolist() == [0, 0, 0, 10**9, 3 * 10**9]
+    # The first segment is sent anew by both timeouts.
+    assert timeouts.again.tolist() == [False, False, False, True, True]
+
+
+def visits(view: View, packet: int) -> list[tuple[str, int, int, int]]:
+    table = view.visits
+    return [(pipe_name(int(table.pipe[k])), int(table.arrival[k]), int(table.finish[k]), int(table.exit[k]))
+            for k in range(len(table)) if table.packet[k] == packet]
+
+
+def test_visits_by_hand() -> None:
+    wanted = [("1.0", 0, 0, 10**7), ("2.0", 10**7, 10**7, 15 * 10**6)]
+    assert visits(view_of("two_pipes_in_turn"), 0) == wanted
+    # A traced report tells the same without its scenario.
+    traced = view_of("traced_two_pipes", joined=False)
+    assert visits(traced, 0) == wanted
+    assert traced.packets.delay.tolist() == [15 * 10**6 + 1]
+    assert traced.is_told and traced.is_traced
+
+
+FLOWS = ("", " window 3000", " ssthresh 4000", " rto 100", " rto adaptive", " rto 20 ssthresh 3000")
+
+
+def pipe_words(chance: random.Random, number: int) -> str:
+    """A configuration, each option there or not."""
+    words = [f"pipe {number} config"]
+    choices = ((0.8, "bw", ("0", "1Mbit/s", "8Mbit/s", "100Kbit/s")), (0.8, "delay", ("0", "1", "5", "20")),
+               (0.6, "queue", ("2", "5", "50", "3KB")), (0.4, "plr", ("0.1", "0.3", "0.01")),
+               (0.3, "mask", ("all", "dst-ip 0xffffffff src-port 0xffff", "proto 0xff")),
+               (0.3, "codel", ("", "target 1 interval 10")))
+    for share, word, values in choices:
+        if chance.random() < share:
+            words.append(f"{word} {chance.choice(values)}".strip())
+    return " ".join(words)
+
+
+def command(chance: random.Random, pipes: int, flows: list[int]) -> str:
+    """One command of those that may stand in the middle."""
+    kind = chance.randrange(8)
+    number = chance.randrange(1, 9)
+    if kind <= 2:
+        flows.append(number)
+        return (f"flow {number} 10.0.0.1 1000 10.0.0.2 80 smss {chance.choice((100, 1024, 1095, 1460))}"
+                f" segments {chance.choice((chance.randrange(1, 60), 200))}{chance.choice(FLOWS)}")
+    if kind == 3:
+        return (f"train {number} udp 10.0.0.1 1 10.0.0.3 2 {chance.randrange(40, 1501)}"
+                f" count {chance.randrange(1, 60)} gap {chance.choice((0, 1, 1000000, 1234567))}")
+    if kind == 4:
+        return f"inject udp 10.0.0.1 1 10.0.0.3 2 {chance.randrange(40, 1501)}"
+    if kind == 5:
+        return pipe_words(chance, chance.randrange(1, pipes + 1))
+    if kind == 6:
+        return chance.choice([f"pipe delete {chance.randrange(1, pipes + 1)}", "one_pass 0", "one_pass 1"])
+    return f"stop {chance.choice(flows)}" if flows and chance.random() < 0.5 else "pipe show"
+
+
+def random_scenario(seed: int) -> str:
+    """Pipes of all kinds, flows, trains, loss, commands in the middle, short budgets, and four listings; a third of them
+    traced from the beginning, a third from somewhere in the middle."""
+    chance = random.Random(seed)
+    pipes = chance.randrange(1, 4)
+    lines = [f"experiment x seed {seed} budget {chance.choice((5, 20, 100, 1000))}"
+             f" steps {chance.choice((50, 500, 100000))}"]
+    lines += ["@0 trace 1"] if seed % 3 == 0 else []
+    lines += [f"@0 one_pass {chance.randrange(2)}"]
+    lines += [f"@0 {pipe_words(chance, number)}" for number in range(1, pipes + 1)]
+    for number in range(chance.randrange(1, 5)):
+        action = chance.choice([f"pipe {chance.randrange(1, pipes + 1)}"] * 4 + ["allow", "count"])
+        lines.append(f"@0 add {100 * (number + 1)} {action} {chance.choice(('ip', 'tcp', 'udp'))}"
+                     f" from {chance.choice(('any', '10.0.0.0/24'))} to any")
+    lines.append("@0 add 900 allow ip from any to any")
+    moment, flows = 0, []
+    for _ in range(chance.randrange(2, 9)):
+        moment += chance.choice((0, 0, 1000000, 50000000, 200000000))
+        lines.append(f"@{moment} {command(chance, pipes, flows)}")
+    lines += [f"@{moment} trace 1"] if seed % 3 == 1 else []
+    for _ in range(4):
+        # No command stands at these moments, so a listing has what was there before it.
+        moment += chance.choice((1000003, 10000019, 100000007))
+        lines.append(f"@{moment} pipe show")
+    lines.append(f"@{moment + chance.choice((0, 10**9, 6 * 10**10))} end")
+    return "\n".join(lines) + "\n"
+
+
+def is_told(view: View) -> bool:
+    """Whether each packet's pipes can be told."""
+    deleted = (view.packets.fate == FATES.index("deleted")).any()
+    return not lost_in(view.packets, view.visits) and not deleted
+
+
+def listed(view: View, moment: int, pipe: int) -> tuple[int, int]:
+    """How many packets wait or are in service, and how many are in the delay line, before all of a moment."""
+    table = view.visits
+    own = table.pipe == pipe
+    arrival, finish, left, packet = table.arrival[own], table.finish[own], table.exit[own], table.packet[own]
+    ended = view.packets.ended[packet]
+    waiting = flying = 0
+    for k in range(len(arrival)):
+        served = finish[k] if finish[k] >= 0 else left[k]
+        gone = left[k] if left[k] >= 0 else ended[k]
+        waiting += bool(arrival[k] < moment and (served < 0 or served >= moment))
+        flying += bool(0 <= finish[k] < moment and (gone < 0 or gone >= moment))
+    return waiting, flying
+
+
+def compare_listings(view: View) -> int:
+    """Compares each `instance` line with the join; how many were compared."""
+    commands = view.plan.commands
+    shown = [one.moment for one in commands if one.word == "pipe"][-4:]
+    columns, moment, compared = view.experiment.columns, 0, 0
+    for row in range(len(columns)):
+        moment = int(columns.moment[row]) if columns.moment[row] >= 0 else moment
+        if columns.word[row] != INSTANCE or moment not in shown or moment == commands[-6].moment:
+            continue
+        fields = LISTINGS[INSTANCE].fullmatch(view.experiment.listings[row])
+        pipe = pipe_code(f"{fields[1]}.{fields[2]}".encode())
+        wanted = int(fields[3]) + int(fields[5]), int(fields[6])
+        assert listed(view, moment, pipe) == wanted, f"line {view.experiment.line_of(row)}"
+        compared += 1
+    return compared
+
+
+@pytest.mark.parametrize("tens", range(int(os.environ.get("DNLAB_JOINS", "100")) // 10))
+def test_random_scenarios(tens: int, alone) -> None:
+    """Ten at a time: the join agrees with each line, with the counters and with each listing, and a traced report tells
+    the same without its scenario. DNLAB_JOINS=1000 tries more."""
+    compared = segments = 0
+    for seed in range(10 * tens, 10 * tens + 10):
+        text = random_scenario(seed).encode()
+        experiment = next(report.read(alone(text)))
+        view = View(experiment, scenario.read(text)["x"])
+        if is_told(view):
+            compared += compare_listings(view)
+        segments += int((view.packets.kind == DATA).sum())
+        if seed % 3 == 0:
+            bare = View(experiment)
+            for name in ("made", "ended", "fate", "size", "kind", "flow", "number"):
+                assert (getattr(bare.packets, name) == getattr(view.packets, name)).all(), f"seed {seed}: {name}"
+            assert visits_all(bare) == visits_all(view)
+    assert segments and compared
+
+
+def visits_all(view: View) -> list[tuple[int, ...]]:
+    table = view.visits
+    return list(zip(*(getattr(table, name).tolist() for name in ("packet", "pipe", "arrival", "finish", "exit"))))
+

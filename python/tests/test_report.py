@@ -1,0 +1,213 @@
+"""The reader of reports: lines counted by hand, faulty reports with the line that must be named, changed bytes."""
+import io
+import re
+
+import numpy as np
+import pytest
+from conftest import EXAMPLES, ROOT, text_of
+from hypothesis import given, settings
+from hypothesis import strategies as some
+
+from dnlab import report, scenario
+from dnlab.digits import Text
+from dnlab.errors import Refused
+from dnlab.lines import CAUSES, CODES, LISTINGS, WORDS, Reader, pipe_code
+from dnlab.makings import makings_of
+
+# Counted by hand in the reports: lines by word, then what the counters must be.
+COUNTED = {
+    "reno_four_segments": ({"ok": 6, "finish": 8, "deliver": 8, "ack": 4}, (8, 8, 0, {})),
+    "reno_timeouts": ({"ok": 4, "drop": 5, "expire": 2}, (5, 0, 0, {"lost": 5})),
+    "pipe_deleted": ({"ok": 6, "finish": 1, "drop": 2}, (2, 0, 0, {"nopipe": 1, "deleted": 1})),
+    "listings": ({"ok": 9, "rule": 5, "pipe": 1, "instance": 1, "finish": 1, "deliver": 1}, (1, 1, 0, {})),
+}
+GOOD = """experiment a
+0 ok 0
+0 ok 1
+pipe 1 bw 0 delay 0 queue 50 plr 0 mask 00/00000000/00000000/0000/0000 droptail
+8 finish 0 1.0
+9 deliver 0 plain
+10 spent
+counters 1 1 0 0 0 0 0 0 0 0 0
+"""
+# What is changed in the text above, and the line and a word of the cause that must be told.
+FAULTS = [
+    ("experiment a", "experiment A", 1, "experiment NAME"),
+    ("0 ok 1", "0 okay 1", 3, "no line of a report"),
+    ("0 ok 1", "00 ok 1", 3, "no line of a report"),
+    ("0 ok 1", "0  ok 1", 3, "no line of a report"),
+    ("0 ok 1", "0 ok 2", 3, "command 2"),
+    ("0 ok 1", "0 refused 1 14", 3, "no line of a report"),
+    ("bw 0 delay", "bw 0 delays", 4, "listing"),
+    ("0 ok 1\n", "0 ok 1\n0 finish 0 1.0\n", 5, "listing"),
+    ("9 deliver", "7 deliver", 6, "moment 7 after 8"),
+    ("9 deliver 0 plain", "9 drop 0 plain gone", 6, "no line of a report"),
+    ("9 deliver 0 plain\n", "9 deliver 0 plain\n9 deliver 0 plain\n", 7, "before"),
+    ("9 deliver 0 plain", "9 drop 0 plain full", 8, "1 delivered"),
+    ("10 spent\n", "10 spent\n10 ok 2\n", 8, "after `spent`"),
+    ("8 finish 0", "8 finish 1", 5, "packet 1"),
+    ("counters 1 1", "counters 2 1", 8, "add up"),
+    ("counters 1 1 0 0", "counters 2 1 0 1", 8, "drops `denied`"),
+    ("0 0 0\n", "0 0 0", 8, "end of line"),
+    ("counters 1 1 0 0 0 0 0 0 0 0 0\n", "", 8, "without the counters"),
+    ("0 0 0\n", "0 0 0\nexperiment a\n", 9, "second experiment"),
+    ("finish", "fin\u00ecsh", 5, "byte"),
+    # What the reader in columns could overlook.
+    ("counters 1", "counters " + "1" * 5000, 8, "no line of a report"),
+    ("0 ok 1", "0\tok 1", 3, "no line of a report"),
+    ("0 ok 1", "0 ok 1 ", 3, "no line of a report"),
+    ("0 ok 1", " 0 ok 1", 3, "no line of a report"),
+    ("8 finish 0 1.0", "8 finish 0 01.0", 5, "no line of a report"),
+    ("8 finish 0 1.0", "8 finish 0 1.256", 5, "no line of a report"),
+    ("8 finish 0 1.0", "8 finish 0 65536.0", 5, "no line of a report"),
+    ("9 deliver 0 plain", "9 deliver 0 plain 1 2", 6, "no line of a report"),
+    ("9 deliver 0 plain", "9 deliver 0 data", 6, "no line of a report"),
+    ("9 deliver 0 plain", "9 deliver 0 data 1 01", 6, "no line of a report"),
+    ("9 deliver 0 plain", "9 drop 0 plain noinstanc_", 6, "no line of a report"),
+    ("9 deliver 0 plain", "9 deliver 4294967296 plain", 6, "no line of a report"),
+    ("9 deliver 0 plain", "9 deliver 99999999 plain", 6, "makes 10000000 at most"),
+    ("9 deliver 0 plain", "99999999999999999 deliver 0 plain", 6, "no line of a report"),
+    ("0 0 0\n", "0 0 0\nmore\n", 9, "experiment NAME"),
+    ("9 deliver 0 plain\n", "9 deliver 0 plain\n9 make 0 plain udp 1.2.3.4 5 6.7.8.9 10 40\n", 7, "before"),
+    ("8 finish 0 1.0\n", "8 finish 0 1.0\n8 make 0 plain udp 1.2.3.4 5 6.7.8.9 10 40\n", 6, "behind"),
+]
+
+
+def refused(text: bytes) -> tuple[object, str]:
+    """Line and cause of what is refused."""
+    try:
+        list(report.read(text))
+    except Refused as fault:
+        return fault.line, fault.cause
+    return None, "nothing was refused"
+
+
+@pytest.mark.parametrize("name", COUNTED)
+def test_counted_by_hand(name: str) -> None:
+    lines, (made, delivered, held, drops) = COUNTED[name]
+    experiment = next(report.read(text_of(name, "expected.txt")))
+    words = [WORDS[code] for code in experiment.columns.word]
+    assert {word: words.count(word) for word in set(words)} == lines
+    counters = experiment.counters
+    assert (counters.made, counters.delivered, counters.held) == (made, delivered, held)
+    assert {cause: number for cause, number in counters.drops.items() if number} == drops
+
+
+def test_the_text_that_is_changed() -> None:
+    assert refused(GOOD.encode())[0] is None
+
+
+@pytest.mark.parametrize("old,new,line,word", FAULTS)
+def test_faulty_reports(old: str, new: str, line: int, word: str) -> None:
+    assert old in GOOD
+    text = GOOD.replace(old, new, 1) if old != "0 0 0\n" else GOOD[:-len(old)] + new
+    got, cause = refused(text.encode())
+    assert got == line and word in cause
+
+
+ALL = sorted([*EXAMPLES.glob("*/expected.txt"), *(ROOT / "cookbook").glob("*/report.txt")])
+
+
+@pytest.mark.parametrize("path", ALL, ids=lambda path: path.parent.name)
+def test_all_examples(path) -> None:
+    """Each report is read and joined; those whose output is none (faults, `check`) are read as empty or refused."""
+    folder, data = path.parent, path.read_bytes()
+    if (folder / "args.txt").exists() and (folder / "args.txt").read_text().split() == ["check"]:
+        assert refused(data)[0] == 1
+        return
+    found = list(report.read(data))
+    assert [b"experiment " + one.name.encode() for one in found] == [
+        line for line in data.split(b"\n") if line.startswith(b"experiment ")]
+    plans = scenario.read((folder / "scenario.txt").read_bytes()) if found else {}
+    for experiment in found:
+        assert len(makings_of(experiment, plans[experiment.name])) == experiment.counters.made
+
+
+N = r"(?:0|[1-9][0-9]{0,15})"
+LOAD = rf"(?:plain|(?:data|ack) {N} {N})"
+LINE = re.compile("|".join([
+    rf"{N} ok {N}", rf"{N} refused {N} (?:{'|'.join(map(str, CODES))})", rf"{N} (?:arrive|finish|pass) {N} {N}\.{N}",
+    rf"{N} deliver {N} {LOAD}", rf"{N} drop {N} {LOAD} (?:{'|'.join(CAUSES)})", rf"{N} (?:ack|expire) {N} {N} {N}",
+    rf"{N} spent", rf"{N} make {N} {LOAD} (?:tcp|udp) {N}\.{N}\.{N}\.{N} {N} {N}\.{N}\.{N}\.{N} {N} {N}",
+    rf"{N} identify {N}\.{N} [0-9a-f]{{2}}/[0-9a-f]{{8}}/[0-9a-f]{{8}}/[0-9a-f]{{4}}/[0-9a-f]{{4}}",
+    *(form.pattern for form in LISTINGS.values())]))
+
+
+def is_line(text: bytes) -> bool:
+    """Whether a line is one of a report's, by a plain pattern, and its numbers are in their ranges."""
+    if not text.isascii() or not LINE.fullmatch(text.decode()):
+        return False
+    words = text.decode().split(" ")
+    if words[0] in ("rule", "pipe", "instance"):
+        return True
+    pipe = words[3] if words[1] in ("arrive", "finish", "pass") else words[2] if words[1] == "identify" else "1.0"
+    if [int(part) > most for part, most in zip(pipe.split("."), (65535, 255))] != [False, False]:
+        return False
+    has_packet = words[1] in ("make", "arrive", "finish", "pass", "deliver", "drop")
+    if has_packet and int(words[2]) >= 2**31:
+        return False
+    flow = words[4] if has_packet and len(words) > 4 and words[3] in ("data", "ack") else \
+        words[2] if words[1] in ("ack", "expire") else "0"
+    return int(flow) <= 65535
+
+
+LINES = sorted({line for path in ALL for line in path.read_bytes().split(b"\n")
+                if line and not line.startswith((b"experiment", b"counters", b"ok "))})
+
+
+@given(some.lists(some.sampled_from(LINES), min_size=1, max_size=30), some.data())
+@settings(max_examples=400, deadline=None)
+def test_changed_lines(lines: list[bytes], data) -> None:
+    """The reader in columns finds the first line that a plain pattern refuses, wherever a byte is changed."""
+    lines = list(lines)
+    for _ in range(data.draw(some.integers(0, 3))):
+        place = data.draw(some.integers(0, len(lines) - 1))
+        at = data.draw(some.integers(0, len(lines[place])))
+        to = data.draw(some.integers(at, min(at + 2, len(lines[place]))))
+        new = data.draw(some.text(" 0123456789.abcdefghijklmnoprstuxy/-\t\u00e9", max_size=3)).encode()
+        lines[place] = lines[place][:at] + new + lines[place][to:]
+    wanted = next((number for number, line in enumerate(lines) if not is_line(line)), None)
+    reader = Reader(1)
+    reader.feed(b"\n".join(lines) + b"\n")
+    assert (reader.fault[0] if reader.fault else None) == wanted
+    columns = reader.columns()
+    assert len(columns) == (len(lines) if wanted is None else wanted)
+    for row, line in enumerate(lines[:len(columns)]):
+        words = line.decode().split(" ")
+        assert WORDS[columns.word[row]] == (words[0] if words[0] in ("rule", "pipe", "instance") else words[1])
+        if columns.moment[row] >= 0:
+            assert columns.moment[row] == int(words[0])
+        if columns.packet[row] >= 0:
+            assert columns.packet[row] == int(words[2])
+        if words[1] in ("ack", "expire"):
+            assert [columns.flow[row], columns.number[row], columns.more[row]] == [int(word) for word in words[2:]]
+        if words[1] in ("arrive", "finish", "pass"):
+            assert columns.pipe[row] == pipe_code(words[3].encode())
+
+
+@given(some.lists(some.text("0123456789ab", min_size=1, max_size=18), min_size=1, max_size=50))
+def test_numbers(words: list[str]) -> None:
+    """Columns of numbers, beside Python's own."""
+    text = Text(" ".join(words).encode() + b"\n")
+    begins = np.concatenate((np.zeros(1, dtype=np.int64), text.ends[:-1] + 1))
+    values, good = text.numbers(begins, text.ends)
+    for word, value, is_good in zip(words, values.tolist(), good.tolist()):
+        assert is_good == bool(re.fullmatch(r"0|[1-9][0-9]{0,15}", word))
+        assert not is_good or value == int(word)
+
+
+@pytest.mark.parametrize("size", [1, 7, 64, 1000, 1 << 22])
+def test_blocks_of_any_size(size: int, monkeypatch: pytest.MonkeyPatch) -> None:
+    """A report is the same in whatever blocks it is read, from a file and from a stream."""
+    path = EXAMPLES / "four_experiments" / "expected.txt"
+    whole = [(one.name, one.line, one.columns.moment.tolist()) for one in report.read(path.read_bytes())]
+    monkeypatch.setattr(report, "_LOOK", size)
+    monkeypatch.setattr(report, "_BLOCK", size)
+    assert whole == [(one.name, one.line, one.columns.moment.tolist()) for one in report.read(path)]
+    assert whole == [(one.name, one.line, one.columns.moment.tolist()) for one in report.read(io.BytesIO(path.read_bytes()))]
+
+
+def test_what_is_not_asked_for_stays_unread() -> None:
+    text = GOOD + GOOD.replace("experiment a", "experiment b").replace("9 deliver", "7 deliver")
+    assert [one.name for one in report.read(text.encode(), ["a"])] == ["a"]
+    assert refused(text.encode()) == (14, "moment 7 after 8")

@@ -1,0 +1,126 @@
+"""What notebooks use: read, run, and the tables of experiments as DataFrames."""
+import os
+import subprocess
+import sys
+from pathlib import Path
+
+import numpy as np
+import pytest
+from conftest import EXAMPLES, ROOT, view_of
+
+import dnlab
+from dnlab.results import Experiment
+
+pd = pytest.importorskip("pandas", reason="pandas is missing (Debian: python3-pandas)")
+
+FOUR = EXAMPLES / "four_experiments"
+
+
+def experiment(name: str, joined: bool = True) -> Experiment:
+    return Experiment(view_of(name, joined))
+
+
+def test_packets() -> None:
+    table = experiment("reno_four_segments").packets()
+    assert list(table.columns[:7]) == ["made", "delivered", "delay", "size", "of", "pipe", "fate"]
+    assert table.made.dtype == "Int64" and table.index.name == "packet"
+    assert table.made.tolist() == [0, 0, 0, 11200000, 12400000, 13600000, 21200000, 32400000]
+    assert table[table.of == "flow 1"].delay.tolist() == [11200000, 12400000, 13600000, 11200000]
+    assert table["pipe"].tolist() == ["1.0"] * 3 + ["2.0"] * 3 + ["1.0", "2.0"]
+    assert set(table.fate) == {"delivered"} and not table.again.any()
+    lost = experiment("reno_timeouts").packets()
+    assert lost.delivered.isna().all() and lost.fate.tolist() == ["lost"] * 5
+    assert lost.again.tolist() == [False, False, False, True, True]
+    bare = experiment("reno_four_segments", joined=False).packets()
+    assert bare.made.isna().all() and bare.delay.isna().all() and bare.delivered.notna().all()
+
+
+def test_other_tables() -> None:
+    one = experiment("reno_four_segments")
+    windows = one.windows()
+    assert list(windows.event) == ["begin", "ack", "ack", "ack", "ack"]
+    assert windows.cwnd.tolist() == [4380, 5840, 7300, 8760, 10220] and windows.moment.iloc[1] == 21200000
+    queues = one.queues()
+    first = queues[queues["pipe"] == "1.0"]
+    assert list(zip(first.moment, first.waiting))[:4] == [(0, 3), (1200000, 2), (2400000, 1), (3600000, 0)]
+    assert first.flying.max() == 3 and first.flying.iloc[-1] == 0
+    visits = one.visits()
+    assert visits.iloc[0].tolist() == [0, "1.0", 0, 1200000, 11200000]
+    commands = one.commands()
+    assert commands.answer.tolist() == ["ok"] * 6 and commands.text.iloc[-1] == "end"
+    assert one.records().loc[2].word == "ok" and len(one.records()) == 26
+    assert (one.counters.made, one.counters.delivered, one.ended) == (8, 8, ("end", 100000000, 100000000))
+    drops = experiment("codel_one_drop").drops()
+    assert drops[["moment", "of", "cause", "pipe", "size"]].values.tolist() == [[112000000, "train 1", "codel", "1.0", 1000]]
+
+
+def test_nothing_is_rounded() -> None:
+    """Moments beyond what a float holds stay whole."""
+    view = view_of("reno_four_segments")
+    view.packets.made[0] = 2**53 + 1
+    assert Experiment(view).packets().made.iloc[0] == 2**53 + 1
+
+
+def test_read() -> None:
+    report = dnlab.read(FOUR / "expected.txt", FOUR / "scenario.txt")
+    names = [line.split()[1] for line in (FOUR / "expected.txt").read_text().split("\n") if line.startswith("experiment")]
+    assert list(report) == names and len(report) == 4 and names[1] in report
+    with pytest.raises(KeyError):
+        report["none"]
+    rows = report.summary(percentiles=(50, 95), of="flow *")
+    assert "p95" in rows and "p99" not in rows and all(of.startswith("flow") for of in rows.of)
+    assert rows.seed.notna().all() and (rows.ended == "end").all()
+    for name in report:
+        assert report[name].summary().to_csv() == report.summary(experiments=[name]).to_csv()
+
+
+def test_a_scenario_of_another_report() -> None:
+    with pytest.raises(dnlab.Faulty, match="it has no experiment"):
+        dnlab.read(FOUR / "expected.txt", EXAMPLES / "one_packet" / "scenario.txt")
+    report = dnlab.read(EXAMPLES / "loss_none" / "expected.txt", EXAMPLES / "loss_none" / "scenario.txt")
+    assert report[next(iter(report))].packets() is not None
+
+
+def test_run(program: str, tmp_path: Path, monkeypatch: pytest.MonkeyPatch) -> None:
+    monkeypatch.setenv("DNLAB", program)
+    text = (FOUR / "scenario.txt").read_text()
+    report = dnlab.run(text, workers=4)
+    assert Path(report.given.report).read_bytes() == (FOUR / "expected.txt").read_bytes()
+    assert dnlab.run(FOUR / "scenario.txt", out=tmp_path / "report").given.report == str(tmp_path / "report")
+    with pytest.raises(dnlab.Failed, match="line 2: badword") as failed:
+        dnlab.run("experiment a seed 1 budget 1\n@0 nothing\n@0 end\n", out=tmp_path / "none")
+    assert failed.value.status == 1 and not (tmp_path / "none").exists()
+    with pytest.raises(dnlab.Failed, match="is no program"):
+        dnlab.run(text, dnlab="/nowhere/dnlab")
+
+
+def test_run_more_than_the_program_takes(program: str, monkeypatch: pytest.MonkeyPatch) -> None:
+    monkeypatch.setenv("DNLAB", program)
+    text = "".join(f"# a\nexperiment e{number} seed 0 budget 10\n@0 show\n@9 end\n" for number in range(600))
+    assert len(dnlab.run(text)) == 600
+    with pytest.raises(dnlab.Failed, match="line 2003: badword"):
+        dnlab.run(text.replace("experiment e500 seed 0 budget 10\n@0 show", "experiment e500 seed 0 budget 10\n@0 sho"))
+
+
+def test_intervals() -> None:
+    rows = pd.DataFrame({"varied": ["a", "a", "b", "b"], "p95": pd.array([1, 3, 5, None], "Int64"), "rate": [1, 1, 1, 3]})
+    found = dnlab.intervals(rows, "varied", "p95")
+    assert found.loc["a", "mean"] == 2 and found.loc["b", "n"] == 1 and np.isclose(found.loc["a", "half"], 12.7062)
+    both = dnlab.intervals(rows, ["varied"], ["p95", "rate"])
+    assert both.loc["b", ("rate", "mean")] == 2
+
+
+def test_without_numpy(tmp_path: Path) -> None:
+    """What it takes is named, and what needs nothing works."""
+    (tmp_path / "numpy.py").write_text("raise ModuleNotFoundError('no numpy', name='numpy')\n")
+    words = ("import dnlab, dnlab.scenario, dnlab.splitting\ntry:\n    dnlab.read\nexcept ModuleNotFoundError as fault:\n"
+             "    print(fault)")
+    done = subprocess.run([sys.executable, "-B", "-c", words], capture_output=True, text=True, check=False,
+                          env={**os.environ, "PYTHONPATH": f"{tmp_path}:{ROOT / 'python'}"})
+    assert done.stdout == "numpy is missing (Debian: apt-get install python3-numpy)\n" and not done.stderr
+
+
+def test_nothing_unknown_in_the_package() -> None:
+    assert set(dnlab.__all__) <= {name for name in dnlab.__all__ if getattr(dnlab, name)}
+    with pytest.raises(AttributeError):
+        dnlab.nothing

@@ -1,0 +1,211 @@
+"""Rows of a summary, windows, losses, groups and notes, beside values worked out by hand."""
+import math
+
+import pytest
+from conftest import EXAMPLES, text_of, view_of
+from hypothesis import given
+from hypothesis import strategies as some
+
+from dnlab import report, scenario
+from dnlab.errors import Faulty
+from dnlab.figures import Interval, interval, jain, percentile_name, place, student
+from dnlab.layout import milliseconds, table
+from dnlab.summing import grouped, varied
+from dnlab.tables import Tables, losses, times_of, windows
+from dnlab.view import View
+
+
+def rows_of(view: View, percentiles=(50, 99)):
+    return {row["of"]: row for row in Tables(view, percentiles).rows()}
+
+
+def test_codel_one_drop() -> None:
+    rows = rows_of(view_of("codel_one_drop"), (50, 95, 99))
+    # Packet k of those that are served ends at 8 ms * k + 1 ns, k from 1 to 29: the 15th is the median, the 28th the
+    # least that 95 of 100 don't exceed (27.55 of 29).
+    train = rows["train 1"]
+    assert list(rows) == ["train 1", "pipe 1.0", "all"]
+    assert [train[name] for name in times_of((50, 95, 99))] == [8000001, 120000001, 224000001, 232000001, 232000001]
+    assert (train["bytes"], train["time"], train["codel"]) == (29000, 232000001, 1)
+    assert train["rate"] == train["goodput"] == 29000 * 8 * 10**9 // 232000001
+    assert (rows["pipe 1.0"]["packets"], rows["pipe 1.0"]["codel"], rows["pipe 1.0"]["full"]) == (29, 1, None)
+    assert (train["ended"], train["marks"], train["again"], train["jain"]) == ("end", "", None, None)
+
+
+def test_without_the_scenario() -> None:
+    bare = Tables(view_of("codel_one_drop", joined=False)).rows()[0]
+    assert (bare["of"], bare["packets"], bare["codel"], bare["bytes"], bare["median"], bare["seed"]) == (
+        "plain", 30, 1, None, None, None)
+
+
+def test_traced_burst() -> None:
+    rows = rows_of(View(next(report.read(text_of("traced_burst", "expected.txt")))))
+    assert (rows["pipe 1.0"]["full"], rows["pipe 1.0"]["lost"]) == (1, 0)
+    # 8 ms in service, the second behind the first; then 1 ns in the delay line.
+    assert (rows["pipe 1.0"]["least"], rows["pipe 1.0"]["greatest"]) == (8 * 10**6 + 1, 16 * 10**6 + 1)
+
+
+def test_a_flow() -> None:
+    """reno_four_segments, worked out line by line: four segments of 1460 bytes, the last at 32.4 ms."""
+    rows = rows_of(view_of("reno_four_segments"))
+    flow = rows["flow 1"]
+    assert (flow["useful"], flow["goodput"]) == (5840, 5840 * 8 * 10**9 // 32400000)
+    assert (flow["bytes"], flow["completion"], flow["again"]) == (6000, 32400000, 0)
+    # The acknowledgements go back: neither a pipe's row nor the whole adds both directions.
+    assert list(rows) == ["flow 1", "flow 1 acks", "pipe 1.0", "pipe 2.0", "there", "back", "all"]
+    assert (rows["there"]["bytes"], rows["back"]["bytes"], rows["all"]["bytes"]) == (6000, 160, None)
+    assert (rows["all"]["packets"], rows["there"]["packets"], rows["back"]["packets"]) == (8, 4, 4)
+    assert rows["all"]["jain"] == 1.0
+
+
+def test_sent_again() -> None:
+    """reno_timeouts: three segments and two timeouts, all lost; nothing came."""
+    flow = rows_of(view_of("reno_timeouts"))["flow 1"]
+    assert (flow["packets"], flow["again"], flow["useful"], flow["goodput"], flow["completion"]) == (5, 2, 0, None, None)
+
+
+BOTH = b"""experiment both seed 7 budget 20 steps 100
+@0 pipe 1 config bw 8Mbit/s
+@0 add 100 pipe 1 ip from any to any
+@0 flow 1 10.0.0.1 1 10.0.0.2 2 smss 960 segments 2
+@1000000000 end
+"""
+# By hand: a segment of 1000 bytes takes 1 ms, an acknowledgement of 40 bytes 40 us, one behind the other; each leaves
+# 1 ns behind its service. The first acknowledgement waits for the second segment.
+BOTH_REPORT = b"""experiment both
+0 ok 0
+0 ok 1
+0 ok 2
+1000000 finish 0 1.0
+1000001 deliver 0 data 1 0
+2000000 finish 1 1.0
+2000001 deliver 1 data 1 960
+2040000 finish 2 1.0
+2040001 deliver 2 ack 1 960
+2040001 ack 1 4800 65535
+2080000 finish 3 1.0
+2080001 deliver 3 ack 1 1920
+2080001 ack 1 5760 65535
+1000000000 ok 3
+counters 4 4 0 0 0 0 0 0 0 0 0
+"""
+
+
+def test_one_pipe_for_both_directions(alone) -> None:
+    assert alone(BOTH) == BOTH_REPORT
+    view = View(next(report.read(BOTH_REPORT)), scenario.read(BOTH)["both"])
+    rows = rows_of(view)
+    assert (rows["pipe 1.0"]["packets"], rows["pipe 1.0"]["bytes"]) == (2, 2000)
+    assert (rows["pipe 1.0 back"]["packets"], rows["pipe 1.0 back"]["bytes"]) == (2, 80)
+    assert rows["pipe 1.0"]["rate"] == 2000 * 8 * 10**9 // 2000000
+    assert (rows["all"]["seed"], rows["all"]["budget_packets"], rows["all"]["budget_steps"]) == (7, 20, 100)
+    assert rows["all"]["settings"] == "pipe 1 bw 8Mbit/s"
+    assert rows["flow 1"]["completion"] == 2000001
+
+
+def test_windows() -> None:
+    view = View(next(report.read(BOTH_REPORT)), scenario.read(BOTH)["both"])
+    rows = [row for row in windows(view, 2000001) if row["of"] == "flow 1"]
+    # The window ends before its last moment: the second segment comes in the second window.
+    assert [(row["begin"], row["end"], row["packets"], row["bytes"], row["useful"]) for row in rows[:3]] == [
+        (0, 2000001, 1, 1000, 960), (2000001, 4000002, 1, 1000, 960), (4000002, 6000003, 0, 0, 0)]
+    assert (rows[0]["rate"], rows[0]["goodput"]) == (1000 * 8 * 10**9 // 2000001, 960 * 8 * 10**9 // 2000001)
+    assert rows[-1]["end"] == 10**9 and len(rows) == 500
+    with pytest.raises(Faulty, match="take a longer time"):
+        windows(view, 1)
+
+
+def test_losses() -> None:
+    assert losses(view_of("codel_one_drop")) == [
+        {"experiment": "codel-one-drop", "of": "train 1", "cause": "codel", "pipe": "1.0", "packets": 1}]
+    timeouts = losses(view_of("reno_timeouts"))
+    assert [(row["of"], row["cause"], row["pipe"], row["packets"]) for row in timeouts] == [("flow 1", "lost", None, 5)]
+
+
+SILENT = b"""experiment silent seed 1 budget 2 steps 13
+@0 pipe 1 config delay 10
+@0 add 100 pipe 1 tcp from 10.0.0.0/24 to 10.0.1.0/24
+@0 flow 1 10.0.0.1 1 10.0.1.1 2 smss 1000 segments 9
+@15000000 train 2 udp 10.0.0.1 1 10.0.1.1 2 100 count 1 gap 0
+@20000000 end
+"""
+
+
+def test_what_is_silently_wrong(alone) -> None:
+    """By hand: three commands, two emissions with their finishes, two more that the budget drops, two deliveries whose
+    acknowledgements no rule allows, the command of the train and its packet, which no rule allows either: 13 steps."""
+    text = alone(SILENT)
+    view = View(next(report.read(text)), scenario.read(SILENT)["silent"])
+    kinds = {note.kind: note.text for note in view.notes}
+    assert "flow 1 acks" in kinds["no way back"]
+    assert "train 2: 1 of 1 packets were denied" in kinds["denied"]
+    # Of four segments that the first window allows two go over the budget.
+    assert "flow 1: 2 of 4 packets" in kinds["budget"]
+    assert "at 15000000 ns, before its end at 20000000 ns" in kinds["spent"]
+    rows = rows_of(view)
+    assert rows["flow 1 acks"]["marks"].split() == ["spent", "no-way-back"]
+    assert rows["flow 1"]["marks"].split() == ["spent", "budget"]
+    assert {"spent", "no-way-back", "denied", "budget"} == set(rows["all"]["marks"].split())
+    assert (rows["all"]["ended"], rows["all"]["end"]) == ("spent", 20000000)
+    assert f"spent {milliseconds(view.ended.moment)} of 20.000000 ms" in table(Tables(view).rows())
+
+
+def test_ranks() -> None:
+    assert [place(count, of) + 1 for count, of in ((1, 50), (2, 50), (3, 50), (200, 99), (1000, "99.9"), (4, 100))] == [
+        1, 1, 2, 198, 999, 4]
+    assert [percentile_name(one) for one in (50, "50.0", 95, "99.9")] == ["median", "median", "p95", "p99.9"]
+
+
+@given(some.lists(some.integers(0, 10**15), min_size=1, max_size=60), some.integers(1, 100))
+def test_rank_is_the_least_that_fits(values: list[int], percentile: int) -> None:
+    values.sort()
+    found = values[place(len(values), percentile)]
+    assert sum(value <= found for value in values) * 100 >= percentile * len(values)
+    assert all(sum(value <= less for value in values) * 100 < percentile * len(values) for less in values if less < found)
+
+
+def test_fairness() -> None:
+    # By hand: (1 + 3)^2 / (2 * (1 + 9)).
+    assert jain([1, 3]) == 0.8 and jain([5, 5, 5]) == 1.0 and jain([0, 0]) is None
+
+
+def test_intervals() -> None:
+    # From tables of Student's t (97.5 %).
+    wanted = {1: 12.706, 2: 4.303, 3: 3.182, 4: 2.776, 10: 2.228, 29: 2.045, 30: 2.042, 120: 1.980}
+    assert {freedom: round(student(freedom), 3) for freedom in wanted} == wanted
+    found = interval([2.0, 4.0, 4.0, 6.0])
+    # Mean 4, squares 4 + 0 + 0 + 4, so the spread is sqrt(8 / 3), over sqrt(4).
+    assert found.count == 4 and found.mean == 4.0
+    assert math.isclose(found.half, 3.182446 * math.sqrt(8 / 3) / 2, rel_tol=1e-6)
+    assert interval([7.0]) == Interval(1, 7.0, None) and interval([]) == Interval(0, None, None)
+
+
+def test_groups() -> None:
+    rows = [{"of": "train 1", "varied": setting, "p95": value} for setting, value in
+            (("a", 1), ("b", 10), ("a", 3), ("b", None))]
+    found = grouped(rows, ["varied"], ["p95"])
+    assert [(row["varied"], row["of"], row["rows"], row["p95 n"], row["p95 mean"]) for row in found] == [
+        ("a", "train 1", 2, 2, 2.0), ("b", "train 1", 2, 1, 10.0)]
+    assert found[1]["p95 half"] is None
+
+
+def test_what_varies() -> None:
+    text = "".join(f"experiment {name} seed 1 budget 9\n@0 pipe 1 config bw 1Mbit/s {queue}\n@0 pipe 2 config delay 9\n"
+                   "@9 end\n" for name, queue in
+                   (("a", "queue 5"), ("b", "queue 5 codel target 5 interval 9"), ("c", "mask proto 0xff queue 7")))
+    assert varied(scenario.read(text.encode())) == {
+        "a": "pipe 1 queue 5", "b": "pipe 1 queue 5 codel target 5 interval 9", "c": "pipe 1 mask proto 0xff queue 7"}
+
+
+@pytest.mark.parametrize("name", ["masked_instances", "deleted_everywhere", "one_packet_held"])
+def test_rows_add_up(name: str) -> None:
+    """What senders made, and where it ended, is what the counters say."""
+    for experiment in report.read(EXAMPLES / name / "expected.txt"):
+        view = View(experiment, scenario.read(text_of(name, "scenario.txt"))[experiment.name])
+        rows = Tables(view).rows()
+        whole, senders = rows[-1], rows[:len(view.senders)]
+        for column in ("packets", "delivered", "held"):
+            assert whole[column] == sum(row[column] for row in senders)
+        assert (whole["packets"], whole["delivered"], whole["held"]) == (
+            view.counters.made, view.counters.delivered, view.counters.held)
+        assert {cause: whole[cause] for cause in view.counters.drops} == view.counters.drops

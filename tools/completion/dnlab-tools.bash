@@ -1,0 +1,27 @@
+# Completion of dnlab-summary, dnlab-plot and dnlab-spread for bash. Installed by tools/install; to try it:
+# source tools/completion/dnlab-tools.bash
+_dnlab_tools() {
+  local now=${COMP_WORDS[COMP_CWORD]} before="" words=""
+  [ "$COMP_CWORD" -gt 0 ] && before=${COMP_WORDS[COMP_CWORD - 1]}
+  case ${COMP_WORDS[0]##*/}:$before in
+    *:--what) words="window queue sojourn rate drops" ;;
+    *:--percentiles) words="50,99 50,95,99" ;;
+    *:--by) words="varied settings experiment seed" ;;
+    *:--every) words="10ms 100ms 1s" ;;
+    *:--workers | *:--jobs) words="1 2 4 8" ;;
+    *:--parts) words="4 16 64" ;;
+    *:--experiment | *:--of | *:--columns | *:--ssh) return ;;
+    *:--out | *:--work | *:--program) ;;
+    dnlab-summary:*)
+      words="--experiment --of --percentiles --every --losses --by --columns --workers --csv --json --help"
+      ;;
+    dnlab-plot:*) words="--experiment --what --out --workers --help" ;;
+    dnlab-spread:*) words="--parts --jobs --ssh --slurm --program --out --work --resume --help" ;;
+  esac
+  COMPREPLY=()
+  if [ -n "$words" ] && { [[ $now == -* ]] || [[ $before == --* ]]; }; then
+    mapfile -t COMPREPLY < <(compgen -W "$words" -- "$now")
+  fi
+  # Else file names, which bash completes itself.
+}
+complete -o default -F _dnlab_tools dnlab-summary dnlab-plot dnlab-spread
