@@ -1,5 +1,5 @@
 use Rattle.std.proofs.Common.{length}
-use Rattle.explain.proofs.refused.Text.find.Given as goal
+use Rattle.explain.proofs.refused.Text.seek.Given as goal
 
 abbrev pub invariant-loop-line : goal.invariant-loop-line
 invariant-loop-line l = Unit {0}

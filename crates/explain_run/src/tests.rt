@@ -1,0 +1,1 @@
+//! Warnings, written by hand.
