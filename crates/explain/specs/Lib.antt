@@ -5,3 +5,4 @@ pub mod Past
 pub mod Replies
 pub mod Shown
 pub mod Small
+pub mod Sought

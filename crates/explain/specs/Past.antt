@@ -1,5 +1,8 @@
 -- What stands before a line.
-use Rattle.std.specs.Prelude.{◌≡◌, ℕ, ◌<◌, List, Option, Some, None}
+use Rattle.std.specs.Prelude.{◌≡◌, ℕ, ◌<◌, Bool, true, false, if◌then◌else◌, List, Option, Some, None}
+use Rattle.std.specs.Str.{bytes_eq}
+use Rattle.emu_model.specs.declared.commands.Command.{Command}
+use Rattle.control.specs.Scenario.{is_end}
 use Rattle.explain.specs.Lines.{nth_line}
 use Rattle.explain.specs.declared.past.Earlier.{Earlier}
 use Rattle.explain.specs.declared.past.Past.{Past}
@@ -23,3 +26,20 @@ line_for SameName p = p.named
 line_for AfterEnd p = p.command
 line_for Backwards p = p.command
 line_for _ p = None
+
+abbrev pub or_this : Option Earlier → Earlier → Option Earlier
+or_this None x = Some x
+or_this (Some y) x = Some y
+
+-- the first line whose experiment has the name that is looked for, behind the line x, which begins another
+abbrev pub named_with : Earlier → List ℕ → Option (List ℕ) → Option Earlier → Option Earlier
+named_with x other None named = named
+named_with x other (Some name) named = if bytes_eq name other then or_this named x else named
+
+-- behind the line x, which begins an experiment of another name
+abbrev pub with_begin : Earlier → List ℕ → Option (List ℕ) → Past → Past
+with_begin x other name p = record { begun = Some x; command = None; has_ended = false; named = named_with x other name p.named }
+
+-- behind the line x, which is a command
+abbrev pub with_command : Earlier → Command → Past → Past
+with_command x command p = record p { command = Some x; has_ended = is_end command }

@@ -29,11 +29,15 @@ noted_in moment ws = do
 abbrev pub happened_in : List ℕ → Words → Reply
 happened_in moment ws = unwrap_or (refused_in ws) (unwrap_or (noted_in moment ws) Other)
 
-abbrev pub reply_in : Words → Reply
-reply_in [] = Other
-reply_in (w ∷ ws) =
+-- by a line's first word
+abbrev pub reply_with : List ℕ → Words → Reply
+reply_with w ws =
     if bytes_eq w (codes "experiment") then Heading
     else (if bytes_eq w (codes "counters") then Closing else happened_in w ws)
+
+abbrev pub reply_in : Words → Reply
+reply_in [] = Other
+reply_in (w ∷ ws) = reply_with w ws
 
 -- the refusals so far, the notes of the experiments whose reports have ended and of the one that hasn't, how many began,
 -- and the beginning of the next line

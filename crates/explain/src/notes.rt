@@ -1,8 +1,8 @@
 //! What a report says besides its refusals: steps used up, packets dropped by the rules and for the budget.
 
-ghost use Rattle.std.specs.Prelude.{◌≡◌, option_map, OnOk};
+ghost use Rattle.std.specs.Prelude.{◌≡◌, ◌<◌, length, vec_len, position, slice_get, option_map, IfSome, OnOk};
 ghost use Rattle.control_words.specs.Text.{words as words_of};
-ghost use Rattle.explain.specs.Notes.{load_of, load_in, with_cause, dropped_in, spent_in, subject_in, is_same, noted};
+ghost use Rattle.explain.specs.Notes.{load_of, load_in, with_cause, dropped_in, spent_in, subject_in, is_same, more_at, noted};
 
 use crate::replies::number;
 use control_words::{Words, is};
@@ -113,6 +113,24 @@ fn is_same(one: Subject, other: Subject) -> bool
     }
 }
 
+// The place of what is counted already.
+fn place_of(notes: &[Note], subject: Subject) -> Option<usize>
+    ensures value { result ≡ position (λ n. is_same subject n.subject) notes.now }
+    ensures within { IfSome result (λ k. k < length notes.now) }
+{
+    notes
+        .iter()
+        .position(|note| is_same(subject, note.subject))
+}
+
+fn count_again(notes: &mut Vec<Note>, place: usize)
+    requires { place < vec_len notes.old }
+    ensures { notes.new.items ≡ more_at notes.old.items place (slice_get notes.old.items place) }
+{
+    let count = notes[place].count.saturating_add(1);
+    notes[place].count = count;
+}
+
 /// Counts something once more.
 pub fn put_note(
     notes: &mut Vec<Note>,
@@ -122,17 +140,15 @@ pub fn put_note(
 ) -> Result<(), AllocError>
     ensures { OnOk result (notes.new.items ≡ noted experiment moment subject notes.old.items) }
 {
-    match notes.iter().position(|note| is_same(subject, note.subject)) {
-        Some(place) => {
-            let count = notes[place].count.saturating_add(1);
-            notes[place].count = count;
-        }
-        None => notes.push(Note {
-            experiment,
-            subject,
-            first: moment,
-            count: 1,
-        })?,
+    if let Some(place) = place_of(notes, subject) {
+        count_again(notes, place);
+        return Ok(());
     }
+    notes.push(Note {
+        experiment,
+        subject,
+        first: moment,
+        count: 1,
+    })?;
     Ok(())
 }

@@ -118,6 +118,9 @@ pub struct Text<'a> {
 }
 
 impl<'a> Text<'a> {
+    ghost use Rattle.std.specs.Prelude.{◌≡◌};
+    ghost use Rattle.explain.specs.Sought.{count_of, begun, passed, has_number};
+
     /// All of a text.
     pub fn new(text: &'a [u8]) -> Text<'a> {
         Text {
@@ -129,20 +132,36 @@ impl<'a> Text<'a> {
         }
     }
 
+    // An experiment begins.
+    fn begin(&mut self, name: &'a [u8])
+        ensures { count_of self.new ≡ begun name.now (count_of self.old) }
+    {
+        self.experiments = self.experiments.saturating_add(1);
+        self.name = name;
+        self.commands = 0;
+    }
+
+    // A command of it, of which it says whether it has the number that is wanted.
+    fn pass(&mut self, command: Option<u64>) -> bool
+        ensures passed { count_of self.new ≡ passed (count_of self.old) }
+        ensures value { result ≡ has_number (count_of self.old).commands command }
+    {
+        let number = self.commands;
+        self.commands = number.saturating_add(1);
+        match command {
+            None => false,
+            Some(wanted) => wanted == number,
+        }
+    }
+
     // Takes a line, and says whether it is the command with this number of that experiment, or its first line.
     fn is_at(&mut self, line: &'a [u8], experiment: u64, command: Option<u64>) -> bool {
         match read_line(line) {
             Ok(LineEntry::Begins { name, .. }) => {
-                self.experiments = self.experiments.saturating_add(1);
-                self.name = name;
-                self.commands = 0;
-                self.experiments == experiment && command.is_none()
+                self.begin(name);
+                command.is_none() && self.experiments == experiment
             }
-            Ok(LineEntry::Does(_)) => {
-                let number = self.commands;
-                self.commands = number.saturating_add(1);
-                self.experiments == experiment && command == Some(number)
-            }
+            Ok(LineEntry::Does(_)) => self.pass(command) && self.experiments == experiment,
             _ => false,
         }
     }

@@ -4,7 +4,7 @@ ghost use Rattle.std.specs.Prelude.{◌≡◌, option_map};
 ghost use Rattle.control_words.specs.Text.{words as words_of};
 ghost use Rattle.control_words.specs.Words.{value};
 ghost use Rattle.explain.specs.Small.{of_64_bits, small_number};
-ghost use Rattle.explain.specs.Replies.{refused_in, noted_in, happened_in, reply_in};
+ghost use Rattle.explain.specs.Replies.{refused_in, noted_in, happened_in, reply_with, reply_in};
 
 use crate::notes::{Note, Subject, put_note, subject_of};
 use control_words::{Words, is, numbers};
@@ -90,6 +90,19 @@ fn happened(moment: &[u8], words: &Words) -> Reply
         .unwrap_or(Reply::Other)
 }
 
+// By a line's first word.
+fn reply_with(first: &[u8], words: &Words) -> Reply
+    ensures { result ≡ reply_with first.now (words_of words.now.rest.now) }
+{
+    if is(first, "experiment") {
+        Reply::Heading
+    } else if is(first, "counters") {
+        Reply::Closing
+    } else {
+        happened(first, words)
+    }
+}
+
 fn reply_of(line: &[u8]) -> Reply
     ensures { result ≡ reply_in (words_of line.now) }
 {
@@ -97,13 +110,7 @@ fn reply_of(line: &[u8]) -> Reply
     let Some(first) = words.next_word() else {
         return Reply::Other;
     };
-    if is(first, "experiment") {
-        Reply::Heading
-    } else if is(first, "counters") {
-        Reply::Closing
-    } else {
-        happened(first, &words)
-    }
+    reply_with(first, &words)
 }
 
 impl Replies {

@@ -31,13 +31,14 @@ pub fn apply(rules: &mut RuleList, command: &Command) -> Result<(), AllocError>
 {
     match command {
         Command::Add(rule) => match rules.add(*rule) {
+            Ok(()) => Ok(()),
+            Err(AddError::Refused(_)) => Ok(()),
             Err(AddError::NoMemory) => Err(AllocError),
-            _ => Ok(()),
         },
-        Command::Delete(number) => {
-            let _ = rules.delete(*number);
-            Ok(())
-        }
+        Command::Delete(number) => match rules.delete(*number) {
+            Ok(()) => Ok(()),
+            Err(_) => Ok(()),
+        },
         _ => Ok(()),
     }
 }

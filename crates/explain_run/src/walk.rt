@@ -20,17 +20,19 @@ fn note_denied(
 ) -> Result<(), AllocError>
     ensures { OnOk result (out.new.items ≡ out.old.items ++ denied command sent rules.now ends) }
 {
-    if is_denied(rules, &ends) {
-        out.push(Warning {
-            command: Some(command),
-            concern: Concern::NoWay {
-                ends,
-                sent,
-                count: None,
-                other: !is_denied(rules, &turned(ends)),
-            },
-        })?;
+    if !is_denied(rules, &ends) {
+        return Ok(());
     }
+    let other = !is_denied(rules, &turned(ends));
+    out.push(Warning {
+        command: Some(command),
+        concern: Concern::NoWay {
+            ends,
+            sent,
+            count: None,
+            other,
+        },
+    })?;
     Ok(())
 }
 

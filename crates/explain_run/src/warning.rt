@@ -86,18 +86,20 @@ fn put_no_way(
     ensures { OnOk result (out.new.items
         ≡ out.old.items ++ no_way_of rules.now place sent count command.now) }
 {
-    if let Command::Flow { flow, .. } = command {
-        let ends = way_of(sent, segment_ends(flow));
-        out.push(Warning {
-            command: Some(place),
-            concern: Concern::NoWay {
-                ends,
-                sent,
-                count: Some(count),
-                other: !is_denied(rules, &turned(ends)),
-            },
-        })?;
-    }
+    let Command::Flow { flow, .. } = command else {
+        return Ok(());
+    };
+    let ends = way_of(sent, segment_ends(flow));
+    let other = !is_denied(rules, &turned(ends));
+    out.push(Warning {
+        command: Some(place),
+        concern: Concern::NoWay {
+            ends,
+            sent,
+            count: Some(count),
+            other,
+        },
+    })?;
     Ok(())
 }
 
