@@ -1,7 +1,11 @@
 -- What commands say of pipes, losses, flows and the end.
-use Rattle.std.specs.Prelude.{ℕ, ◌+◌, Bool, false, ◌||◌, not, ◌==◌, nat_lt, if◌then◌else◌, List, [], ◌∷◌, ◌++◌, Option, Some, None, position, is_some}
+use Rattle.std.specs.Prelude.{ℕ, ◌+◌, Bool, false, ◌||◌, not, ◌==◌, nat_lt, if◌then◌else◌, List, [], ◌∷◌, ◌++◌, Option, Some, None, ◌-◌, length, slice_get, position, is_some}
 use Rattle.std.specs.List.{list_any}
-use Rattle.emu_model.specs.Types.{Command, Add, Config, Flow, Timed, Action, SendTo}
+use Rattle.emu_model.specs.declared.commands.Command.{Command}
+use Rattle.emu_model.specs.declared.commands.Command.TheVariants.{Add, Config, Flow}
+use Rattle.emu_model.specs.declared.commands.Timed.{Timed}
+use Rattle.emu_model.specs.declared.rules.Action.{Action}
+use Rattle.emu_model.specs.declared.rules.Action.TheVariants.{SendTo}
 use Rattle.number_table.specs.Places.{place_in}
 use Rattle.explain_run.specs.declared.warning.Warning.{Warning}
 use Rattle.explain_run.specs.declared.warning.Concern.TheVariants.{NoPipe}
@@ -56,8 +60,10 @@ begins_flow n _ = false
 abbrev pub flow_place : ℕ → List Timed → Option ℕ
 flow_place n cs = position (λ c. begins_flow n c.command) cs
 
--- the moment of the last command
+abbrev pub moment_of : Option Timed → ℕ
+moment_of None = 0
+moment_of (Some c) = c.moment
+
+-- the moment of the last command; 0 where there is none
 abbrev pub last_moment : List Timed → ℕ
-last_moment [] = 0
-last_moment (c ∷ []) = c.moment
-last_moment (c ∷ d ∷ cs) = last_moment (d ∷ cs)
+last_moment cs = moment_of (slice_get cs (length cs - 1))

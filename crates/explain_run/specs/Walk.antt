@@ -1,6 +1,8 @@
 -- The rules as the commands leave them, and whose packets they deny.
 use Rattle.std.specs.Prelude.{ℕ, ◌+◌, Bool, not, nat_le, if◌then◌else◌, List, [], ◌∷◌, ◌++◌, Option, Some, None, is_none}
-use Rattle.emu_model.specs.Types.{Command, Add, Delete, Inject, Train, Flow, Timed}
+use Rattle.emu_model.specs.declared.commands.Command.{Command}
+use Rattle.emu_model.specs.declared.commands.Command.TheVariants.{Add, Delete, Inject, Train, Flow}
+use Rattle.emu_model.specs.declared.commands.Timed.{Timed}
 use Rattle.emu_model.specs.Rules.{RuleBook, initial_book, add_refusal, book_with, delete_refusal, book_without}
 use Rattle.explain_run.specs.declared.ends.Ends.{Ends}
 use Rattle.explain_run.specs.declared.warning.Warning.{Warning}

@@ -1,6 +1,8 @@
 -- The warnings of an experiment.
 use Rattle.std.specs.Prelude.{ℕ, Bool, true, false, not, ◌&&◌, ◌==◌, if◌then◌else◌, List, [], ◌∷◌, ◌++◌, take, Option, Some, None, slice_get}
-use Rattle.emu_model.specs.Types.{Command, Flow, Timed}
+use Rattle.emu_model.specs.declared.commands.Command.{Command}
+use Rattle.emu_model.specs.declared.commands.Command.TheVariants.{Flow}
+use Rattle.emu_model.specs.declared.commands.Timed.{Timed}
 use Rattle.emu_model.specs.Rules.{RuleBook}
 use Rattle.explain.specs.declared.notes.Note.{Note}
 use Rattle.explain.specs.declared.notes.Subject.{Subject}

@@ -1,6 +1,12 @@
 -- The ways of packets, and what rules say of them.
 use Rattle.std.specs.Prelude.{Bool, true, false, not}
-use Rattle.emu_model.specs.Types.{Tcp, Plain, Packet, SendSpec, FlowSpec, Verdict, Allow, Deny, Pipe}
+use Rattle.emu_model.specs.declared.packets.Protocol.TheVariants.{Tcp}
+use Rattle.emu_model.specs.declared.packets.Load.TheVariants.{Plain}
+use Rattle.emu_model.specs.declared.packets.Packet.{Packet}
+use Rattle.emu_model.specs.declared.sources.SendSpec.{SendSpec}
+use Rattle.emu_model.specs.declared.sources.FlowSpec.{FlowSpec}
+use Rattle.emu_model.specs.declared.rules.Verdict.{Verdict}
+use Rattle.emu_model.specs.declared.rules.Verdict.TheVariants.{Allow, Deny, Pipe}
 use Rattle.emu_model.specs.Rules.{RuleBook, verdict}
 use Rattle.explain_run.specs.declared.ends.Ends.{Ends}
 
@@ -19,8 +25,15 @@ turned e = record { proto = e.proto; src = e.dst; sport = e.dport; dst = e.src; 
 -- a packet of these ends; rules look at nothing else of it
 abbrev pub packet_of : Ends → Packet
 packet_of e = record {
-  proto = e.proto; src = e.src; sport = e.sport; dst = e.dst; dport = e.dport;
-  size = 40; number = 0; load = Plain; place = record { number = 0; order = 0 };
+  proto = e.proto;
+  src = e.src;
+  sport = e.sport;
+  dst = e.dst;
+  dport = e.dport;
+  size = 40;
+  number = 0;
+  load = Plain;
+  place = record { number = 0; order = 0 };
 }
 
 abbrev pub is_deny : Verdict → Bool

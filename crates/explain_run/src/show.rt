@@ -81,12 +81,7 @@ fn put_spent(out: &mut Vec<u8>, moment: u64, end: u64) -> Result<(), AllocError>
 }
 
 // Which packets, how many, and when first.
-fn put_dropped(
-    out: &mut Vec<u8>,
-    packets: &str,
-    count: u64,
-    first: u64,
-) -> Result<(), AllocError>
+fn put_dropped(out: &mut Vec<u8>, packets: &str, count: u64, first: u64) -> Result<(), AllocError>
     ensures { OnOk result (out.new.items ≡ with_dropped out.old.items packets.now count first) }
 {
     put(out, packets)?;
@@ -104,12 +99,7 @@ fn put_denied(out: &mut Vec<u8>, count: u64) -> Result<(), AllocError>
     put(out, " of its ")
 }
 
-fn put_way(
-    out: &mut Vec<u8>,
-    ends: &Ends,
-    sent: Sent,
-    count: Option<u64>,
-) -> Result<(), AllocError>
+fn put_way(out: &mut Vec<u8>, ends: &Ends, sent: Sent, count: Option<u64>) -> Result<(), AllocError>
     ensures { OnOk result (out.new.items ≡ with_way out.old.items ends.now sent count) }
 {
     match count {
@@ -136,16 +126,16 @@ fn put_meaning(out: &mut Vec<u8>, concern: &Concern) -> Result<(), AllocError>
             *count,
             *first,
         ),
-        Concern::UnusedSeed => put(
-            out,
-            "nothing uses its seed: no pipe has a `plr` above 0",
-        ),
+        Concern::UnusedSeed => put(out, "nothing uses its seed: no pipe has a `plr` above 0"),
         Concern::NoPipe(pipe) => {
             put(out, "no command of its experiment configures pipe ")?;
             put_number(out, u64::from(pipe.get()))
         }
         Concern::NoWay {
-            ends, sent, count, ..
+            ends,
+            sent,
+            count,
+            ..
         } => put_way(out, ends, *sent, *count),
     }
 }
@@ -185,7 +175,9 @@ fn put_hint(out: &mut Vec<u8>, concern: &Concern) -> Result<(), AllocError>
             "what comes to it is dropped: configure that pipe, or name another",
         ),
         Concern::NoWay {
-            ends, other: true, ..
+            ends,
+            other: true,
+            ..
         } => put_advice(
             out,
             "a rule lets the other direction through, and each needs one of its own",
@@ -224,11 +216,7 @@ fn put_heading(out: &mut Vec<u8>, concern: &Concern, stand: &Stand) -> Result<()
 
 /// What is printed of a warning about a line: `line L: KIND`, the line, its experiment, what is meant and what to do.
 /// ASCII, each row with a line feed behind. Own.
-pub fn show_warning(
-    alloc: Global,
-    concern: &Concern,
-    stand: &Stand,
-) -> Result<Vec<u8>, AllocError>
+pub fn show_warning(alloc: Global, concern: &Concern, stand: &Stand) -> Result<Vec<u8>, AllocError>
     ensures { IfOk result (λ out. out.items ≡ warning_text concern.now stand.now) }
 {
     let mut out = Vec::new(alloc);

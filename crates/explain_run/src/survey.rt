@@ -121,7 +121,8 @@ pub fn flow_place(number: u64, commands: &[Timed]) -> Option<usize>
 pub fn last_moment(commands: &[Timed]) -> u64
     ensures { result ≡ last_moment commands.now }
 {
-    match commands.last() {
+    let last = commands.len().saturating_sub(1);
+    match commands.get(last) {
         None => 0,
         Some(timed) => timed.moment,
     }

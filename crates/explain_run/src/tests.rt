@@ -65,7 +65,13 @@ fn by_the_scenario(rt: HostRuntime) -> Result<(), Fail> {
     assert!(rt; is_about(&found[0], None, Concern::UnusedSeed));
     assert!(rt; found[1].command == Some(1));
     assert!(rt; is_about(&found[2], Some(3), denied(back, Sent::Acks, None, true)));
-    assert!(rt; is_about(&found[3], Some(4), denied(packet, Sent::Packets, None, false)));
+    assert!(rt;
+        is_about(
+            &found[3],
+            Some(4),
+            denied(packet, Sent::Packets, None, false)
+        )
+    );
     Ok(())
 }
 

@@ -27,11 +27,20 @@ pub enum Sent {
 #[derive(Clone, Copy, PartialEq)]
 pub enum Concern {
     /// The steps were used up at a moment, before the `end`, whose moment is given (ns).
-    Spent { moment: u64, end: u64 },
+    Spent {
+        moment: u64,
+        end: u64,
+    },
     /// Packets were dropped for the budget: the first moment (ns), and how many.
-    OverBudget { first: u64, count: u64 },
+    OverBudget {
+        first: u64,
+        count: u64,
+    },
     /// Packets of trains and of single commands were denied: the first moment (ns), and how many.
-    Denied { first: u64, count: u64 },
+    Denied {
+        first: u64,
+        count: u64,
+    },
     /// The seed isn't 0, and no pipe has losses.
     UnusedSeed,
     /// A rule names a pipe that no command configures.
@@ -214,7 +223,7 @@ pub fn warnings(
     notes: Option<&[Note]>,
 ) -> Result<Vec<Warning>, AllocError>
     ensures { IfOk result (λ out. out.items
-        ≡ warnings_of number seed commands.now (option_map (λ n. n.now) notes)) }
+        ≡ warnings_of number seed commands.now (option_map (λ n. n.now) notes.entry)) }
 {
     let mut out = Vec::new(alloc);
     match notes {
