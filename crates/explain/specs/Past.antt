@@ -1,5 +1,5 @@
 -- What stands before a line.
-use Rattle.std.specs.Prelude.{◌≡◌, ℕ, ◌<◌, Bool, true, false, if◌then◌else◌, List, Option, Some, None}
+use Rattle.std.specs.Prelude.{◌≡◌, ℕ, ◌<◌, false, if◌then◌else◌, List, Option, Some, None}
 use Rattle.std.specs.Str.{bytes_eq}
 use Rattle.emu_model.specs.declared.commands.Command.{Command}
 use Rattle.control.specs.Scenario.{is_end}

@@ -1,5 +1,5 @@
 -- The refusals of a report, byte by byte.
-use Rattle.std.specs.Prelude.{ℕ, ◌+◌, List, [], ◌∷◌, ◌++◌, Option, Some, None, min, nat_le, if◌then◌else◌, ◌==◌, codes, unwrap_or}
+use Rattle.std.specs.Prelude.{ℕ, ◌+◌, List, [], ◌∷◌, ◌++◌, Option, Some, min, if◌then◌else◌, ◌==◌, codes, unwrap_or}
 use Rattle.std.specs.Str.{bytes_eq}
 use Rattle.control_words.specs.Text.{words}
 use Rattle.control_words.specs.Words.{Words, ◌>>=◌, after, value}

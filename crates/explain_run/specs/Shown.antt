@@ -1,5 +1,5 @@
 -- What is printed of a warning, each part behind what stands before.
-use Rattle.std.specs.Prelude.{ℕ, ◌/◌, ◌%◌, List, [], ◌++◌, Bool, true, false, Option, Some, None, codes, decimal}
+use Rattle.std.specs.Prelude.{ℕ, ◌/◌, ◌%◌, List, [], ◌++◌, true, false, Option, Some, None, codes, decimal}
 use Rattle.emu_model.specs.declared.packets.Protocol.{Protocol}
 use Rattle.emu_model.specs.declared.packets.Protocol.TheVariants.{Tcp, Udp}
 use Rattle.explain.specs.Shown.{row}

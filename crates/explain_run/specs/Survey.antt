@@ -1,5 +1,5 @@
 -- What commands say of pipes, losses, flows and the end.
-use Rattle.std.specs.Prelude.{ℕ, ◌+◌, Bool, false, ◌||◌, not, ◌==◌, nat_lt, if◌then◌else◌, List, [], ◌∷◌, ◌++◌, Option, Some, None, ◌-◌, length, slice_get, position, is_some}
+use Rattle.std.specs.Prelude.{ℕ, ◌+◌, Bool, false, ◌==◌, nat_lt, if◌then◌else◌, List, [], ◌∷◌, ◌++◌, Option, Some, None, ◌-◌, length, slice_get, position, is_some}
 use Rattle.std.specs.List.{list_any}
 use Rattle.emu_model.specs.declared.commands.Command.{Command}
 use Rattle.emu_model.specs.declared.commands.Command.TheVariants.{Add, Config, Flow}

@@ -1,5 +1,5 @@
 -- The rules as the commands leave them, and whose packets they deny.
-use Rattle.std.specs.Prelude.{ℕ, ◌+◌, Bool, not, nat_le, if◌then◌else◌, List, [], ◌∷◌, ◌++◌, Option, Some, None, is_none}
+use Rattle.std.specs.Prelude.{ℕ, ◌+◌, Bool, not, nat_le, if◌then◌else◌, List, [], ◌∷◌, ◌++◌, Some, None, is_none}
 use Rattle.emu_model.specs.declared.commands.Command.{Command}
 use Rattle.emu_model.specs.declared.commands.Command.TheVariants.{Add, Delete, Inject, Train, Flow}
 use Rattle.emu_model.specs.declared.commands.Timed.{Timed}

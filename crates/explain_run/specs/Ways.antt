@@ -1,5 +1,5 @@
 -- The ways of packets, and what rules say of them.
-use Rattle.std.specs.Prelude.{Bool, true, false, not}
+use Rattle.std.specs.Prelude.{Bool, true, false}
 use Rattle.emu_model.specs.declared.packets.Protocol.TheVariants.{Tcp}
 use Rattle.emu_model.specs.declared.packets.Load.TheVariants.{Plain}
 use Rattle.emu_model.specs.declared.packets.Packet.{Packet}

@@ -1,8 +1,6 @@
-use Rattle.std.proofs.Common.{◌≡◌, ◌+◌, ◌≤◌, ◌∷◌, ◌++◌, [], vec_len, ap, ◌∙◌, arith, sym, subst}
+use Rattle.std.proofs.Common.{arith}
 use Rattle.control_words.specs.Text.{lines}
-use Rattle.control.specs.declared.fault.Fault.{Fault}
-use Rattle.explain.specs.Further.{IsTold, AreTold}
-use Rattle.explain.proofs.Faults.{last_line, told_more, last_more}
+use Rattle.explain.proofs.Faults.{told_more, last_more}
 use Rattle.explain.proofs.further.faults_behind.Goals as goal
 
 pub loop-count-preserved : goal.loop-count-preserved

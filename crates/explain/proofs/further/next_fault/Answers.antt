@@ -1,4 +1,4 @@
-use Rattle.std.proofs.Common.{◌≡◌, ℕ, ◌+◌, List, Some, ap, ◌∙◌, arith}
+use Rattle.std.proofs.Common.{◌≡◌, ◌+◌, Some, ap, ◌∙◌, arith}
 use Rattle.control_words.specs.Text.{lines}
 use Rattle.explain.specs.Lines.{nth_line}
 use Rattle.explain.proofs.Faults.{lines_next, told_alone, told_cut}

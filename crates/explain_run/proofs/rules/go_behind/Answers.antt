@@ -1,7 +1,6 @@
-use Rattle.std.proofs.Common.{◌≡◌, ℕ, ◌+◌, ◌≤◌, ◌-◌, length, get_or, drop, ◌∷◌, sym, subst, ◌∙◌, arith}
+use Rattle.std.proofs.Common.{◌≡◌, ◌+◌, ◌≤◌, length, get_or, drop, sym, subst, ◌∙◌, arith}
 use Rattle.std.proofs.lemmas.List.{length-drop}
 use Rattle.emu_model.specs.declared.commands.Timed.{Timed}
-use Rattle.explain_run.specs.Walk.{behind_of}
 use Rattle.explain_run.proofs.Behind.{at_read, behind_next, behind_stays, behind_ends}
 use Rattle.explain_run.proofs.rules.go_behind.Goals as goal
 

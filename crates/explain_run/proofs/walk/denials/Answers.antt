@@ -1,6 +1,6 @@
-use Rattle.std.proofs.Common.{◌≡◌, ℕ, ◌+◌, ◌≤◌, ◌++◌, length, drop, ap, sym, ◌∙◌, arith}
+use Rattle.std.proofs.Common.{◌≡◌, ◌+◌, length, drop, sym, ◌∙◌, arith}
 use Rattle.std.proofs.lemmas.List.{length-drop}
-use Rattle.explain_run.specs.Walk.{Stand, behind, denials_from}
+use Rattle.explain_run.specs.Walk.{Stand}
 use Rattle.explain_run.proofs.Behind.{at_next, denials_next, denials_end}
 use Rattle.explain_run.proofs.walk.denials.Goals as goal
 
