@@ -118,9 +118,7 @@ fn place_of(notes: &[Note], subject: Subject) -> Option<usize>
     ensures value { result ≡ position (λ n. is_same subject n.subject) notes.now }
     ensures within { IfSome result (λ k. k < length notes.now) }
 {
-    notes
-        .iter()
-        .position(|note| is_same(subject, note.subject))
+    notes.iter().position(|note| is_same(subject, note.subject))
 }
 
 fn count_again(notes: &mut Vec<Note>, place: usize)
