@@ -15,14 +15,13 @@ ghost use Rattle.dnlab.specs.Status.{status_after};
 
 use clap::Error;
 use clap::error::ErrorKind;
-use explain::{find, show_finding};
 use kept::{Keeper, Kept};
 use lab::{Device, OpenGate, Plan, RunFault, check, run_alone_told, run_told};
 use meter::Meter;
-use std::alloc::Global;
+use std::alloc::{AllocError, Global};
 use std::process::ExitCode;
 use std::{env, io};
-use tell::{hint_at, print, tell_refusals};
+use tell::{faults_text, hint_at, print, tell_refusals, tell_warnings};
 use watched::{Watched, Watcher};
 use words::{Task, stray_word, task_of};
 
@@ -48,24 +47,42 @@ fn end(rt: &impl Eprint, outcome: Result<(), RunFault>) -> ExitCode {
     ExitCode::from(status)
 }
 
-// The same, and where it is asked for what is wrong with the text and which commands were refused. Where memory for that
-// is refused the program says so and nothing else.
+// What is said behind a call that went well, where that is asked for: which commands were refused, if there was a run,
+// and what is silently wrong.
+fn tell_all(
+    rt: &impl Eprint,
+    alloc: Global,
+    kept: &Kept,
+    watched: &Watched,
+    has_run: bool,
+) -> Result<(), AllocError> {
+    if !kept.is_wanted() {
+        return Ok(());
+    }
+    tell_refusals(rt, alloc, kept, watched)?;
+    let notes = if has_run { Some(watched.notes()) } else { None };
+    tell_warnings(rt, alloc, kept, notes)
+}
+
+// Says why a call gave no answer, and where it is asked for what is wrong with the text, which commands were refused and
+// what is silently wrong. Where memory for that is refused the program says so.
 fn end_with(
     rt: &impl Eprint,
     alloc: Global,
     outcome: Result<(), RunFault>,
     kept: &Kept,
     watched: &Watched,
+    has_run: bool,
 ) -> ExitCode {
     if kept.lacks_memory() || watched.lacks_memory() {
         return end(rt, Err(RunFault::Memory));
     }
     match outcome {
-        Ok(()) if tell_refusals(rt, alloc, kept, watched).is_err() => {
+        Ok(()) if tell_all(rt, alloc, kept, watched, has_run).is_err() => {
             end(rt, Err(RunFault::Memory))
         }
         Err(RunFault::Scenario(fault)) if kept.is_wanted() => {
-            let Ok(shown) = show_finding(alloc, &find(kept.text(), &fault)) else {
+            let Ok(shown) = faults_text(alloc, kept.text(), &fault) else {
                 return end(rt, Err(RunFault::Memory));
             };
             let code = end(rt, outcome);
@@ -109,6 +126,7 @@ fn main(rt: HostRuntime) -> ExitCode {
         Ok(task) => task,
         Err(error) => return say(&rt, &error, words.as_slice()),
     };
+    let has_run = task.runs();
     let kept = Kept::new(alloc, task.explains());
     let watched = Watched::new(alloc, task.explains());
     if watched.lacks_memory() {
@@ -146,5 +164,5 @@ fn main(rt: HostRuntime) -> ExitCode {
     };
     let kept = reader.into_inner().into_kept();
     let watched = writer.into_inner().into_watched();
-    end_with(&rt, alloc, outcome, &kept, &watched)
+    end_with(&rt, alloc, outcome, &kept, &watched, has_run)
 }

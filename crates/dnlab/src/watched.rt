@@ -1,6 +1,6 @@
-//! The refused commands of a report, as it is written, where they are wanted.
+//! The refused commands of a report and what else is noted of it, as it is written, where that is wanted.
 
-use explain::{Refusal, Replies};
+use explain::{Note, Refusal, Replies};
 use std::alloc::Global;
 use std::io::{self, Write};
 
@@ -34,6 +34,11 @@ impl Watched {
     /// The commands that were refused, in the order of the reports.
     pub fn refusals(&self) -> &[Refusal] {
         self.replies.refusals()
+    }
+
+    /// What else was noted of the reports.
+    pub fn notes(&self) -> &[Note] {
+        self.replies.notes()
     }
 
     /// Whether memory for a note was refused.

@@ -26,12 +26,20 @@ pub enum Task {
 }
 
 impl Task {
-    /// Whether faults and refused commands are to be explained.
+    /// Whether faults, refused commands and what is silently wrong are to be explained.
     pub fn explains(&self) -> bool {
         match self {
             Task::Run { explain, .. } => *explain,
             Task::Alone { explain, .. } => *explain,
             Task::Check { explain } => *explain,
+        }
+    }
+
+    /// Whether experiments are to be run.
+    pub fn runs(&self) -> bool {
+        match self {
+            Task::Run { .. } | Task::Alone { .. } => true,
+            Task::Check { .. } => false,
         }
     }
 }
@@ -74,7 +82,7 @@ fn explain_word<'a>(alloc: Global) -> Arg<'a> {
         .long("explain")
         .action(ArgAction::SetTrue)
         .help(
-            "Says on standard error where in the line a fault stands and what was expected there, and after a run which commands were refused, and why",
+            "Says on standard error where in its line each of the first ten faults stands and what was expected there; of a scenario what is likely wrong in it, and after a run which commands were refused, and why",
         )
 }
 

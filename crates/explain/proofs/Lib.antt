@@ -1,3 +1,4 @@
+pub mod Faults
 pub mod FrontWords
 pub mod Numbers
 pub mod Rows

@@ -2,6 +2,9 @@
 use Rattle.std.specs.Prelude.{◌≡◌, ℕ, ◌+◌, ◌-◌, ◌≤◌, List, [], ◌∷◌, length, take, drop, Option, Some, None, if◌then◌else◌, ◌==◌}
 use Rattle.std.specs.List.{prefix_len, position_or_len}
 use Rattle.explain.specs.declared.place.Place.{Place}
+use Rattle.control_words.specs.Text.{words}
+use Rattle.control.specs.declared.fault.Cause.{Cause}
+use Rattle.control.specs.declared.fault.Cause.TheVariants.{NoEnd, SameName, NoExperiment, AfterEnd, Backwards}
 
 -- the line with this number, counted from 1
 abbrev pub nth_line : ℕ → List (List ℕ) → Option (List ℕ)
@@ -36,3 +39,18 @@ past_first bytes = let e = position_or_len (λ b. b == 32) bytes in e + prefix_l
 pub record IsPastWord (line : List ℕ) (start after : ℕ) : Type 0 where
   pub value : after ≡ start + past_first (drop start line)
   pub within : after ≤ length line
+
+-- the number of the word that is marked, where the cause alone says which
+abbrev pub marked_word : Cause → Option ℕ
+marked_word NoEnd = Some 0
+marked_word SameName = Some 1
+marked_word NoExperiment = Some 0
+marked_word AfterEnd = Some 0
+marked_word Backwards = Some 0
+marked_word _ = None
+
+-- the word with this number is marked, if there is a number
+abbrev pub Marks : Option ℕ → Option Place → List ℕ → Type 0
+Marks None place line = Unit {0}
+Marks (Some k) None line = ⊥
+Marks (Some k) (Some p) line = IsFirstAt (drop k (words line)) line p

@@ -1,9 +1,11 @@
 //! What there is to say of a fault.
 
-ghost use Rattle.std.specs.Prelude.{◌≡◌, ℕ, List, option_map};
+ghost use Rattle.std.specs.Prelude.{◌≡◌, ℕ, List, Some, IfSome, option_map};
+ghost use Rattle.std.specs.List.{prefix_len};
+ghost use Rattle.control_lines.specs.Entries.{is_printable};
 ghost use Rattle.control_words.specs.Text.{lines};
-ghost use Rattle.explain.specs.Lines.{nth_line, nonempty, IsWithin, IsInLine};
-ghost use Rattle.explain.specs.Past.{IsBefore, IsPastOf};
+ghost use Rattle.explain.specs.Lines.{nth_line, nonempty, IsWithin, IsInLine, Marks, marked_word};
+ghost use Rattle.explain.specs.Past.{IsBefore, IsPastOf, line_for};
 
 use crate::past::{Earlier, Past, name_in, past_of};
 use crate::place::{Place, line_at, part, place_of_word};
@@ -48,7 +50,8 @@ fn at_word(
     expected: &'static str,
     example: Option<&'static str>,
 ) -> Inside
-    ensures { IsWithin result.place line.now }
+    ensures within { IsWithin result.place line.now }
+    ensures marks { Marks (Some index) result.place line.now }
 {
     Inside {
         place: Some(place_of_word(line, index)),
@@ -60,7 +63,8 @@ fn at_word(
 
 // A byte that isn't one of 32 to 126.
 fn bad_byte(line: &[u8]) -> Inside
-    ensures { IsWithin result.place line.now }
+    ensures within { IsWithin result.place line.now }
+    ensures first { IfSome result.place (λ p. p.start ≡ prefix_len is_printable line.now) }
 {
     let expected = "bytes 32 to 126 alone: printable ASCII and spaces";
     for (start, byte) in line.iter().enumerate() {
@@ -81,7 +85,7 @@ fn bad_word(line: &[u8], ranges: bool) -> Inside
     ensures { IsWithin result.place line.now }
 {
     let Some(trouble) = first_trouble(line, ranges) else {
-        return whole("a line of docs/SCENARIO.md", None);
+        return whole("a line of docs/use/SCENARIO.md", None);
     };
     let wanted = trouble.wanted;
     let place = place_of_word(line, trouble.index);
@@ -124,12 +128,13 @@ const BACKWARDS: &str = "a moment not below that of the command before it";
 
 // By the cause.
 fn in_line(line: &[u8], cause: Cause) -> Inside
-    ensures { IsWithin result.place line.now }
+    ensures within { IsWithin result.place line.now }
+    ensures marks { Marks (marked_word cause) result.place line.now }
 {
     match cause {
         Cause::TooBig => whole(
             "at most 16777216 bytes",
-            Some("split it between its experiments (docs/MANY_MACHINES.md)"),
+            Some("split it between its experiments (docs/use/MANY_MACHINES.md)"),
         ),
         Cause::Cut => cut_off(line),
         Cause::TooLong => whole("at most 512 bytes in a line, comments too", None),
@@ -160,7 +165,8 @@ fn in_line(line: &[u8], cause: Cause) -> Inside
 
 // The line that the fault goes by.
 fn earlier<'a>(past: &Past<'a>, cause: Cause) -> Option<Earlier<'a>>
-    ensures { (ls : List (List ℕ)) (n : ℕ) → IsPastOf ls n past.now → IsBefore ls n result }
+    ensures before { (ls : List (List ℕ)) (n : ℕ) → IsPastOf ls n past.now → IsBefore ls n result }
+    ensures which { result ≡ line_for cause past.now }
 {
     match cause {
         Cause::NoEnd => past.begun,
@@ -202,6 +208,8 @@ pub fn find<'a>(text: &'a [u8], fault: &Fault) -> Finding<'a>
         ≡ nonempty (nth_line fault.now.line (lines text.now)) }
     ensures place { IsInLine result.inside.place (option_map (λ l. l.now) result.line) }
     ensures before { IsBefore (lines text.now) fault.now.line result.before }
+    ensures marks { (l : List ℕ) → nth_line fault.now.line (lines text.now) ≡ Some l →
+        Marks (marked_word fault.now.cause) result.inside.place l }
 {
     let Some(line) = line_at(text, fault.line) else {
         return Finding {

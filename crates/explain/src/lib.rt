@@ -3,6 +3,8 @@
 #![tactic(auto)]
 
 mod finding;
+mod further;
+mod notes;
 mod past;
 mod place;
 mod refused;
@@ -12,8 +14,10 @@ mod show;
 mod tests;
 
 pub use finding::{Finding, find};
+pub use further::{faults_behind, next_fault, show_found};
+pub use notes::{Note, Subject};
 pub use past::Earlier;
 pub use place::{Place, line_at, place_of_word};
-pub use refused::{Refused, Text};
+pub use refused::{Refused, Stand, Text};
 pub use replies::{Refusal, Replies};
-pub use show::{show_finding, show_refused};
+pub use show::{put_row, show_finding, show_refused};

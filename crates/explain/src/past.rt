@@ -1,8 +1,9 @@
 //! What stood before a line.
 
-ghost use Rattle.std.specs.Prelude.{ℕ, List, Some};
+ghost use Rattle.std.specs.Prelude.{◌≡◌};
+ghost use Rattle.control.specs.Scenario.{is_end};
 ghost use Rattle.control_words.specs.Text.{lines};
-ghost use Rattle.explain.specs.Past.{IsBefore, IsPastOf};
+ghost use Rattle.explain.specs.Past.{IsPastOf};
 
 use control_lines::{LineEntry, read_line};
 use control_words::first_line;
@@ -36,7 +37,9 @@ pub fn name_in(line: &[u8]) -> Option<&[u8]> {
     }
 }
 
-fn is_end(command: &Command) -> bool {
+fn is_end(command: &Command) -> bool
+    ensures { result ≡ is_end command.now }
+{
     match command {
         Command::End => true,
         _ => false,
@@ -44,8 +47,8 @@ fn is_end(command: &Command) -> bool {
 }
 
 impl<'a> Past<'a> {
-    ghost use Rattle.std.specs.Prelude.{ℕ, List, Some};
-    ghost use Rattle.explain.specs.Past.{IsBefore, IsPastOf};
+    ghost use Rattle.std.specs.Prelude.{◌≡◌, ℕ, List, Some, option_map};
+    ghost use Rattle.explain.specs.Past.{IsBefore, IsPastOf, named_with, with_begin, with_command};
 
     fn nothing() -> Past<'a>
         ensures { (ls : List (List ℕ)) (n : ℕ) → IsPastOf ls n result }
@@ -58,23 +61,48 @@ impl<'a> Past<'a> {
         }
     }
 
+    // The first experiment of the name that is looked for, where one of another name begins in a line.
+    fn named_with(
+        &self,
+        earlier: Earlier<'a>,
+        other: &[u8],
+        name: Option<&[u8]>,
+    ) -> Option<Earlier<'a>>
+        ensures { result ≡ named_with earlier.entry other.now (option_map (λ n. n.now) name.entry)
+            self.now.named }
+    {
+        match name {
+            Some(name) if name == other => self.named.or(Some(earlier)),
+            _ => self.named,
+        }
+    }
+
+    // An experiment of another name begins in a line.
+    fn begin(&mut self, earlier: Earlier<'a>, other: &[u8], name: Option<&[u8]>)
+        ensures { self.new
+            ≡ with_begin earlier.entry other.now (option_map (λ n. n.now) name.entry) self.old }
+    {
+        self.named = self.named_with(earlier, other, name);
+        self.begun = Some(earlier);
+        self.command = None;
+        self.has_ended = false;
+    }
+
+    // A line is a command.
+    fn add(&mut self, earlier: Earlier<'a>, command: &Command)
+        ensures { self.new ≡ with_command earlier.entry command.now self.old }
+    {
+        self.command = Some(earlier);
+        self.has_ended = is_end(command);
+    }
+
     fn take(&mut self, earlier: Earlier<'a>, name: Option<&[u8]>)
         ensures { (ls : List (List ℕ)) (n : ℕ) → IsBefore ls n (Some earlier.entry) →
             IsPastOf ls n self.old → IsPastOf ls n self.new }
     {
         match read_line(earlier.line) {
-            Ok(LineEntry::Begins { name: other, .. }) => {
-                if self.named.is_none() && name == Some(other) {
-                    self.named = Some(earlier);
-                }
-                self.begun = Some(earlier);
-                self.command = None;
-                self.has_ended = false;
-            }
-            Ok(LineEntry::Does(timed)) => {
-                self.command = Some(earlier);
-                self.has_ended = is_end(&timed.command);
-            }
+            Ok(LineEntry::Begins { name: other, .. }) => self.begin(earlier, other, name),
+            Ok(LineEntry::Does(timed)) => self.add(earlier, &timed.command),
             _ => {}
         }
     }

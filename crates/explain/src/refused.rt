@@ -21,6 +21,14 @@ pub struct Refused<'a> {
     pub meaning: Meaning,
 }
 
+/// A line of a scenario, its number, from 1, and the name of its experiment.
+#[derive(Clone, Copy)]
+pub struct Stand<'a> {
+    pub number: u64,
+    pub line: &'a [u8],
+    pub experiment: &'a [u8],
+}
+
 const fn means(text: &'static str, hint: &'static str) -> Meaning {
     Meaning { text, hint }
 }
@@ -85,7 +93,7 @@ fn of_sources(code: u64) -> Option<Meaning> {
 
 const UNKNOWN: Meaning = Meaning {
     text: "a code that this program doesn't know",
-    hint: "docs/REPORT.md lists the codes",
+    hint: "docs/use/REPORT.md lists the codes",
 };
 
 /// What a code of the report means. Own.
@@ -110,6 +118,9 @@ pub struct Text<'a> {
 }
 
 impl<'a> Text<'a> {
+    ghost use Rattle.std.specs.Prelude.{◌≡◌};
+    ghost use Rattle.explain.specs.Sought.{count_of, begun, passed, has_number};
+
     /// All of a text.
     pub fn new(text: &'a [u8]) -> Text<'a> {
         Text {
@@ -121,43 +132,72 @@ impl<'a> Text<'a> {
         }
     }
 
-    // Takes a line, and says whether it is the command that was refused.
-    fn is_at(&mut self, line: &'a [u8], refusal: &Refusal) -> bool {
+    // An experiment begins.
+    fn begin(&mut self, name: &'a [u8])
+        ensures { count_of self.new ≡ begun name.now (count_of self.old) }
+    {
+        self.experiments = self.experiments.saturating_add(1);
+        self.name = name;
+        self.commands = 0;
+    }
+
+    // A command of it, of which it says whether it has the number that is wanted.
+    fn pass(&mut self, command: Option<u64>) -> bool
+        ensures passed { count_of self.new ≡ passed (count_of self.old) }
+        ensures value { result ≡ has_number (count_of self.old).commands command }
+    {
+        let number = self.commands;
+        self.commands = number.saturating_add(1);
+        match command {
+            None => false,
+            Some(wanted) => wanted == number,
+        }
+    }
+
+    // Takes a line, and says whether it is the command with this number of that experiment, or its first line.
+    fn is_at(&mut self, line: &'a [u8], experiment: u64, command: Option<u64>) -> bool {
         match read_line(line) {
             Ok(LineEntry::Begins { name, .. }) => {
-                self.experiments = self.experiments.saturating_add(1);
-                self.name = name;
-                self.commands = 0;
-                false
+                self.begin(name);
+                command.is_none() && self.experiments == experiment
             }
-            Ok(LineEntry::Does(_)) => {
-                let command = self.commands;
-                self.commands = command.saturating_add(1);
-                self.experiments == refusal.experiment && command == refusal.command
-            }
+            Ok(LineEntry::Does(_)) => self.pass(command) && self.experiments == experiment,
             _ => false,
         }
     }
 
-    /// Goes on to the command that was refused. `None` where it doesn't stand in what is left; then nothing is. The
-    /// refusals of a report come in the order of the text, so one pass finds them all. Own.
-    pub fn find(&mut self, refusal: &Refusal) -> Option<Refused<'a>> {
+    /// Goes on to a command, by the numbers of its experiment, from 1, and its own, from 0; without one to the
+    /// experiment's first line. `None` where it doesn't stand in what is left; then that experiment is passed. Own.
+    pub fn seek(&mut self, experiment: u64, command: Option<u64>) -> Option<Stand<'a>> {
         let mut rest = self.rest;
-        while let Some((line, after)) = first_line(rest) {
+        while self.experiments <= experiment
+            && let Some((line, after)) = first_line(rest)
+        {
             let number = self.number;
             rest = after;
             self.rest = after;
             self.number = number.saturating_add(1);
-            if self.is_at(line, refusal) {
-                return Some(Refused {
+            if self.is_at(line, experiment, command) {
+                return Some(Stand {
                     number,
                     line,
                     experiment: self.name,
-                    code: refusal.code,
-                    meaning: meaning_of(refusal.code),
                 });
             }
         }
         None
+    }
+
+    /// Goes on to the command that was refused. `None` where it doesn't stand in what is left. The refusals of a report
+    /// come in the order of the text, so one pass finds them all. Own.
+    pub fn find(&mut self, refusal: &Refusal) -> Option<Refused<'a>> {
+        let stand = self.seek(refusal.experiment, Some(refusal.command))?;
+        Some(Refused {
+            number: stand.number,
+            line: stand.line,
+            experiment: stand.experiment,
+            code: refusal.code,
+            meaning: meaning_of(refusal.code),
+        })
     }
 }

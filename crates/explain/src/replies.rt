@@ -3,8 +3,10 @@
 ghost use Rattle.std.specs.Prelude.{◌≡◌, option_map};
 ghost use Rattle.control_words.specs.Text.{words as words_of};
 ghost use Rattle.control_words.specs.Words.{value};
-ghost use Rattle.explain.specs.Replies.{of_64_bits, small_number, refused_in, reply_in};
+ghost use Rattle.explain.specs.Small.{of_64_bits, small_number};
+ghost use Rattle.explain.specs.Replies.{refused_in, noted_in, happened_in, reply_with, reply_in};
 
+use crate::notes::{Note, Subject, put_note, subject_of};
 use control_words::{Words, is, numbers};
 use std::alloc::{AllocError, Global};
 
@@ -25,13 +27,19 @@ pub struct Refusal {
 enum Reply {
     Heading,
     Refused { command: u64, code: u64 },
+    Noted { moment: u64, subject: Subject },
+    /// An experiment's last line.
+    Closing,
     Other,
 }
 
-/// The refusals of the lines of a report that went by, and the beginning of the next line.
+/// The refusals of the lines of a report that went by, what else was noted of them, and the beginning of the next line.
 #[derive(Drop)]
 pub struct Replies {
     refusals: Vec<Refusal>,
+    notes: Vec<Note>,
+    // Of the experiment whose report hasn't ended.
+    open_notes: Vec<Note>,
     headings: u64,
     line: Vec<u8>,
 }
@@ -46,7 +54,8 @@ fn of_64_bits(n: u128) -> Option<u64>
     }
 }
 
-fn number(words: &mut Words) -> Option<u64>
+/// Takes the next word, a number of 64 bits.
+pub fn number(words: &mut Words) -> Option<u64>
     ensures { option_map (λ n. (n, words_of words.new.rest.now)) result
         ≡ value small_number (words_of words.old.rest.now) }
 {
@@ -63,6 +72,37 @@ fn refused(words: &mut Words) -> Option<Reply>
     Some(Reply::Refused { command, code })
 }
 
+// What is counted of a line with this moment and these words behind it.
+fn noted(moment: &[u8], words: &Words) -> Option<Reply>
+    ensures { result ≡ noted_in moment.now (words_of words.now.rest.now) }
+{
+    let subject = subject_of(words)?;
+    let moment = of_64_bits(numbers::number(moment)?)?;
+    Some(Reply::Noted { moment, subject })
+}
+
+fn happened(moment: &[u8], words: &Words) -> Reply
+    ensures { result ≡ happened_in moment.now (words_of words.now.rest.now) }
+{
+    let mut behind = *words;
+    refused(&mut behind)
+        .or(noted(moment, words))
+        .unwrap_or(Reply::Other)
+}
+
+// By a line's first word.
+fn reply_with(first: &[u8], words: &Words) -> Reply
+    ensures { result ≡ reply_with first.now (words_of words.now.rest.now) }
+{
+    if is(first, "experiment") {
+        Reply::Heading
+    } else if is(first, "counters") {
+        Reply::Closing
+    } else {
+        happened(first, words)
+    }
+}
+
 fn reply_of(line: &[u8]) -> Reply
     ensures { result ≡ reply_in (words_of line.now) }
 {
@@ -70,23 +110,23 @@ fn reply_of(line: &[u8]) -> Reply
     let Some(first) = words.next_word() else {
         return Reply::Other;
     };
-    if is(first, "experiment") {
-        return Reply::Heading;
-    }
-    refused(&mut words).unwrap_or(Reply::Other)
+    reply_with(first, &words)
 }
 
 impl Replies {
     ghost use Rattle.std.specs.Prelude.{◌≡◌, [], OnOk};
     ghost use Rattle.control_words.specs.Text.{words as words_of};
-    ghost use Rattle.explain.specs.Replies.{heard, told, hear, hear_all, reply_in};
+    ghost use Rattle.explain.specs.Replies.{heard, told, hear, hear_all, reply_in, closed};
 
     /// No line went by.
     pub fn new(alloc: Global) -> Replies
-        ensures { heard result ≡ record { refusals = []; headings = 0; line = [] } }
+        ensures { heard result
+            ≡ record { refusals = []; notes = []; open_notes = []; headings = 0; line = [] } }
     {
         Replies {
             refusals: Vec::new(alloc),
+            notes: Vec::new(alloc),
+            open_notes: Vec::new(alloc),
             headings: 0,
             line: Vec::new(alloc),
         }
@@ -106,6 +146,21 @@ impl Replies {
         self.refusals.as_slice()
     }
 
+    /// What else was noted of the experiments whose reports have ended, in the report's order.
+    pub fn notes(&self) -> &[Note]
+        ensures { result.now ≡ (heard self.now).notes }
+    {
+        self.notes.as_slice()
+    }
+
+    fn close(&mut self) -> Result<(), AllocError>
+        ensures { OnOk result (heard self.new ≡ closed (heard self.old)) }
+    {
+        self.notes.extend_from_slice(self.open_notes.as_slice())?;
+        self.open_notes.clear();
+        Ok(())
+    }
+
     fn take_line(&mut self) -> Result<(), AllocError>
         ensures { OnOk result
             (heard self.new ≡ told (reply_in (words_of (heard self.old).line)) (heard self.old)) }
@@ -117,6 +172,13 @@ impl Replies {
                 command,
                 code,
             })?,
+            Reply::Noted { moment, subject } => put_note(
+                &mut self.open_notes,
+                self.headings,
+                moment,
+                subject,
+            )?,
+            Reply::Closing => self.close()?,
             Reply::Other => {}
         }
         self.line.clear();

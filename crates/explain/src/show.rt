@@ -46,8 +46,9 @@ fn beginning(text: &[u8]) -> &[u8]
     text.split_at(BEGINNING).0
 }
 
-// A label, bytes of a text, and a line feed.
-fn put_row(out: &mut Vec<u8>, label: &str, text: &[u8]) -> Result<(), AllocError>
+/// A label, bytes of a text as they are printed, and a line feed: bytes outside 32 to 126 as `?`, and of more than 512 the
+/// first 64.
+pub fn put_row(out: &mut Vec<u8>, label: &str, text: &[u8]) -> Result<(), AllocError>
     ensures { OnOk result (out.new.items ≡ out.old.items ++ row label.now text.now) }
 {
     out.extend_from_slice(label.as_bytes())?;
@@ -105,7 +106,8 @@ fn put_optional(out: &mut Vec<u8>, label: &str, text: Option<&str>) -> Result<()
     }
 }
 
-fn put_number(out: &mut Vec<u8>, number: u64) -> Result<(), AllocError>
+/// A number in digits.
+pub fn put_number(out: &mut Vec<u8>, number: u64) -> Result<(), AllocError>
     ensures { OnOk result (out.new.items ≡ out.old.items ++ decimal number) }
 {
     let mut digits = Digits::new();

@@ -147,6 +147,105 @@ fn refusals(rt: HostRuntime) -> Result<(), Fail> {
     Ok(())
 }
 
+const DROPS: &str = "experiment a
+0 ok 0
+5 drop 0 plain denied
+6 drop 1 data 7 0 denied
+7 drop 2 data 8 1460 full
+8 drop 3 data 7 1460 denied
+8 drop 4 ack 7 2920 denied
+9 drop 5 plain budget
+9 drop 6 ack 9 0 budget
+10 spent
+counters 7 0 0 4 0 0 0 1 0 0 2
+experiment b
+3 drop 0 plain denied
+4 drop 1 plain lost
+4 deliver 2 plain
+counters 3 1 0 1 0 0 1 0 0 0 0
+experiment c
+1 drop 0 plain denied
+";
+
+fn note(experiment: u64, subject: Subject, first: u64, count: u64) -> Note {
+    Note {
+        experiment,
+        subject,
+        first,
+        count,
+    }
+}
+
+// The third experiment's report hasn't ended.
+#[test]
+fn notes(rt: HostRuntime) -> Result<(), Fail> {
+    for size in 1..40 {
+        let mut replies = Replies::new(rt.alloc());
+        for bytes in DROPS.as_bytes().chunks(size) {
+            replies.take(bytes)?;
+        }
+        let wanted = [
+            note(1, Subject::DeniedPlain, 5, 1),
+            note(1, Subject::DeniedData(7), 6, 2),
+            note(1, Subject::DeniedAck(7), 8, 1),
+            note(1, Subject::OverBudget, 9, 2),
+            note(1, Subject::Spent, 10, 1),
+            note(2, Subject::DeniedPlain, 3, 1),
+        ];
+        assert!(rt; replies.notes() == wanted.as_slice());
+    }
+    Ok(())
+}
+
+const FAULTS: &str = "experiment a seed 0 budget 1
+@0 shw
+@5 show
+@4 show
+@3 bad
+experiment b seed 0 budget 1
+@5 show
+@4 show
+@3 show
+@x end
+experiment a seed 0 budget 0
+@0";
+
+#[test]
+fn faults_behind_the_first(rt: HostRuntime) -> Result<(), Fail> {
+    let first = Fault {
+        line: 2,
+        cause: Cause::BadWord,
+    };
+    let found = faults_behind(rt.alloc(), FAULTS.as_bytes(), &first)?;
+    let wanted = [
+        (5, Cause::BadWord),
+        (8, Cause::Backwards),
+        (10, Cause::BadWord),
+        (11, Cause::OutOfRange),
+        (12, Cause::Cut),
+    ]
+    .map(|(line, cause)| Fault { line, cause });
+    assert!(rt; found.as_slice() == wanted.as_slice());
+    let last = Fault {
+        line: 13,
+        cause: Cause::NoEnd,
+    };
+    assert!(rt; faults_behind(rt.alloc(), FAULTS.as_bytes(), &last)?.is_empty());
+    let fault = wanted[4];
+    let shown = show_found(rt.alloc(), &fault, &find(FAULTS.as_bytes(), &fault))?;
+    assert!(rt;
+        shown.as_slice()
+            == b"line 12: cut
+  @0
+    ^
+  expected: a line feed at the end of the last line
+  hint: the text was cut off, or the editor left the last line feed out
+"
+                .as_slice()
+    );
+    Ok(())
+}
+
 // Where memory is refused the answer says so, and it isn't where there is enough.
 #[test]
 fn refused(rt: HostRuntime) {
@@ -160,5 +259,8 @@ fn refused(rt: HostRuntime) {
     let mut replies = Replies::new(rt.alloc());
     if replies.take(REPORT.as_bytes()).is_ok() {
         assert!(rt; replies.refusals().len() == 2);
+    }
+    if let Ok(found) = faults_behind(rt.alloc(), FAULTS.as_bytes(), &fault) {
+        assert!(rt; found.len() == 5);
     }
 }

@@ -29,17 +29,56 @@ fn has_zero_in_front(word: &[u8]) -> bool {
     }
 }
 
+fn has_sign(word: &[u8]) -> bool {
+    word.first() == Some(&b'-') || word.first() == Some(&b'+')
+}
+
+fn ends_with(word: &[u8], unit: &str) -> bool {
+    word.ends_with(unit.as_bytes())
+}
+
+/// No number has more digits.
+const MOST_DIGITS: usize = 20;
+
+fn has_too_many_digits(word: &[u8]) -> bool {
+    let digits = word.iter().take_while(|b| b.is_ascii_digit()).count();
+    digits > MOST_DIGITS
+}
+
 const ZERO: &str = "a number doesn't begin with 0: 007 is 7";
+
+const SIGN: &str = "a number has no sign";
+
+const TOO_MANY_DIGITS: &str = "a number has at most 20 digits";
+
+const COMMA: &str = "a number has no comma in it";
 
 const LOWER: &str = "words are in lower case";
 
+// What is wrong with any number, whatever its unit is.
+fn digits_hint(word: &[u8]) -> Option<&'static str> {
+    if has_sign(word) {
+        Some(SIGN)
+    } else if has_too_many_digits(word) {
+        Some(TOO_MANY_DIGITS)
+    } else if has(word, b',') {
+        Some(COMMA)
+    } else if has_zero_in_front(word) {
+        Some(ZERO)
+    } else {
+        None
+    }
+}
+
 fn number_hint(word: &[u8]) -> Option<&'static str> {
-    if word.first() == Some(&b'-') || word.first() == Some(&b'+') {
-        Some("a number has no sign")
+    if has_sign(word) {
+        Some(SIGN)
     } else if addresses::address(word).is_some() {
         Some("an address stands where a number is wanted: is a port missing?")
     } else if has(word, b',') || has(word, b'_') {
         Some("a number is digits alone, with nothing between them")
+    } else if has(word, b'^') || has(word, b'*') {
+        Some("a number is written out: 10^6 is 1000000")
     } else if has(word, b'.') {
         Some("whole numbers only: no point")
     } else if begins_with_digit(word) && has_letter(word) {
@@ -48,8 +87,8 @@ fn number_hint(word: &[u8]) -> Option<&'static str> {
         Some("a number stands here, not a word")
     } else if has_zero_in_front(word) {
         Some(ZERO)
-    } else if word.len() > 20 {
-        Some("a number has at most 20 digits")
+    } else if has_too_many_digits(word) {
+        Some(TOO_MANY_DIGITS)
     } else {
         None
     }
@@ -86,58 +125,69 @@ fn moment_hint(word: &[u8]) -> Option<&'static str> {
     }
 }
 
-fn rate_hint(word: &[u8]) -> Option<&'static str> {
-    if has_zero_in_front(word) {
-        Some(ZERO)
-    } else if has(word, b'.') {
-        Some("whole numbers only: 1.5 Mbit/s is 1500Kbit/s")
+fn rate_unit_hint(word: &[u8]) -> &'static str {
+    if has(word, b'.') {
+        "whole numbers only: 1.5 Mbit/s is 1500Kbit/s"
     } else {
-        Some("units are spelled in full, and their case counts: 10Mbps is 10Mbit/s")
+        "units are spelled in full, and their case counts: 10Mbps is 10Mbit/s"
+    }
+}
+
+fn rate_hint(word: &[u8]) -> Option<&'static str> {
+    digits_hint(word).or(Some(rate_unit_hint(word)))
+}
+
+fn delay_unit_hint(word: &[u8]) -> &'static str {
+    if has(word, b'.') {
+        "whole milliseconds only: 0.5 ms can't be said"
+    } else if ends_with(word, "us") || ends_with(word, "ns") {
+        "whole milliseconds only: 500us can't be said, 20000us is 20ms"
+    } else {
+        "a delay is in milliseconds: 20s is 20000ms"
     }
 }
 
 fn delay_hint(word: &[u8]) -> Option<&'static str> {
-    if has_zero_in_front(word) {
-        Some(ZERO)
-    } else if has(word, b'.') {
-        Some("whole milliseconds only: 0.5 ms can't be said")
-    } else {
-        Some("a delay is in milliseconds: 20s is 20000ms")
-    }
+    digits_hint(word).or(Some(delay_unit_hint(word)))
 }
 
 fn time_hint(word: &[u8]) -> Option<&'static str> {
-    if has_zero_in_front(word) {
-        Some(ZERO)
-    } else if has(word, b'.') {
+    let whole = if has(word, b'.') {
         Some("whole numbers only: 0.5 ms is 500us")
     } else {
         None
-    }
+    };
+    digits_hint(word).or(whole)
 }
 
 fn fraction_hint(word: &[u8]) -> Option<&'static str> {
-    if has(word, b'%') {
+    if has_sign(word) {
+        Some(SIGN)
+    } else if has(word, b'%') {
         Some("no percent sign: 5% is 0.05")
+    } else if has(word, b',') {
+        Some("a point stands there, not a comma: 0,05 is 0.05")
     } else if word.first() == Some(&b'.') {
         Some("a digit stands before the point: .05 is 0.05")
     } else if has(word, b'e') {
         Some("no exponent: 1e-3 is 0.001")
-    } else if word.len() > 8 {
+    } else if word.len() > 8 && has(word, b'.') {
         Some("at most six digits stand behind the point")
     } else {
         Some("it is a fraction of 1: 5% is 0.05")
     }
 }
 
-fn queue_hint(word: &[u8]) -> Option<&'static str> {
-    if has_zero_in_front(word) {
-        Some(ZERO)
-    } else if has(word, b'.') {
-        Some("whole numbers only")
+fn queue_unit_hint(word: &[u8]) -> &'static str {
+    if has(word, b'.') {
+        "whole numbers only"
     } else {
-        Some("nothing behind the number means packets; bytes are said in units of 1024: 50KB")
+        "nothing behind the number means packets; bytes are said in units of 1024: 50KB"
     }
+}
+
+fn queue_hint(word: &[u8]) -> Option<&'static str> {
+    digits_hint(word).or(Some(queue_unit_hint(word)))
 }
 
 fn timing_hint(word: &[u8]) -> Option<&'static str> {
@@ -158,16 +208,30 @@ fn field_hint(word: &[u8]) -> Option<&'static str> {
     }
 }
 
+fn is_of_ipv6(word: &[u8]) -> bool {
+    is(word, "ip6") || is(word, "ipv6") || is(word, "tcp6") || is(word, "udp6")
+}
+
 fn protocol_hint(word: &[u8]) -> Option<&'static str> {
     if is(word, "icmp") {
         Some("there is no icmp here: packets are tcp or udp")
+    } else if is_of_ipv6(word) {
+        Some("there is no IPv6 here")
     } else if is(word, "all") || is(word, "any") || is(word, "ip4") {
         Some("ip is every packet")
     } else if is(word, "ip") {
         Some("a packet is either tcp or udp")
+    } else if has_capital(word) {
+        Some(LOWER)
     } else {
         None
     }
+}
+
+// A zero in front of one of an address's numbers, as in 010.0.0.1.
+fn has_zero_in_a_part(word: &[u8]) -> bool {
+    word.split(|b| *b == b'.')
+        .any(|part| has_zero_in_front(part))
 }
 
 fn prefix_hint(word: &[u8]) -> Option<&'static str> {
@@ -177,6 +241,8 @@ fn prefix_hint(word: &[u8]) -> Option<&'static str> {
         Some("a mask is a length, 10.0.0.0/24, and a port is a word of its own; there is no IPv6")
     } else if has_letter(word) {
         Some("addresses are numbers: names aren't looked up")
+    } else if has_zero_in_a_part(word) {
+        Some("none of its numbers begins with 0: 010.0.0.1 is 10.0.0.1")
     } else {
         None
     }
@@ -198,7 +264,7 @@ fn ports_hint(word: &[u8]) -> Option<&'static str> {
     } else if has_letter(word) {
         Some("ports are numbers, and ipfw's options behind an address aren't here")
     } else {
-        None
+        digits_hint(word)
     }
 }
 
@@ -207,6 +273,8 @@ fn name_hint(word: &[u8]) -> Option<&'static str> {
         Some("it is longer than 32")
     } else if has_capital(word) {
         Some("lower case only")
+    } else if has(word, b'=') || has(word, b'.') {
+        Some("neither = nor a point stands in a name: q=10 is q-10 or q10")
     } else {
         None
     }
@@ -251,7 +319,9 @@ fn is_unit(word: &[u8]) -> bool {
 }
 
 fn option_hint(word: &[u8]) -> Option<&'static str> {
-    if is_unit(word) {
+    if has(word, b'=') {
+        Some("a space stands between an option and its value, no =: bw 10Mbit/s")
+    } else if is_unit(word) {
         Some(
             "a unit directly follows its number, without a space: 10Mbit/s; packets and slots have none",
         )
@@ -274,8 +344,16 @@ fn option_hint(word: &[u8]) -> Option<&'static str> {
     }
 }
 
+fn is_congestion_control(word: &[u8]) -> bool {
+    is(word, "cubic") || is(word, "bbr") || is(word, "reno") || is(word, "newreno")
+}
+
 fn flow_option_hint(word: &[u8]) -> Option<&'static str> {
-    if is(word, "ms") || is(word, "s") {
+    if is_congestion_control(word) {
+        Some("each flow is Reno (RFC 5681): no other congestion control is here, and none is named")
+    } else if has(word, b'=') {
+        Some("a space stands between an option and its value, no =: rto 200")
+    } else if is(word, "ms") || is(word, "s") {
         Some("`rto` is in milliseconds without a unit: rto 200")
     } else {
         None
@@ -296,12 +374,32 @@ fn choice_hint(choice: Choice, word: &[u8]) -> Option<&'static str> {
     own
 }
 
+// Where the word `config` is wanted, behind a pipe's number.
+fn config_hint(word: &[u8]) -> Option<&'static str> {
+    if is(word, "show") {
+        Some("all pipes are listed at once: pipe show")
+    } else if is(word, "delete") {
+        Some("the number stands behind it: pipe delete 1")
+    } else {
+        None
+    }
+}
+
+fn word_hint(wanted: &str, word: &[u8]) -> Option<&'static str> {
+    let own = if wanted == "config" {
+        config_hint(word)
+    } else {
+        None
+    };
+    own.or(has_capital(word).then_some(LOWER))
+}
+
 // By the form that is wanted.
 fn form_hint(form: Form, word: &[u8]) -> Option<&'static str> {
     match form {
         Form::Choice(choice) => choice_hint(choice, word),
-        Form::Word(_) => has_capital(word).then_some(LOWER),
-        Form::Number(_, _) => number_hint(word),
+        Form::Word(wanted) => word_hint(wanted, word),
+        Form::Number(_, _) | Form::Segment | Form::Window => number_hint(word),
         Form::Moment => moment_hint(word),
         Form::Name => name_hint(word),
         Form::Protocol | Form::ProtocolMatch => protocol_hint(word),
@@ -331,6 +429,15 @@ pub fn range_hint(form: Form, word: &[u8]) -> Option<&'static str> {
     match form {
         Form::Ports => ports_hint(word),
         Form::Moment => Some("10^15 ns are 11 days and a half"),
+        Form::Segment if word.len() > 3 => Some(
+            "a segment's bytes are without its 40 of headers: packets of 1500 bytes are smss 1460",
+        ),
+        Form::Window if word.len() > 4 => Some(
+            "there is no window scaling: several flows fill a path that one can't",
+        ),
+        Form::Queue if is(word, "0") => Some(
+            "the packet in service isn't counted: with queue 1 one is in service and one waits",
+        ),
         _ => None,
     }
 }

@@ -273,7 +273,7 @@ pub const SMSS_WORD: Wanted = Wanted {
 };
 
 pub const SMSS: Wanted = Wanted {
-    form: Form::Number(64, 1460),
+    form: Form::Segment,
     expected: "a segment's bytes, 64 to 1460",
     example: "@0 flow 1 10.0.0.1 1000 10.0.1.1 80 smss 1460 segments 1000",
 };
@@ -303,7 +303,7 @@ pub const SSTHRESH: Wanted = Wanted {
 };
 
 pub const WINDOW: Wanted = Wanted {
-    form: Form::Number(1, 65_535),
+    form: Form::Window,
     expected: "a receiver's window, 1 to 65535 bytes",
     example: "@0 flow 1 10.0.0.1 1000 10.0.1.1 80 smss 1460 segments 1000 window 20000",
 };

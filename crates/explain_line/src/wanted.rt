@@ -1,6 +1,7 @@
 //! What may stand at a place of a line, and what a word is there.
 
 ghost use Rattle.std.specs.Prelude.{◌≡◌, ◌≢◌, ◌≤◌, ◌↔◌, IfSome, IfNone, IsTrue};
+ghost use Rattle.control_words.specs.Addresses.{ports_of};
 
 use control_words::{RawAddress, RawQueue, RawTiming, addresses, is, numbers};
 
@@ -27,6 +28,10 @@ pub enum Form {
     Word(&'static str),
     /// A number, from the first to the second.
     Number(u64, u64),
+    /// The bytes of a segment.
+    Segment,
+    /// A receiver's window, in bytes.
+    Window,
     Moment,
     Name,
     Protocol,
@@ -89,7 +94,10 @@ fn within(number: Option<u128>, least: u64, most: u64) -> Verdict
     }
 }
 
-fn in_range(is_in_range: bool) -> Verdict {
+fn in_range(is_in_range: bool) -> Verdict
+    ensures fine { result ≡ Verdict.Fine ↔ IsTrue is_in_range }
+    ensures form { result ≢ Verdict.NoForm }
+{
     if is_in_range {
         Verdict::Fine
     } else {
@@ -115,7 +123,11 @@ fn prefix(word: &[u8]) -> Verdict {
     }
 }
 
-fn ports(word: &[u8]) -> Verdict {
+fn ports(word: &[u8]) -> Verdict
+    ensures form { IfNone (ports_of word.now) (result ≡ Verdict.NoForm) }
+    ensures fine { IfSome (ports_of word.now) (λ raw.
+        result ≡ Verdict.Fine ↔ ((raw.first ≤ raw.last) × (raw.last ≤ 65535))) }
+{
     match addresses::ports(word) {
         None => Verdict::NoForm,
         Some(raw) => in_range(raw.first <= raw.last && raw.last <= 65_535),
@@ -144,6 +156,8 @@ pub fn judge(form: Form, word: &[u8]) -> Verdict {
         Form::Choice(_) => Verdict::NoForm,
         Form::Word(text) => formed(is(word, text)),
         Form::Number(least, most) => within(numbers::number(word), least, most),
+        Form::Segment => within(numbers::number(word), 64, 1460),
+        Form::Window => within(numbers::number(word), 1, 65_535),
         Form::Moment => within(numbers::moment(word), 0, 1_000_000_000_000_000),
         Form::Name => formed(addresses::name(word).is_some()),
         Form::Protocol => formed(addresses::protocol(word).is_some()),

@@ -1,0 +1,5 @@
+pub mod Ways
+pub mod Walk
+pub mod Survey
+pub mod Warnings
+pub mod Shown
