@@ -56,16 +56,16 @@ use Rattle.emu_model.specs.declared.records.Record.TheVariants as newss
 use Rattle.emu_model.specs.contracts.records.RecordPartialEq.TheImpl as news_eq
 
 pub action_decides : (a b : Action) → Decides ((action_eq.eq-value).it a b) (a ≡ b)
-action_decides actions.Permit actions.Permit = search (rules)
-action_decides actions.Permit _ = (λ e. cc, λ e. cc)
-action_decides actions.Forbid actions.Forbid = search (rules)
-action_decides actions.Forbid _ = (λ e. cc, λ e. cc)
+action_decides actions.Allow actions.Allow = search (rules)
+action_decides actions.Allow _ = (λ e. cc, λ e. cc)
+action_decides actions.Deny actions.Deny = search (rules)
+action_decides actions.Deny _ = (λ e. cc, λ e. cc)
 action_decides actions.Count actions.Count = search (rules)
 action_decides actions.Count _ = (λ e. cc, λ e. cc)
 action_decides (actions.SkipTo x0) (actions.SkipTo y0) = search (rules)
 action_decides (actions.SkipTo x0) _ = (λ e. cc, λ e. cc)
-action_decides (actions.SendTo x0) (actions.SendTo y0) = search (rules)
-action_decides (actions.SendTo x0) _ = (λ e. cc, λ e. cc)
+action_decides (actions.Pipe x0) (actions.Pipe y0) = search (rules)
+action_decides (actions.Pipe x0) _ = (λ e. cc, λ e. cc)
 
 pub proto_match_decides : (a b : ProtocolMatch) → Decides ((proto_match_eq.eq-value).it a b) (a ≡ b)
 proto_match_decides proto_matchs.AnyProtocol proto_matchs.AnyProtocol = search (rules)

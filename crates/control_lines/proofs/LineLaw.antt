@@ -14,7 +14,7 @@ use Rattle.control_lines.specs.Shape.{action_of, source_ports_of, last_ports_of,
 use Rattle.control_lines.proofs.Reading.{bind_some, chosen, key_is, value_is, after_is, end_is, said_is}
 use Rattle.control_options.specs.Laws.{OptionsAreRead, FlowOptionsAreRead}
 use Rattle.control_lines.specs.declared.raw.RawAction.{RawAction}
-use Rattle.control_lines.specs.declared.raw.RawAction.TheVariants.{Permit, Forbid, Count, SkipTo, SendTo}
+use Rattle.control_lines.specs.declared.raw.RawAction.TheVariants.{Allow, Deny, Count, SkipTo, Pipe}
 use Rattle.control_words.specs.declared.raw.RawPorts.{RawPorts}
 use Rattle.control_lines.specs.declared.raw.RawRule.{RawRule}
 use Rattle.control_lines.specs.declared.raw.RawEnds.{RawEnds}
@@ -61,15 +61,15 @@ action_found [] a rest e = absurd cc
 action_found (verb ∷ ws) a rest e =
     let end : RawAction × Words = (a, rest) in
     elim (chosen (bytes_eq verb (codes "allow")) _ _ (Some end) e) [
-      | inl p ↦ word_action verb (codes "allow") ws a Permit rest refl p.0 p.1
+      | inl p ↦ word_action verb (codes "allow") ws a Allow rest refl p.0 p.1
       | inr b ↦ elim (chosen (bytes_eq verb (codes "deny")) _ _ (Some end) b.1) [
-        | inl p ↦ word_action verb (codes "deny") ws a Forbid rest refl p.0 p.1
+        | inl p ↦ word_action verb (codes "deny") ws a Deny rest refl p.0 p.1
         | inr c ↦ elim (chosen (bytes_eq verb (codes "count")) _ _ (Some end) c.1) [
           | inl p ↦ word_action verb (codes "count") ws a Count rest refl p.0 p.1
           | inr d ↦ elim (chosen (bytes_eq verb (codes "skipto")) _ _ (Some end) d.1) [
             | inl p ↦ number_action verb (codes "skipto") ws SkipTo a rest (λ v n h. (v, refl, h)) p.0 p.1
             | inr f ↦ elim (chosen (bytes_eq verb (codes "pipe")) _ _ (Some end) f.1) [
-              | inl p ↦ number_action verb (codes "pipe") ws SendTo a rest (λ v n h. (v, refl, h)) p.0 p.1
+              | inl p ↦ number_action verb (codes "pipe") ws Pipe a rest (λ v n h. (v, refl, h)) p.0 p.1
               | inr p ↦ absurd (none-some end p.1)
             ]
           ]
@@ -362,11 +362,11 @@ line_found laws (first ∷ ws) l e =
 -- ---- again
 action_again : (front rest : Words) (a : RawAction) → IsAction front a → action_of (front ++ rest) ≡ Some (a, rest)
 unfolding action_of
-action_again front rest Permit h = ap (λ (f : Words). action_of (f ++ rest)) h
-action_again front rest Forbid h = ap (λ (f : Words). action_of (f ++ rest)) h
+action_again front rest Allow h = ap (λ (f : Words). action_of (f ++ rest)) h
+action_again front rest Deny h = ap (λ (f : Words). action_of (f ++ rest)) h
 action_again front rest Count h = ap (λ (f : Words). action_of (f ++ rest)) h
 action_again front rest (SkipTo n) h = ap (λ (f : Words). action_of (f ++ rest)) h.1 ∙ rw h.2 refl
-action_again front rest (SendTo n) h = ap (λ (f : Words). action_of (f ++ rest)) h.1 ∙ rw h.2 refl
+action_again front rest (Pipe n) h = ap (λ (f : Words). action_of (f ++ rest)) h.1 ∙ rw h.2 refl
 
 to_is_none : None ≡ ports_of (codes "to")
 unfolding ports_of number_of

@@ -6,7 +6,7 @@ use Rattle.control_words.specs.Numbers.{number_of}
 use Rattle.control_words.specs.Addresses.{protocol_of, match_of, address_of, prefix_of, ports_of, name_of}
 use Rattle.control_options.specs.Grammar.{IsPair, AreOptions, AreFlowOptions}
 use Rattle.control_lines.specs.declared.raw.RawAction.{RawAction}
-use Rattle.control_lines.specs.declared.raw.RawAction.TheVariants.{Permit, Forbid, Count, SkipTo, SendTo}
+use Rattle.control_lines.specs.declared.raw.RawAction.TheVariants.{Allow, Deny, Count, SkipTo, Pipe}
 use Rattle.control_words.specs.declared.raw.RawPorts.{RawPorts}
 use Rattle.control_lines.specs.declared.raw.RawRule.{RawRule}
 use Rattle.control_lines.specs.declared.raw.RawEnds.{RawEnds}
@@ -19,11 +19,11 @@ use Rattle.control_lines.specs.declared.raw.RawTimed.{RawTimed}
 
 -- ---- rules
 abbrev pub IsAction : Words → RawAction → Type 0
-IsAction ws Permit = ws ≡ codes "allow" ∷ []
-IsAction ws Forbid = ws ≡ codes "deny" ∷ []
+IsAction ws Allow = ws ≡ codes "allow" ∷ []
+IsAction ws Deny = ws ≡ codes "deny" ∷ []
 IsAction ws Count = ws ≡ codes "count" ∷ []
 IsAction ws (SkipTo n) = IsPair (codes "skipto") number_of ws n
-IsAction ws (SendTo n) = IsPair (codes "pipe") number_of ws n
+IsAction ws (Pipe n) = IsPair (codes "pipe") number_of ws n
 
 -- [PORTS]
 abbrev pub ArePorts : Words → Option RawPorts → Type 0

@@ -76,15 +76,15 @@ ports_within (Some ports) = do
   Some (Some span)
 
 unfoldable pub action_within : RawAction → Option Action
-action_within raw_action.Permit = Some actions.Permit
-action_within raw_action.Forbid = Some actions.Forbid
+action_within raw_action.Allow = Some actions.Allow
+action_within raw_action.Deny = Some actions.Deny
 action_within raw_action.Count = Some actions.Count
 action_within (raw_action.SkipTo rule) = do
   n ← within rule 0 99999
   Some (actions.SkipTo n)
-action_within (raw_action.SendTo pipe) = do
+action_within (raw_action.Pipe pipe) = do
   n ← within pipe 1 65535
-  Some (actions.SendTo n)
+  Some (actions.Pipe n)
 
 unfoldable pub rule_within : RawRule → Option Rule
 rule_within rule = do

@@ -8,7 +8,7 @@ use Rattle.control_words.specs.Addresses.{protocol_of, match_of, address_of, pre
 use Rattle.control_options.specs.Options.{options_of, flow_options_of}
 use Rattle.control_lines.specs.Grammar.{Header, Line, Experiment, Command}
 use Rattle.control_lines.specs.declared.raw.RawAction.{RawAction}
-use Rattle.control_lines.specs.declared.raw.RawAction.TheVariants.{Permit, Forbid, Count, SkipTo, SendTo}
+use Rattle.control_lines.specs.declared.raw.RawAction.TheVariants.{Allow, Deny, Count, SkipTo, Pipe}
 use Rattle.control_words.specs.declared.raw.RawPorts.{RawPorts}
 use Rattle.control_lines.specs.declared.raw.RawRule.{RawRule}
 use Rattle.control_lines.specs.declared.raw.RawEnds.{RawEnds}
@@ -39,11 +39,11 @@ last_number_of ws = do
 unfoldable pub action_of : Words → Option (RawAction × Words)
 action_of ws = do
   verb ← next ws
-  if bytes_eq verb.0 (codes "allow") then Some (Permit, verb.1)
-      else if bytes_eq verb.0 (codes "deny") then Some (Forbid, verb.1)
+  if bytes_eq verb.0 (codes "allow") then Some (Allow, verb.1)
+      else if bytes_eq verb.0 (codes "deny") then Some (Deny, verb.1)
       else if bytes_eq verb.0 (codes "count") then Some (Count, verb.1)
       else if bytes_eq verb.0 (codes "skipto") then said number_of SkipTo verb.1
-      else if bytes_eq verb.0 (codes "pipe") then said number_of SendTo verb.1
+      else if bytes_eq verb.0 (codes "pipe") then said number_of Pipe verb.1
       else None
 
 abbrev pub ports_and_to : List ℕ → Words → Option (Option RawPorts × Words)

@@ -124,11 +124,11 @@ fn action(raw: RawAction) -> Option<Action>
     ensures { result ≡ action_within raw }
 {
     match raw {
-        RawAction::Permit => Some(Action::Permit),
-        RawAction::Forbid => Some(Action::Forbid),
+        RawAction::Allow => Some(Action::Allow),
+        RawAction::Deny => Some(Action::Deny),
         RawAction::Count => Some(Action::Count),
         RawAction::SkipTo(rule) => Some(Action::SkipTo(in_u32::<0, 99999>(rule)?)),
-        RawAction::SendTo(pipe) => Some(Action::SendTo(in_u16::<1, 65535>(pipe)?)),
+        RawAction::Pipe(pipe) => Some(Action::Pipe(in_u16::<1, 65535>(pipe)?)),
     }
 }
 
@@ -352,7 +352,7 @@ fn command(raw: RawCommand) -> Option<Command>
 }
 
 /// The command of a line with its moment (ns); None where a number is out of its range (our choice:
-/// 10^15 ns at most, and the ranges of docs/SCENARIO.md).
+/// 10^15 ns at most, and the ranges of docs/use/SCENARIO.md).
 #[tactic(auto, unfolding(crate::specs::Ranges::timed_within))]
 pub fn timed(raw: RawTimed) -> Option<Timed>
     ensures { result ≡ timed_within raw }

@@ -6,11 +6,11 @@ use emu_model::{Protocol, ProtocolMatch};
 
 #[derive(Clone, Copy)]
 pub enum RawAction {
-    Permit,
-    Forbid,
+    Allow,
+    Deny,
     Count,
     SkipTo(u128),
-    SendTo(u128),
+    Pipe(u128),
 }
 
 #[derive(Clone, Copy)]

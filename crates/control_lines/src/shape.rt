@@ -54,15 +54,15 @@ fn action(words: &mut Words) -> Option<RawAction>
 {
     let verb = words.next_word()?;
     if is(verb, "allow") {
-        Some(RawAction::Permit)
+        Some(RawAction::Allow)
     } else if is(verb, "deny") {
-        Some(RawAction::Forbid)
+        Some(RawAction::Deny)
     } else if is(verb, "count") {
         Some(RawAction::Count)
     } else if is(verb, "skipto") {
         Some(RawAction::SkipTo(number(words)?))
     } else if is(verb, "pipe") {
-        Some(RawAction::SendTo(number(words)?))
+        Some(RawAction::Pipe(number(words)?))
     } else {
         None
     }

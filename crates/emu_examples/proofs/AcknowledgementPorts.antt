@@ -2,7 +2,7 @@
 use Rattle.std.specs.Prelude.{◌≡◌, refl, List, [], ◌∷◌, Some, None}
 use Rattle.emu_model.specs.Spans.{address_span}
 use Rattle.emu_model.specs.declared.packets.Load.TheVariants.{Seg, Ack}
-use Rattle.emu_model.specs.declared.rules.Action.TheVariants.{Forbid, SendTo}
+use Rattle.emu_model.specs.declared.rules.Action.TheVariants.{Deny, Pipe}
 use Rattle.emu_model.specs.declared.rules.ProtocolMatch.TheVariants.{AnyProtocol, OnlyTcp}
 use Rattle.emu_model.specs.declared.pipes.QueueLimit.TheVariants.{Slots}
 use Rattle.emu_model.specs.declared.pipes.Discipline.TheVariants.{TailDrop}
@@ -20,8 +20,8 @@ abbrev exp_0-commands : List Timed
 exp_0-commands =
     record { moment = 0; command = Config 1 (record { bw = 0; delay = 10; queue = Slots 50; plr = 0; mask = record { proto = 0; src = 0; dst = 0; sport = 0; dport = 0 }; discipline = TailDrop }) } ∷
     record { moment = 0; command = Config 2 (record { bw = 0; delay = 10; queue = Slots 50; plr = 0; mask = record { proto = 0; src = 0; dst = 0; sport = 0; dport = 0 }; discipline = TailDrop }) } ∷
-    record { moment = 0; command = Add (record { number = 100; action = SendTo 1; proto = OnlyTcp; src = address_span 167772161 32; sports = Some (record { first = 1000; last = 1000 }); dst = address_span 167772162 32; dports = Some (record { first = 80; last = 80 }) }) } ∷
-    record { moment = 0; command = Add (record { number = 200; action = SendTo 2; proto = OnlyTcp; src = address_span 167772162 32; sports = Some (record { first = 80; last = 80 }); dst = address_span 167772161 32; dports = Some (record { first = 1000; last = 1000 }) }) } ∷
+    record { moment = 0; command = Add (record { number = 100; action = Pipe 1; proto = OnlyTcp; src = address_span 167772161 32; sports = Some (record { first = 1000; last = 1000 }); dst = address_span 167772162 32; dports = Some (record { first = 80; last = 80 }) }) } ∷
+    record { moment = 0; command = Add (record { number = 200; action = Pipe 2; proto = OnlyTcp; src = address_span 167772162 32; sports = Some (record { first = 80; last = 80 }); dst = address_span 167772161 32; dports = Some (record { first = 1000; last = 1000 }) }) } ∷
     record { moment = 0; command = Flow 1 (record { src = 167772161; sport = 1000; dst = 167772162; dport = 80; smss = 1000; segments = 5; ssthresh = 65535; window = 65535; timing = Fixed 1000 }) } ∷
     record { moment = 100000000; command = Show } ∷
     record { moment = 100000000; command = End } ∷
@@ -60,9 +60,9 @@ exp_0-records =
     PacketDelivered 40000000 9 (Ack 1 5000) ∷
     AckTaken 40000000 1 9000 65535 ∷
     CommandDone 100000000 5 ∷
-    RuleLine (record { number = 100; action = SendTo 1; proto = OnlyTcp; src = address_span 167772161 32; sports = Some (record { first = 1000; last = 1000 }); dst = address_span 167772162 32; dports = Some (record { first = 80; last = 80 }) }) 5 5200 ∷
-    RuleLine (record { number = 200; action = SendTo 2; proto = OnlyTcp; src = address_span 167772162 32; sports = Some (record { first = 80; last = 80 }); dst = address_span 167772161 32; dports = Some (record { first = 1000; last = 1000 }) }) 5 200 ∷
-    RuleLine (record { number = 65535; action = Forbid; proto = AnyProtocol; src = record { address = 0; len = 0 }; sports = None; dst = record { address = 0; len = 0 }; dports = None }) 0 0 ∷
+    RuleLine (record { number = 100; action = Pipe 1; proto = OnlyTcp; src = address_span 167772161 32; sports = Some (record { first = 1000; last = 1000 }); dst = address_span 167772162 32; dports = Some (record { first = 80; last = 80 }) }) 5 5200 ∷
+    RuleLine (record { number = 200; action = Pipe 2; proto = OnlyTcp; src = address_span 167772162 32; sports = Some (record { first = 80; last = 80 }); dst = address_span 167772161 32; dports = Some (record { first = 1000; last = 1000 }) }) 5 200 ∷
+    RuleLine (record { number = 65535; action = Deny; proto = AnyProtocol; src = record { address = 0; len = 0 }; sports = None; dst = record { address = 0; len = 0 }; dports = None }) 0 0 ∷
     CommandDone 100000000 6 ∷
     []
 

@@ -13,7 +13,7 @@ use Rattle.emu_model.specs.Pipes.{same_discipline}
 use Rattle.emu_model.specs.Loss.{is_below_rate, stream_of}
 use Rattle.emu_model.specs.DropTail.{Waiting, accepts}
 use Rattle.emu_model.specs.Codel.{Times, CodelState, initial_control, is_short, ok_to_drop, initial_count, count_up, begin_dropping, drop_on, control_step, control_law, codel_dequeue, drop_first}
-use Rattle.emu_model.specs.Reno.{Sender, initial_sender, initial_window, bounded, expire, is_new, round_trip, new_estimate, estimated_timeout, ack, emit, grown_window, half_flight}
+use Rattle.emu_model.specs.Reno.{Sender, initial_sender, initial_window, bounded, expire, is_new, round_trip, new_estimate, estimated_timeout, ack, emit, window_after, halved_ssthresh}
 
 -- 256 instances a pipe: the 256th has the number 255, and there is no 257th
 abbrev any_flow : FlowId
@@ -207,11 +207,11 @@ resend_keeps_timer : (emit flow 7 troubled).timer ≡ Some 500
 resend_keeps_timer = refl
 
 -- congestion avoidance: 1 * 1 / 4 = 0, and a byte at least
-one_byte_at_least : grown_window (record flow { smss = 1 }) 1 (record two_sent { cwnd = 4; ssthresh = 1 }) ≡ 5
+one_byte_at_least : window_after (record flow { smss = 1 }) 1 (record two_sent { cwnd = 4; ssthresh = 1 }) ≡ 5
 one_byte_at_least = refl
 
 -- all that was sent is under way, also what is to be sent again: 8000 / 2
-flight_to_top : half_flight flow (record two_sent { snd_nxt = 0; snd_max = 8000 }) ≡ 4000
+flight_to_top : halved_ssthresh flow (record two_sent { snd_nxt = 0; snd_max = 8000 }) ≡ 4000
 flight_to_top = refl
 
 -- lastcount is the count that dropping begins with, 5 - 2

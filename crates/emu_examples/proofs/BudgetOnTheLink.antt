@@ -2,7 +2,7 @@
 use Rattle.std.specs.Prelude.{◌≡◌, refl, List, [], ◌∷◌, None}
 use Rattle.emu_model.specs.declared.packets.Load.TheVariants.{Plain}
 use Rattle.emu_model.specs.declared.packets.Protocol.TheVariants.{Udp}
-use Rattle.emu_model.specs.declared.rules.Action.TheVariants.{Permit}
+use Rattle.emu_model.specs.declared.rules.Action.TheVariants.{Allow}
 use Rattle.emu_model.specs.declared.rules.ProtocolMatch.TheVariants.{AnyProtocol}
 use Rattle.emu_model.specs.declared.commands.Spec.{Spec}
 use Rattle.emu_model.specs.declared.commands.Timed.{Timed}
@@ -16,7 +16,7 @@ use Rattle.emu_model.specs.Alone.{alone, trace_of}
 -- experiment budget-on-the-link
 abbrev exp_0-commands : List Timed
 exp_0-commands =
-    record { moment = 0; command = Add (record { number = 100; action = Permit; proto = AnyProtocol; src = record { address = 0; len = 0 }; sports = None; dst = record { address = 0; len = 0 }; dports = None }) } ∷
+    record { moment = 0; command = Add (record { number = 100; action = Allow; proto = AnyProtocol; src = record { address = 0; len = 0 }; sports = None; dst = record { address = 0; len = 0 }; dports = None }) } ∷
     record { moment = 0; command = Inject (record { proto = Udp; src = 167772161; sport = 1; dst = 167772162; dport = 2; size = 100 }) } ∷
     record { moment = 0; command = Inject (record { proto = Udp; src = 167772161; sport = 1; dst = 167772162; dport = 2; size = 100 }) } ∷
     record { moment = 5; command = Inject (record { proto = Udp; src = 167772161; sport = 1; dst = 167772162; dport = 2; size = 100 }) } ∷

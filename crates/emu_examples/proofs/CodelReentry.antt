@@ -2,7 +2,7 @@
 use Rattle.std.specs.Prelude.{◌≡◌, refl, List, [], ◌∷◌, None}
 use Rattle.emu_model.specs.declared.packets.Load.TheVariants.{Plain}
 use Rattle.emu_model.specs.declared.packets.Protocol.TheVariants.{Udp}
-use Rattle.emu_model.specs.declared.rules.Action.TheVariants.{SendTo}
+use Rattle.emu_model.specs.declared.rules.Action.TheVariants.{Pipe}
 use Rattle.emu_model.specs.declared.rules.ProtocolMatch.TheVariants.{AnyProtocol}
 use Rattle.emu_model.specs.declared.pipes.QueueLimit.TheVariants.{Slots}
 use Rattle.emu_model.specs.declared.pipes.Discipline.TheVariants.{ControlledDelay}
@@ -20,7 +20,7 @@ use Rattle.emu_model.specs.Codel.{control_step}
 abbrev exp_0-commands : List Timed
 exp_0-commands =
     record { moment = 0; command = Config 1 (record { bw = 1000000; delay = 0; queue = Slots 50; plr = 0; mask = record { proto = 0; src = 0; dst = 0; sport = 0; dport = 0 }; discipline = ControlledDelay 5000000 20000000 }) } ∷
-    record { moment = 0; command = Add (record { number = 100; action = SendTo 1; proto = AnyProtocol; src = record { address = 0; len = 0 }; sports = None; dst = record { address = 0; len = 0 }; dports = None }) } ∷
+    record { moment = 0; command = Add (record { number = 100; action = Pipe 1; proto = AnyProtocol; src = record { address = 0; len = 0 }; sports = None; dst = record { address = 0; len = 0 }; dports = None }) } ∷
     record { moment = 0; command = Train 1 (record { packet = record { proto = Udp; src = 167772161; sport = 1000; dst = 167772162; dport = 2000; size = 1000 }; count = 16; gap = 0 }) } ∷
     record { moment = 150000000; command = Train 2 (record { packet = record { proto = Udp; src = 167772161; sport = 1000; dst = 167772162; dport = 2000; size = 1000 }; count = 12; gap = 0 }) } ∷
     record { moment = 700000000; command = Train 3 (record { packet = record { proto = Udp; src = 167772161; sport = 1000; dst = 167772162; dport = 2000; size = 1000 }; count = 12; gap = 0 }) } ∷

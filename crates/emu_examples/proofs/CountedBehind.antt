@@ -2,7 +2,7 @@
 use Rattle.std.specs.Prelude.{◌≡◌, refl, List, [], ◌∷◌, None, false}
 use Rattle.emu_model.specs.declared.packets.Load.TheVariants.{Plain}
 use Rattle.emu_model.specs.declared.packets.Protocol.TheVariants.{Udp}
-use Rattle.emu_model.specs.declared.rules.Action.TheVariants.{Permit, Forbid, Count, SendTo}
+use Rattle.emu_model.specs.declared.rules.Action.TheVariants.{Allow, Deny, Count, Pipe}
 use Rattle.emu_model.specs.declared.rules.ProtocolMatch.TheVariants.{AnyProtocol}
 use Rattle.emu_model.specs.declared.pipes.QueueLimit.TheVariants.{Slots}
 use Rattle.emu_model.specs.declared.pipes.Discipline.TheVariants.{TailDrop}
@@ -20,8 +20,8 @@ exp_0-commands =
     record { moment = 0; command = OnePass false } ∷
     record { moment = 0; command = Config 1 (record { bw = 0; delay = 0; queue = Slots 50; plr = 0; mask = record { proto = 0; src = 0; dst = 0; sport = 0; dport = 0 }; discipline = TailDrop }) } ∷
     record { moment = 0; command = Add (record { number = 100; action = Count; proto = AnyProtocol; src = record { address = 0; len = 0 }; sports = None; dst = record { address = 0; len = 0 }; dports = None }) } ∷
-    record { moment = 0; command = Add (record { number = 200; action = SendTo 1; proto = AnyProtocol; src = record { address = 0; len = 0 }; sports = None; dst = record { address = 0; len = 0 }; dports = None }) } ∷
-    record { moment = 0; command = Add (record { number = 300; action = Permit; proto = AnyProtocol; src = record { address = 0; len = 0 }; sports = None; dst = record { address = 0; len = 0 }; dports = None }) } ∷
+    record { moment = 0; command = Add (record { number = 200; action = Pipe 1; proto = AnyProtocol; src = record { address = 0; len = 0 }; sports = None; dst = record { address = 0; len = 0 }; dports = None }) } ∷
+    record { moment = 0; command = Add (record { number = 300; action = Allow; proto = AnyProtocol; src = record { address = 0; len = 0 }; sports = None; dst = record { address = 0; len = 0 }; dports = None }) } ∷
     record { moment = 0; command = Inject (record { proto = Udp; src = 167772161; sport = 1; dst = 167772162; dport = 2; size = 100 }) } ∷
     record { moment = 10; command = Show } ∷
     record { moment = 10; command = End } ∷
@@ -40,9 +40,9 @@ exp_0-records =
     PacketDelivered 2 0 Plain ∷
     CommandDone 10 6 ∷
     RuleLine (record { number = 100; action = Count; proto = AnyProtocol; src = record { address = 0; len = 0 }; sports = None; dst = record { address = 0; len = 0 }; dports = None }) 1 100 ∷
-    RuleLine (record { number = 200; action = SendTo 1; proto = AnyProtocol; src = record { address = 0; len = 0 }; sports = None; dst = record { address = 0; len = 0 }; dports = None }) 1 100 ∷
-    RuleLine (record { number = 300; action = Permit; proto = AnyProtocol; src = record { address = 0; len = 0 }; sports = None; dst = record { address = 0; len = 0 }; dports = None }) 1 100 ∷
-    RuleLine (record { number = 65535; action = Forbid; proto = AnyProtocol; src = record { address = 0; len = 0 }; sports = None; dst = record { address = 0; len = 0 }; dports = None }) 0 0 ∷
+    RuleLine (record { number = 200; action = Pipe 1; proto = AnyProtocol; src = record { address = 0; len = 0 }; sports = None; dst = record { address = 0; len = 0 }; dports = None }) 1 100 ∷
+    RuleLine (record { number = 300; action = Allow; proto = AnyProtocol; src = record { address = 0; len = 0 }; sports = None; dst = record { address = 0; len = 0 }; dports = None }) 1 100 ∷
+    RuleLine (record { number = 65535; action = Deny; proto = AnyProtocol; src = record { address = 0; len = 0 }; sports = None; dst = record { address = 0; len = 0 }; dports = None }) 0 0 ∷
     CommandDone 10 7 ∷
     []
 

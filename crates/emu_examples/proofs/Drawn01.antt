@@ -3,7 +3,7 @@ use Rattle.std.specs.Prelude.{◌≡◌, refl, List, [], ◌∷◌, Some, None, 
 use Rattle.emu_model.specs.Spans.{address_span}
 use Rattle.emu_model.specs.declared.packets.Load.TheVariants.{Plain, Seg, Ack}
 use Rattle.emu_model.specs.declared.packets.Protocol.TheVariants.{Tcp, Udp}
-use Rattle.emu_model.specs.declared.rules.Action.TheVariants.{Permit, Forbid, Count, SkipTo, SendTo}
+use Rattle.emu_model.specs.declared.rules.Action.TheVariants.{Allow, Deny, Count, SkipTo, Pipe}
 use Rattle.emu_model.specs.declared.rules.ProtocolMatch.TheVariants.{AnyProtocol, OnlyTcp, OnlyUdp}
 use Rattle.emu_model.specs.declared.pipes.QueueLimit.TheVariants.{Slots, KBytes}
 use Rattle.emu_model.specs.declared.pipes.Discipline.TheVariants.{TailDrop, ControlledDelay}
@@ -24,13 +24,13 @@ use Rattle.rand_core.specs.Steps.{u32_at}
 -- experiment d0
 abbrev exp_0-commands : List Timed
 exp_0-commands =
-    record { moment = 0; command = Add (record { number = 100; action = SendTo 2; proto = AnyProtocol; src = address_span 167772160 24; sports = None; dst = record { address = 0; len = 0 }; dports = None }) } ∷
+    record { moment = 0; command = Add (record { number = 100; action = Pipe 2; proto = AnyProtocol; src = address_span 167772160 24; sports = None; dst = record { address = 0; len = 0 }; dports = None }) } ∷
     record { moment = 0; command = Config 3 (record { bw = 1000000000; delay = 1; queue = KBytes 3; plr = 0; mask = record { proto = 255; src = 4294967295; dst = 4294967295; sport = 65535; dport = 65535 }; discipline = ControlledDelay 5000000 100000000 }) } ∷
     record { moment = 0; command = Config 1 (record { bw = 3000000; delay = 0; queue = Slots 50; plr = 0; mask = record { proto = 0; src = 0; dst = 0; sport = 0; dport = 0 }; discipline = ControlledDelay 5000000 7000000 }) } ∷
     record { moment = 0; command = Add (record { number = 50; action = Count; proto = AnyProtocol; src = record { address = 0; len = 0 }; sports = Some (record { first = 65535; last = 65535 }); dst = address_span 167772160 8; dports = None }) } ∷
     record { moment = 0; command = Config 4 (record { bw = 1000000; delay = 1; queue = Slots 5; plr = 50000; mask = record { proto = 255; src = 1; dst = 0; sport = 0; dport = 0 }; discipline = ControlledDelay 3000000 100000000 }) } ∷
     record { moment = 0; command = Config 2 (record { bw = 10000000000; delay = 10; queue = KBytes 10; plr = 500000; mask = record { proto = 0; src = 0; dst = 0; sport = 0; dport = 0 }; discipline = TailDrop }) } ∷
-    record { moment = 0; command = Add (record { number = 200; action = SendTo 3; proto = AnyProtocol; src = record { address = 0; len = 0 }; sports = None; dst = record { address = 0; len = 0 }; dports = None }) } ∷
+    record { moment = 0; command = Add (record { number = 200; action = Pipe 3; proto = AnyProtocol; src = record { address = 0; len = 0 }; sports = None; dst = record { address = 0; len = 0 }; dports = None }) } ∷
     record { moment = 0; command = Flow 2 (record { src = 167772162; sport = 7; dst = 167772418; dport = 80; smss = 460; segments = 1; ssthresh = 4000; window = 65535; timing = Fixed 60000 }) } ∷
     record { moment = 0; command = Train 5 (record { packet = record { proto = Tcp; src = 167772162; sport = 1; dst = 167772417; dport = 0; size = 1040 }; count = 2; gap = 0 }) } ∷
     record { moment = 150080000; command = Train 1 (record { packet = record { proto = Udp; src = 167772162; sport = 1000; dst = 167772418; dport = 7; size = 125 }; count = 2; gap = 0 }) } ∷
@@ -65,9 +65,9 @@ exp_0-records =
     PipeLine 4 (record { bw = 1000000; delay = 1; queue = Slots 5; plr = 50000; mask = record { proto = 255; src = 1; dst = 0; sport = 0; dport = 0 }; discipline = ControlledDelay 3000000 100000000 }) ∷
     CommandDone 150080000 12 ∷
     RuleLine (record { number = 50; action = Count; proto = AnyProtocol; src = record { address = 0; len = 0 }; sports = Some (record { first = 65535; last = 65535 }); dst = address_span 167772160 8; dports = None }) 0 0 ∷
-    RuleLine (record { number = 100; action = SendTo 2; proto = AnyProtocol; src = address_span 167772160 24; sports = None; dst = record { address = 0; len = 0 }; dports = None }) 3 2580 ∷
-    RuleLine (record { number = 200; action = SendTo 3; proto = AnyProtocol; src = record { address = 0; len = 0 }; sports = None; dst = record { address = 0; len = 0 }; dports = None }) 0 0 ∷
-    RuleLine (record { number = 65535; action = Forbid; proto = AnyProtocol; src = record { address = 0; len = 0 }; sports = None; dst = record { address = 0; len = 0 }; dports = None }) 0 0 ∷
+    RuleLine (record { number = 100; action = Pipe 2; proto = AnyProtocol; src = address_span 167772160 24; sports = None; dst = record { address = 0; len = 0 }; dports = None }) 3 2580 ∷
+    RuleLine (record { number = 200; action = Pipe 3; proto = AnyProtocol; src = record { address = 0; len = 0 }; sports = None; dst = record { address = 0; len = 0 }; dports = None }) 0 0 ∷
+    RuleLine (record { number = 65535; action = Deny; proto = AnyProtocol; src = record { address = 0; len = 0 }; sports = None; dst = record { address = 0; len = 0 }; dports = None }) 0 0 ∷
     CommandDone 150080000 13 ∷
     []
 
@@ -87,15 +87,15 @@ exp_0 = refl
 abbrev exp_1-commands : List Timed
 exp_1-commands =
     record { moment = 0; command = Config 3 (record { bw = 1000000000; delay = 0; queue = Slots 1000; plr = 1000000; mask = record { proto = 0; src = 0; dst = 0; sport = 0; dport = 0 }; discipline = ControlledDelay 3000000 10000000 }) } ∷
-    record { moment = 0; command = Add (record { number = 200; action = SendTo 2; proto = AnyProtocol; src = record { address = 0; len = 0 }; sports = None; dst = address_span 167772416 24; dports = None }) } ∷
-    record { moment = 0; command = Add (record { number = 1; action = SendTo 1; proto = AnyProtocol; src = address_span 167772162 31; sports = Some (record { first = 65535; last = 65535 }); dst = record { address = 0; len = 0 }; dports = None }) } ∷
-    record { moment = 0; command = Add (record { number = 200; action = SendTo 1; proto = AnyProtocol; src = record { address = 0; len = 0 }; sports = None; dst = record { address = 0; len = 0 }; dports = None }) } ∷
+    record { moment = 0; command = Add (record { number = 200; action = Pipe 2; proto = AnyProtocol; src = record { address = 0; len = 0 }; sports = None; dst = address_span 167772416 24; dports = None }) } ∷
+    record { moment = 0; command = Add (record { number = 1; action = Pipe 1; proto = AnyProtocol; src = address_span 167772162 31; sports = Some (record { first = 65535; last = 65535 }); dst = record { address = 0; len = 0 }; dports = None }) } ∷
+    record { moment = 0; command = Add (record { number = 200; action = Pipe 1; proto = AnyProtocol; src = record { address = 0; len = 0 }; sports = None; dst = record { address = 0; len = 0 }; dports = None }) } ∷
     record { moment = 0; command = Config 2 (record { bw = 10000000000; delay = 50; queue = Slots 2; plr = 200000; mask = record { proto = 255; src = 4294967295; dst = 4294967295; sport = 65535; dport = 65535 }; discipline = ControlledDelay 5000000 2000000 }) } ∷
-    record { moment = 0; command = Add (record { number = 200; action = SendTo 3; proto = OnlyTcp; src = address_span 167772416 24; sports = Some (record { first = 80; last = 65535 }); dst = record { address = 0; len = 0 }; dports = None }) } ∷
-    record { moment = 0; command = Add (record { number = 2; action = Forbid; proto = AnyProtocol; src = record { address = 0; len = 0 }; sports = Some (record { first = 80; last = 80 }); dst = address_span 167772162 31; dports = None }) } ∷
-    record { moment = 0; command = Add (record { number = 200; action = SendTo 3; proto = AnyProtocol; src = record { address = 0; len = 0 }; sports = None; dst = record { address = 0; len = 0 }; dports = None }) } ∷
+    record { moment = 0; command = Add (record { number = 200; action = Pipe 3; proto = OnlyTcp; src = address_span 167772416 24; sports = Some (record { first = 80; last = 65535 }); dst = record { address = 0; len = 0 }; dports = None }) } ∷
+    record { moment = 0; command = Add (record { number = 2; action = Deny; proto = AnyProtocol; src = record { address = 0; len = 0 }; sports = Some (record { first = 80; last = 80 }); dst = address_span 167772162 31; dports = None }) } ∷
+    record { moment = 0; command = Add (record { number = 200; action = Pipe 3; proto = AnyProtocol; src = record { address = 0; len = 0 }; sports = None; dst = record { address = 0; len = 0 }; dports = None }) } ∷
     record { moment = 0; command = Config 4 (record { bw = 8000000; delay = 10; queue = KBytes 1; plr = 0; mask = record { proto = 0; src = 0; dst = 0; sport = 0; dport = 0 }; discipline = TailDrop }) } ∷
-    record { moment = 0; command = Add (record { number = 100; action = SendTo 2; proto = AnyProtocol; src = address_span 167772160 24; sports = None; dst = record { address = 0; len = 0 }; dports = None }) } ∷
+    record { moment = 0; command = Add (record { number = 100; action = Pipe 2; proto = AnyProtocol; src = address_span 167772160 24; sports = None; dst = record { address = 0; len = 0 }; dports = None }) } ∷
     record { moment = 0; command = Add (record { number = 200; action = Count; proto = AnyProtocol; src = record { address = 0; len = 0 }; sports = Some (record { first = 1000; last = 1000 }); dst = record { address = 0; len = 0 }; dports = Some (record { first = 65535; last = 65535 }) }) } ∷
     record { moment = 12000000; command = Trace false } ∷
     record { moment = 13000000; command = Flow 300 (record { src = 167772161; sport = 7; dst = 167772418; dport = 65535; smss = 1095; segments = 5; ssthresh = 1000000000; window = 65535; timing = Adaptive }) } ∷
@@ -142,13 +142,13 @@ exp_1 = refl
 abbrev exp_2-commands : List Timed
 exp_2-commands =
     record { moment = 0; command = Add (record { number = 50; action = Count; proto = AnyProtocol; src = address_span 167772160 8; sports = None; dst = record { address = 0; len = 0 }; dports = Some (record { first = 65535; last = 65535 }) }) } ∷
-    record { moment = 0; command = Add (record { number = 200; action = SendTo 3; proto = AnyProtocol; src = record { address = 0; len = 0 }; sports = None; dst = record { address = 0; len = 0 }; dports = None }) } ∷
+    record { moment = 0; command = Add (record { number = 200; action = Pipe 3; proto = AnyProtocol; src = record { address = 0; len = 0 }; sports = None; dst = record { address = 0; len = 0 }; dports = None }) } ∷
     record { moment = 0; command = Add (record { number = 300; action = SkipTo 65534; proto = OnlyUdp; src = record { address = 0; len = 0 }; sports = None; dst = address_span 0 0; dports = None }) } ∷
     record { moment = 0; command = Config 4 (record { bw = 0; delay = 10; queue = KBytes 10; plr = 0; mask = record { proto = 0; src = 0; dst = 3; sport = 0; dport = 15 }; discipline = ControlledDelay 5000000 100000000 }) } ∷
     record { moment = 0; command = Config 2 (record { bw = 997; delay = 10; queue = Slots 1000; plr = 1; mask = record { proto = 0; src = 0; dst = 0; sport = 0; dport = 0 }; discipline = TailDrop }) } ∷
     record { moment = 0; command = Config 1 (record { bw = 0; delay = 50; queue = KBytes 2; plr = 20000; mask = record { proto = 255; src = 4294967295; dst = 4294967295; sport = 65535; dport = 65535 }; discipline = ControlledDelay 5000000 100000000 }) } ∷
     record { moment = 0; command = Config 3 (record { bw = 10000000000; delay = 0; queue = Slots 3; plr = 0; mask = record { proto = 255; src = 4294967295; dst = 4294967295; sport = 65535; dport = 65535 }; discipline = ControlledDelay 100000 1000 }) } ∷
-    record { moment = 0; command = Add (record { number = 100; action = SendTo 1; proto = AnyProtocol; src = address_span 167772160 24; sports = None; dst = record { address = 0; len = 0 }; dports = None }) } ∷
+    record { moment = 0; command = Add (record { number = 100; action = Pipe 1; proto = AnyProtocol; src = address_span 167772160 24; sports = None; dst = record { address = 0; len = 0 }; dports = None }) } ∷
     record { moment = 3000000000; command = Flow 300 (record { src = 167772161; sport = 1000; dst = 167772418; dport = 7; smss = 1096; segments = 2; ssthresh = 65535; window = 3000; timing = Adaptive }) } ∷
     record { moment = 3000000000; command = Flow 300 (record { src = 167772162; sport = 1; dst = 167772418; dport = 7; smss = 536; segments = 3; ssthresh = 4000; window = 65535; timing = Adaptive }) } ∷
     record { moment = 3000000001; command = Delete 1 } ∷
@@ -189,10 +189,10 @@ exp_2-records =
     CommandDone 5000080000 14 ∷
     CommandDone 5000080000 15 ∷
     RuleLine (record { number = 50; action = Count; proto = AnyProtocol; src = address_span 167772160 8; sports = None; dst = record { address = 0; len = 0 }; dports = Some (record { first = 65535; last = 65535 }) }) 0 0 ∷
-    RuleLine (record { number = 100; action = SendTo 1; proto = AnyProtocol; src = address_span 167772160 24; sports = None; dst = record { address = 0; len = 0 }; dports = None }) 3 3732 ∷
-    RuleLine (record { number = 200; action = SendTo 3; proto = AnyProtocol; src = record { address = 0; len = 0 }; sports = None; dst = record { address = 0; len = 0 }; dports = None }) 2 80 ∷
+    RuleLine (record { number = 100; action = Pipe 1; proto = AnyProtocol; src = address_span 167772160 24; sports = None; dst = record { address = 0; len = 0 }; dports = None }) 3 3732 ∷
+    RuleLine (record { number = 200; action = Pipe 3; proto = AnyProtocol; src = record { address = 0; len = 0 }; sports = None; dst = record { address = 0; len = 0 }; dports = None }) 2 80 ∷
     RuleLine (record { number = 300; action = SkipTo 65534; proto = OnlyUdp; src = record { address = 0; len = 0 }; sports = None; dst = record { address = 0; len = 0 }; dports = None }) 0 0 ∷
-    RuleLine (record { number = 65535; action = Forbid; proto = AnyProtocol; src = record { address = 0; len = 0 }; sports = None; dst = record { address = 0; len = 0 }; dports = None }) 0 0 ∷
+    RuleLine (record { number = 65535; action = Deny; proto = AnyProtocol; src = record { address = 0; len = 0 }; sports = None; dst = record { address = 0; len = 0 }; dports = None }) 0 0 ∷
     CommandDone 13138854269 16 ∷
     CommandDone 13138854269 17 ∷
     []
@@ -213,7 +213,7 @@ exp_2 = refl
 abbrev exp_3-commands : List Timed
 exp_3-commands =
     record { moment = 0; command = Config 1 (record { bw = 1000000; delay = 10; queue = KBytes 10; plr = 0; mask = record { proto = 0; src = 0; dst = 0; sport = 0; dport = 0 }; discipline = ControlledDelay 5000000 5000000 }) } ∷
-    record { moment = 0; command = Add (record { number = 200; action = SendTo 3; proto = OnlyTcp; src = record { address = 0; len = 0 }; sports = None; dst = address_span 167772493 25; dports = Some (record { first = 1; last = 1 }) }) } ∷
+    record { moment = 0; command = Add (record { number = 200; action = Pipe 3; proto = OnlyTcp; src = record { address = 0; len = 0 }; sports = None; dst = address_span 167772493 25; dports = Some (record { first = 1; last = 1 }) }) } ∷
     record { moment = 0; command = Config 3 (record { bw = 997; delay = 0; queue = Slots 3; plr = 0; mask = record { proto = 255; src = 4294967295; dst = 4294967295; sport = 65535; dport = 65535 }; discipline = TailDrop }) } ∷
     record { moment = 0; command = Config 2 (record { bw = 1000000; delay = 0; queue = Slots 3; plr = 20000; mask = record { proto = 0; src = 255; dst = 0; sport = 0; dport = 0 }; discipline = ControlledDelay 5000000 100000000 }) } ∷
     record { moment = 0; command = OnePass false } ∷
@@ -253,8 +253,8 @@ exp_3-records =
     InstanceLine 3 0 0 0 false 0 4 ∷
     PipeLine 4 (record { bw = 0; delay = 0; queue = Slots 50; plr = 0; mask = record { proto = 0; src = 0; dst = 0; sport = 0; dport = 0 }; discipline = ControlledDelay 1000000 2000000 }) ∷
     CommandDone 100000000000 8 ∷
-    RuleLine (record { number = 200; action = SendTo 3; proto = OnlyTcp; src = record { address = 0; len = 0 }; sports = None; dst = address_span 167772416 25; dports = Some (record { first = 1; last = 1 }) }) 4 4544 ∷
-    RuleLine (record { number = 65535; action = Forbid; proto = AnyProtocol; src = record { address = 0; len = 0 }; sports = None; dst = record { address = 0; len = 0 }; dports = None }) 4 4544 ∷
+    RuleLine (record { number = 200; action = Pipe 3; proto = OnlyTcp; src = record { address = 0; len = 0 }; sports = None; dst = address_span 167772416 25; dports = Some (record { first = 1; last = 1 }) }) 4 4544 ∷
+    RuleLine (record { number = 65535; action = Deny; proto = AnyProtocol; src = record { address = 0; len = 0 }; sports = None; dst = record { address = 0; len = 0 }; dports = None }) 4 4544 ∷
     CommandDone 100000000000 9 ∷
     []
 
@@ -276,8 +276,8 @@ exp_4-commands =
     record { moment = 0; command = Add (record { number = 150; action = SkipTo 65535; proto = OnlyTcp; src = address_span 167772493 25; sports = None; dst = address_span 167772160 24; dports = None }) } ∷
     record { moment = 0; command = Config 2 (record { bw = 56000; delay = 0; queue = KBytes 10; plr = 0; mask = record { proto = 0; src = 0; dst = 0; sport = 0; dport = 0 }; discipline = TailDrop }) } ∷
     record { moment = 0; command = Config 1 (record { bw = 10000000000; delay = 400; queue = Slots 5; plr = 0; mask = record { proto = 0; src = 0; dst = 3; sport = 0; dport = 15 }; discipline = ControlledDelay 5000000 100000000 }) } ∷
-    record { moment = 0; command = Add (record { number = 100; action = SendTo 3; proto = AnyProtocol; src = address_span 167772160 24; sports = None; dst = record { address = 0; len = 0 }; dports = None }) } ∷
-    record { moment = 0; command = Add (record { number = 200; action = SendTo 1; proto = AnyProtocol; src = record { address = 0; len = 0 }; sports = None; dst = record { address = 0; len = 0 }; dports = None }) } ∷
+    record { moment = 0; command = Add (record { number = 100; action = Pipe 3; proto = AnyProtocol; src = address_span 167772160 24; sports = None; dst = record { address = 0; len = 0 }; dports = None }) } ∷
+    record { moment = 0; command = Add (record { number = 200; action = Pipe 1; proto = AnyProtocol; src = record { address = 0; len = 0 }; sports = None; dst = record { address = 0; len = 0 }; dports = None }) } ∷
     record { moment = 0; command = Config 3 (record { bw = 1000000; delay = 5; queue = KBytes 1; plr = 50000; mask = record { proto = 0; src = 0; dst = 0; sport = 0; dport = 0 }; discipline = ControlledDelay 5000000 1000 }) } ∷
     record { moment = 0; command = Train 65535 (record { packet = record { proto = Udp; src = 167772161; sport = 7; dst = 167772418; dport = 80; size = 1499 }; count = 5; gap = 10000000 }) } ∷
     record { moment = 0; command = Flow 65535 (record { src = 167772162; sport = 0; dst = 167772417; dport = 1; smss = 960; segments = 5; ssthresh = 1000; window = 65535; timing = Adaptive }) } ∷
@@ -319,16 +319,16 @@ exp_4 = refl
 -- experiment d5
 abbrev exp_5-commands : List Timed
 exp_5-commands =
-    record { moment = 0; command = Add (record { number = 200; action = SendTo 2; proto = OnlyTcp; src = record { address = 0; len = 0 }; sports = None; dst = record { address = 0; len = 0 }; dports = Some (record { first = 80; last = 80 }) }) } ∷
+    record { moment = 0; command = Add (record { number = 200; action = Pipe 2; proto = OnlyTcp; src = record { address = 0; len = 0 }; sports = None; dst = record { address = 0; len = 0 }; dports = Some (record { first = 80; last = 80 }) }) } ∷
     record { moment = 0; command = Add (record { number = 2; action = Count; proto = OnlyTcp; src = address_span 4294967295 32; sports = None; dst = address_span 167772416 24; dports = None }) } ∷
     record { moment = 0; command = Config 3 (record { bw = 1000000000; delay = 0; queue = Slots 5; plr = 0; mask = record { proto = 0; src = 0; dst = 0; sport = 0; dport = 0 }; discipline = ControlledDelay 3000000 100000000 }) } ∷
     record { moment = 0; command = Config 4 (record { bw = 8000000; delay = 0; queue = Slots 10; plr = 0; mask = record { proto = 0; src = 0; dst = 0; sport = 0; dport = 0 }; discipline = TailDrop }) } ∷
     record { moment = 0; command = Config 2 (record { bw = 7777777; delay = 400; queue = Slots 50; plr = 20000; mask = record { proto = 0; src = 0; dst = 0; sport = 1; dport = 15 }; discipline = TailDrop }) } ∷
     record { moment = 0; command = Config 1 (record { bw = 8000000; delay = 2; queue = KBytes 2; plr = 0; mask = record { proto = 0; src = 4294967295; dst = 0; sport = 65535; dport = 0 }; discipline = TailDrop }) } ∷
-    record { moment = 0; command = Add (record { number = 300; action = SendTo 1; proto = AnyProtocol; src = record { address = 0; len = 0 }; sports = None; dst = record { address = 0; len = 0 }; dports = Some (record { first = 65535; last = 65535 }) }) } ∷
+    record { moment = 0; command = Add (record { number = 300; action = Pipe 1; proto = AnyProtocol; src = record { address = 0; len = 0 }; sports = None; dst = record { address = 0; len = 0 }; dports = Some (record { first = 65535; last = 65535 }) }) } ∷
     record { moment = 0; command = Add (record { number = 1; action = SkipTo 2; proto = AnyProtocol; src = record { address = 0; len = 0 }; sports = Some (record { first = 2000; last = 2000 }); dst = address_span 3232235520 16; dports = None }) } ∷
     record { moment = 0; command = Add (record { number = 200; action = SkipTo 400; proto = AnyProtocol; src = record { address = 0; len = 0 }; sports = None; dst = address_span 167772160 24; dports = Some (record { first = 1; last = 1000 }) }) } ∷
-    record { moment = 0; command = Add (record { number = 65534; action = Permit; proto = OnlyTcp; src = record { address = 0; len = 0 }; sports = Some (record { first = 2000; last = 2000 }); dst = record { address = 0; len = 0 }; dports = None }) } ∷
+    record { moment = 0; command = Add (record { number = 65534; action = Allow; proto = OnlyTcp; src = record { address = 0; len = 0 }; sports = Some (record { first = 2000; last = 2000 }); dst = record { address = 0; len = 0 }; dports = None }) } ∷
     record { moment = 7000080000; command = Train 65535 (record { packet = record { proto = Tcp; src = 167772161; sport = 1; dst = 167772418; dport = 1; size = 125 }; count = 5; gap = 10000000 }) } ∷
     record { moment = 20000000500; command = Flow 3 (record { src = 167772161; sport = 65535; dst = 167772418; dport = 80; smss = 536; segments = 2; ssthresh = 2000; window = 65535; timing = Adaptive }) } ∷
     record { moment = 100000000000; command = PipeShow } ∷
@@ -377,11 +377,11 @@ exp_5-records =
     CommandDone 100000000000 13 ∷
     RuleLine (record { number = 1; action = SkipTo 2; proto = AnyProtocol; src = record { address = 0; len = 0 }; sports = Some (record { first = 2000; last = 2000 }); dst = address_span 3232235520 16; dports = None }) 0 0 ∷
     RuleLine (record { number = 2; action = Count; proto = OnlyTcp; src = address_span 4294967295 32; sports = None; dst = address_span 167772416 24; dports = None }) 0 0 ∷
-    RuleLine (record { number = 200; action = SendTo 2; proto = OnlyTcp; src = record { address = 0; len = 0 }; sports = None; dst = record { address = 0; len = 0 }; dports = Some (record { first = 80; last = 80 }) }) 2 1152 ∷
+    RuleLine (record { number = 200; action = Pipe 2; proto = OnlyTcp; src = record { address = 0; len = 0 }; sports = None; dst = record { address = 0; len = 0 }; dports = Some (record { first = 80; last = 80 }) }) 2 1152 ∷
     RuleLine (record { number = 200; action = SkipTo 400; proto = AnyProtocol; src = record { address = 0; len = 0 }; sports = None; dst = address_span 167772160 24; dports = Some (record { first = 1; last = 1000 }) }) 0 0 ∷
-    RuleLine (record { number = 300; action = SendTo 1; proto = AnyProtocol; src = record { address = 0; len = 0 }; sports = None; dst = record { address = 0; len = 0 }; dports = Some (record { first = 65535; last = 65535 }) }) 2 80 ∷
-    RuleLine (record { number = 65534; action = Permit; proto = OnlyTcp; src = record { address = 0; len = 0 }; sports = Some (record { first = 2000; last = 2000 }); dst = record { address = 0; len = 0 }; dports = None }) 0 0 ∷
-    RuleLine (record { number = 65535; action = Forbid; proto = AnyProtocol; src = record { address = 0; len = 0 }; sports = None; dst = record { address = 0; len = 0 }; dports = None }) 5 625 ∷
+    RuleLine (record { number = 300; action = Pipe 1; proto = AnyProtocol; src = record { address = 0; len = 0 }; sports = None; dst = record { address = 0; len = 0 }; dports = Some (record { first = 65535; last = 65535 }) }) 2 80 ∷
+    RuleLine (record { number = 65534; action = Allow; proto = OnlyTcp; src = record { address = 0; len = 0 }; sports = Some (record { first = 2000; last = 2000 }); dst = record { address = 0; len = 0 }; dports = None }) 0 0 ∷
+    RuleLine (record { number = 65535; action = Deny; proto = AnyProtocol; src = record { address = 0; len = 0 }; sports = None; dst = record { address = 0; len = 0 }; dports = None }) 5 625 ∷
     CommandDone 100000000000 14 ∷
     []
 
@@ -400,17 +400,17 @@ exp_5 = refl
 -- experiment d6
 abbrev exp_6-commands : List Timed
 exp_6-commands =
-    record { moment = 0; command = Add (record { number = 400; action = SendTo 2; proto = OnlyTcp; src = record { address = 0; len = 0 }; sports = Some (record { first = 80; last = 2000 }); dst = address_span 3232235520 16; dports = None }) } ∷
-    record { moment = 0; command = Add (record { number = 0; action = SendTo 3; proto = AnyProtocol; src = record { address = 0; len = 0 }; sports = None; dst = record { address = 0; len = 0 }; dports = None }) } ∷
+    record { moment = 0; command = Add (record { number = 400; action = Pipe 2; proto = OnlyTcp; src = record { address = 0; len = 0 }; sports = Some (record { first = 80; last = 2000 }); dst = address_span 3232235520 16; dports = None }) } ∷
+    record { moment = 0; command = Add (record { number = 0; action = Pipe 3; proto = AnyProtocol; src = record { address = 0; len = 0 }; sports = None; dst = record { address = 0; len = 0 }; dports = None }) } ∷
     record { moment = 0; command = Config 1 (record { bw = 0; delay = 50; queue = Slots 2; plr = 0; mask = record { proto = 0; src = 0; dst = 0; sport = 0; dport = 0 }; discipline = TailDrop }) } ∷
     record { moment = 0; command = Config 2 (record { bw = 3000000; delay = 50; queue = Slots 50; plr = 0; mask = record { proto = 0; src = 0; dst = 0; sport = 0; dport = 0 }; discipline = ControlledDelay 20000000 20000000 }) } ∷
-    record { moment = 0; command = Add (record { number = 100; action = SendTo 2; proto = AnyProtocol; src = address_span 3232235520 16; sports = None; dst = record { address = 0; len = 0 }; dports = Some (record { first = 2000; last = 65535 }) }) } ∷
-    record { moment = 0; command = Add (record { number = 100; action = SendTo 3; proto = AnyProtocol; src = address_span 167772160 24; sports = None; dst = record { address = 0; len = 0 }; dports = None }) } ∷
-    record { moment = 0; command = Add (record { number = 300; action = SendTo 2; proto = OnlyTcp; src = record { address = 0; len = 0 }; sports = None; dst = address_span 167772160 8; dports = None }) } ∷
-    record { moment = 0; command = Add (record { number = 100; action = SendTo 1; proto = OnlyUdp; src = record { address = 0; len = 0 }; sports = None; dst = address_span 0 0; dports = None }) } ∷
-    record { moment = 0; command = Add (record { number = 200; action = SendTo 1; proto = AnyProtocol; src = record { address = 0; len = 0 }; sports = None; dst = record { address = 0; len = 0 }; dports = None }) } ∷
+    record { moment = 0; command = Add (record { number = 100; action = Pipe 2; proto = AnyProtocol; src = address_span 3232235520 16; sports = None; dst = record { address = 0; len = 0 }; dports = Some (record { first = 2000; last = 65535 }) }) } ∷
+    record { moment = 0; command = Add (record { number = 100; action = Pipe 3; proto = AnyProtocol; src = address_span 167772160 24; sports = None; dst = record { address = 0; len = 0 }; dports = None }) } ∷
+    record { moment = 0; command = Add (record { number = 300; action = Pipe 2; proto = OnlyTcp; src = record { address = 0; len = 0 }; sports = None; dst = address_span 167772160 8; dports = None }) } ∷
+    record { moment = 0; command = Add (record { number = 100; action = Pipe 1; proto = OnlyUdp; src = record { address = 0; len = 0 }; sports = None; dst = address_span 0 0; dports = None }) } ∷
+    record { moment = 0; command = Add (record { number = 200; action = Pipe 1; proto = AnyProtocol; src = record { address = 0; len = 0 }; sports = None; dst = record { address = 0; len = 0 }; dports = None }) } ∷
     record { moment = 0; command = Config 3 (record { bw = 1000000000; delay = 2; queue = Slots 5; plr = 500000; mask = record { proto = 0; src = 0; dst = 0; sport = 0; dport = 0 }; discipline = ControlledDelay 1000 20000000 }) } ∷
-    record { moment = 0; command = Add (record { number = 65534; action = Permit; proto = OnlyTcp; src = address_span 167772161 32; sports = None; dst = address_span 167772493 25; dports = Some (record { first = 2000; last = 2000 }) }) } ∷
+    record { moment = 0; command = Add (record { number = 65534; action = Allow; proto = OnlyTcp; src = address_span 167772161 32; sports = None; dst = address_span 167772493 25; dports = Some (record { first = 2000; last = 2000 }) }) } ∷
     record { moment = 0; command = Config 4 (record { bw = 56000; delay = 2; queue = Slots 1; plr = 0; mask = record { proto = 0; src = 0; dst = 0; sport = 0; dport = 0 }; discipline = ControlledDelay 5000000 100000000 }) } ∷
     record { moment = 900000000; command = Flow 3 (record { src = 167772162; sport = 0; dst = 167772418; dport = 2000; smss = 1460; segments = 2; ssthresh = 65535; window = 1460; timing = Adaptive }) } ∷
     record { moment = 900000000; command = Train 65535 (record { packet = record { proto = Tcp; src = 167772161; sport = 1000; dst = 167772417; dport = 65535; size = 125 }; count = 5; gap = 125000 }) } ∷
@@ -459,15 +459,15 @@ exp_6 = refl
 abbrev exp_7-commands : List Timed
 exp_7-commands =
     record { moment = 0; command = Config 4 (record { bw = 10000000000; delay = 0; queue = Slots 2; plr = 500000; mask = record { proto = 255; src = 0; dst = 0; sport = 0; dport = 0 }; discipline = TailDrop }) } ∷
-    record { moment = 0; command = Add (record { number = 200; action = SendTo 1; proto = AnyProtocol; src = record { address = 0; len = 0 }; sports = None; dst = record { address = 0; len = 0 }; dports = None }) } ∷
-    record { moment = 0; command = Add (record { number = 100; action = SendTo 1; proto = AnyProtocol; src = address_span 167772160 24; sports = None; dst = record { address = 0; len = 0 }; dports = None }) } ∷
+    record { moment = 0; command = Add (record { number = 200; action = Pipe 1; proto = AnyProtocol; src = record { address = 0; len = 0 }; sports = None; dst = record { address = 0; len = 0 }; dports = None }) } ∷
+    record { moment = 0; command = Add (record { number = 100; action = Pipe 1; proto = AnyProtocol; src = address_span 167772160 24; sports = None; dst = record { address = 0; len = 0 }; dports = None }) } ∷
     record { moment = 0; command = Config 1 (record { bw = 56000; delay = 0; queue = Slots 50; plr = 1000000; mask = record { proto = 0; src = 0; dst = 0; sport = 0; dport = 0 }; discipline = TailDrop }) } ∷
     record { moment = 0; command = Config 3 (record { bw = 997; delay = 50; queue = Slots 50; plr = 500000; mask = record { proto = 255; src = 4294967295; dst = 4294967295; sport = 65535; dport = 65535 }; discipline = ControlledDelay 5000000 100000000 }) } ∷
     record { moment = 308000000; command = Config 2 (record { bw = 10000000; delay = 0; queue = Slots 50; plr = 500000; mask = record { proto = 255; src = 4294967295; dst = 4294967295; sport = 65535; dport = 65535 }; discipline = ControlledDelay 5000000 100000000 }) } ∷
     record { moment = 600000000; command = Flow 1 (record { src = 167772162; sport = 65535; dst = 167772417; dport = 0; smss = 1460; segments = 2; ssthresh = 65535; window = 65535; timing = Fixed 200 }) } ∷
     record { moment = 600000500; command = Delete 65535 } ∷
     record { moment = 600000500; command = Config 1 (record { bw = 1000000; delay = 1; queue = Slots 50; plr = 1000000; mask = record { proto = 0; src = 0; dst = 0; sport = 0; dport = 0 }; discipline = TailDrop }) } ∷
-    record { moment = 600000500; command = Add (record { number = 150; action = Permit; proto = AnyProtocol; src = record { address = 0; len = 0 }; sports = None; dst = record { address = 0; len = 0 }; dports = None }) } ∷
+    record { moment = 600000500; command = Add (record { number = 150; action = Allow; proto = AnyProtocol; src = record { address = 0; len = 0 }; sports = None; dst = record { address = 0; len = 0 }; dports = None }) } ∷
     record { moment = 1600000000; command = Inject (record { proto = Udp; src = 167772418; sport = 1000; dst = 0; dport = 0; size = 1460 }) } ∷
     record { moment = 5000000000; command = End } ∷
     []
@@ -515,11 +515,11 @@ exp_7 = refl
 abbrev exp_8-commands : List Timed
 exp_8-commands =
     record { moment = 0; command = Config 3 (record { bw = 0; delay = 50; queue = KBytes 2; plr = 0; mask = record { proto = 0; src = 0; dst = 0; sport = 0; dport = 0 }; discipline = TailDrop }) } ∷
-    record { moment = 0; command = Add (record { number = 1; action = SendTo 2; proto = OnlyTcp; src = address_span 0 0; sports = None; dst = record { address = 0; len = 0 }; dports = None }) } ∷
+    record { moment = 0; command = Add (record { number = 1; action = Pipe 2; proto = OnlyTcp; src = address_span 0 0; sports = None; dst = record { address = 0; len = 0 }; dports = None }) } ∷
     record { moment = 0; command = Config 2 (record { bw = 1000000; delay = 0; queue = Slots 50; plr = 50000; mask = record { proto = 255; src = 4294967295; dst = 4294967295; sport = 65535; dport = 65535 }; discipline = TailDrop }) } ∷
     record { moment = 0; command = Config 4 (record { bw = 8000000; delay = 1; queue = KBytes 2; plr = 50000; mask = record { proto = 0; src = 0; dst = 0; sport = 0; dport = 0 }; discipline = TailDrop }) } ∷
-    record { moment = 0; command = Add (record { number = 200; action = SendTo 1; proto = AnyProtocol; src = record { address = 0; len = 0 }; sports = None; dst = record { address = 0; len = 0 }; dports = None }) } ∷
-    record { moment = 0; command = Add (record { number = 100; action = SendTo 2; proto = AnyProtocol; src = address_span 167772160 24; sports = None; dst = record { address = 0; len = 0 }; dports = None }) } ∷
+    record { moment = 0; command = Add (record { number = 200; action = Pipe 1; proto = AnyProtocol; src = record { address = 0; len = 0 }; sports = None; dst = record { address = 0; len = 0 }; dports = None }) } ∷
+    record { moment = 0; command = Add (record { number = 100; action = Pipe 2; proto = AnyProtocol; src = address_span 167772160 24; sports = None; dst = record { address = 0; len = 0 }; dports = None }) } ∷
     record { moment = 0; command = Config 1 (record { bw = 0; delay = 0; queue = KBytes 1; plr = 0; mask = record { proto = 255; src = 4294967295; dst = 4294967295; sport = 65535; dport = 65535 }; discipline = ControlledDelay 1000 10000000 }) } ∷
     record { moment = 3241083060; command = Config 2 (record { bw = 1000000; delay = 2; queue = Slots 3; plr = 1000000; mask = record { proto = 0; src = 0; dst = 0; sport = 0; dport = 0 }; discipline = ControlledDelay 100000 7000000 }) } ∷
     record { moment = 3241083060; command = Config 4 (record { bw = 8000000; delay = 1; queue = Slots 2; plr = 0; mask = record { proto = 0; src = 0; dst = 0; sport = 0; dport = 0 }; discipline = ControlledDelay 1000000 100000000 }) } ∷
@@ -554,10 +554,10 @@ exp_8-records =
     InstanceLine 2 0 0 0 false 0 1 ∷
     PipeLine 4 (record { bw = 8000000; delay = 1; queue = Slots 2; plr = 0; mask = record { proto = 0; src = 0; dst = 0; sport = 0; dport = 0 }; discipline = ControlledDelay 1000000 100000000 }) ∷
     CommandDone 30000000000 14 ∷
-    RuleLine (record { number = 1; action = SendTo 2; proto = OnlyTcp; src = record { address = 0; len = 0 }; sports = None; dst = record { address = 0; len = 0 }; dports = None }) 1 1500 ∷
-    RuleLine (record { number = 100; action = SendTo 2; proto = AnyProtocol; src = address_span 167772160 24; sports = None; dst = record { address = 0; len = 0 }; dports = None }) 0 0 ∷
-    RuleLine (record { number = 200; action = SendTo 1; proto = AnyProtocol; src = record { address = 0; len = 0 }; sports = None; dst = record { address = 0; len = 0 }; dports = None }) 0 0 ∷
-    RuleLine (record { number = 65535; action = Forbid; proto = AnyProtocol; src = record { address = 0; len = 0 }; sports = None; dst = record { address = 0; len = 0 }; dports = None }) 0 0 ∷
+    RuleLine (record { number = 1; action = Pipe 2; proto = OnlyTcp; src = record { address = 0; len = 0 }; sports = None; dst = record { address = 0; len = 0 }; dports = None }) 1 1500 ∷
+    RuleLine (record { number = 100; action = Pipe 2; proto = AnyProtocol; src = address_span 167772160 24; sports = None; dst = record { address = 0; len = 0 }; dports = None }) 0 0 ∷
+    RuleLine (record { number = 200; action = Pipe 1; proto = AnyProtocol; src = record { address = 0; len = 0 }; sports = None; dst = record { address = 0; len = 0 }; dports = None }) 0 0 ∷
+    RuleLine (record { number = 65535; action = Deny; proto = AnyProtocol; src = record { address = 0; len = 0 }; sports = None; dst = record { address = 0; len = 0 }; dports = None }) 0 0 ∷
     CommandDone 30000000000 15 ∷
     []
 
@@ -576,11 +576,11 @@ exp_8 = refl
 -- experiment d9
 abbrev exp_9-commands : List Timed
 exp_9-commands =
-    record { moment = 0; command = Add (record { number = 200; action = SendTo 1; proto = AnyProtocol; src = record { address = 0; len = 0 }; sports = None; dst = record { address = 0; len = 0 }; dports = None }) } ∷
+    record { moment = 0; command = Add (record { number = 200; action = Pipe 1; proto = AnyProtocol; src = record { address = 0; len = 0 }; sports = None; dst = record { address = 0; len = 0 }; dports = None }) } ∷
     record { moment = 0; command = OnePass false } ∷
     record { moment = 0; command = Config 1 (record { bw = 10000000; delay = 50; queue = Slots 1000; plr = 200000; mask = record { proto = 255; src = 4294967295; dst = 4294967295; sport = 65535; dport = 65535 }; discipline = TailDrop }) } ∷
     record { moment = 0; command = Config 4 (record { bw = 8000000; delay = 400; queue = Slots 10; plr = 200000; mask = record { proto = 0; src = 0; dst = 0; sport = 0; dport = 0 }; discipline = TailDrop }) } ∷
-    record { moment = 0; command = Add (record { number = 100; action = SendTo 1; proto = AnyProtocol; src = address_span 167772160 24; sports = None; dst = record { address = 0; len = 0 }; dports = None }) } ∷
+    record { moment = 0; command = Add (record { number = 100; action = Pipe 1; proto = AnyProtocol; src = address_span 167772160 24; sports = None; dst = record { address = 0; len = 0 }; dports = None }) } ∷
     record { moment = 0; command = Add (record { number = 200; action = Count; proto = AnyProtocol; src = record { address = 0; len = 0 }; sports = None; dst = address_span 167772493 25; dports = None }) } ∷
     record { moment = 0; command = Config 2 (record { bw = 10000000000; delay = 400; queue = KBytes 10; plr = 0; mask = record { proto = 0; src = 0; dst = 0; sport = 0; dport = 0 }; discipline = ControlledDelay 1000000 10000000 }) } ∷
     record { moment = 0; command = Config 3 (record { bw = 0; delay = 50; queue = KBytes 2; plr = 1000000; mask = record { proto = 0; src = 0; dst = 0; sport = 0; dport = 0 }; discipline = ControlledDelay 5000000 100000000 }) } ∷
@@ -638,10 +638,10 @@ exp_9-records =
     PipeLine 3 (record { bw = 0; delay = 50; queue = KBytes 2; plr = 1000000; mask = record { proto = 0; src = 0; dst = 0; sport = 0; dport = 0 }; discipline = ControlledDelay 5000000 100000000 }) ∷
     PipeLine 4 (record { bw = 8000000; delay = 400; queue = Slots 10; plr = 200000; mask = record { proto = 0; src = 0; dst = 0; sport = 0; dport = 0 }; discipline = TailDrop }) ∷
     CommandDone 19008000000 17 ∷
-    RuleLine (record { number = 100; action = SendTo 1; proto = AnyProtocol; src = address_span 167772160 24; sports = None; dst = record { address = 0; len = 0 }; dports = None }) 13 4596 ∷
-    RuleLine (record { number = 200; action = SendTo 1; proto = AnyProtocol; src = record { address = 0; len = 0 }; sports = None; dst = record { address = 0; len = 0 }; dports = None }) 1 1040 ∷
+    RuleLine (record { number = 100; action = Pipe 1; proto = AnyProtocol; src = address_span 167772160 24; sports = None; dst = record { address = 0; len = 0 }; dports = None }) 13 4596 ∷
+    RuleLine (record { number = 200; action = Pipe 1; proto = AnyProtocol; src = record { address = 0; len = 0 }; sports = None; dst = record { address = 0; len = 0 }; dports = None }) 1 1040 ∷
     RuleLine (record { number = 200; action = Count; proto = AnyProtocol; src = record { address = 0; len = 0 }; sports = None; dst = address_span 167772416 25; dports = None }) 0 0 ∷
-    RuleLine (record { number = 65535; action = Forbid; proto = AnyProtocol; src = record { address = 0; len = 0 }; sports = None; dst = record { address = 0; len = 0 }; dports = None }) 0 0 ∷
+    RuleLine (record { number = 65535; action = Deny; proto = AnyProtocol; src = record { address = 0; len = 0 }; sports = None; dst = record { address = 0; len = 0 }; dports = None }) 0 0 ∷
     CommandDone 19008000000 18 ∷
     []
 

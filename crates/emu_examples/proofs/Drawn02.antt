@@ -3,7 +3,7 @@ use Rattle.std.specs.Prelude.{◌≡◌, refl, List, [], ◌∷◌, Some, None, 
 use Rattle.emu_model.specs.Spans.{address_span}
 use Rattle.emu_model.specs.declared.packets.Load.TheVariants.{Plain, Seg, Ack}
 use Rattle.emu_model.specs.declared.packets.Protocol.TheVariants.{Tcp, Udp}
-use Rattle.emu_model.specs.declared.rules.Action.TheVariants.{Permit, Forbid, Count, SkipTo, SendTo}
+use Rattle.emu_model.specs.declared.rules.Action.TheVariants.{Allow, Deny, Count, SkipTo, Pipe}
 use Rattle.emu_model.specs.declared.rules.ProtocolMatch.TheVariants.{AnyProtocol, OnlyTcp, OnlyUdp}
 use Rattle.emu_model.specs.declared.pipes.QueueLimit.TheVariants.{Slots, KBytes}
 use Rattle.emu_model.specs.declared.pipes.Discipline.TheVariants.{TailDrop, ControlledDelay}
@@ -24,17 +24,17 @@ use Rattle.rand_core.specs.Steps.{u32_at}
 -- experiment d10
 abbrev exp_0-commands : List Timed
 exp_0-commands =
-    record { moment = 0; command = Add (record { number = 100; action = SendTo 1; proto = AnyProtocol; src = address_span 167772160 24; sports = None; dst = record { address = 0; len = 0 }; dports = None }) } ∷
+    record { moment = 0; command = Add (record { number = 100; action = Pipe 1; proto = AnyProtocol; src = address_span 167772160 24; sports = None; dst = record { address = 0; len = 0 }; dports = None }) } ∷
     record { moment = 0; command = Config 1 (record { bw = 0; delay = 0; queue = Slots 1; plr = 0; mask = record { proto = 255; src = 4294967295; dst = 4294967295; sport = 65535; dport = 65535 }; discipline = TailDrop }) } ∷
-    record { moment = 0; command = Add (record { number = 200; action = SendTo 3; proto = AnyProtocol; src = record { address = 0; len = 0 }; sports = None; dst = record { address = 0; len = 0 }; dports = None }) } ∷
+    record { moment = 0; command = Add (record { number = 200; action = Pipe 3; proto = AnyProtocol; src = record { address = 0; len = 0 }; sports = None; dst = record { address = 0; len = 0 }; dports = None }) } ∷
     record { moment = 0; command = Config 4 (record { bw = 0; delay = 400; queue = Slots 3; plr = 0; mask = record { proto = 255; src = 4294967295; dst = 4294967295; sport = 65535; dport = 65535 }; discipline = ControlledDelay 5000000 7000000 }) } ∷
     record { moment = 0; command = Config 3 (record { bw = 997; delay = 1200; queue = Slots 1; plr = 20000; mask = record { proto = 0; src = 0; dst = 4294901760; sport = 65535; dport = 0 }; discipline = ControlledDelay 5000000 10000000 }) } ∷
-    record { moment = 0; command = Add (record { number = 50; action = Permit; proto = OnlyTcp; src = record { address = 0; len = 0 }; sports = Some (record { first = 2000; last = 65535 }); dst = record { address = 0; len = 0 }; dports = None }) } ∷
+    record { moment = 0; command = Add (record { number = 50; action = Allow; proto = OnlyTcp; src = record { address = 0; len = 0 }; sports = Some (record { first = 2000; last = 65535 }); dst = record { address = 0; len = 0 }; dports = None }) } ∷
     record { moment = 0; command = Config 2 (record { bw = 56000; delay = 400; queue = KBytes 3; plr = 0; mask = record { proto = 0; src = 0; dst = 0; sport = 0; dport = 0 }; discipline = ControlledDelay 3000000 1000000000 }) } ∷
     record { moment = 0; command = Inject (record { proto = Udp; src = 167772161; sport = 7; dst = 167772417; dport = 65535; size = 1499 }) } ∷
     record { moment = 0; command = Flow 2 (record { src = 167772162; sport = 2000; dst = 167772417; dport = 2000; smss = 1095; segments = 5; ssthresh = 65535; window = 1460; timing = Adaptive }) } ∷
     record { moment = 2000000; command = Train 300 (record { packet = record { proto = Udp; src = 0; sport = 2000; dst = 0; dport = 1000; size = 1000 }; count = 2; gap = 999 }) } ∷
-    record { moment = 2000000; command = Add (record { number = 400; action = SendTo 3; proto = OnlyTcp; src = address_span 167772416 24; sports = None; dst = record { address = 0; len = 0 }; dports = None }) } ∷
+    record { moment = 2000000; command = Add (record { number = 400; action = Pipe 3; proto = OnlyTcp; src = address_span 167772416 24; sports = None; dst = record { address = 0; len = 0 }; dports = None }) } ∷
     record { moment = 13000000; command = Flow 2 (record { src = 167772162; sport = 80; dst = 167772418; dport = 0; smss = 460; segments = 3; ssthresh = 65535; window = 65535; timing = Adaptive }) } ∷
     record { moment = 17933666; command = Flow 300 (record { src = 167772162; sport = 2000; dst = 167772418; dport = 80; smss = 1095; segments = 6; ssthresh = 65535; window = 65535; timing = Fixed 1000 }) } ∷
     record { moment = 19000500; command = Flow 1 (record { src = 167772161; sport = 1000; dst = 167772418; dport = 1; smss = 1095; segments = 2; ssthresh = 65535; window = 65535; timing = Fixed 1000 }) } ∷
@@ -81,10 +81,10 @@ exp_0 = refl
 -- experiment d11
 abbrev exp_1-commands : List Timed
 exp_1-commands =
-    record { moment = 0; command = Add (record { number = 100; action = SendTo 3; proto = AnyProtocol; src = address_span 167772160 24; sports = None; dst = record { address = 0; len = 0 }; dports = None }) } ∷
+    record { moment = 0; command = Add (record { number = 100; action = Pipe 3; proto = AnyProtocol; src = address_span 167772160 24; sports = None; dst = record { address = 0; len = 0 }; dports = None }) } ∷
     record { moment = 0; command = Add (record { number = 200; action = Count; proto = OnlyUdp; src = address_span 4294967295 32; sports = None; dst = record { address = 0; len = 0 }; dports = None }) } ∷
     record { moment = 0; command = Config 1 (record { bw = 3000000; delay = 0; queue = KBytes 2; plr = 0; mask = record { proto = 0; src = 0; dst = 0; sport = 0; dport = 0 }; discipline = ControlledDelay 1000 7000000 }) } ∷
-    record { moment = 0; command = Add (record { number = 200; action = SendTo 3; proto = AnyProtocol; src = record { address = 0; len = 0 }; sports = None; dst = record { address = 0; len = 0 }; dports = None }) } ∷
+    record { moment = 0; command = Add (record { number = 200; action = Pipe 3; proto = AnyProtocol; src = record { address = 0; len = 0 }; sports = None; dst = record { address = 0; len = 0 }; dports = None }) } ∷
     record { moment = 0; command = Config 4 (record { bw = 8000000; delay = 0; queue = Slots 1000; plr = 50000; mask = record { proto = 0; src = 0; dst = 0; sport = 0; dport = 0 }; discipline = TailDrop }) } ∷
     record { moment = 0; command = Flow 300 (record { src = 167772162; sport = 2000; dst = 167772417; dport = 7; smss = 64; segments = 3; ssthresh = 65535; window = 65535; timing = Adaptive }) } ∷
     record { moment = 1000000000; command = Inject (record { proto = Udp; src = 167772162; sport = 1000; dst = 167772417; dport = 2000; size = 41 }) } ∷
@@ -132,17 +132,17 @@ exp_1 = refl
 abbrev exp_2-commands : List Timed
 exp_2-commands =
     record { moment = 0; command = Config 4 (record { bw = 8000000; delay = 0; queue = Slots 3; plr = 0; mask = record { proto = 0; src = 0; dst = 0; sport = 0; dport = 0 }; discipline = ControlledDelay 5000000 10000000 }) } ∷
-    record { moment = 0; command = Add (record { number = 200; action = SendTo 2; proto = AnyProtocol; src = record { address = 0; len = 0 }; sports = None; dst = record { address = 0; len = 0 }; dports = None }) } ∷
+    record { moment = 0; command = Add (record { number = 200; action = Pipe 2; proto = AnyProtocol; src = record { address = 0; len = 0 }; sports = None; dst = record { address = 0; len = 0 }; dports = None }) } ∷
     record { moment = 0; command = Add (record { number = 200; action = Count; proto = OnlyUdp; src = address_span 167772161 32; sports = None; dst = record { address = 0; len = 0 }; dports = None }) } ∷
     record { moment = 0; command = Add (record { number = 200; action = Count; proto = OnlyTcp; src = address_span 167772162 31; sports = None; dst = address_span 167772493 25; dports = Some (record { first = 7; last = 7 }) }) } ∷
     record { moment = 0; command = Config 3 (record { bw = 7777777; delay = 0; queue = Slots 50; plr = 0; mask = record { proto = 0; src = 0; dst = 255; sport = 65535; dport = 255 }; discipline = TailDrop }) } ∷
-    record { moment = 0; command = Add (record { number = 100; action = SendTo 2; proto = OnlyTcp; src = address_span 167772161 32; sports = Some (record { first = 80; last = 80 }); dst = address_span 167772416 24; dports = Some (record { first = 2000; last = 2000 }) }) } ∷
+    record { moment = 0; command = Add (record { number = 100; action = Pipe 2; proto = OnlyTcp; src = address_span 167772161 32; sports = Some (record { first = 80; last = 80 }); dst = address_span 167772416 24; dports = Some (record { first = 2000; last = 2000 }) }) } ∷
     record { moment = 0; command = Config 1 (record { bw = 8000000; delay = 1200; queue = KBytes 1; plr = 0; mask = record { proto = 0; src = 0; dst = 0; sport = 0; dport = 0 }; discipline = ControlledDelay 5000000 100000000 }) } ∷
     record { moment = 0; command = Config 2 (record { bw = 56000; delay = 2; queue = Slots 1; plr = 0; mask = record { proto = 255; src = 0; dst = 0; sport = 1; dport = 15 }; discipline = ControlledDelay 5000000 7000000 }) } ∷
     record { moment = 0; command = Add (record { number = 1; action = SkipTo 200; proto = OnlyUdp; src = record { address = 0; len = 0 }; sports = Some (record { first = 0; last = 0 }); dst = record { address = 0; len = 0 }; dports = None }) } ∷
-    record { moment = 0; command = Add (record { number = 100; action = SendTo 2; proto = AnyProtocol; src = address_span 167772160 24; sports = None; dst = record { address = 0; len = 0 }; dports = None }) } ∷
-    record { moment = 0; command = Add (record { number = 300; action = SendTo 2; proto = AnyProtocol; src = address_span 167772493 25; sports = None; dst = record { address = 0; len = 0 }; dports = None }) } ∷
-    record { moment = 0; command = Add (record { number = 200; action = SendTo 1; proto = OnlyTcp; src = address_span 167772416 24; sports = None; dst = address_span 167772493 25; dports = None }) } ∷
+    record { moment = 0; command = Add (record { number = 100; action = Pipe 2; proto = AnyProtocol; src = address_span 167772160 24; sports = None; dst = record { address = 0; len = 0 }; dports = None }) } ∷
+    record { moment = 0; command = Add (record { number = 300; action = Pipe 2; proto = AnyProtocol; src = address_span 167772493 25; sports = None; dst = record { address = 0; len = 0 }; dports = None }) } ∷
+    record { moment = 0; command = Add (record { number = 200; action = Pipe 1; proto = OnlyTcp; src = address_span 167772416 24; sports = None; dst = address_span 167772493 25; dports = None }) } ∷
     record { moment = 0; command = Inject (record { proto = Udp; src = 167772161; sport = 80; dst = 167772418; dport = 7; size = 999 }) } ∷
     record { moment = 0; command = Flow 5 (record { src = 3232237321; sport = 1; dst = 3232237321; dport = 0; smss = 1096; segments = 4; ssthresh = 65535; window = 65535; timing = Adaptive }) } ∷
     record { moment = 0; command = Inject (record { proto = Udp; src = 167772161; sport = 1000; dst = 167772417; dport = 1; size = 999 }) } ∷
@@ -214,16 +214,16 @@ abbrev exp_3-commands : List Timed
 exp_3-commands =
     record { moment = 0; command = Config 4 (record { bw = 8000000; delay = 10; queue = KBytes 1; plr = 200000; mask = record { proto = 0; src = 0; dst = 0; sport = 0; dport = 0 }; discipline = TailDrop }) } ∷
     record { moment = 0; command = Config 2 (record { bw = 0; delay = 10; queue = Slots 1; plr = 20000; mask = record { proto = 0; src = 0; dst = 0; sport = 0; dport = 0 }; discipline = ControlledDelay 100000 2000000 }) } ∷
-    record { moment = 0; command = Add (record { number = 300; action = SendTo 2; proto = AnyProtocol; src = address_span 3232235520 16; sports = None; dst = address_span 167772416 24; dports = Some (record { first = 7; last = 65535 }) }) } ∷
-    record { moment = 0; command = Add (record { number = 100; action = SendTo 1; proto = AnyProtocol; src = address_span 167772160 24; sports = None; dst = record { address = 0; len = 0 }; dports = None }) } ∷
+    record { moment = 0; command = Add (record { number = 300; action = Pipe 2; proto = AnyProtocol; src = address_span 3232235520 16; sports = None; dst = address_span 167772416 24; dports = Some (record { first = 7; last = 65535 }) }) } ∷
+    record { moment = 0; command = Add (record { number = 100; action = Pipe 1; proto = AnyProtocol; src = address_span 167772160 24; sports = None; dst = record { address = 0; len = 0 }; dports = None }) } ∷
     record { moment = 0; command = Config 3 (record { bw = 0; delay = 400; queue = Slots 2; plr = 500000; mask = record { proto = 0; src = 0; dst = 0; sport = 0; dport = 0 }; discipline = TailDrop }) } ∷
-    record { moment = 0; command = Add (record { number = 50; action = SendTo 1; proto = OnlyTcp; src = record { address = 0; len = 0 }; sports = Some (record { first = 65535; last = 65535 }); dst = record { address = 0; len = 0 }; dports = Some (record { first = 1000; last = 1000 }) }) } ∷
+    record { moment = 0; command = Add (record { number = 50; action = Pipe 1; proto = OnlyTcp; src = record { address = 0; len = 0 }; sports = Some (record { first = 65535; last = 65535 }); dst = record { address = 0; len = 0 }; dports = Some (record { first = 1000; last = 1000 }) }) } ∷
     record { moment = 0; command = Add (record { number = 300; action = SkipTo 65535; proto = OnlyTcp; src = record { address = 0; len = 0 }; sports = None; dst = address_span 167772493 25; dports = None }) } ∷
-    record { moment = 0; command = Add (record { number = 1; action = SendTo 3; proto = AnyProtocol; src = address_span 0 0; sports = None; dst = record { address = 0; len = 0 }; dports = None }) } ∷
+    record { moment = 0; command = Add (record { number = 1; action = Pipe 3; proto = AnyProtocol; src = address_span 0 0; sports = None; dst = record { address = 0; len = 0 }; dports = None }) } ∷
     record { moment = 0; command = Add (record { number = 65534; action = SkipTo 65535; proto = OnlyUdp; src = address_span 167772493 25; sports = None; dst = record { address = 0; len = 0 }; dports = None }) } ∷
     record { moment = 0; command = Config 1 (record { bw = 10000000; delay = 0; queue = KBytes 10; plr = 0; mask = record { proto = 255; src = 4294967295; dst = 4294967295; sport = 65535; dport = 65535 }; discipline = ControlledDelay 5000000 10000000 }) } ∷
-    record { moment = 0; command = Add (record { number = 65535; action = SendTo 2; proto = AnyProtocol; src = record { address = 0; len = 0 }; sports = None; dst = record { address = 0; len = 0 }; dports = None }) } ∷
-    record { moment = 0; command = Add (record { number = 200; action = SendTo 2; proto = AnyProtocol; src = record { address = 0; len = 0 }; sports = None; dst = record { address = 0; len = 0 }; dports = None }) } ∷
+    record { moment = 0; command = Add (record { number = 65535; action = Pipe 2; proto = AnyProtocol; src = record { address = 0; len = 0 }; sports = None; dst = record { address = 0; len = 0 }; dports = None }) } ∷
+    record { moment = 0; command = Add (record { number = 200; action = Pipe 2; proto = AnyProtocol; src = record { address = 0; len = 0 }; sports = None; dst = record { address = 0; len = 0 }; dports = None }) } ∷
     record { moment = 0; command = Train 1 (record { packet = record { proto = Tcp; src = 167772162; sport = 65535; dst = 167772418; dport = 1000; size = 999 }; count = 5; gap = 1000 }) } ∷
     record { moment = 7000000; command = Train 65535 (record { packet = record { proto = Udp; src = 167772162; sport = 65535; dst = 167772417; dport = 65535; size = 40 }; count = 2; gap = 0 }) } ∷
     record { moment = 7000000; command = PipeDelete 3 } ∷
@@ -285,11 +285,11 @@ abbrev exp_4-commands : List Timed
 exp_4-commands =
     record { moment = 0; command = Add (record { number = 200; action = Count; proto = AnyProtocol; src = record { address = 0; len = 0 }; sports = None; dst = record { address = 0; len = 0 }; dports = Some (record { first = 7; last = 2000 }) }) } ∷
     record { moment = 0; command = OnePass false } ∷
-    record { moment = 0; command = Add (record { number = 100; action = SendTo 2; proto = AnyProtocol; src = address_span 167772160 24; sports = None; dst = record { address = 0; len = 0 }; dports = None }) } ∷
+    record { moment = 0; command = Add (record { number = 100; action = Pipe 2; proto = AnyProtocol; src = address_span 167772160 24; sports = None; dst = record { address = 0; len = 0 }; dports = None }) } ∷
     record { moment = 0; command = Add (record { number = 1; action = Count; proto = OnlyTcp; src = record { address = 0; len = 0 }; sports = None; dst = address_span 0 0; dports = None }) } ∷
-    record { moment = 0; command = Add (record { number = 200; action = SendTo 1; proto = AnyProtocol; src = record { address = 0; len = 0 }; sports = None; dst = record { address = 0; len = 0 }; dports = None }) } ∷
+    record { moment = 0; command = Add (record { number = 200; action = Pipe 1; proto = AnyProtocol; src = record { address = 0; len = 0 }; sports = None; dst = record { address = 0; len = 0 }; dports = None }) } ∷
     record { moment = 0; command = Add (record { number = 200; action = Count; proto = OnlyTcp; src = address_span 3232235520 16; sports = Some (record { first = 7; last = 1000 }); dst = address_span 167772161 32; dports = None }) } ∷
-    record { moment = 0; command = Add (record { number = 2; action = SendTo 2; proto = AnyProtocol; src = address_span 167772161 32; sports = None; dst = address_span 4294967295 32; dports = None }) } ∷
+    record { moment = 0; command = Add (record { number = 2; action = Pipe 2; proto = AnyProtocol; src = address_span 167772161 32; sports = None; dst = address_span 4294967295 32; dports = None }) } ∷
     record { moment = 0; command = Config 4 (record { bw = 10000000; delay = 2; queue = Slots 50; plr = 1000000; mask = record { proto = 0; src = 0; dst = 0; sport = 0; dport = 0 }; discipline = TailDrop }) } ∷
     record { moment = 0; command = Config 2 (record { bw = 0; delay = 10; queue = KBytes 1; plr = 0; mask = record { proto = 255; src = 4294967295; dst = 4294967295; sport = 65535; dport = 65535 }; discipline = ControlledDelay 100000 2000000 }) } ∷
     record { moment = 0; command = Add (record { number = 200; action = SkipTo 1; proto = OnlyUdp; src = address_span 0 0; sports = None; dst = address_span 167772160 8; dports = Some (record { first = 65535; last = 65535 }) }) } ∷
@@ -299,8 +299,8 @@ exp_4-commands =
     record { moment = 7000000; command = Config 4 (record { bw = 1000000000; delay = 0; queue = Slots 50; plr = 50000; mask = record { proto = 0; src = 0; dst = 0; sport = 0; dport = 0 }; discipline = TailDrop }) } ∷
     record { moment = 10000000; command = Train 4 (record { packet = record { proto = Tcp; src = 0; sport = 1; dst = 3232237321; dport = 1; size = 999 }; count = 2; gap = 999 }) } ∷
     record { moment = 15000000; command = PipeShow } ∷
-    record { moment = 15080000; command = Add (record { number = 400; action = Permit; proto = AnyProtocol; src = address_span 3232235520 16; sports = None; dst = record { address = 0; len = 0 }; dports = None }) } ∷
-    record { moment = 15080000; command = Add (record { number = 100; action = SendTo 3; proto = OnlyUdp; src = record { address = 0; len = 0 }; sports = Some (record { first = 65535; last = 65535 }); dst = record { address = 0; len = 0 }; dports = None }) } ∷
+    record { moment = 15080000; command = Add (record { number = 400; action = Allow; proto = AnyProtocol; src = address_span 3232235520 16; sports = None; dst = record { address = 0; len = 0 }; dports = None }) } ∷
+    record { moment = 15080000; command = Add (record { number = 100; action = Pipe 3; proto = OnlyUdp; src = record { address = 0; len = 0 }; sports = Some (record { first = 65535; last = 65535 }); dst = record { address = 0; len = 0 }; dports = None }) } ∷
     record { moment = 19000000; command = Flow 4 (record { src = 167772161; sport = 7; dst = 167772417; dport = 1; smss = 64; segments = 2; ssthresh = 8000; window = 65535; timing = Adaptive }) } ∷
     record { moment = 19000500; command = Flow 300 (record { src = 167772161; sport = 65535; dst = 167772418; dport = 1; smss = 1460; segments = 1; ssthresh = 65535; window = 1; timing = Fixed 60000 }) } ∷
     record { moment = 19000500; command = PipeShow } ∷
@@ -354,9 +354,9 @@ exp_4 = refl
 abbrev exp_5-commands : List Timed
 exp_5-commands =
     record { moment = 0; command = Config 3 (record { bw = 56000; delay = 10; queue = Slots 10; plr = 500000; mask = record { proto = 0; src = 0; dst = 0; sport = 0; dport = 0 }; discipline = TailDrop }) } ∷
-    record { moment = 0; command = Add (record { number = 200; action = SendTo 2; proto = AnyProtocol; src = record { address = 0; len = 0 }; sports = None; dst = record { address = 0; len = 0 }; dports = None }) } ∷
+    record { moment = 0; command = Add (record { number = 200; action = Pipe 2; proto = AnyProtocol; src = record { address = 0; len = 0 }; sports = None; dst = record { address = 0; len = 0 }; dports = None }) } ∷
     record { moment = 0; command = Config 4 (record { bw = 56000; delay = 2; queue = KBytes 2; plr = 0; mask = record { proto = 0; src = 0; dst = 0; sport = 0; dport = 0 }; discipline = TailDrop }) } ∷
-    record { moment = 0; command = Add (record { number = 100; action = SendTo 3; proto = AnyProtocol; src = address_span 167772160 24; sports = None; dst = record { address = 0; len = 0 }; dports = None }) } ∷
+    record { moment = 0; command = Add (record { number = 100; action = Pipe 3; proto = AnyProtocol; src = address_span 167772160 24; sports = None; dst = record { address = 0; len = 0 }; dports = None }) } ∷
     record { moment = 0; command = Config 2 (record { bw = 10000000000; delay = 1200; queue = KBytes 3; plr = 0; mask = record { proto = 0; src = 0; dst = 3; sport = 0; dport = 255 }; discipline = TailDrop }) } ∷
     record { moment = 0; command = Config 1 (record { bw = 3000000; delay = 0; queue = Slots 10; plr = 1000000; mask = record { proto = 0; src = 0; dst = 0; sport = 65535; dport = 255 }; discipline = ControlledDelay 100000 10000000 }) } ∷
     record { moment = 0; command = Train 300 (record { packet = record { proto = Tcp; src = 167772161; sport = 65535; dst = 167772417; dport = 1; size = 1040 }; count = 3; gap = 1 }) } ∷
@@ -400,9 +400,9 @@ exp_5-records =
     InstanceLine 3 0 0 0 false 0 6 ∷
     PipeLine 4 (record { bw = 1000000000; delay = 0; queue = KBytes 2; plr = 0; mask = record { proto = 0; src = 0; dst = 0; sport = 0; dport = 0 }; discipline = ControlledDelay 3000000 2000000 }) ∷
     CommandDone 30000000000 13 ∷
-    RuleLine (record { number = 100; action = SendTo 3; proto = AnyProtocol; src = address_span 167772160 24; sports = None; dst = record { address = 0; len = 0 }; dports = None }) 6 7620 ∷
-    RuleLine (record { number = 200; action = SendTo 2; proto = AnyProtocol; src = record { address = 0; len = 0 }; sports = None; dst = record { address = 0; len = 0 }; dports = None }) 0 0 ∷
-    RuleLine (record { number = 65535; action = Forbid; proto = AnyProtocol; src = record { address = 0; len = 0 }; sports = None; dst = record { address = 0; len = 0 }; dports = None }) 0 0 ∷
+    RuleLine (record { number = 100; action = Pipe 3; proto = AnyProtocol; src = address_span 167772160 24; sports = None; dst = record { address = 0; len = 0 }; dports = None }) 6 7620 ∷
+    RuleLine (record { number = 200; action = Pipe 2; proto = AnyProtocol; src = record { address = 0; len = 0 }; sports = None; dst = record { address = 0; len = 0 }; dports = None }) 0 0 ∷
+    RuleLine (record { number = 65535; action = Deny; proto = AnyProtocol; src = record { address = 0; len = 0 }; sports = None; dst = record { address = 0; len = 0 }; dports = None }) 0 0 ∷
     CommandDone 30000000000 14 ∷
     []
 
@@ -422,14 +422,14 @@ exp_5 = refl
 abbrev exp_6-commands : List Timed
 exp_6-commands =
     record { moment = 0; command = Config 2 (record { bw = 10000000000; delay = 400; queue = Slots 3; plr = 0; mask = record { proto = 0; src = 0; dst = 255; sport = 0; dport = 0 }; discipline = ControlledDelay 5000000 100000000 }) } ∷
-    record { moment = 0; command = Add (record { number = 400; action = SendTo 3; proto = OnlyUdp; src = record { address = 0; len = 0 }; sports = None; dst = record { address = 0; len = 0 }; dports = None }) } ∷
-    record { moment = 0; command = Add (record { number = 50; action = SendTo 3; proto = AnyProtocol; src = record { address = 0; len = 0 }; sports = None; dst = address_span 167772416 24; dports = Some (record { first = 1000; last = 1000 }) }) } ∷
+    record { moment = 0; command = Add (record { number = 400; action = Pipe 3; proto = OnlyUdp; src = record { address = 0; len = 0 }; sports = None; dst = record { address = 0; len = 0 }; dports = None }) } ∷
+    record { moment = 0; command = Add (record { number = 50; action = Pipe 3; proto = AnyProtocol; src = record { address = 0; len = 0 }; sports = None; dst = address_span 167772416 24; dports = Some (record { first = 1000; last = 1000 }) }) } ∷
     record { moment = 0; command = Add (record { number = 200; action = SkipTo 65534; proto = OnlyTcp; src = address_span 167772416 24; sports = None; dst = record { address = 0; len = 0 }; dports = Some (record { first = 2000; last = 2000 }) }) } ∷
-    record { moment = 0; command = Add (record { number = 2; action = Forbid; proto = AnyProtocol; src = address_span 3232235520 16; sports = None; dst = record { address = 0; len = 0 }; dports = Some (record { first = 1; last = 1 }) }) } ∷
+    record { moment = 0; command = Add (record { number = 2; action = Deny; proto = AnyProtocol; src = address_span 3232235520 16; sports = None; dst = record { address = 0; len = 0 }; dports = Some (record { first = 1; last = 1 }) }) } ∷
     record { moment = 0; command = Add (record { number = 65534; action = SkipTo 65535; proto = OnlyTcp; src = address_span 0 0; sports = None; dst = record { address = 0; len = 0 }; dports = None }) } ∷
     record { moment = 0; command = Config 1 (record { bw = 997; delay = 0; queue = Slots 10; plr = 0; mask = record { proto = 255; src = 4294967295; dst = 4294967295; sport = 65535; dport = 65535 }; discipline = ControlledDelay 3000000 100000000 }) } ∷
     record { moment = 0; command = Config 4 (record { bw = 8000000; delay = 5; queue = Slots 1000; plr = 0; mask = record { proto = 0; src = 0; dst = 0; sport = 0; dport = 0 }; discipline = ControlledDelay 5000000 100000000 }) } ∷
-    record { moment = 0; command = Add (record { number = 65534; action = Forbid; proto = OnlyTcp; src = record { address = 0; len = 0 }; sports = None; dst = address_span 167772493 25; dports = None }) } ∷
+    record { moment = 0; command = Add (record { number = 65534; action = Deny; proto = OnlyTcp; src = record { address = 0; len = 0 }; sports = None; dst = address_span 167772493 25; dports = None }) } ∷
     record { moment = 0; command = Config 3 (record { bw = 8000000; delay = 5; queue = Slots 50; plr = 200000; mask = record { proto = 255; src = 4294967295; dst = 4294967295; sport = 65535; dport = 65535 }; discipline = ControlledDelay 5000000 7000000 }) } ∷
     record { moment = 0; command = Flow 4 (record { src = 167772162; sport = 1000; dst = 167772418; dport = 80; smss = 64; segments = 2; ssthresh = 1000; window = 65535; timing = Adaptive }) } ∷
     record { moment = 1200000000; command = Train 1 (record { packet = record { proto = Udp; src = 167772161; sport = 80; dst = 167772418; dport = 7; size = 41 }; count = 2; gap = 999 }) } ∷
@@ -462,13 +462,13 @@ exp_6-records =
     PipeLine 3 (record { bw = 8000000; delay = 5; queue = Slots 50; plr = 200000; mask = record { proto = 255; src = 4294967295; dst = 4294967295; sport = 65535; dport = 65535 }; discipline = ControlledDelay 5000000 7000000 }) ∷
     PipeLine 4 (record { bw = 8000000; delay = 5; queue = Slots 1000; plr = 0; mask = record { proto = 0; src = 0; dst = 0; sport = 0; dport = 0 }; discipline = ControlledDelay 5000000 100000000 }) ∷
     CommandDone 1200000000 13 ∷
-    RuleLine (record { number = 2; action = Forbid; proto = AnyProtocol; src = address_span 3232235520 16; sports = None; dst = record { address = 0; len = 0 }; dports = Some (record { first = 1; last = 1 }) }) 0 0 ∷
-    RuleLine (record { number = 50; action = SendTo 3; proto = AnyProtocol; src = record { address = 0; len = 0 }; sports = None; dst = address_span 167772416 24; dports = Some (record { first = 1000; last = 1000 }) }) 0 0 ∷
+    RuleLine (record { number = 2; action = Deny; proto = AnyProtocol; src = address_span 3232235520 16; sports = None; dst = record { address = 0; len = 0 }; dports = Some (record { first = 1; last = 1 }) }) 0 0 ∷
+    RuleLine (record { number = 50; action = Pipe 3; proto = AnyProtocol; src = record { address = 0; len = 0 }; sports = None; dst = address_span 167772416 24; dports = Some (record { first = 1000; last = 1000 }) }) 0 0 ∷
     RuleLine (record { number = 200; action = SkipTo 65534; proto = OnlyTcp; src = address_span 167772416 24; sports = None; dst = record { address = 0; len = 0 }; dports = Some (record { first = 2000; last = 2000 }) }) 0 0 ∷
-    RuleLine (record { number = 400; action = SendTo 3; proto = OnlyUdp; src = record { address = 0; len = 0 }; sports = None; dst = record { address = 0; len = 0 }; dports = None }) 0 0 ∷
+    RuleLine (record { number = 400; action = Pipe 3; proto = OnlyUdp; src = record { address = 0; len = 0 }; sports = None; dst = record { address = 0; len = 0 }; dports = None }) 0 0 ∷
     RuleLine (record { number = 65534; action = SkipTo 65535; proto = OnlyTcp; src = record { address = 0; len = 0 }; sports = None; dst = record { address = 0; len = 0 }; dports = None }) 3 312 ∷
-    RuleLine (record { number = 65534; action = Forbid; proto = OnlyTcp; src = record { address = 0; len = 0 }; sports = None; dst = address_span 167772416 25; dports = None }) 0 0 ∷
-    RuleLine (record { number = 65535; action = Forbid; proto = AnyProtocol; src = record { address = 0; len = 0 }; sports = None; dst = record { address = 0; len = 0 }; dports = None }) 3 312 ∷
+    RuleLine (record { number = 65534; action = Deny; proto = OnlyTcp; src = record { address = 0; len = 0 }; sports = None; dst = address_span 167772416 25; dports = None }) 0 0 ∷
+    RuleLine (record { number = 65535; action = Deny; proto = AnyProtocol; src = record { address = 0; len = 0 }; sports = None; dst = record { address = 0; len = 0 }; dports = None }) 3 312 ∷
     CommandDone 1200000000 14 ∷
     []
 
@@ -487,11 +487,11 @@ exp_6 = refl
 -- experiment d17
 abbrev exp_7-commands : List Timed
 exp_7-commands =
-    record { moment = 0; command = Add (record { number = 200; action = SendTo 3; proto = AnyProtocol; src = record { address = 0; len = 0 }; sports = None; dst = record { address = 0; len = 0 }; dports = None }) } ∷
+    record { moment = 0; command = Add (record { number = 200; action = Pipe 3; proto = AnyProtocol; src = record { address = 0; len = 0 }; sports = None; dst = record { address = 0; len = 0 }; dports = None }) } ∷
     record { moment = 0; command = Config 3 (record { bw = 997; delay = 1200; queue = KBytes 3; plr = 0; mask = record { proto = 1; src = 0; dst = 0; sport = 0; dport = 0 }; discipline = TailDrop }) } ∷
     record { moment = 0; command = Config 2 (record { bw = 997; delay = 50; queue = Slots 5; plr = 0; mask = record { proto = 0; src = 0; dst = 0; sport = 0; dport = 0 }; discipline = TailDrop }) } ∷
     record { moment = 0; command = Config 4 (record { bw = 56000; delay = 400; queue = Slots 50; plr = 0; mask = record { proto = 255; src = 4294967295; dst = 4294967295; sport = 65535; dport = 65535 }; discipline = TailDrop }) } ∷
-    record { moment = 0; command = Add (record { number = 100; action = SendTo 2; proto = AnyProtocol; src = address_span 167772160 24; sports = None; dst = record { address = 0; len = 0 }; dports = None }) } ∷
+    record { moment = 0; command = Add (record { number = 100; action = Pipe 2; proto = AnyProtocol; src = address_span 167772160 24; sports = None; dst = record { address = 0; len = 0 }; dports = None }) } ∷
     record { moment = 0; command = Inject (record { proto = Udp; src = 167772162; sport = 1; dst = 167772417; dport = 1; size = 1499 }) } ∷
     record { moment = 0; command = Flow 300 (record { src = 167772162; sport = 65535; dst = 167772417; dport = 1; smss = 1460; segments = 2; ssthresh = 8000; window = 1460; timing = Adaptive }) } ∷
     record { moment = 0; command = Flow 4 (record { src = 167772161; sport = 1; dst = 3232237321; dport = 1; smss = 536; segments = 2; ssthresh = 1000; window = 65535; timing = Adaptive }) } ∷
@@ -554,13 +554,13 @@ abbrev exp_8-commands : List Timed
 exp_8-commands =
     record { moment = 0; command = Config 1 (record { bw = 0; delay = 400; queue = KBytes 1; plr = 20000; mask = record { proto = 0; src = 0; dst = 0; sport = 0; dport = 0 }; discipline = TailDrop }) } ∷
     record { moment = 0; command = Config 4 (record { bw = 1000000; delay = 1; queue = Slots 50; plr = 1000000; mask = record { proto = 255; src = 0; dst = 0; sport = 1; dport = 0 }; discipline = TailDrop }) } ∷
-    record { moment = 0; command = Add (record { number = 200; action = SendTo 3; proto = AnyProtocol; src = record { address = 0; len = 0 }; sports = None; dst = record { address = 0; len = 0 }; dports = None }) } ∷
+    record { moment = 0; command = Add (record { number = 200; action = Pipe 3; proto = AnyProtocol; src = record { address = 0; len = 0 }; sports = None; dst = record { address = 0; len = 0 }; dports = None }) } ∷
     record { moment = 0; command = Config 3 (record { bw = 10000000000; delay = 1; queue = Slots 50; plr = 0; mask = record { proto = 0; src = 0; dst = 0; sport = 0; dport = 0 }; discipline = ControlledDelay 1000000 7000000 }) } ∷
     record { moment = 0; command = Config 2 (record { bw = 8000000; delay = 0; queue = KBytes 3; plr = 0; mask = record { proto = 0; src = 0; dst = 0; sport = 0; dport = 0 }; discipline = TailDrop }) } ∷
-    record { moment = 0; command = Add (record { number = 100; action = SendTo 3; proto = AnyProtocol; src = address_span 167772160 24; sports = None; dst = record { address = 0; len = 0 }; dports = None }) } ∷
+    record { moment = 0; command = Add (record { number = 100; action = Pipe 3; proto = AnyProtocol; src = address_span 167772160 24; sports = None; dst = record { address = 0; len = 0 }; dports = None }) } ∷
     record { moment = 0; command = Flow 3 (record { src = 167772161; sport = 0; dst = 167772418; dport = 7; smss = 1095; segments = 2; ssthresh = 1000; window = 65535; timing = Adaptive }) } ∷
     record { moment = 400000000; command = Trace false } ∷
-    record { moment = 400000000; command = Add (record { number = 100; action = SendTo 3; proto = AnyProtocol; src = address_span 167772161 32; sports = None; dst = address_span 4294967295 32; dports = Some (record { first = 80; last = 80 }) }) } ∷
+    record { moment = 400000000; command = Add (record { number = 100; action = Pipe 3; proto = AnyProtocol; src = address_span 167772161 32; sports = None; dst = address_span 4294967295 32; dports = Some (record { first = 80; last = 80 }) }) } ∷
     record { moment = 1100000000; command = Show } ∷
     record { moment = 1400000000; command = Config 2 (record { bw = 56000; delay = 1; queue = Slots 5; plr = 0; mask = record { proto = 0; src = 0; dst = 0; sport = 0; dport = 0 }; discipline = TailDrop }) } ∷
     record { moment = 1688875737; command = Delete 65535 } ∷
@@ -593,10 +593,10 @@ exp_8-records =
     PacketDelivered 1004001880 4 (Ack 3 2190) ∷
     AckTaken 1004001880 3 2190 2190 ∷
     CommandDone 1100000000 9 ∷
-    RuleLine (record { number = 100; action = SendTo 3; proto = AnyProtocol; src = address_span 167772160 24; sports = None; dst = record { address = 0; len = 0 }; dports = None }) 2 2270 ∷
-    RuleLine (record { number = 100; action = SendTo 3; proto = AnyProtocol; src = address_span 167772161 32; sports = None; dst = address_span 4294967295 32; dports = Some (record { first = 80; last = 80 }) }) 0 0 ∷
-    RuleLine (record { number = 200; action = SendTo 3; proto = AnyProtocol; src = record { address = 0; len = 0 }; sports = None; dst = record { address = 0; len = 0 }; dports = None }) 2 80 ∷
-    RuleLine (record { number = 65535; action = Forbid; proto = AnyProtocol; src = record { address = 0; len = 0 }; sports = None; dst = record { address = 0; len = 0 }; dports = None }) 0 0 ∷
+    RuleLine (record { number = 100; action = Pipe 3; proto = AnyProtocol; src = address_span 167772160 24; sports = None; dst = record { address = 0; len = 0 }; dports = None }) 2 2270 ∷
+    RuleLine (record { number = 100; action = Pipe 3; proto = AnyProtocol; src = address_span 167772161 32; sports = None; dst = address_span 4294967295 32; dports = Some (record { first = 80; last = 80 }) }) 0 0 ∷
+    RuleLine (record { number = 200; action = Pipe 3; proto = AnyProtocol; src = record { address = 0; len = 0 }; sports = None; dst = record { address = 0; len = 0 }; dports = None }) 2 80 ∷
+    RuleLine (record { number = 65535; action = Deny; proto = AnyProtocol; src = record { address = 0; len = 0 }; sports = None; dst = record { address = 0; len = 0 }; dports = None }) 0 0 ∷
     CommandDone 1400000000 10 ∷
     CommandRefused 1688875737 11 BadNumber ∷
     CommandDone 1688875737 12 ∷
@@ -606,10 +606,10 @@ exp_8-records =
     InstanceLine 3 0 0 0 false 0 4 ∷
     PipeLine 4 (record { bw = 1000000; delay = 1; queue = Slots 50; plr = 1000000; mask = record { proto = 255; src = 0; dst = 0; sport = 1; dport = 0 }; discipline = TailDrop }) ∷
     CommandDone 1688875737 13 ∷
-    RuleLine (record { number = 100; action = SendTo 3; proto = AnyProtocol; src = address_span 167772160 24; sports = None; dst = record { address = 0; len = 0 }; dports = None }) 2 2270 ∷
-    RuleLine (record { number = 100; action = SendTo 3; proto = AnyProtocol; src = address_span 167772161 32; sports = None; dst = address_span 4294967295 32; dports = Some (record { first = 80; last = 80 }) }) 0 0 ∷
-    RuleLine (record { number = 200; action = SendTo 3; proto = AnyProtocol; src = record { address = 0; len = 0 }; sports = None; dst = record { address = 0; len = 0 }; dports = None }) 2 80 ∷
-    RuleLine (record { number = 65535; action = Forbid; proto = AnyProtocol; src = record { address = 0; len = 0 }; sports = None; dst = record { address = 0; len = 0 }; dports = None }) 0 0 ∷
+    RuleLine (record { number = 100; action = Pipe 3; proto = AnyProtocol; src = address_span 167772160 24; sports = None; dst = record { address = 0; len = 0 }; dports = None }) 2 2270 ∷
+    RuleLine (record { number = 100; action = Pipe 3; proto = AnyProtocol; src = address_span 167772161 32; sports = None; dst = address_span 4294967295 32; dports = Some (record { first = 80; last = 80 }) }) 0 0 ∷
+    RuleLine (record { number = 200; action = Pipe 3; proto = AnyProtocol; src = record { address = 0; len = 0 }; sports = None; dst = record { address = 0; len = 0 }; dports = None }) 2 80 ∷
+    RuleLine (record { number = 65535; action = Deny; proto = AnyProtocol; src = record { address = 0; len = 0 }; sports = None; dst = record { address = 0; len = 0 }; dports = None }) 0 0 ∷
     CommandDone 1688875737 14 ∷
     []
 
@@ -630,9 +630,9 @@ abbrev exp_9-commands : List Timed
 exp_9-commands =
     record { moment = 0; command = Config 3 (record { bw = 10000000; delay = 2; queue = Slots 50; plr = 0; mask = record { proto = 0; src = 0; dst = 3; sport = 0; dport = 255 }; discipline = ControlledDelay 5000000 1000 }) } ∷
     record { moment = 0; command = Config 1 (record { bw = 997; delay = 2; queue = Slots 2; plr = 0; mask = record { proto = 0; src = 0; dst = 0; sport = 0; dport = 0 }; discipline = ControlledDelay 1000000 20000000 }) } ∷
-    record { moment = 0; command = Add (record { number = 200; action = SendTo 1; proto = AnyProtocol; src = record { address = 0; len = 0 }; sports = None; dst = record { address = 0; len = 0 }; dports = None }) } ∷
+    record { moment = 0; command = Add (record { number = 200; action = Pipe 1; proto = AnyProtocol; src = record { address = 0; len = 0 }; sports = None; dst = record { address = 0; len = 0 }; dports = None }) } ∷
     record { moment = 0; command = Config 4 (record { bw = 10000000; delay = 400; queue = KBytes 10; plr = 0; mask = record { proto = 0; src = 0; dst = 0; sport = 0; dport = 0 }; discipline = ControlledDelay 100000 5000000 }) } ∷
-    record { moment = 0; command = Add (record { number = 100; action = SendTo 1; proto = AnyProtocol; src = address_span 167772160 24; sports = None; dst = record { address = 0; len = 0 }; dports = None }) } ∷
+    record { moment = 0; command = Add (record { number = 100; action = Pipe 1; proto = AnyProtocol; src = address_span 167772160 24; sports = None; dst = record { address = 0; len = 0 }; dports = None }) } ∷
     record { moment = 0; command = Config 2 (record { bw = 1000000000; delay = 400; queue = Slots 50; plr = 0; mask = record { proto = 1; src = 0; dst = 0; sport = 0; dport = 0 }; discipline = TailDrop }) } ∷
     record { moment = 0; command = Inject (record { proto = Tcp; src = 167772162; sport = 1000; dst = 167772417; dport = 65535; size = 1500 }) } ∷
     record { moment = 0; command = Flow 1 (record { src = 167772161; sport = 7; dst = 167772418; dport = 80; smss = 1460; segments = 5; ssthresh = 65535; window = 65535; timing = Adaptive }) } ∷
@@ -670,9 +670,9 @@ exp_9-records =
     PipeLine 3 (record { bw = 10000000; delay = 2; queue = Slots 50; plr = 0; mask = record { proto = 0; src = 0; dst = 3; sport = 0; dport = 255 }; discipline = ControlledDelay 5000000 1000 }) ∷
     PipeLine 4 (record { bw = 10000000; delay = 400; queue = KBytes 10; plr = 0; mask = record { proto = 0; src = 0; dst = 0; sport = 0; dport = 0 }; discipline = ControlledDelay 100000 5000000 }) ∷
     CommandDone 30000000000 9 ∷
-    RuleLine (record { number = 100; action = SendTo 1; proto = AnyProtocol; src = address_span 167772160 24; sports = None; dst = record { address = 0; len = 0 }; dports = None }) 8 12000 ∷
-    RuleLine (record { number = 200; action = SendTo 1; proto = AnyProtocol; src = record { address = 0; len = 0 }; sports = None; dst = record { address = 0; len = 0 }; dports = None }) 1 40 ∷
-    RuleLine (record { number = 65535; action = Forbid; proto = AnyProtocol; src = record { address = 0; len = 0 }; sports = None; dst = record { address = 0; len = 0 }; dports = None }) 0 0 ∷
+    RuleLine (record { number = 100; action = Pipe 1; proto = AnyProtocol; src = address_span 167772160 24; sports = None; dst = record { address = 0; len = 0 }; dports = None }) 8 12000 ∷
+    RuleLine (record { number = 200; action = Pipe 1; proto = AnyProtocol; src = record { address = 0; len = 0 }; sports = None; dst = record { address = 0; len = 0 }; dports = None }) 1 40 ∷
+    RuleLine (record { number = 65535; action = Deny; proto = AnyProtocol; src = record { address = 0; len = 0 }; sports = None; dst = record { address = 0; len = 0 }; dports = None }) 0 0 ∷
     CommandDone 30000000000 10 ∷
     []
 

@@ -3,7 +3,7 @@ use Rattle.std.specs.Prelude.{◌≡◌, refl, List, [], ◌∷◌, Some, None, 
 use Rattle.emu_model.specs.Spans.{address_span}
 use Rattle.emu_model.specs.declared.packets.Load.TheVariants.{Plain, Seg, Ack}
 use Rattle.emu_model.specs.declared.packets.Protocol.TheVariants.{Tcp, Udp}
-use Rattle.emu_model.specs.declared.rules.Action.TheVariants.{Permit, Forbid, Count, SkipTo, SendTo}
+use Rattle.emu_model.specs.declared.rules.Action.TheVariants.{Allow, Deny, Count, SkipTo, Pipe}
 use Rattle.emu_model.specs.declared.rules.ProtocolMatch.TheVariants.{AnyProtocol, OnlyTcp, OnlyUdp}
 use Rattle.emu_model.specs.declared.pipes.QueueLimit.TheVariants.{Slots, KBytes}
 use Rattle.emu_model.specs.declared.pipes.Discipline.TheVariants.{TailDrop, ControlledDelay}
@@ -24,11 +24,11 @@ use Rattle.rand_core.specs.Steps.{u32_at}
 -- experiment d20
 abbrev exp_0-commands : List Timed
 exp_0-commands =
-    record { moment = 0; command = Add (record { number = 100; action = SendTo 3; proto = AnyProtocol; src = address_span 167772160 24; sports = None; dst = record { address = 0; len = 0 }; dports = None }) } ∷
-    record { moment = 0; command = Add (record { number = 100; action = SendTo 3; proto = OnlyTcp; src = record { address = 0; len = 0 }; sports = Some (record { first = 0; last = 2000 }); dst = address_span 167772161 32; dports = None }) } ∷
+    record { moment = 0; command = Add (record { number = 100; action = Pipe 3; proto = AnyProtocol; src = address_span 167772160 24; sports = None; dst = record { address = 0; len = 0 }; dports = None }) } ∷
+    record { moment = 0; command = Add (record { number = 100; action = Pipe 3; proto = OnlyTcp; src = record { address = 0; len = 0 }; sports = Some (record { first = 0; last = 2000 }); dst = address_span 167772161 32; dports = None }) } ∷
     record { moment = 0; command = Config 3 (record { bw = 0; delay = 10; queue = Slots 50; plr = 50000; mask = record { proto = 0; src = 0; dst = 0; sport = 0; dport = 0 }; discipline = ControlledDelay 5000000 100000000 }) } ∷
     record { moment = 0; command = Config 2 (record { bw = 8000000; delay = 0; queue = Slots 50; plr = 50000; mask = record { proto = 0; src = 0; dst = 0; sport = 0; dport = 0 }; discipline = TailDrop }) } ∷
-    record { moment = 0; command = Add (record { number = 200; action = SendTo 2; proto = AnyProtocol; src = record { address = 0; len = 0 }; sports = None; dst = record { address = 0; len = 0 }; dports = None }) } ∷
+    record { moment = 0; command = Add (record { number = 200; action = Pipe 2; proto = AnyProtocol; src = record { address = 0; len = 0 }; sports = None; dst = record { address = 0; len = 0 }; dports = None }) } ∷
     record { moment = 0; command = Add (record { number = 150; action = Count; proto = AnyProtocol; src = address_span 167772416 24; sports = Some (record { first = 2000; last = 2000 }); dst = address_span 0 0; dports = None }) } ∷
     record { moment = 0; command = Config 4 (record { bw = 10000000000; delay = 0; queue = Slots 2; plr = 200000; mask = record { proto = 0; src = 0; dst = 3; sport = 65535; dport = 255 }; discipline = ControlledDelay 3000000 100000000 }) } ∷
     record { moment = 0; command = Config 1 (record { bw = 8000000; delay = 400; queue = Slots 10; plr = 1; mask = record { proto = 0; src = 0; dst = 0; sport = 0; dport = 0 }; discipline = ControlledDelay 5000000 1000000000 }) } ∷
@@ -80,11 +80,11 @@ exp_0 = refl
 -- experiment d21
 abbrev exp_1-commands : List Timed
 exp_1-commands =
-    record { moment = 0; command = Add (record { number = 200; action = SendTo 3; proto = AnyProtocol; src = record { address = 0; len = 0 }; sports = None; dst = record { address = 0; len = 0 }; dports = None }) } ∷
+    record { moment = 0; command = Add (record { number = 200; action = Pipe 3; proto = AnyProtocol; src = record { address = 0; len = 0 }; sports = None; dst = record { address = 0; len = 0 }; dports = None }) } ∷
     record { moment = 0; command = Config 1 (record { bw = 0; delay = 1; queue = KBytes 2; plr = 0; mask = record { proto = 0; src = 0; dst = 0; sport = 0; dport = 0 }; discipline = TailDrop }) } ∷
     record { moment = 0; command = Config 2 (record { bw = 1000000000; delay = 50; queue = KBytes 2; plr = 0; mask = record { proto = 0; src = 0; dst = 0; sport = 0; dport = 0 }; discipline = ControlledDelay 5000000 100000000 }) } ∷
     record { moment = 0; command = Config 3 (record { bw = 997; delay = 50; queue = KBytes 10; plr = 50000; mask = record { proto = 0; src = 0; dst = 0; sport = 0; dport = 0 }; discipline = ControlledDelay 5000000 10000000 }) } ∷
-    record { moment = 0; command = Add (record { number = 100; action = SendTo 2; proto = AnyProtocol; src = address_span 167772160 24; sports = None; dst = record { address = 0; len = 0 }; dports = None }) } ∷
+    record { moment = 0; command = Add (record { number = 100; action = Pipe 2; proto = AnyProtocol; src = address_span 167772160 24; sports = None; dst = record { address = 0; len = 0 }; dports = None }) } ∷
     record { moment = 0; command = Config 4 (record { bw = 3000000; delay = 1200; queue = KBytes 10; plr = 0; mask = record { proto = 0; src = 0; dst = 0; sport = 0; dport = 0 }; discipline = TailDrop }) } ∷
     record { moment = 0; command = Flow 4 (record { src = 167772162; sport = 7; dst = 167772418; dport = 80; smss = 960; segments = 1; ssthresh = 1; window = 3000; timing = Adaptive }) } ∷
     record { moment = 3481146476; command = Trace true } ∷
@@ -127,16 +127,16 @@ exp_1 = refl
 abbrev exp_2-commands : List Timed
 exp_2-commands =
     record { moment = 0; command = Config 3 (record { bw = 0; delay = 10; queue = Slots 10; plr = 0; mask = record { proto = 0; src = 4294967295; dst = 3; sport = 1; dport = 0 }; discipline = TailDrop }) } ∷
-    record { moment = 0; command = Add (record { number = 50; action = Permit; proto = AnyProtocol; src = address_span 3232235520 16; sports = None; dst = record { address = 0; len = 0 }; dports = Some (record { first = 65535; last = 65535 }) }) } ∷
+    record { moment = 0; command = Add (record { number = 50; action = Allow; proto = AnyProtocol; src = address_span 3232235520 16; sports = None; dst = record { address = 0; len = 0 }; dports = Some (record { first = 65535; last = 65535 }) }) } ∷
     record { moment = 0; command = Add (record { number = 100; action = SkipTo 1; proto = OnlyTcp; src = address_span 167772162 31; sports = Some (record { first = 80; last = 1000 }); dst = address_span 167772160 8; dports = None }) } ∷
-    record { moment = 0; command = Add (record { number = 65534; action = SendTo 1; proto = AnyProtocol; src = record { address = 0; len = 0 }; sports = None; dst = record { address = 0; len = 0 }; dports = Some (record { first = 0; last = 7 }) }) } ∷
+    record { moment = 0; command = Add (record { number = 65534; action = Pipe 1; proto = AnyProtocol; src = record { address = 0; len = 0 }; sports = None; dst = record { address = 0; len = 0 }; dports = Some (record { first = 0; last = 7 }) }) } ∷
     record { moment = 0; command = Add (record { number = 100; action = SkipTo 200; proto = AnyProtocol; src = address_span 167772161 32; sports = Some (record { first = 80; last = 80 }); dst = record { address = 0; len = 0 }; dports = None }) } ∷
     record { moment = 0; command = Add (record { number = 200; action = Count; proto = AnyProtocol; src = address_span 167772416 24; sports = None; dst = address_span 167772160 8; dports = None }) } ∷
-    record { moment = 0; command = Add (record { number = 200; action = SendTo 3; proto = AnyProtocol; src = record { address = 0; len = 0 }; sports = None; dst = record { address = 0; len = 0 }; dports = None }) } ∷
+    record { moment = 0; command = Add (record { number = 200; action = Pipe 3; proto = AnyProtocol; src = record { address = 0; len = 0 }; sports = None; dst = record { address = 0; len = 0 }; dports = None }) } ∷
     record { moment = 0; command = Config 1 (record { bw = 0; delay = 0; queue = Slots 50; plr = 1; mask = record { proto = 0; src = 0; dst = 0; sport = 0; dport = 0 }; discipline = ControlledDelay 1000000 10000000 }) } ∷
     record { moment = 0; command = OnePass false } ∷
     record { moment = 0; command = Add (record { number = 150; action = SkipTo 65535; proto = AnyProtocol; src = record { address = 0; len = 0 }; sports = None; dst = record { address = 0; len = 0 }; dports = None }) } ∷
-    record { moment = 0; command = Add (record { number = 100; action = SendTo 3; proto = AnyProtocol; src = address_span 167772160 24; sports = None; dst = record { address = 0; len = 0 }; dports = None }) } ∷
+    record { moment = 0; command = Add (record { number = 100; action = Pipe 3; proto = AnyProtocol; src = address_span 167772160 24; sports = None; dst = record { address = 0; len = 0 }; dports = None }) } ∷
     record { moment = 2000000000; command = Flow 2 (record { src = 167772161; sport = 65535; dst = 167772418; dport = 1000; smss = 1000; segments = 1; ssthresh = 4000; window = 65535; timing = Fixed 1000 }) } ∷
     record { moment = 2000000000; command = Inject (record { proto = Tcp; src = 167772162; sport = 1; dst = 167772417; dport = 80; size = 1040 }) } ∷
     record { moment = 3000000000; command = Inject (record { proto = Udp; src = 167772162; sport = 80; dst = 167772418; dport = 2000; size = 1460 }) } ∷
@@ -193,14 +193,14 @@ exp_2-records =
     InstanceLine 3 1 0 0 false 0 4 ∷
     InstanceLine 3 2 0 0 false 0 1 ∷
     CommandDone 15933004637 17 ∷
-    RuleLine (record { number = 50; action = Permit; proto = AnyProtocol; src = address_span 3232235520 16; sports = None; dst = record { address = 0; len = 0 }; dports = Some (record { first = 65535; last = 65535 }) }) 0 0 ∷
+    RuleLine (record { number = 50; action = Allow; proto = AnyProtocol; src = address_span 3232235520 16; sports = None; dst = record { address = 0; len = 0 }; dports = Some (record { first = 65535; last = 65535 }) }) 0 0 ∷
     RuleLine (record { number = 100; action = SkipTo 200; proto = AnyProtocol; src = address_span 167772161 32; sports = Some (record { first = 80; last = 80 }); dst = record { address = 0; len = 0 }; dports = None }) 0 0 ∷
-    RuleLine (record { number = 100; action = SendTo 3; proto = AnyProtocol; src = address_span 167772160 24; sports = None; dst = record { address = 0; len = 0 }; dports = None }) 6 6660 ∷
+    RuleLine (record { number = 100; action = Pipe 3; proto = AnyProtocol; src = address_span 167772160 24; sports = None; dst = record { address = 0; len = 0 }; dports = None }) 6 6660 ∷
     RuleLine (record { number = 150; action = SkipTo 65535; proto = AnyProtocol; src = record { address = 0; len = 0 }; sports = None; dst = record { address = 0; len = 0 }; dports = None }) 6 6660 ∷
     RuleLine (record { number = 200; action = Count; proto = AnyProtocol; src = address_span 167772416 24; sports = None; dst = address_span 167772160 8; dports = None }) 0 0 ∷
-    RuleLine (record { number = 200; action = SendTo 3; proto = AnyProtocol; src = record { address = 0; len = 0 }; sports = None; dst = record { address = 0; len = 0 }; dports = None }) 0 0 ∷
-    RuleLine (record { number = 65534; action = SendTo 1; proto = AnyProtocol; src = record { address = 0; len = 0 }; sports = None; dst = record { address = 0; len = 0 }; dports = Some (record { first = 0; last = 7 }) }) 0 0 ∷
-    RuleLine (record { number = 65535; action = Forbid; proto = AnyProtocol; src = record { address = 0; len = 0 }; sports = None; dst = record { address = 0; len = 0 }; dports = None }) 6 6660 ∷
+    RuleLine (record { number = 200; action = Pipe 3; proto = AnyProtocol; src = record { address = 0; len = 0 }; sports = None; dst = record { address = 0; len = 0 }; dports = None }) 0 0 ∷
+    RuleLine (record { number = 65534; action = Pipe 1; proto = AnyProtocol; src = record { address = 0; len = 0 }; sports = None; dst = record { address = 0; len = 0 }; dports = Some (record { first = 0; last = 7 }) }) 0 0 ∷
+    RuleLine (record { number = 65535; action = Deny; proto = AnyProtocol; src = record { address = 0; len = 0 }; sports = None; dst = record { address = 0; len = 0 }; dports = None }) 6 6660 ∷
     CommandDone 15933004637 18 ∷
     []
 
@@ -219,19 +219,19 @@ exp_2 = refl
 -- experiment d23
 abbrev exp_3-commands : List Timed
 exp_3-commands =
-    record { moment = 0; command = Add (record { number = 1; action = SendTo 1; proto = OnlyTcp; src = record { address = 0; len = 0 }; sports = None; dst = address_span 167772416 24; dports = Some (record { first = 0; last = 7 }) }) } ∷
-    record { moment = 0; command = Add (record { number = 100; action = SendTo 2; proto = AnyProtocol; src = record { address = 0; len = 0 }; sports = None; dst = record { address = 0; len = 0 }; dports = None }) } ∷
+    record { moment = 0; command = Add (record { number = 1; action = Pipe 1; proto = OnlyTcp; src = record { address = 0; len = 0 }; sports = None; dst = address_span 167772416 24; dports = Some (record { first = 0; last = 7 }) }) } ∷
+    record { moment = 0; command = Add (record { number = 100; action = Pipe 2; proto = AnyProtocol; src = record { address = 0; len = 0 }; sports = None; dst = record { address = 0; len = 0 }; dports = None }) } ∷
     record { moment = 0; command = Config 2 (record { bw = 0; delay = 0; queue = KBytes 1; plr = 0; mask = record { proto = 0; src = 0; dst = 0; sport = 65535; dport = 0 }; discipline = TailDrop }) } ∷
     record { moment = 0; command = Config 1 (record { bw = 8000000; delay = 10; queue = Slots 50; plr = 0; mask = record { proto = 0; src = 0; dst = 0; sport = 0; dport = 0 }; discipline = ControlledDelay 1000000 2000000 }) } ∷
-    record { moment = 0; command = Add (record { number = 200; action = SendTo 1; proto = AnyProtocol; src = record { address = 0; len = 0 }; sports = None; dst = record { address = 0; len = 0 }; dports = None }) } ∷
-    record { moment = 0; command = Add (record { number = 100; action = SendTo 3; proto = AnyProtocol; src = address_span 167772160 24; sports = None; dst = record { address = 0; len = 0 }; dports = None }) } ∷
+    record { moment = 0; command = Add (record { number = 200; action = Pipe 1; proto = AnyProtocol; src = record { address = 0; len = 0 }; sports = None; dst = record { address = 0; len = 0 }; dports = None }) } ∷
+    record { moment = 0; command = Add (record { number = 100; action = Pipe 3; proto = AnyProtocol; src = address_span 167772160 24; sports = None; dst = record { address = 0; len = 0 }; dports = None }) } ∷
     record { moment = 0; command = Config 4 (record { bw = 8000000; delay = 50; queue = Slots 1000; plr = 200000; mask = record { proto = 0; src = 0; dst = 0; sport = 0; dport = 0 }; discipline = ControlledDelay 1000000 1000000000 }) } ∷
     record { moment = 4000000; command = Flow 5 (record { src = 167772161; sport = 65535; dst = 167772418; dport = 7; smss = 1000; segments = 2; ssthresh = 65535; window = 10000; timing = Fixed 1000 }) } ∷
     record { moment = 12000000; command = Config 3 (record { bw = 10000000; delay = 50; queue = KBytes 1; plr = 0; mask = record { proto = 0; src = 1; dst = 0; sport = 0; dport = 0 }; discipline = TailDrop }) } ∷
     record { moment = 12000000; command = PipeDelete 1 } ∷
     record { moment = 12000500; command = Config 3 (record { bw = 0; delay = 2; queue = Slots 10; plr = 0; mask = record { proto = 0; src = 1; dst = 0; sport = 0; dport = 0 }; discipline = TailDrop }) } ∷
     record { moment = 16880070; command = Train 4 (record { packet = record { proto = Udp; src = 167772161; sport = 0; dst = 167772162; dport = 7; size = 1460 }; count = 2; gap = 125000 }) } ∷
-    record { moment = 16880070; command = Add (record { number = 300; action = Forbid; proto = OnlyUdp; src = address_span 0 0; sports = None; dst = record { address = 0; len = 0 }; dports = None }) } ∷
+    record { moment = 16880070; command = Add (record { number = 300; action = Deny; proto = OnlyUdp; src = address_span 0 0; sports = None; dst = record { address = 0; len = 0 }; dports = None }) } ∷
     record { moment = 200000000; command = End } ∷
     []
 
@@ -334,7 +334,7 @@ exp_4-records =
     PipeLine 4 (record { bw = 7777777; delay = 1; queue = Slots 3; plr = 0; mask = record { proto = 255; src = 0; dst = 0; sport = 0; dport = 0 }; discipline = TailDrop }) ∷
     CommandDone 17000000000 18 ∷
     RuleLine (record { number = 100; action = SkipTo 200; proto = AnyProtocol; src = address_span 167772416 24; sports = None; dst = record { address = 0; len = 0 }; dports = None }) 3 3408 ∷
-    RuleLine (record { number = 65535; action = Forbid; proto = AnyProtocol; src = record { address = 0; len = 0 }; sports = None; dst = record { address = 0; len = 0 }; dports = None }) 10 8698 ∷
+    RuleLine (record { number = 65535; action = Deny; proto = AnyProtocol; src = record { address = 0; len = 0 }; sports = None; dst = record { address = 0; len = 0 }; dports = None }) 10 8698 ∷
     CommandDone 17000000000 19 ∷
     []
 
@@ -355,14 +355,14 @@ abbrev exp_5-commands : List Timed
 exp_5-commands =
     record { moment = 0; command = Config 3 (record { bw = 0; delay = 1200; queue = KBytes 3; plr = 1000000; mask = record { proto = 0; src = 0; dst = 0; sport = 0; dport = 0 }; discipline = ControlledDelay 5000000 100000000 }) } ∷
     record { moment = 0; command = Config 2 (record { bw = 10000000000; delay = 0; queue = Slots 50; plr = 0; mask = record { proto = 0; src = 0; dst = 0; sport = 0; dport = 0 }; discipline = ControlledDelay 5000000 1000000000 }) } ∷
-    record { moment = 0; command = Add (record { number = 100; action = SendTo 1; proto = AnyProtocol; src = address_span 167772160 24; sports = None; dst = record { address = 0; len = 0 }; dports = None }) } ∷
-    record { moment = 0; command = Add (record { number = 200; action = SendTo 1; proto = AnyProtocol; src = record { address = 0; len = 0 }; sports = None; dst = record { address = 0; len = 0 }; dports = None }) } ∷
+    record { moment = 0; command = Add (record { number = 100; action = Pipe 1; proto = AnyProtocol; src = address_span 167772160 24; sports = None; dst = record { address = 0; len = 0 }; dports = None }) } ∷
+    record { moment = 0; command = Add (record { number = 200; action = Pipe 1; proto = AnyProtocol; src = record { address = 0; len = 0 }; sports = None; dst = record { address = 0; len = 0 }; dports = None }) } ∷
     record { moment = 0; command = Config 4 (record { bw = 1000000; delay = 10; queue = Slots 3; plr = 0; mask = record { proto = 0; src = 0; dst = 0; sport = 65535; dport = 0 }; discipline = ControlledDelay 1000000 10000000 }) } ∷
     record { moment = 0; command = Config 1 (record { bw = 8000000; delay = 0; queue = Slots 2; plr = 200000; mask = record { proto = 0; src = 0; dst = 0; sport = 0; dport = 0 }; discipline = TailDrop }) } ∷
     record { moment = 10000000; command = Train 3 (record { packet = record { proto = Udp; src = 167772161; sport = 1; dst = 167772418; dport = 2000; size = 40 }; count = 5; gap = 125000 }) } ∷
     record { moment = 10080000; command = Inject (record { proto = Tcp; src = 167772161; sport = 80; dst = 167772417; dport = 80; size = 999 }) } ∷
     record { moment = 10080000; command = PipeDelete 1 } ∷
-    record { moment = 43218588; command = Add (record { number = 200; action = SendTo 1; proto = OnlyTcp; src = address_span 4294967295 32; sports = Some (record { first = 1; last = 1 }); dst = address_span 167772160 24; dports = None }) } ∷
+    record { moment = 43218588; command = Add (record { number = 200; action = Pipe 1; proto = OnlyTcp; src = address_span 4294967295 32; sports = Some (record { first = 1; last = 1 }); dst = address_span 167772160 24; dports = None }) } ∷
     record { moment = 43218588; command = Flow 300 (record { src = 167772162; sport = 80; dst = 167772417; dport = 0; smss = 536; segments = 1; ssthresh = 1000000000; window = 65535; timing = Adaptive }) } ∷
     record { moment = 60000000; command = Train 2 (record { packet = record { proto = Udp; src = 167772161; sport = 80; dst = 167772417; dport = 80; size = 1499 }; count = 3; gap = 10000000 }) } ∷
     record { moment = 60000001; command = PipeShow } ∷
@@ -371,7 +371,7 @@ exp_5-commands =
     record { moment = 130000000; command = Add (record { number = 100; action = Count; proto = OnlyTcp; src = address_span 0 0; sports = Some (record { first = 7; last = 7 }); dst = address_span 167772161 32; dports = None }) } ∷
     record { moment = 150000000; command = Flow 300 (record { src = 167772161; sport = 80; dst = 167772418; dport = 80; smss = 1000; segments = 6; ssthresh = 65535; window = 3000; timing = Fixed 1 }) } ∷
     record { moment = 150000000; command = Config 2 (record { bw = 56000; delay = 10; queue = Slots 50; plr = 50000; mask = record { proto = 0; src = 0; dst = 0; sport = 0; dport = 0 }; discipline = ControlledDelay 1000 100000000 }) } ∷
-    record { moment = 150000500; command = Add (record { number = 400; action = SendTo 2; proto = AnyProtocol; src = record { address = 0; len = 0 }; sports = None; dst = address_span 0 0; dports = Some (record { first = 0; last = 0 }) }) } ∷
+    record { moment = 150000500; command = Add (record { number = 400; action = Pipe 2; proto = AnyProtocol; src = record { address = 0; len = 0 }; sports = None; dst = address_span 0 0; dports = Some (record { first = 0; last = 0 }) }) } ∷
     record { moment = 150000500; command = Trace true } ∷
     record { moment = 100000000000; command = PipeShow } ∷
     record { moment = 100000000000; command = Show } ∷
@@ -418,17 +418,17 @@ exp_5 = refl
 -- experiment d26
 abbrev exp_6-commands : List Timed
 exp_6-commands =
-    record { moment = 0; command = Add (record { number = 200; action = Forbid; proto = AnyProtocol; src = address_span 167772493 25; sports = Some (record { first = 1000; last = 1000 }); dst = record { address = 0; len = 0 }; dports = None }) } ∷
-    record { moment = 0; command = Add (record { number = 1; action = SendTo 3; proto = OnlyUdp; src = address_span 167772416 24; sports = None; dst = address_span 4294967295 32; dports = None }) } ∷
+    record { moment = 0; command = Add (record { number = 200; action = Deny; proto = AnyProtocol; src = address_span 167772493 25; sports = Some (record { first = 1000; last = 1000 }); dst = record { address = 0; len = 0 }; dports = None }) } ∷
+    record { moment = 0; command = Add (record { number = 1; action = Pipe 3; proto = OnlyUdp; src = address_span 167772416 24; sports = None; dst = address_span 4294967295 32; dports = None }) } ∷
     record { moment = 0; command = Add (record { number = 150; action = Count; proto = OnlyUdp; src = record { address = 0; len = 0 }; sports = None; dst = address_span 167772160 24; dports = None }) } ∷
     record { moment = 0; command = Add (record { number = 1; action = SkipTo 100; proto = OnlyTcp; src = record { address = 0; len = 0 }; sports = None; dst = record { address = 0; len = 0 }; dports = None }) } ∷
-    record { moment = 0; command = Add (record { number = 100; action = SendTo 1; proto = AnyProtocol; src = address_span 167772160 24; sports = None; dst = record { address = 0; len = 0 }; dports = None }) } ∷
+    record { moment = 0; command = Add (record { number = 100; action = Pipe 1; proto = AnyProtocol; src = address_span 167772160 24; sports = None; dst = record { address = 0; len = 0 }; dports = None }) } ∷
     record { moment = 0; command = Config 1 (record { bw = 1000000000; delay = 0; queue = Slots 50; plr = 500000; mask = record { proto = 0; src = 4294967295; dst = 0; sport = 65535; dport = 0 }; discipline = ControlledDelay 20000000 100000000 }) } ∷
     record { moment = 0; command = Config 4 (record { bw = 1000000; delay = 0; queue = Slots 5; plr = 0; mask = record { proto = 0; src = 255; dst = 0; sport = 0; dport = 0 }; discipline = ControlledDelay 5000000 1000 }) } ∷
-    record { moment = 0; command = Add (record { number = 1; action = SendTo 2; proto = AnyProtocol; src = address_span 0 0; sports = None; dst = address_span 0 0; dports = Some (record { first = 2000; last = 2000 }) }) } ∷
+    record { moment = 0; command = Add (record { number = 1; action = Pipe 2; proto = AnyProtocol; src = address_span 0 0; sports = None; dst = address_span 0 0; dports = Some (record { first = 2000; last = 2000 }) }) } ∷
     record { moment = 0; command = Config 3 (record { bw = 10000000; delay = 400; queue = KBytes 3; plr = 20000; mask = record { proto = 0; src = 0; dst = 0; sport = 0; dport = 0 }; discipline = TailDrop }) } ∷
-    record { moment = 0; command = Add (record { number = 200; action = SendTo 2; proto = AnyProtocol; src = record { address = 0; len = 0 }; sports = None; dst = record { address = 0; len = 0 }; dports = None }) } ∷
-    record { moment = 0; command = Add (record { number = 150; action = SendTo 3; proto = AnyProtocol; src = record { address = 0; len = 0 }; sports = Some (record { first = 80; last = 80 }); dst = address_span 167772160 24; dports = None }) } ∷
+    record { moment = 0; command = Add (record { number = 200; action = Pipe 2; proto = AnyProtocol; src = record { address = 0; len = 0 }; sports = None; dst = record { address = 0; len = 0 }; dports = None }) } ∷
+    record { moment = 0; command = Add (record { number = 150; action = Pipe 3; proto = AnyProtocol; src = record { address = 0; len = 0 }; sports = Some (record { first = 80; last = 80 }); dst = address_span 167772160 24; dports = None }) } ∷
     record { moment = 100000001; command = Flow 4 (record { src = 167772162; sport = 80; dst = 167772418; dport = 2000; smss = 536; segments = 1; ssthresh = 65535; window = 65535; timing = Adaptive }) } ∷
     record { moment = 300000000; command = Inject (record { proto = Tcp; src = 167772161; sport = 7; dst = 167772418; dport = 65535; size = 1000 }) } ∷
     record { moment = 300000000; command = PipeShow } ∷
@@ -462,15 +462,15 @@ exp_6-records =
     PipeLine 3 (record { bw = 10000000; delay = 400; queue = KBytes 3; plr = 20000; mask = record { proto = 0; src = 0; dst = 0; sport = 0; dport = 0 }; discipline = TailDrop }) ∷
     PipeLine 4 (record { bw = 1000000; delay = 0; queue = Slots 5; plr = 0; mask = record { proto = 0; src = 255; dst = 0; sport = 0; dport = 0 }; discipline = ControlledDelay 5000000 1000 }) ∷
     CommandDone 300000000 14 ∷
-    RuleLine (record { number = 1; action = SendTo 3; proto = OnlyUdp; src = address_span 167772416 24; sports = None; dst = address_span 4294967295 32; dports = None }) 0 0 ∷
+    RuleLine (record { number = 1; action = Pipe 3; proto = OnlyUdp; src = address_span 167772416 24; sports = None; dst = address_span 4294967295 32; dports = None }) 0 0 ∷
     RuleLine (record { number = 1; action = SkipTo 100; proto = OnlyTcp; src = record { address = 0; len = 0 }; sports = None; dst = record { address = 0; len = 0 }; dports = None }) 3 1616 ∷
-    RuleLine (record { number = 1; action = SendTo 2; proto = AnyProtocol; src = record { address = 0; len = 0 }; sports = None; dst = record { address = 0; len = 0 }; dports = Some (record { first = 2000; last = 2000 }) }) 0 0 ∷
-    RuleLine (record { number = 100; action = SendTo 1; proto = AnyProtocol; src = address_span 167772160 24; sports = None; dst = record { address = 0; len = 0 }; dports = None }) 2 1576 ∷
+    RuleLine (record { number = 1; action = Pipe 2; proto = AnyProtocol; src = record { address = 0; len = 0 }; sports = None; dst = record { address = 0; len = 0 }; dports = Some (record { first = 2000; last = 2000 }) }) 0 0 ∷
+    RuleLine (record { number = 100; action = Pipe 1; proto = AnyProtocol; src = address_span 167772160 24; sports = None; dst = record { address = 0; len = 0 }; dports = None }) 2 1576 ∷
     RuleLine (record { number = 150; action = Count; proto = OnlyUdp; src = record { address = 0; len = 0 }; sports = None; dst = address_span 167772160 24; dports = None }) 0 0 ∷
-    RuleLine (record { number = 150; action = SendTo 3; proto = AnyProtocol; src = record { address = 0; len = 0 }; sports = Some (record { first = 80; last = 80 }); dst = address_span 167772160 24; dports = None }) 0 0 ∷
-    RuleLine (record { number = 200; action = Forbid; proto = AnyProtocol; src = address_span 167772416 25; sports = Some (record { first = 1000; last = 1000 }); dst = record { address = 0; len = 0 }; dports = None }) 0 0 ∷
-    RuleLine (record { number = 200; action = SendTo 2; proto = AnyProtocol; src = record { address = 0; len = 0 }; sports = None; dst = record { address = 0; len = 0 }; dports = None }) 1 40 ∷
-    RuleLine (record { number = 65535; action = Forbid; proto = AnyProtocol; src = record { address = 0; len = 0 }; sports = None; dst = record { address = 0; len = 0 }; dports = None }) 0 0 ∷
+    RuleLine (record { number = 150; action = Pipe 3; proto = AnyProtocol; src = record { address = 0; len = 0 }; sports = Some (record { first = 80; last = 80 }); dst = address_span 167772160 24; dports = None }) 0 0 ∷
+    RuleLine (record { number = 200; action = Deny; proto = AnyProtocol; src = address_span 167772416 25; sports = Some (record { first = 1000; last = 1000 }); dst = record { address = 0; len = 0 }; dports = None }) 0 0 ∷
+    RuleLine (record { number = 200; action = Pipe 2; proto = AnyProtocol; src = record { address = 0; len = 0 }; sports = None; dst = record { address = 0; len = 0 }; dports = None }) 1 40 ∷
+    RuleLine (record { number = 65535; action = Deny; proto = AnyProtocol; src = record { address = 0; len = 0 }; sports = None; dst = record { address = 0; len = 0 }; dports = None }) 0 0 ∷
     CommandDone 300000000 15 ∷
     []
 
@@ -490,11 +490,11 @@ exp_6 = refl
 abbrev exp_7-commands : List Timed
 exp_7-commands =
     record { moment = 0; command = OnePass false } ∷
-    record { moment = 0; command = Add (record { number = 200; action = SendTo 3; proto = AnyProtocol; src = record { address = 0; len = 0 }; sports = None; dst = record { address = 0; len = 0 }; dports = None }) } ∷
+    record { moment = 0; command = Add (record { number = 200; action = Pipe 3; proto = AnyProtocol; src = record { address = 0; len = 0 }; sports = None; dst = record { address = 0; len = 0 }; dports = None }) } ∷
     record { moment = 0; command = Config 2 (record { bw = 0; delay = 400; queue = Slots 2; plr = 0; mask = record { proto = 0; src = 0; dst = 0; sport = 0; dport = 0 }; discipline = TailDrop }) } ∷
     record { moment = 0; command = Config 3 (record { bw = 10000000; delay = 1; queue = KBytes 3; plr = 200000; mask = record { proto = 0; src = 0; dst = 0; sport = 0; dport = 0 }; discipline = ControlledDelay 1000 20000000 }) } ∷
     record { moment = 0; command = Config 1 (record { bw = 1000000; delay = 10; queue = Slots 10; plr = 0; mask = record { proto = 0; src = 0; dst = 0; sport = 0; dport = 0 }; discipline = ControlledDelay 5000000 100000000 }) } ∷
-    record { moment = 0; command = Add (record { number = 100; action = SendTo 2; proto = AnyProtocol; src = address_span 167772160 24; sports = None; dst = record { address = 0; len = 0 }; dports = None }) } ∷
+    record { moment = 0; command = Add (record { number = 100; action = Pipe 2; proto = AnyProtocol; src = address_span 167772160 24; sports = None; dst = record { address = 0; len = 0 }; dports = None }) } ∷
     record { moment = 0; command = Config 4 (record { bw = 10000000; delay = 1; queue = KBytes 3; plr = 500000; mask = record { proto = 0; src = 0; dst = 0; sport = 0; dport = 0 }; discipline = ControlledDelay 5000000 100000000 }) } ∷
     record { moment = 0; command = Flow 300 (record { src = 167772162; sport = 80; dst = 167772418; dport = 0; smss = 1460; segments = 4; ssthresh = 2000; window = 65535; timing = Fixed 200 }) } ∷
     record { moment = 29615587; command = Stop 300 } ∷
@@ -538,9 +538,9 @@ exp_7-records =
     InstanceLine 3 0 0 0 false 0 1 ∷
     PipeLine 4 (record { bw = 10000000; delay = 1; queue = KBytes 3; plr = 500000; mask = record { proto = 0; src = 0; dst = 0; sport = 0; dport = 0 }; discipline = ControlledDelay 5000000 100000000 }) ∷
     CommandDone 30000000000 15 ∷
-    RuleLine (record { number = 100; action = SendTo 2; proto = AnyProtocol; src = address_span 167772160 24; sports = None; dst = record { address = 0; len = 0 }; dports = None }) 1 1500 ∷
-    RuleLine (record { number = 200; action = SendTo 3; proto = AnyProtocol; src = record { address = 0; len = 0 }; sports = None; dst = record { address = 0; len = 0 }; dports = None }) 1 1500 ∷
-    RuleLine (record { number = 65535; action = Forbid; proto = AnyProtocol; src = record { address = 0; len = 0 }; sports = None; dst = record { address = 0; len = 0 }; dports = None }) 0 0 ∷
+    RuleLine (record { number = 100; action = Pipe 2; proto = AnyProtocol; src = address_span 167772160 24; sports = None; dst = record { address = 0; len = 0 }; dports = None }) 1 1500 ∷
+    RuleLine (record { number = 200; action = Pipe 3; proto = AnyProtocol; src = record { address = 0; len = 0 }; sports = None; dst = record { address = 0; len = 0 }; dports = None }) 1 1500 ∷
+    RuleLine (record { number = 65535; action = Deny; proto = AnyProtocol; src = record { address = 0; len = 0 }; sports = None; dst = record { address = 0; len = 0 }; dports = None }) 0 0 ∷
     CommandDone 30000000000 16 ∷
     []
 
@@ -560,16 +560,16 @@ exp_7 = refl
 abbrev exp_8-commands : List Timed
 exp_8-commands =
     record { moment = 0; command = Config 4 (record { bw = 56000; delay = 1; queue = Slots 5; plr = 0; mask = record { proto = 0; src = 0; dst = 255; sport = 0; dport = 255 }; discipline = ControlledDelay 5000000 100000000 }) } ∷
-    record { moment = 0; command = Add (record { number = 100; action = SendTo 1; proto = AnyProtocol; src = address_span 167772160 24; sports = None; dst = record { address = 0; len = 0 }; dports = None }) } ∷
+    record { moment = 0; command = Add (record { number = 100; action = Pipe 1; proto = AnyProtocol; src = address_span 167772160 24; sports = None; dst = record { address = 0; len = 0 }; dports = None }) } ∷
     record { moment = 0; command = Add (record { number = 100; action = SkipTo 300; proto = OnlyTcp; src = record { address = 0; len = 0 }; sports = None; dst = address_span 167772160 24; dports = None }) } ∷
     record { moment = 0; command = Config 1 (record { bw = 1000000; delay = 0; queue = Slots 50; plr = 500000; mask = record { proto = 255; src = 4294967295; dst = 0; sport = 0; dport = 0 }; discipline = TailDrop }) } ∷
-    record { moment = 0; command = Add (record { number = 200; action = SendTo 2; proto = AnyProtocol; src = record { address = 0; len = 0 }; sports = None; dst = record { address = 0; len = 0 }; dports = None }) } ∷
+    record { moment = 0; command = Add (record { number = 200; action = Pipe 2; proto = AnyProtocol; src = record { address = 0; len = 0 }; sports = None; dst = record { address = 0; len = 0 }; dports = None }) } ∷
     record { moment = 0; command = Flow 3 (record { src = 167772161; sport = 7; dst = 3232237321; dport = 2000; smss = 64; segments = 3; ssthresh = 4000; window = 1460; timing = Fixed 25 }) } ∷
-    record { moment = 0; command = Add (record { number = 200; action = SendTo 1; proto = OnlyUdp; src = address_span 4294967295 32; sports = None; dst = address_span 167772160 24; dports = Some (record { first = 65535; last = 65535 }) }) } ∷
+    record { moment = 0; command = Add (record { number = 200; action = Pipe 1; proto = OnlyUdp; src = address_span 4294967295 32; sports = None; dst = address_span 167772160 24; dports = Some (record { first = 65535; last = 65535 }) }) } ∷
     record { moment = 0; command = Delete 1 } ∷
     record { moment = 97602364; command = Config 1 (record { bw = 8000000; delay = 0; queue = Slots 3; plr = 0; mask = record { proto = 255; src = 4294967295; dst = 0; sport = 0; dport = 0 }; discipline = TailDrop }) } ∷
     record { moment = 97602364; command = Add (record { number = 300; action = SkipTo 65534; proto = AnyProtocol; src = record { address = 0; len = 0 }; sports = Some (record { first = 2000; last = 65535 }); dst = address_span 167772493 25; dports = None }) } ∷
-    record { moment = 170080000; command = Add (record { number = 150; action = Permit; proto = AnyProtocol; src = record { address = 0; len = 0 }; sports = None; dst = record { address = 0; len = 0 }; dports = None }) } ∷
+    record { moment = 170080000; command = Add (record { number = 150; action = Allow; proto = AnyProtocol; src = record { address = 0; len = 0 }; sports = None; dst = record { address = 0; len = 0 }; dports = None }) } ∷
     record { moment = 200000000; command = End } ∷
     []
 
@@ -624,7 +624,7 @@ exp_9-commands =
     record { moment = 0; command = Config 1 (record { bw = 1000000000; delay = 2; queue = Slots 1000; plr = 0; mask = record { proto = 0; src = 0; dst = 0; sport = 0; dport = 0 }; discipline = TailDrop }) } ∷
     record { moment = 0; command = Add (record { number = 65534; action = Count; proto = AnyProtocol; src = record { address = 0; len = 0 }; sports = None; dst = record { address = 0; len = 0 }; dports = Some (record { first = 2000; last = 2000 }) }) } ∷
     record { moment = 0; command = Config 4 (record { bw = 3000000; delay = 0; queue = Slots 50; plr = 1000000; mask = record { proto = 0; src = 1; dst = 0; sport = 0; dport = 0 }; discipline = ControlledDelay 20000000 2000000 }) } ∷
-    record { moment = 0; command = Add (record { number = 200; action = SendTo 3; proto = AnyProtocol; src = address_span 167772161 32; sports = Some (record { first = 2000; last = 65535 }); dst = address_span 167772416 24; dports = None }) } ∷
+    record { moment = 0; command = Add (record { number = 200; action = Pipe 3; proto = AnyProtocol; src = address_span 167772161 32; sports = Some (record { first = 2000; last = 65535 }); dst = address_span 167772416 24; dports = None }) } ∷
     record { moment = 0; command = Config 3 (record { bw = 7777777; delay = 0; queue = KBytes 3; plr = 20000; mask = record { proto = 255; src = 4294967295; dst = 4294967295; sport = 65535; dport = 65535 }; discipline = ControlledDelay 3000000 1000 }) } ∷
     record { moment = 0; command = Config 2 (record { bw = 997; delay = 0; queue = KBytes 2; plr = 0; mask = record { proto = 0; src = 0; dst = 0; sport = 0; dport = 0 }; discipline = ControlledDelay 1000000 5000000 }) } ∷
     record { moment = 0; command = Inject (record { proto = Udp; src = 167772161; sport = 2000; dst = 167772417; dport = 2000; size = 1040 }) } ∷

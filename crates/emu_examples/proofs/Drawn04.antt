@@ -3,7 +3,7 @@ use Rattle.std.specs.Prelude.{◌≡◌, refl, List, [], ◌∷◌, Some, None, 
 use Rattle.emu_model.specs.Spans.{address_span}
 use Rattle.emu_model.specs.declared.packets.Load.TheVariants.{Plain, Seg, Ack}
 use Rattle.emu_model.specs.declared.packets.Protocol.TheVariants.{Tcp, Udp}
-use Rattle.emu_model.specs.declared.rules.Action.TheVariants.{Permit, Forbid, Count, SkipTo, SendTo}
+use Rattle.emu_model.specs.declared.rules.Action.TheVariants.{Allow, Deny, Count, SkipTo, Pipe}
 use Rattle.emu_model.specs.declared.rules.ProtocolMatch.TheVariants.{AnyProtocol, OnlyTcp, OnlyUdp}
 use Rattle.emu_model.specs.declared.pipes.QueueLimit.TheVariants.{Slots, KBytes}
 use Rattle.emu_model.specs.declared.pipes.Discipline.TheVariants.{TailDrop, ControlledDelay}
@@ -24,9 +24,9 @@ use Rattle.rand_core.specs.Steps.{u32_at}
 -- experiment d30
 abbrev exp_0-commands : List Timed
 exp_0-commands =
-    record { moment = 0; command = Add (record { number = 200; action = SendTo 3; proto = AnyProtocol; src = record { address = 0; len = 0 }; sports = None; dst = record { address = 0; len = 0 }; dports = None }) } ∷
+    record { moment = 0; command = Add (record { number = 200; action = Pipe 3; proto = AnyProtocol; src = record { address = 0; len = 0 }; sports = None; dst = record { address = 0; len = 0 }; dports = None }) } ∷
     record { moment = 0; command = Config 1 (record { bw = 1000000; delay = 50; queue = KBytes 10; plr = 200000; mask = record { proto = 0; src = 0; dst = 0; sport = 0; dport = 0 }; discipline = TailDrop }) } ∷
-    record { moment = 0; command = Add (record { number = 100; action = SendTo 1; proto = AnyProtocol; src = address_span 167772160 24; sports = None; dst = record { address = 0; len = 0 }; dports = None }) } ∷
+    record { moment = 0; command = Add (record { number = 100; action = Pipe 1; proto = AnyProtocol; src = address_span 167772160 24; sports = None; dst = record { address = 0; len = 0 }; dports = None }) } ∷
     record { moment = 0; command = Config 4 (record { bw = 7777777; delay = 0; queue = KBytes 3; plr = 0; mask = record { proto = 255; src = 4294967295; dst = 4294967295; sport = 65535; dport = 65535 }; discipline = ControlledDelay 1000 1000 }) } ∷
     record { moment = 0; command = Config 2 (record { bw = 1000000000; delay = 5; queue = Slots 3; plr = 0; mask = record { proto = 0; src = 0; dst = 3; sport = 1; dport = 255 }; discipline = TailDrop }) } ∷
     record { moment = 0; command = Train 3 (record { packet = record { proto = Udp; src = 167772161; sport = 65535; dst = 167772418; dport = 1; size = 125 }; count = 1; gap = 1000000 }) } ∷
@@ -58,9 +58,9 @@ exp_0-records =
     PacketDropped 33333333 5 Plain Budget ∷
     PacketDropped 36666666 6 Plain Budget ∷
     CommandDone 50000000 8 ∷
-    RuleLine (record { number = 100; action = SendTo 1; proto = AnyProtocol; src = address_span 167772160 24; sports = None; dst = record { address = 0; len = 0 }; dports = None }) 2 1261 ∷
-    RuleLine (record { number = 200; action = SendTo 3; proto = AnyProtocol; src = record { address = 0; len = 0 }; sports = None; dst = record { address = 0; len = 0 }; dports = None }) 0 0 ∷
-    RuleLine (record { number = 65535; action = Forbid; proto = AnyProtocol; src = record { address = 0; len = 0 }; sports = None; dst = record { address = 0; len = 0 }; dports = None }) 0 0 ∷
+    RuleLine (record { number = 100; action = Pipe 1; proto = AnyProtocol; src = address_span 167772160 24; sports = None; dst = record { address = 0; len = 0 }; dports = None }) 2 1261 ∷
+    RuleLine (record { number = 200; action = Pipe 3; proto = AnyProtocol; src = record { address = 0; len = 0 }; sports = None; dst = record { address = 0; len = 0 }; dports = None }) 0 0 ∷
+    RuleLine (record { number = 65535; action = Deny; proto = AnyProtocol; src = record { address = 0; len = 0 }; sports = None; dst = record { address = 0; len = 0 }; dports = None }) 0 0 ∷
     PacketDelivered 51000000 0 Plain ∷
     PacketDelivered 60088000 1 (Seg 4 0) ∷
     PacketDropped 60088000 7 (Ack 4 1096) NoPipe ∷
@@ -73,9 +73,9 @@ exp_0-records =
     PipeLine 2 (record { bw = 1000000000; delay = 5; queue = Slots 3; plr = 0; mask = record { proto = 0; src = 0; dst = 3; sport = 1; dport = 255 }; discipline = TailDrop }) ∷
     PipeLine 4 (record { bw = 7777777; delay = 0; queue = KBytes 3; plr = 0; mask = record { proto = 255; src = 4294967295; dst = 4294967295; sport = 65535; dport = 65535 }; discipline = ControlledDelay 1000 1000 }) ∷
     CommandDone 170000500 12 ∷
-    RuleLine (record { number = 100; action = SendTo 1; proto = AnyProtocol; src = address_span 167772160 24; sports = None; dst = record { address = 0; len = 0 }; dports = None }) 2 1261 ∷
-    RuleLine (record { number = 200; action = SendTo 3; proto = AnyProtocol; src = record { address = 0; len = 0 }; sports = None; dst = record { address = 0; len = 0 }; dports = None }) 2 1500 ∷
-    RuleLine (record { number = 65535; action = Forbid; proto = AnyProtocol; src = record { address = 0; len = 0 }; sports = None; dst = record { address = 0; len = 0 }; dports = None }) 0 0 ∷
+    RuleLine (record { number = 100; action = Pipe 1; proto = AnyProtocol; src = address_span 167772160 24; sports = None; dst = record { address = 0; len = 0 }; dports = None }) 2 1261 ∷
+    RuleLine (record { number = 200; action = Pipe 3; proto = AnyProtocol; src = record { address = 0; len = 0 }; sports = None; dst = record { address = 0; len = 0 }; dports = None }) 2 1500 ∷
+    RuleLine (record { number = 65535; action = Deny; proto = AnyProtocol; src = record { address = 0; len = 0 }; sports = None; dst = record { address = 0; len = 0 }; dports = None }) 0 0 ∷
     CommandDone 170000500 13 ∷
     []
 
@@ -94,18 +94,18 @@ exp_0 = refl
 -- experiment d31
 abbrev exp_1-commands : List Timed
 exp_1-commands =
-    record { moment = 0; command = Add (record { number = 200; action = SendTo 3; proto = AnyProtocol; src = record { address = 0; len = 0 }; sports = None; dst = record { address = 0; len = 0 }; dports = None }) } ∷
-    record { moment = 0; command = Add (record { number = 150; action = SendTo 1; proto = OnlyUdp; src = record { address = 0; len = 0 }; sports = Some (record { first = 65535; last = 65535 }); dst = address_span 4294967295 32; dports = None }) } ∷
-    record { moment = 0; command = Add (record { number = 100; action = SendTo 1; proto = OnlyTcp; src = address_span 3232235520 16; sports = None; dst = record { address = 0; len = 0 }; dports = None }) } ∷
-    record { moment = 0; command = Add (record { number = 100; action = SendTo 2; proto = AnyProtocol; src = address_span 167772160 24; sports = None; dst = record { address = 0; len = 0 }; dports = None }) } ∷
+    record { moment = 0; command = Add (record { number = 200; action = Pipe 3; proto = AnyProtocol; src = record { address = 0; len = 0 }; sports = None; dst = record { address = 0; len = 0 }; dports = None }) } ∷
+    record { moment = 0; command = Add (record { number = 150; action = Pipe 1; proto = OnlyUdp; src = record { address = 0; len = 0 }; sports = Some (record { first = 65535; last = 65535 }); dst = address_span 4294967295 32; dports = None }) } ∷
+    record { moment = 0; command = Add (record { number = 100; action = Pipe 1; proto = OnlyTcp; src = address_span 3232235520 16; sports = None; dst = record { address = 0; len = 0 }; dports = None }) } ∷
+    record { moment = 0; command = Add (record { number = 100; action = Pipe 2; proto = AnyProtocol; src = address_span 167772160 24; sports = None; dst = record { address = 0; len = 0 }; dports = None }) } ∷
     record { moment = 0; command = Add (record { number = 2; action = Count; proto = OnlyTcp; src = address_span 167772160 24; sports = None; dst = record { address = 0; len = 0 }; dports = Some (record { first = 2000; last = 2000 }) }) } ∷
-    record { moment = 0; command = Add (record { number = 0; action = SendTo 1; proto = AnyProtocol; src = address_span 167772416 24; sports = None; dst = record { address = 0; len = 0 }; dports = None }) } ∷
+    record { moment = 0; command = Add (record { number = 0; action = Pipe 1; proto = AnyProtocol; src = address_span 167772416 24; sports = None; dst = record { address = 0; len = 0 }; dports = None }) } ∷
     record { moment = 0; command = Config 4 (record { bw = 997; delay = 1200; queue = Slots 5; plr = 1; mask = record { proto = 0; src = 0; dst = 0; sport = 1; dport = 0 }; discipline = TailDrop }) } ∷
-    record { moment = 0; command = Add (record { number = 1; action = SendTo 2; proto = AnyProtocol; src = address_span 167772160 24; sports = None; dst = record { address = 0; len = 0 }; dports = None }) } ∷
+    record { moment = 0; command = Add (record { number = 1; action = Pipe 2; proto = AnyProtocol; src = address_span 167772160 24; sports = None; dst = record { address = 0; len = 0 }; dports = None }) } ∷
     record { moment = 0; command = Config 2 (record { bw = 56000; delay = 0; queue = Slots 1; plr = 20000; mask = record { proto = 0; src = 0; dst = 3; sport = 0; dport = 0 }; discipline = ControlledDelay 5000000 100000000 }) } ∷
     record { moment = 0; command = Config 3 (record { bw = 8000000; delay = 50; queue = Slots 3; plr = 0; mask = record { proto = 255; src = 0; dst = 0; sport = 0; dport = 15 }; discipline = TailDrop }) } ∷
     record { moment = 0; command = Config 1 (record { bw = 3000000; delay = 5; queue = Slots 50; plr = 0; mask = record { proto = 0; src = 0; dst = 0; sport = 0; dport = 0 }; discipline = TailDrop }) } ∷
-    record { moment = 0; command = Add (record { number = 400; action = SendTo 2; proto = OnlyUdp; src = record { address = 0; len = 0 }; sports = None; dst = address_span 167772162 31; dports = None }) } ∷
+    record { moment = 0; command = Add (record { number = 400; action = Pipe 2; proto = OnlyUdp; src = record { address = 0; len = 0 }; sports = None; dst = address_span 167772162 31; dports = None }) } ∷
     record { moment = 0; command = Flow 3 (record { src = 167772162; sport = 2000; dst = 167772417; dport = 80; smss = 64; segments = 1; ssthresh = 1000000000; window = 10000; timing = Fixed 1000 }) } ∷
     record { moment = 0; command = Train 300 (record { packet = record { proto = Tcp; src = 167772161; sport = 80; dst = 167772417; dport = 2000; size = 41 }; count = 3; gap = 1 }) } ∷
     record { moment = 6000000; command = Add (record { number = 200; action = SkipTo 300; proto = AnyProtocol; src = record { address = 0; len = 0 }; sports = Some (record { first = 2000; last = 2000 }); dst = record { address = 0; len = 0 }; dports = None }) } ∷
@@ -149,15 +149,15 @@ exp_1-records =
     PipeLine 3 (record { bw = 1000000; delay = 0; queue = Slots 50; plr = 0; mask = record { proto = 255; src = 0; dst = 0; sport = 0; dport = 15 }; discipline = TailDrop }) ∷
     PipeLine 4 (record { bw = 10000000; delay = 2; queue = Slots 5; plr = 0; mask = record { proto = 0; src = 0; dst = 0; sport = 1; dport = 0 }; discipline = TailDrop }) ∷
     CommandDone 14000500 21 ∷
-    RuleLine (record { number = 1; action = SendTo 2; proto = AnyProtocol; src = address_span 167772160 24; sports = None; dst = record { address = 0; len = 0 }; dports = None }) 4 227 ∷
+    RuleLine (record { number = 1; action = Pipe 2; proto = AnyProtocol; src = address_span 167772160 24; sports = None; dst = record { address = 0; len = 0 }; dports = None }) 4 227 ∷
     RuleLine (record { number = 2; action = Count; proto = OnlyTcp; src = address_span 167772160 24; sports = None; dst = record { address = 0; len = 0 }; dports = Some (record { first = 2000; last = 2000 }) }) 0 0 ∷
-    RuleLine (record { number = 100; action = SendTo 1; proto = OnlyTcp; src = address_span 3232235520 16; sports = None; dst = record { address = 0; len = 0 }; dports = None }) 0 0 ∷
-    RuleLine (record { number = 100; action = SendTo 2; proto = AnyProtocol; src = address_span 167772160 24; sports = None; dst = record { address = 0; len = 0 }; dports = None }) 0 0 ∷
-    RuleLine (record { number = 150; action = SendTo 1; proto = OnlyUdp; src = record { address = 0; len = 0 }; sports = Some (record { first = 65535; last = 65535 }); dst = address_span 4294967295 32; dports = None }) 0 0 ∷
-    RuleLine (record { number = 200; action = SendTo 3; proto = AnyProtocol; src = record { address = 0; len = 0 }; sports = None; dst = record { address = 0; len = 0 }; dports = None }) 0 0 ∷
+    RuleLine (record { number = 100; action = Pipe 1; proto = OnlyTcp; src = address_span 3232235520 16; sports = None; dst = record { address = 0; len = 0 }; dports = None }) 0 0 ∷
+    RuleLine (record { number = 100; action = Pipe 2; proto = AnyProtocol; src = address_span 167772160 24; sports = None; dst = record { address = 0; len = 0 }; dports = None }) 0 0 ∷
+    RuleLine (record { number = 150; action = Pipe 1; proto = OnlyUdp; src = record { address = 0; len = 0 }; sports = Some (record { first = 65535; last = 65535 }); dst = address_span 4294967295 32; dports = None }) 0 0 ∷
+    RuleLine (record { number = 200; action = Pipe 3; proto = AnyProtocol; src = record { address = 0; len = 0 }; sports = None; dst = record { address = 0; len = 0 }; dports = None }) 0 0 ∷
     RuleLine (record { number = 200; action = SkipTo 300; proto = AnyProtocol; src = record { address = 0; len = 0 }; sports = Some (record { first = 2000; last = 2000 }); dst = record { address = 0; len = 0 }; dports = None }) 0 0 ∷
-    RuleLine (record { number = 400; action = SendTo 2; proto = OnlyUdp; src = record { address = 0; len = 0 }; sports = None; dst = address_span 167772162 31; dports = None }) 0 0 ∷
-    RuleLine (record { number = 65535; action = Forbid; proto = AnyProtocol; src = record { address = 0; len = 0 }; sports = None; dst = record { address = 0; len = 0 }; dports = None }) 0 0 ∷
+    RuleLine (record { number = 400; action = Pipe 2; proto = OnlyUdp; src = record { address = 0; len = 0 }; sports = None; dst = address_span 167772162 31; dports = None }) 0 0 ∷
+    RuleLine (record { number = 65535; action = Deny; proto = AnyProtocol; src = record { address = 0; len = 0 }; sports = None; dst = record { address = 0; len = 0 }; dports = None }) 0 0 ∷
     CommandDone 14000500 22 ∷
     []
 
@@ -176,11 +176,11 @@ exp_1 = refl
 -- experiment d32
 abbrev exp_2-commands : List Timed
 exp_2-commands =
-    record { moment = 0; command = Add (record { number = 200; action = SendTo 1; proto = OnlyTcp; src = address_span 0 0; sports = Some (record { first = 80; last = 80 }); dst = address_span 4294967295 32; dports = None }) } ∷
+    record { moment = 0; command = Add (record { number = 200; action = Pipe 1; proto = OnlyTcp; src = address_span 0 0; sports = Some (record { first = 80; last = 80 }); dst = address_span 4294967295 32; dports = None }) } ∷
     record { moment = 0; command = Config 2 (record { bw = 0; delay = 0; queue = Slots 50; plr = 0; mask = record { proto = 0; src = 0; dst = 0; sport = 0; dport = 0 }; discipline = ControlledDelay 100000 2000000 }) } ∷
-    record { moment = 0; command = Add (record { number = 100; action = SendTo 1; proto = AnyProtocol; src = address_span 167772160 24; sports = None; dst = record { address = 0; len = 0 }; dports = None }) } ∷
+    record { moment = 0; command = Add (record { number = 100; action = Pipe 1; proto = AnyProtocol; src = address_span 167772160 24; sports = None; dst = record { address = 0; len = 0 }; dports = None }) } ∷
     record { moment = 0; command = Config 3 (record { bw = 7777777; delay = 50; queue = Slots 50; plr = 0; mask = record { proto = 0; src = 0; dst = 0; sport = 0; dport = 0 }; discipline = ControlledDelay 20000000 7000000 }) } ∷
-    record { moment = 0; command = Add (record { number = 200; action = SendTo 2; proto = AnyProtocol; src = record { address = 0; len = 0 }; sports = None; dst = record { address = 0; len = 0 }; dports = None }) } ∷
+    record { moment = 0; command = Add (record { number = 200; action = Pipe 2; proto = AnyProtocol; src = record { address = 0; len = 0 }; sports = None; dst = record { address = 0; len = 0 }; dports = None }) } ∷
     record { moment = 0; command = Config 1 (record { bw = 3000000; delay = 5; queue = Slots 50; plr = 0; mask = record { proto = 255; src = 4294967295; dst = 0; sport = 0; dport = 255 }; discipline = TailDrop }) } ∷
     record { moment = 100000000; command = Inject (record { proto = Udp; src = 167772161; sport = 7; dst = 167772418; dport = 1; size = 1040 }) } ∷
     record { moment = 300000001; command = Config 2 (record { bw = 1000000000; delay = 2; queue = KBytes 3; plr = 0; mask = record { proto = 0; src = 0; dst = 0; sport = 0; dport = 0 }; discipline = ControlledDelay 5000000 1000000000 }) } ∷
@@ -253,8 +253,8 @@ abbrev exp_3-commands : List Timed
 exp_3-commands =
     record { moment = 0; command = Config 4 (record { bw = 10000000; delay = 400; queue = KBytes 1; plr = 200000; mask = record { proto = 0; src = 0; dst = 0; sport = 0; dport = 0 }; discipline = TailDrop }) } ∷
     record { moment = 0; command = Config 2 (record { bw = 0; delay = 2; queue = Slots 50; plr = 200000; mask = record { proto = 0; src = 0; dst = 0; sport = 0; dport = 0 }; discipline = ControlledDelay 5000000 100000000 }) } ∷
-    record { moment = 0; command = Add (record { number = 200; action = SendTo 3; proto = AnyProtocol; src = record { address = 0; len = 0 }; sports = None; dst = record { address = 0; len = 0 }; dports = None }) } ∷
-    record { moment = 0; command = Add (record { number = 100; action = SendTo 1; proto = AnyProtocol; src = address_span 167772160 24; sports = None; dst = record { address = 0; len = 0 }; dports = None }) } ∷
+    record { moment = 0; command = Add (record { number = 200; action = Pipe 3; proto = AnyProtocol; src = record { address = 0; len = 0 }; sports = None; dst = record { address = 0; len = 0 }; dports = None }) } ∷
+    record { moment = 0; command = Add (record { number = 100; action = Pipe 1; proto = AnyProtocol; src = address_span 167772160 24; sports = None; dst = record { address = 0; len = 0 }; dports = None }) } ∷
     record { moment = 0; command = Config 1 (record { bw = 8000000; delay = 0; queue = KBytes 10; plr = 0; mask = record { proto = 0; src = 0; dst = 0; sport = 0; dport = 0 }; discipline = ControlledDelay 5000000 100000000 }) } ∷
     record { moment = 50000000; command = Flow 5 (record { src = 167772161; sport = 7; dst = 167772418; dport = 0; smss = 1095; segments = 1; ssthresh = 1; window = 65535; timing = Adaptive }) } ∷
     record { moment = 50000000; command = Inject (record { proto = Tcp; src = 167772161; sport = 80; dst = 167772417; dport = 1000; size = 1499 }) } ∷
@@ -281,9 +281,9 @@ exp_3-records =
     PacketFinished 51499000 0 1 0 ∷
     PacketFinished 51499000 1 1 0 ∷
     CommandDone 60000000 8 ∷
-    RuleLine (record { number = 100; action = SendTo 1; proto = AnyProtocol; src = address_span 167772160 24; sports = None; dst = record { address = 0; len = 0 }; dports = None }) 2 2634 ∷
-    RuleLine (record { number = 200; action = SendTo 3; proto = AnyProtocol; src = record { address = 0; len = 0 }; sports = None; dst = record { address = 0; len = 0 }; dports = None }) 0 0 ∷
-    RuleLine (record { number = 65535; action = Forbid; proto = AnyProtocol; src = record { address = 0; len = 0 }; sports = None; dst = record { address = 0; len = 0 }; dports = None }) 0 0 ∷
+    RuleLine (record { number = 100; action = Pipe 1; proto = AnyProtocol; src = address_span 167772160 24; sports = None; dst = record { address = 0; len = 0 }; dports = None }) 2 2634 ∷
+    RuleLine (record { number = 200; action = Pipe 3; proto = AnyProtocol; src = record { address = 0; len = 0 }; sports = None; dst = record { address = 0; len = 0 }; dports = None }) 0 0 ∷
+    RuleLine (record { number = 65535; action = Deny; proto = AnyProtocol; src = record { address = 0; len = 0 }; sports = None; dst = record { address = 0; len = 0 }; dports = None }) 0 0 ∷
     CommandDone 68000000 9 ∷
     CommandDone 68000000 10 ∷
     PacketFinished 68000000 2 1 0 ∷
@@ -295,9 +295,9 @@ exp_3-records =
     PipeLine 3 (record { bw = 0; delay = 0; queue = Slots 3; plr = 0; mask = record { proto = 255; src = 4294967295; dst = 4294967295; sport = 65535; dport = 65535 }; discipline = TailDrop }) ∷
     PipeLine 4 (record { bw = 10000000; delay = 400; queue = KBytes 1; plr = 200000; mask = record { proto = 0; src = 0; dst = 0; sport = 0; dport = 0 }; discipline = TailDrop }) ∷
     CommandDone 162499265 13 ∷
-    RuleLine (record { number = 100; action = SendTo 1; proto = AnyProtocol; src = address_span 167772160 24; sports = None; dst = record { address = 0; len = 0 }; dports = None }) 3 4094 ∷
-    RuleLine (record { number = 200; action = SendTo 3; proto = AnyProtocol; src = record { address = 0; len = 0 }; sports = None; dst = record { address = 0; len = 0 }; dports = None }) 0 0 ∷
-    RuleLine (record { number = 65535; action = Forbid; proto = AnyProtocol; src = record { address = 0; len = 0 }; sports = None; dst = record { address = 0; len = 0 }; dports = None }) 0 0 ∷
+    RuleLine (record { number = 100; action = Pipe 1; proto = AnyProtocol; src = address_span 167772160 24; sports = None; dst = record { address = 0; len = 0 }; dports = None }) 3 4094 ∷
+    RuleLine (record { number = 200; action = Pipe 3; proto = AnyProtocol; src = record { address = 0; len = 0 }; sports = None; dst = record { address = 0; len = 0 }; dports = None }) 0 0 ∷
+    RuleLine (record { number = 65535; action = Deny; proto = AnyProtocol; src = record { address = 0; len = 0 }; sports = None; dst = record { address = 0; len = 0 }; dports = None }) 0 0 ∷
     CommandDone 162499265 14 ∷
     []
 
@@ -319,7 +319,7 @@ exp_4-commands =
     record { moment = 0; command = Config 2 (record { bw = 997; delay = 50; queue = KBytes 2; plr = 0; mask = record { proto = 0; src = 0; dst = 0; sport = 0; dport = 0 }; discipline = ControlledDelay 1000 1000 }) } ∷
     record { moment = 0; command = Config 4 (record { bw = 8000000; delay = 1200; queue = Slots 1000; plr = 50000; mask = record { proto = 0; src = 0; dst = 0; sport = 0; dport = 0 }; discipline = ControlledDelay 20000000 20000000 }) } ∷
     record { moment = 0; command = Config 1 (record { bw = 1000000000; delay = 0; queue = Slots 10; plr = 20000; mask = record { proto = 0; src = 0; dst = 0; sport = 0; dport = 0 }; discipline = TailDrop }) } ∷
-    record { moment = 0; command = Add (record { number = 200; action = Permit; proto = OnlyTcp; src = record { address = 0; len = 0 }; sports = Some (record { first = 2000; last = 2000 }); dst = record { address = 0; len = 0 }; dports = Some (record { first = 1; last = 1000 }) }) } ∷
+    record { moment = 0; command = Add (record { number = 200; action = Allow; proto = OnlyTcp; src = record { address = 0; len = 0 }; sports = Some (record { first = 2000; last = 2000 }); dst = record { address = 0; len = 0 }; dports = Some (record { first = 1; last = 1000 }) }) } ∷
     record { moment = 0; command = Inject (record { proto = Udp; src = 167772162; sport = 65535; dst = 167772418; dport = 1000; size = 999 }) } ∷
     record { moment = 0; command = Flow 2 (record { src = 167772162; sport = 0; dst = 167772417; dport = 1; smss = 1000; segments = 6; ssthresh = 65535; window = 65535; timing = Adaptive }) } ∷
     record { moment = 0; command = Inject (record { proto = Tcp; src = 167772161; sport = 2000; dst = 167772417; dport = 1; size = 1460 }) } ∷
@@ -392,10 +392,10 @@ exp_4 = refl
 abbrev exp_5-commands : List Timed
 exp_5-commands =
     record { moment = 0; command = Config 1 (record { bw = 0; delay = 1200; queue = Slots 3; plr = 0; mask = record { proto = 0; src = 0; dst = 4294901760; sport = 0; dport = 15 }; discipline = ControlledDelay 5000000 100000000 }) } ∷
-    record { moment = 0; command = Add (record { number = 100; action = SendTo 2; proto = AnyProtocol; src = address_span 167772160 24; sports = None; dst = record { address = 0; len = 0 }; dports = None }) } ∷
+    record { moment = 0; command = Add (record { number = 100; action = Pipe 2; proto = AnyProtocol; src = address_span 167772160 24; sports = None; dst = record { address = 0; len = 0 }; dports = None }) } ∷
     record { moment = 0; command = Config 4 (record { bw = 8000000; delay = 1; queue = KBytes 3; plr = 0; mask = record { proto = 0; src = 0; dst = 0; sport = 0; dport = 0 }; discipline = ControlledDelay 1000000 20000000 }) } ∷
     record { moment = 0; command = Config 2 (record { bw = 997; delay = 1200; queue = KBytes 3; plr = 500000; mask = record { proto = 255; src = 4294967295; dst = 4294967295; sport = 65535; dport = 65535 }; discipline = ControlledDelay 5000000 1000000000 }) } ∷
-    record { moment = 0; command = Add (record { number = 200; action = SendTo 2; proto = AnyProtocol; src = record { address = 0; len = 0 }; sports = None; dst = record { address = 0; len = 0 }; dports = None }) } ∷
+    record { moment = 0; command = Add (record { number = 200; action = Pipe 2; proto = AnyProtocol; src = record { address = 0; len = 0 }; sports = None; dst = record { address = 0; len = 0 }; dports = None }) } ∷
     record { moment = 0; command = Config 3 (record { bw = 997; delay = 1200; queue = KBytes 2; plr = 0; mask = record { proto = 255; src = 4294967295; dst = 4294967295; sport = 65535; dport = 65535 }; discipline = TailDrop }) } ∷
     record { moment = 0; command = Inject (record { proto = Udp; src = 167772162; sport = 1; dst = 167772418; dport = 65535; size = 1499 }) } ∷
     record { moment = 0; command = Flow 300 (record { src = 167772161; sport = 80; dst = 167772418; dport = 1000; smss = 960; segments = 3; ssthresh = 1000000000; window = 1; timing = Fixed 1000 }) } ∷
@@ -455,12 +455,12 @@ exp_5 = refl
 -- experiment d36
 abbrev exp_6-commands : List Timed
 exp_6-commands =
-    record { moment = 0; command = Add (record { number = 200; action = SendTo 2; proto = AnyProtocol; src = record { address = 0; len = 0 }; sports = None; dst = record { address = 0; len = 0 }; dports = None }) } ∷
+    record { moment = 0; command = Add (record { number = 200; action = Pipe 2; proto = AnyProtocol; src = record { address = 0; len = 0 }; sports = None; dst = record { address = 0; len = 0 }; dports = None }) } ∷
     record { moment = 0; command = OnePass false } ∷
     record { moment = 0; command = Add (record { number = 100; action = Count; proto = AnyProtocol; src = address_span 167772162 31; sports = None; dst = record { address = 0; len = 0 }; dports = None }) } ∷
     record { moment = 0; command = Config 1 (record { bw = 0; delay = 1; queue = Slots 50; plr = 1; mask = record { proto = 0; src = 0; dst = 0; sport = 0; dport = 0 }; discipline = TailDrop }) } ∷
-    record { moment = 0; command = Add (record { number = 100; action = SendTo 3; proto = AnyProtocol; src = record { address = 0; len = 0 }; sports = Some (record { first = 65535; last = 65535 }); dst = address_span 167772416 24; dports = None }) } ∷
-    record { moment = 0; command = Add (record { number = 100; action = SendTo 3; proto = AnyProtocol; src = address_span 167772160 24; sports = None; dst = record { address = 0; len = 0 }; dports = None }) } ∷
+    record { moment = 0; command = Add (record { number = 100; action = Pipe 3; proto = AnyProtocol; src = record { address = 0; len = 0 }; sports = Some (record { first = 65535; last = 65535 }); dst = address_span 167772416 24; dports = None }) } ∷
+    record { moment = 0; command = Add (record { number = 100; action = Pipe 3; proto = AnyProtocol; src = address_span 167772160 24; sports = None; dst = record { address = 0; len = 0 }; dports = None }) } ∷
     record { moment = 0; command = Config 2 (record { bw = 1000000; delay = 0; queue = KBytes 10; plr = 0; mask = record { proto = 0; src = 0; dst = 0; sport = 0; dport = 0 }; discipline = TailDrop }) } ∷
     record { moment = 0; command = Flow 5 (record { src = 167772161; sport = 2000; dst = 167772417; dport = 0; smss = 1000; segments = 5; ssthresh = 1000; window = 1; timing = Fixed 1000 }) } ∷
     record { moment = 5771411093; command = Inject (record { proto = Udp; src = 167772161; sport = 80; dst = 167772417; dport = 0; size = 1460 }) } ∷
@@ -504,10 +504,10 @@ exp_6-records =
     PipeLine 2 (record { bw = 1000000; delay = 0; queue = KBytes 10; plr = 0; mask = record { proto = 0; src = 0; dst = 0; sport = 0; dport = 0 }; discipline = TailDrop }) ∷
     CommandDone 12000080000 15 ∷
     RuleLine (record { number = 100; action = Count; proto = AnyProtocol; src = address_span 167772162 31; sports = None; dst = record { address = 0; len = 0 }; dports = None }) 4 2304 ∷
-    RuleLine (record { number = 100; action = SendTo 3; proto = AnyProtocol; src = record { address = 0; len = 0 }; sports = Some (record { first = 65535; last = 65535 }); dst = address_span 167772416 24; dports = None }) 0 0 ∷
-    RuleLine (record { number = 100; action = SendTo 3; proto = AnyProtocol; src = address_span 167772160 24; sports = None; dst = record { address = 0; len = 0 }; dports = None }) 7 6303 ∷
-    RuleLine (record { number = 200; action = SendTo 2; proto = AnyProtocol; src = record { address = 0; len = 0 }; sports = None; dst = record { address = 0; len = 0 }; dports = None }) 0 0 ∷
-    RuleLine (record { number = 65535; action = Forbid; proto = AnyProtocol; src = record { address = 0; len = 0 }; sports = None; dst = record { address = 0; len = 0 }; dports = None }) 0 0 ∷
+    RuleLine (record { number = 100; action = Pipe 3; proto = AnyProtocol; src = record { address = 0; len = 0 }; sports = Some (record { first = 65535; last = 65535 }); dst = address_span 167772416 24; dports = None }) 0 0 ∷
+    RuleLine (record { number = 100; action = Pipe 3; proto = AnyProtocol; src = address_span 167772160 24; sports = None; dst = record { address = 0; len = 0 }; dports = None }) 7 6303 ∷
+    RuleLine (record { number = 200; action = Pipe 2; proto = AnyProtocol; src = record { address = 0; len = 0 }; sports = None; dst = record { address = 0; len = 0 }; dports = None }) 0 0 ∷
+    RuleLine (record { number = 65535; action = Deny; proto = AnyProtocol; src = record { address = 0; len = 0 }; sports = None; dst = record { address = 0; len = 0 }; dports = None }) 0 0 ∷
     CommandDone 12000080000 16 ∷
     []
 
@@ -528,12 +528,12 @@ abbrev exp_7-commands : List Timed
 exp_7-commands =
     record { moment = 0; command = OnePass false } ∷
     record { moment = 0; command = Config 4 (record { bw = 10000000; delay = 0; queue = Slots 10; plr = 1000000; mask = record { proto = 0; src = 0; dst = 0; sport = 0; dport = 0 }; discipline = TailDrop }) } ∷
-    record { moment = 0; command = Add (record { number = 200; action = SendTo 1; proto = AnyProtocol; src = record { address = 0; len = 0 }; sports = None; dst = record { address = 0; len = 0 }; dports = None }) } ∷
+    record { moment = 0; command = Add (record { number = 200; action = Pipe 1; proto = AnyProtocol; src = record { address = 0; len = 0 }; sports = None; dst = record { address = 0; len = 0 }; dports = None }) } ∷
     record { moment = 0; command = Config 1 (record { bw = 8000000; delay = 0; queue = KBytes 2; plr = 0; mask = record { proto = 0; src = 0; dst = 0; sport = 0; dport = 0 }; discipline = ControlledDelay 5000000 100000000 }) } ∷
     record { moment = 0; command = Config 2 (record { bw = 7777777; delay = 400; queue = KBytes 3; plr = 0; mask = record { proto = 0; src = 0; dst = 0; sport = 0; dport = 0 }; discipline = ControlledDelay 5000000 100000000 }) } ∷
-    record { moment = 0; command = Add (record { number = 100; action = SendTo 2; proto = AnyProtocol; src = address_span 167772160 24; sports = None; dst = record { address = 0; len = 0 }; dports = None }) } ∷
+    record { moment = 0; command = Add (record { number = 100; action = Pipe 2; proto = AnyProtocol; src = address_span 167772160 24; sports = None; dst = record { address = 0; len = 0 }; dports = None }) } ∷
     record { moment = 0; command = Inject (record { proto = Tcp; src = 167772162; sport = 2000; dst = 167772418; dport = 1; size = 999 }) } ∷
-    record { moment = 2000001; command = Add (record { number = 150; action = SendTo 3; proto = OnlyUdp; src = address_span 167772416 24; sports = None; dst = address_span 167772161 32; dports = Some (record { first = 0; last = 0 }) }) } ∷
+    record { moment = 2000001; command = Add (record { number = 150; action = Pipe 3; proto = OnlyUdp; src = address_span 167772416 24; sports = None; dst = address_span 167772161 32; dports = Some (record { first = 0; last = 0 }) }) } ∷
     record { moment = 5000000; command = Stop 3 } ∷
     record { moment = 11676340; command = Config 1 (record { bw = 1000000; delay = 2; queue = Slots 10; plr = 0; mask = record { proto = 0; src = 0; dst = 0; sport = 0; dport = 0 }; discipline = TailDrop }) } ∷
     record { moment = 11676340; command = Config 2 (record { bw = 7777777; delay = 1200; queue = Slots 1000; plr = 0; mask = record { proto = 255; src = 4294967295; dst = 4294967295; sport = 65535; dport = 65535 }; discipline = ControlledDelay 1000000 2000000 }) } ∷
@@ -574,13 +574,13 @@ exp_7 = refl
 -- experiment d38
 abbrev exp_8-commands : List Timed
 exp_8-commands =
-    record { moment = 0; command = Add (record { number = 100; action = SendTo 2; proto = AnyProtocol; src = address_span 167772160 24; sports = None; dst = record { address = 0; len = 0 }; dports = None }) } ∷
+    record { moment = 0; command = Add (record { number = 100; action = Pipe 2; proto = AnyProtocol; src = address_span 167772160 24; sports = None; dst = record { address = 0; len = 0 }; dports = None }) } ∷
     record { moment = 0; command = Config 1 (record { bw = 997; delay = 0; queue = Slots 5; plr = 0; mask = record { proto = 0; src = 0; dst = 0; sport = 0; dport = 0 }; discipline = TailDrop }) } ∷
     record { moment = 0; command = Config 2 (record { bw = 10000000; delay = 0; queue = Slots 1000; plr = 200000; mask = record { proto = 0; src = 0; dst = 0; sport = 0; dport = 0 }; discipline = TailDrop }) } ∷
-    record { moment = 0; command = Add (record { number = 200; action = SendTo 3; proto = AnyProtocol; src = record { address = 0; len = 0 }; sports = None; dst = record { address = 0; len = 0 }; dports = None }) } ∷
+    record { moment = 0; command = Add (record { number = 200; action = Pipe 3; proto = AnyProtocol; src = record { address = 0; len = 0 }; sports = None; dst = record { address = 0; len = 0 }; dports = None }) } ∷
     record { moment = 0; command = OnePass false } ∷
     record { moment = 0; command = Config 4 (record { bw = 0; delay = 5; queue = Slots 50; plr = 0; mask = record { proto = 0; src = 0; dst = 0; sport = 0; dport = 0 }; discipline = ControlledDelay 5000000 7000000 }) } ∷
-    record { moment = 0; command = Add (record { number = 100; action = SendTo 2; proto = AnyProtocol; src = address_span 167772161 32; sports = None; dst = record { address = 0; len = 0 }; dports = None }) } ∷
+    record { moment = 0; command = Add (record { number = 100; action = Pipe 2; proto = AnyProtocol; src = address_span 167772161 32; sports = None; dst = record { address = 0; len = 0 }; dports = None }) } ∷
     record { moment = 0; command = Train 2 (record { packet = record { proto = Tcp; src = 167772161; sport = 1; dst = 167772417; dport = 1; size = 1499 }; count = 1; gap = 10000000 }) } ∷
     record { moment = 0; command = Inject (record { proto = Tcp; src = 167772161; sport = 1000; dst = 167772418; dport = 2000; size = 125 }) } ∷
     record { moment = 10000000000; command = Flow 300 (record { src = 167772161; sport = 2000; dst = 167772418; dport = 0; smss = 64; segments = 1; ssthresh = 1; window = 10000; timing = Adaptive }) } ∷
@@ -588,7 +588,7 @@ exp_8-commands =
     record { moment = 10000000000; command = PipeDelete 3 } ∷
     record { moment = 10000000000; command = Flow 2 (record { src = 167772161; sport = 1; dst = 167772417; dport = 65535; smss = 536; segments = 1; ssthresh = 65535; window = 65535; timing = Adaptive }) } ∷
     record { moment = 10000000500; command = Stop 5 } ∷
-    record { moment = 10000000500; command = Add (record { number = 50; action = SendTo 2; proto = AnyProtocol; src = record { address = 0; len = 0 }; sports = None; dst = address_span 4294967295 32; dports = None }) } ∷
+    record { moment = 10000000500; command = Add (record { number = 50; action = Pipe 2; proto = AnyProtocol; src = record { address = 0; len = 0 }; sports = None; dst = address_span 4294967295 32; dports = None }) } ∷
     record { moment = 10000000500; command = PipeShow } ∷
     record { moment = 10000000500; command = Show } ∷
     record { moment = 10000000500; command = End } ∷
@@ -623,11 +623,11 @@ exp_8-records =
     InstanceLine 2 0 0 0 true 0 4 ∷
     PipeLine 4 (record { bw = 0; delay = 5; queue = Slots 50; plr = 0; mask = record { proto = 0; src = 0; dst = 0; sport = 0; dport = 0 }; discipline = ControlledDelay 5000000 7000000 }) ∷
     CommandDone 10000000500 16 ∷
-    RuleLine (record { number = 50; action = SendTo 2; proto = AnyProtocol; src = record { address = 0; len = 0 }; sports = None; dst = address_span 4294967295 32; dports = None }) 0 0 ∷
-    RuleLine (record { number = 100; action = SendTo 2; proto = AnyProtocol; src = address_span 167772160 24; sports = None; dst = record { address = 0; len = 0 }; dports = None }) 3 1728 ∷
-    RuleLine (record { number = 100; action = SendTo 2; proto = AnyProtocol; src = address_span 167772161 32; sports = None; dst = record { address = 0; len = 0 }; dports = None }) 1 125 ∷
-    RuleLine (record { number = 200; action = SendTo 3; proto = AnyProtocol; src = record { address = 0; len = 0 }; sports = None; dst = record { address = 0; len = 0 }; dports = None }) 1 125 ∷
-    RuleLine (record { number = 65535; action = Forbid; proto = AnyProtocol; src = record { address = 0; len = 0 }; sports = None; dst = record { address = 0; len = 0 }; dports = None }) 0 0 ∷
+    RuleLine (record { number = 50; action = Pipe 2; proto = AnyProtocol; src = record { address = 0; len = 0 }; sports = None; dst = address_span 4294967295 32; dports = None }) 0 0 ∷
+    RuleLine (record { number = 100; action = Pipe 2; proto = AnyProtocol; src = address_span 167772160 24; sports = None; dst = record { address = 0; len = 0 }; dports = None }) 3 1728 ∷
+    RuleLine (record { number = 100; action = Pipe 2; proto = AnyProtocol; src = address_span 167772161 32; sports = None; dst = record { address = 0; len = 0 }; dports = None }) 1 125 ∷
+    RuleLine (record { number = 200; action = Pipe 3; proto = AnyProtocol; src = record { address = 0; len = 0 }; sports = None; dst = record { address = 0; len = 0 }; dports = None }) 1 125 ∷
+    RuleLine (record { number = 65535; action = Deny; proto = AnyProtocol; src = record { address = 0; len = 0 }; sports = None; dst = record { address = 0; len = 0 }; dports = None }) 0 0 ∷
     CommandDone 10000000500 17 ∷
     []
 
@@ -652,7 +652,7 @@ exp_9-commands =
     record { moment = 0; command = Config 4 (record { bw = 0; delay = 5; queue = Slots 50; plr = 0; mask = record { proto = 0; src = 0; dst = 0; sport = 0; dport = 0 }; discipline = TailDrop }) } ∷
     record { moment = 0; command = Train 300 (record { packet = record { proto = Tcp; src = 167772162; sport = 7; dst = 167772418; dport = 7; size = 125 }; count = 3; gap = 2000000 }) } ∷
     record { moment = 500; command = Config 1 (record { bw = 3000000; delay = 10; queue = Slots 50; plr = 1; mask = record { proto = 0; src = 0; dst = 0; sport = 0; dport = 0 }; discipline = ControlledDelay 1000000 5000000 }) } ∷
-    record { moment = 9000000000; command = Add (record { number = 65534; action = SendTo 1; proto = AnyProtocol; src = record { address = 0; len = 0 }; sports = None; dst = address_span 167772160 8; dports = None }) } ∷
+    record { moment = 9000000000; command = Add (record { number = 65534; action = Pipe 1; proto = AnyProtocol; src = record { address = 0; len = 0 }; sports = None; dst = address_span 167772160 8; dports = None }) } ∷
     record { moment = 9000000000; command = Flow 5 (record { src = 167772162; sport = 65535; dst = 167772417; dport = 0; smss = 1096; segments = 1; ssthresh = 65535; window = 65535; timing = Adaptive }) } ∷
     record { moment = 9000000500; command = Inject (record { proto = Udp; src = 167772161; sport = 0; dst = 167772418; dport = 0; size = 1460 }) } ∷
     record { moment = 11000000000; command = Config 3 (record { bw = 8000000; delay = 50; queue = Slots 2; plr = 50000; mask = record { proto = 0; src = 0; dst = 255; sport = 1; dport = 0 }; discipline = TailDrop }) } ∷

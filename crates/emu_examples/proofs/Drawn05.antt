@@ -3,7 +3,7 @@ use Rattle.std.specs.Prelude.{◌≡◌, refl, List, [], ◌∷◌, Some, None, 
 use Rattle.emu_model.specs.Spans.{address_span}
 use Rattle.emu_model.specs.declared.packets.Load.TheVariants.{Plain, Seg, Ack}
 use Rattle.emu_model.specs.declared.packets.Protocol.TheVariants.{Tcp, Udp}
-use Rattle.emu_model.specs.declared.rules.Action.TheVariants.{Forbid, Count, SkipTo, SendTo}
+use Rattle.emu_model.specs.declared.rules.Action.TheVariants.{Deny, Count, SkipTo, Pipe}
 use Rattle.emu_model.specs.declared.rules.ProtocolMatch.TheVariants.{AnyProtocol, OnlyTcp, OnlyUdp}
 use Rattle.emu_model.specs.declared.pipes.QueueLimit.TheVariants.{Slots, KBytes}
 use Rattle.emu_model.specs.declared.pipes.Discipline.TheVariants.{TailDrop, ControlledDelay}
@@ -24,11 +24,11 @@ use Rattle.rand_core.specs.Steps.{u32_at}
 -- experiment d40
 abbrev exp_0-commands : List Timed
 exp_0-commands =
-    record { moment = 0; command = Add (record { number = 100; action = SendTo 2; proto = AnyProtocol; src = address_span 167772160 24; sports = None; dst = record { address = 0; len = 0 }; dports = None }) } ∷
+    record { moment = 0; command = Add (record { number = 100; action = Pipe 2; proto = AnyProtocol; src = address_span 167772160 24; sports = None; dst = record { address = 0; len = 0 }; dports = None }) } ∷
     record { moment = 0; command = Config 2 (record { bw = 56000; delay = 400; queue = KBytes 10; plr = 1; mask = record { proto = 0; src = 0; dst = 0; sport = 0; dport = 0 }; discipline = TailDrop }) } ∷
     record { moment = 0; command = Config 1 (record { bw = 0; delay = 50; queue = Slots 2; plr = 20000; mask = record { proto = 0; src = 0; dst = 0; sport = 0; dport = 0 }; discipline = TailDrop }) } ∷
     record { moment = 0; command = OnePass false } ∷
-    record { moment = 0; command = Add (record { number = 200; action = SendTo 3; proto = AnyProtocol; src = record { address = 0; len = 0 }; sports = None; dst = record { address = 0; len = 0 }; dports = None }) } ∷
+    record { moment = 0; command = Add (record { number = 200; action = Pipe 3; proto = AnyProtocol; src = record { address = 0; len = 0 }; sports = None; dst = record { address = 0; len = 0 }; dports = None }) } ∷
     record { moment = 0; command = Config 3 (record { bw = 10000000000; delay = 400; queue = Slots 5; plr = 1000000; mask = record { proto = 0; src = 0; dst = 0; sport = 0; dport = 0 }; discipline = TailDrop }) } ∷
     record { moment = 0; command = Add (record { number = 2; action = SkipTo 65535; proto = OnlyTcp; src = record { address = 0; len = 0 }; sports = None; dst = record { address = 0; len = 0 }; dports = None }) } ∷
     record { moment = 0; command = Config 4 (record { bw = 0; delay = 5; queue = Slots 50; plr = 0; mask = record { proto = 255; src = 4294967295; dst = 4294967295; sport = 65535; dport = 65535 }; discipline = ControlledDelay 1000 1000 }) } ∷
@@ -65,9 +65,9 @@ exp_0-records =
     CommandDone 17547360 12 ∷
     CommandDone 17547360 13 ∷
     RuleLine (record { number = 2; action = SkipTo 65535; proto = OnlyTcp; src = record { address = 0; len = 0 }; sports = None; dst = record { address = 0; len = 0 }; dports = None }) 3 3540 ∷
-    RuleLine (record { number = 100; action = SendTo 2; proto = AnyProtocol; src = address_span 167772160 24; sports = None; dst = record { address = 0; len = 0 }; dports = None }) 1 999 ∷
-    RuleLine (record { number = 200; action = SendTo 3; proto = AnyProtocol; src = record { address = 0; len = 0 }; sports = None; dst = record { address = 0; len = 0 }; dports = None }) 0 0 ∷
-    RuleLine (record { number = 65535; action = Forbid; proto = AnyProtocol; src = record { address = 0; len = 0 }; sports = None; dst = record { address = 0; len = 0 }; dports = None }) 3 3540 ∷
+    RuleLine (record { number = 100; action = Pipe 2; proto = AnyProtocol; src = address_span 167772160 24; sports = None; dst = record { address = 0; len = 0 }; dports = None }) 1 999 ∷
+    RuleLine (record { number = 200; action = Pipe 3; proto = AnyProtocol; src = record { address = 0; len = 0 }; sports = None; dst = record { address = 0; len = 0 }; dports = None }) 0 0 ∷
+    RuleLine (record { number = 65535; action = Deny; proto = AnyProtocol; src = record { address = 0; len = 0 }; sports = None; dst = record { address = 0; len = 0 }; dports = None }) 3 3540 ∷
     CommandDone 17547360 14 ∷
     PacketDropped 17547360 3 Plain Deleted ∷
     CommandRefused 17547360 15 NoFlow ∷
@@ -97,9 +97,9 @@ exp_0-records =
     PipeLine 4 (record { bw = 0; delay = 5; queue = Slots 50; plr = 0; mask = record { proto = 255; src = 4294967295; dst = 4294967295; sport = 65535; dport = 65535 }; discipline = ControlledDelay 1000 1000 }) ∷
     CommandDone 30000000000 17 ∷
     RuleLine (record { number = 2; action = SkipTo 65535; proto = OnlyTcp; src = record { address = 0; len = 0 }; sports = None; dst = record { address = 0; len = 0 }; dports = None }) 15 12308 ∷
-    RuleLine (record { number = 100; action = SendTo 2; proto = AnyProtocol; src = address_span 167772160 24; sports = None; dst = record { address = 0; len = 0 }; dports = None }) 1 999 ∷
-    RuleLine (record { number = 200; action = SendTo 3; proto = AnyProtocol; src = record { address = 0; len = 0 }; sports = None; dst = record { address = 0; len = 0 }; dports = None }) 0 0 ∷
-    RuleLine (record { number = 65535; action = Forbid; proto = AnyProtocol; src = record { address = 0; len = 0 }; sports = None; dst = record { address = 0; len = 0 }; dports = None }) 15 12308 ∷
+    RuleLine (record { number = 100; action = Pipe 2; proto = AnyProtocol; src = address_span 167772160 24; sports = None; dst = record { address = 0; len = 0 }; dports = None }) 1 999 ∷
+    RuleLine (record { number = 200; action = Pipe 3; proto = AnyProtocol; src = record { address = 0; len = 0 }; sports = None; dst = record { address = 0; len = 0 }; dports = None }) 0 0 ∷
+    RuleLine (record { number = 65535; action = Deny; proto = AnyProtocol; src = record { address = 0; len = 0 }; sports = None; dst = record { address = 0; len = 0 }; dports = None }) 15 12308 ∷
     CommandDone 30000000000 18 ∷
     []
 
@@ -118,16 +118,16 @@ exp_0 = refl
 -- experiment d41
 abbrev exp_1-commands : List Timed
 exp_1-commands =
-    record { moment = 0; command = Add (record { number = 150; action = SendTo 1; proto = OnlyUdp; src = address_span 3232235520 16; sports = None; dst = record { address = 0; len = 0 }; dports = Some (record { first = 1; last = 7 }) }) } ∷
-    record { moment = 0; command = Add (record { number = 200; action = SendTo 3; proto = AnyProtocol; src = record { address = 0; len = 0 }; sports = None; dst = record { address = 0; len = 0 }; dports = None }) } ∷
-    record { moment = 0; command = Add (record { number = 150; action = SendTo 1; proto = AnyProtocol; src = record { address = 0; len = 0 }; sports = None; dst = record { address = 0; len = 0 }; dports = None }) } ∷
+    record { moment = 0; command = Add (record { number = 150; action = Pipe 1; proto = OnlyUdp; src = address_span 3232235520 16; sports = None; dst = record { address = 0; len = 0 }; dports = Some (record { first = 1; last = 7 }) }) } ∷
+    record { moment = 0; command = Add (record { number = 200; action = Pipe 3; proto = AnyProtocol; src = record { address = 0; len = 0 }; sports = None; dst = record { address = 0; len = 0 }; dports = None }) } ∷
+    record { moment = 0; command = Add (record { number = 150; action = Pipe 1; proto = AnyProtocol; src = record { address = 0; len = 0 }; sports = None; dst = record { address = 0; len = 0 }; dports = None }) } ∷
     record { moment = 0; command = Add (record { number = 200; action = SkipTo 300; proto = OnlyUdp; src = record { address = 0; len = 0 }; sports = None; dst = address_span 4294967295 32; dports = None }) } ∷
-    record { moment = 0; command = Add (record { number = 100; action = SendTo 3; proto = AnyProtocol; src = record { address = 0; len = 0 }; sports = None; dst = address_span 167772416 24; dports = Some (record { first = 2000; last = 2000 }) }) } ∷
+    record { moment = 0; command = Add (record { number = 100; action = Pipe 3; proto = AnyProtocol; src = record { address = 0; len = 0 }; sports = None; dst = address_span 167772416 24; dports = Some (record { first = 2000; last = 2000 }) }) } ∷
     record { moment = 0; command = Config 3 (record { bw = 8000000; delay = 0; queue = KBytes 1; plr = 50000; mask = record { proto = 255; src = 4294967295; dst = 4294967295; sport = 65535; dport = 65535 }; discipline = ControlledDelay 5000000 100000000 }) } ∷
-    record { moment = 0; command = Add (record { number = 300; action = SendTo 1; proto = AnyProtocol; src = address_span 167772493 25; sports = None; dst = record { address = 0; len = 0 }; dports = None }) } ∷
-    record { moment = 0; command = Add (record { number = 100; action = SendTo 1; proto = AnyProtocol; src = address_span 167772160 24; sports = None; dst = record { address = 0; len = 0 }; dports = None }) } ∷
+    record { moment = 0; command = Add (record { number = 300; action = Pipe 1; proto = AnyProtocol; src = address_span 167772493 25; sports = None; dst = record { address = 0; len = 0 }; dports = None }) } ∷
+    record { moment = 0; command = Add (record { number = 100; action = Pipe 1; proto = AnyProtocol; src = address_span 167772160 24; sports = None; dst = record { address = 0; len = 0 }; dports = None }) } ∷
     record { moment = 0; command = OnePass false } ∷
-    record { moment = 0; command = Add (record { number = 65534; action = SendTo 2; proto = AnyProtocol; src = address_span 167772493 25; sports = None; dst = address_span 167772161 32; dports = None }) } ∷
+    record { moment = 0; command = Add (record { number = 65534; action = Pipe 2; proto = AnyProtocol; src = address_span 167772493 25; sports = None; dst = address_span 167772161 32; dports = None }) } ∷
     record { moment = 0; command = Config 4 (record { bw = 7777777; delay = 1; queue = KBytes 1; plr = 0; mask = record { proto = 0; src = 0; dst = 0; sport = 0; dport = 0 }; discipline = TailDrop }) } ∷
     record { moment = 0; command = Config 1 (record { bw = 56000; delay = 1200; queue = Slots 50; plr = 500000; mask = record { proto = 0; src = 0; dst = 0; sport = 65535; dport = 255 }; discipline = TailDrop }) } ∷
     record { moment = 0; command = Flow 5 (record { src = 167772161; sport = 1; dst = 167772418; dport = 1; smss = 1095; segments = 2; ssthresh = 8000; window = 65535; timing = Adaptive }) } ∷
@@ -191,9 +191,9 @@ exp_1 = refl
 -- experiment d42
 abbrev exp_2-commands : List Timed
 exp_2-commands =
-    record { moment = 0; command = Add (record { number = 200; action = SendTo 2; proto = AnyProtocol; src = record { address = 0; len = 0 }; sports = None; dst = record { address = 0; len = 0 }; dports = None }) } ∷
+    record { moment = 0; command = Add (record { number = 200; action = Pipe 2; proto = AnyProtocol; src = record { address = 0; len = 0 }; sports = None; dst = record { address = 0; len = 0 }; dports = None }) } ∷
     record { moment = 0; command = Config 3 (record { bw = 0; delay = 1200; queue = Slots 5; plr = 0; mask = record { proto = 0; src = 0; dst = 0; sport = 65535; dport = 15 }; discipline = ControlledDelay 5000000 7000000 }) } ∷
-    record { moment = 0; command = Add (record { number = 100; action = SendTo 3; proto = AnyProtocol; src = address_span 167772160 24; sports = None; dst = record { address = 0; len = 0 }; dports = None }) } ∷
+    record { moment = 0; command = Add (record { number = 100; action = Pipe 3; proto = AnyProtocol; src = address_span 167772160 24; sports = None; dst = record { address = 0; len = 0 }; dports = None }) } ∷
     record { moment = 0; command = Config 4 (record { bw = 10000000000; delay = 50; queue = Slots 2; plr = 0; mask = record { proto = 255; src = 4294967295; dst = 4294967295; sport = 65535; dport = 65535 }; discipline = TailDrop }) } ∷
     record { moment = 0; command = Config 1 (record { bw = 7777777; delay = 400; queue = KBytes 1; plr = 0; mask = record { proto = 0; src = 0; dst = 0; sport = 0; dport = 0 }; discipline = ControlledDelay 100000 7000000 }) } ∷
     record { moment = 0; command = Config 2 (record { bw = 0; delay = 400; queue = Slots 50; plr = 0; mask = record { proto = 0; src = 0; dst = 0; sport = 0; dport = 0 }; discipline = TailDrop }) } ∷
@@ -201,7 +201,7 @@ exp_2-commands =
     record { moment = 1000000000; command = PipeDelete 3 } ∷
     record { moment = 1000000000; command = PipeDelete 4 } ∷
     record { moment = 1000000000; command = Trace true } ∷
-    record { moment = 1000000000; command = Add (record { number = 200; action = SendTo 1; proto = AnyProtocol; src = record { address = 0; len = 0 }; sports = Some (record { first = 7; last = 7 }); dst = record { address = 0; len = 0 }; dports = None }) } ∷
+    record { moment = 1000000000; command = Add (record { number = 200; action = Pipe 1; proto = AnyProtocol; src = record { address = 0; len = 0 }; sports = Some (record { first = 7; last = 7 }); dst = record { address = 0; len = 0 }; dports = None }) } ∷
     record { moment = 1000000000; command = Add (record { number = 50; action = Count; proto = AnyProtocol; src = address_span 4294967295 32; sports = None; dst = record { address = 0; len = 0 }; dports = Some (record { first = 7; last = 7 }) }) } ∷
     record { moment = 1000000500; command = Flow 1 (record { src = 167772162; sport = 2000; dst = 167772417; dport = 7; smss = 64; segments = 1; ssthresh = 2000; window = 65535; timing = Fixed 60000 }) } ∷
     record { moment = 1000000500; command = Config 4 (record { bw = 997; delay = 50; queue = KBytes 3; plr = 0; mask = record { proto = 255; src = 4294967295; dst = 4294967295; sport = 65535; dport = 65535 }; discipline = TailDrop }) } ∷
@@ -292,9 +292,9 @@ exp_3-commands =
     record { moment = 0; command = Config 2 (record { bw = 0; delay = 0; queue = Slots 10; plr = 50000; mask = record { proto = 0; src = 0; dst = 0; sport = 0; dport = 0 }; discipline = ControlledDelay 5000000 100000000 }) } ∷
     record { moment = 0; command = Config 1 (record { bw = 10000000; delay = 0; queue = KBytes 10; plr = 50000; mask = record { proto = 0; src = 0; dst = 0; sport = 0; dport = 0 }; discipline = TailDrop }) } ∷
     record { moment = 0; command = Add (record { number = 0; action = Count; proto = AnyProtocol; src = address_span 167772161 32; sports = None; dst = record { address = 0; len = 0 }; dports = None }) } ∷
-    record { moment = 0; command = Add (record { number = 300; action = Forbid; proto = AnyProtocol; src = record { address = 0; len = 0 }; sports = None; dst = record { address = 0; len = 0 }; dports = Some (record { first = 80; last = 80 }) }) } ∷
-    record { moment = 0; command = Add (record { number = 2; action = SendTo 1; proto = AnyProtocol; src = address_span 3232235520 16; sports = Some (record { first = 2000; last = 2000 }); dst = address_span 4294967295 32; dports = None }) } ∷
-    record { moment = 0; command = Add (record { number = 100; action = SendTo 3; proto = OnlyTcp; src = address_span 167772416 24; sports = None; dst = record { address = 0; len = 0 }; dports = None }) } ∷
+    record { moment = 0; command = Add (record { number = 300; action = Deny; proto = AnyProtocol; src = record { address = 0; len = 0 }; sports = None; dst = record { address = 0; len = 0 }; dports = Some (record { first = 80; last = 80 }) }) } ∷
+    record { moment = 0; command = Add (record { number = 2; action = Pipe 1; proto = AnyProtocol; src = address_span 3232235520 16; sports = Some (record { first = 2000; last = 2000 }); dst = address_span 4294967295 32; dports = None }) } ∷
+    record { moment = 0; command = Add (record { number = 100; action = Pipe 3; proto = OnlyTcp; src = address_span 167772416 24; sports = None; dst = record { address = 0; len = 0 }; dports = None }) } ∷
     record { moment = 0; command = Train 1 (record { packet = record { proto = Tcp; src = 167772161; sport = 7; dst = 167772418; dport = 80; size = 125 }; count = 5; gap = 1000000 }) } ∷
     record { moment = 1008000000; command = Config 3 (record { bw = 10000000; delay = 2; queue = KBytes 10; plr = 0; mask = record { proto = 0; src = 0; dst = 0; sport = 0; dport = 0 }; discipline = ControlledDelay 100000 20000000 }) } ∷
     record { moment = 3000000000; command = Flow 300 (record { src = 167772161; sport = 7; dst = 167772417; dport = 7; smss = 1095; segments = 4; ssthresh = 65535; window = 65535; timing = Adaptive }) } ∷
@@ -349,8 +349,8 @@ exp_4-commands =
     record { moment = 0; command = Add (record { number = 65534; action = SkipTo 100; proto = OnlyUdp; src = address_span 4294967295 32; sports = None; dst = record { address = 0; len = 0 }; dports = None }) } ∷
     record { moment = 0; command = Config 4 (record { bw = 1000000; delay = 0; queue = KBytes 3; plr = 500000; mask = record { proto = 0; src = 0; dst = 0; sport = 0; dport = 15 }; discipline = ControlledDelay 1000000 100000000 }) } ∷
     record { moment = 0; command = Config 2 (record { bw = 1000000; delay = 0; queue = KBytes 10; plr = 0; mask = record { proto = 0; src = 0; dst = 0; sport = 0; dport = 0 }; discipline = ControlledDelay 5000000 100000000 }) } ∷
-    record { moment = 0; command = Add (record { number = 200; action = SendTo 2; proto = AnyProtocol; src = record { address = 0; len = 0 }; sports = None; dst = record { address = 0; len = 0 }; dports = None }) } ∷
-    record { moment = 0; command = Add (record { number = 100; action = SendTo 3; proto = AnyProtocol; src = address_span 167772160 24; sports = None; dst = record { address = 0; len = 0 }; dports = None }) } ∷
+    record { moment = 0; command = Add (record { number = 200; action = Pipe 2; proto = AnyProtocol; src = record { address = 0; len = 0 }; sports = None; dst = record { address = 0; len = 0 }; dports = None }) } ∷
+    record { moment = 0; command = Add (record { number = 100; action = Pipe 3; proto = AnyProtocol; src = address_span 167772160 24; sports = None; dst = record { address = 0; len = 0 }; dports = None }) } ∷
     record { moment = 0; command = Config 3 (record { bw = 0; delay = 2; queue = KBytes 10; plr = 0; mask = record { proto = 0; src = 0; dst = 0; sport = 0; dport = 0 }; discipline = ControlledDelay 5000000 100000000 }) } ∷
     record { moment = 0; command = Config 1 (record { bw = 7777777; delay = 2; queue = KBytes 10; plr = 0; mask = record { proto = 1; src = 0; dst = 0; sport = 65535; dport = 255 }; discipline = TailDrop }) } ∷
     record { moment = 0; command = Train 4 (record { packet = record { proto = Udp; src = 167772161; sport = 2000; dst = 167772418; dport = 65535; size = 41 }; count = 1; gap = 1 }) } ∷
@@ -395,9 +395,9 @@ exp_4-records =
     PipeLine 2 (record { bw = 1000000; delay = 0; queue = KBytes 10; plr = 0; mask = record { proto = 0; src = 0; dst = 0; sport = 0; dport = 0 }; discipline = ControlledDelay 5000000 100000000 }) ∷
     PipeLine 4 (record { bw = 56000; delay = 2; queue = Slots 50; plr = 500000; mask = record { proto = 0; src = 0; dst = 0; sport = 0; dport = 15 }; discipline = TailDrop }) ∷
     CommandDone 189577472 15 ∷
-    RuleLine (record { number = 100; action = SendTo 3; proto = AnyProtocol; src = address_span 167772160 24; sports = None; dst = record { address = 0; len = 0 }; dports = None }) 8 4377 ∷
-    RuleLine (record { number = 200; action = SendTo 2; proto = AnyProtocol; src = record { address = 0; len = 0 }; sports = None; dst = record { address = 0; len = 0 }; dports = None }) 0 0 ∷
-    RuleLine (record { number = 65535; action = Forbid; proto = AnyProtocol; src = record { address = 0; len = 0 }; sports = None; dst = record { address = 0; len = 0 }; dports = None }) 0 0 ∷
+    RuleLine (record { number = 100; action = Pipe 3; proto = AnyProtocol; src = address_span 167772160 24; sports = None; dst = record { address = 0; len = 0 }; dports = None }) 8 4377 ∷
+    RuleLine (record { number = 200; action = Pipe 2; proto = AnyProtocol; src = record { address = 0; len = 0 }; sports = None; dst = record { address = 0; len = 0 }; dports = None }) 0 0 ∷
+    RuleLine (record { number = 65535; action = Deny; proto = AnyProtocol; src = record { address = 0; len = 0 }; sports = None; dst = record { address = 0; len = 0 }; dports = None }) 0 0 ∷
     CommandDone 189577472 16 ∷
     []
 
@@ -417,13 +417,13 @@ exp_4 = refl
 abbrev exp_5-commands : List Timed
 exp_5-commands =
     record { moment = 0; command = Config 1 (record { bw = 997; delay = 10; queue = Slots 1; plr = 0; mask = record { proto = 0; src = 0; dst = 0; sport = 0; dport = 0 }; discipline = TailDrop }) } ∷
-    record { moment = 0; command = Add (record { number = 200; action = Forbid; proto = AnyProtocol; src = record { address = 0; len = 0 }; sports = None; dst = address_span 167772160 8; dports = None }) } ∷
+    record { moment = 0; command = Add (record { number = 200; action = Deny; proto = AnyProtocol; src = record { address = 0; len = 0 }; sports = None; dst = address_span 167772160 8; dports = None }) } ∷
     record { moment = 0; command = OnePass false } ∷
-    record { moment = 0; command = Add (record { number = 100; action = SendTo 2; proto = AnyProtocol; src = record { address = 0; len = 0 }; sports = None; dst = address_span 167772493 25; dports = None }) } ∷
+    record { moment = 0; command = Add (record { number = 100; action = Pipe 2; proto = AnyProtocol; src = record { address = 0; len = 0 }; sports = None; dst = address_span 167772493 25; dports = None }) } ∷
     record { moment = 0; command = Config 2 (record { bw = 8000000; delay = 2; queue = KBytes 1; plr = 200000; mask = record { proto = 0; src = 0; dst = 0; sport = 0; dport = 0 }; discipline = TailDrop }) } ∷
     record { moment = 0; command = Config 4 (record { bw = 7777777; delay = 0; queue = Slots 2; plr = 50000; mask = record { proto = 255; src = 4294967295; dst = 4294967295; sport = 65535; dport = 65535 }; discipline = TailDrop }) } ∷
-    record { moment = 0; command = Add (record { number = 200; action = SendTo 3; proto = AnyProtocol; src = record { address = 0; len = 0 }; sports = None; dst = record { address = 0; len = 0 }; dports = None }) } ∷
-    record { moment = 0; command = Add (record { number = 100; action = SendTo 1; proto = AnyProtocol; src = address_span 167772160 24; sports = None; dst = record { address = 0; len = 0 }; dports = None }) } ∷
+    record { moment = 0; command = Add (record { number = 200; action = Pipe 3; proto = AnyProtocol; src = record { address = 0; len = 0 }; sports = None; dst = record { address = 0; len = 0 }; dports = None }) } ∷
+    record { moment = 0; command = Add (record { number = 100; action = Pipe 1; proto = AnyProtocol; src = address_span 167772160 24; sports = None; dst = record { address = 0; len = 0 }; dports = None }) } ∷
     record { moment = 0; command = Train 1 (record { packet = record { proto = Udp; src = 167772161; sport = 65535; dst = 167772417; dport = 1000; size = 1500 }; count = 1; gap = 1000000 }) } ∷
     record { moment = 40000000; command = Inject (record { proto = Tcp; src = 4294967295; sport = 80; dst = 167772418; dport = 7; size = 1040 }) } ∷
     record { moment = 30000000000; command = End } ∷
@@ -463,7 +463,7 @@ abbrev exp_6-commands : List Timed
 exp_6-commands =
     record { moment = 0; command = Config 1 (record { bw = 0; delay = 400; queue = Slots 1000; plr = 200000; mask = record { proto = 0; src = 0; dst = 0; sport = 0; dport = 0 }; discipline = ControlledDelay 3000000 7000000 }) } ∷
     record { moment = 0; command = Config 3 (record { bw = 997; delay = 50; queue = Slots 3; plr = 0; mask = record { proto = 0; src = 0; dst = 0; sport = 0; dport = 0 }; discipline = ControlledDelay 5000000 100000000 }) } ∷
-    record { moment = 0; command = Add (record { number = 100; action = Forbid; proto = AnyProtocol; src = address_span 167772161 32; sports = None; dst = record { address = 0; len = 0 }; dports = Some (record { first = 2000; last = 65535 }) }) } ∷
+    record { moment = 0; command = Add (record { number = 100; action = Deny; proto = AnyProtocol; src = address_span 167772161 32; sports = None; dst = record { address = 0; len = 0 }; dports = Some (record { first = 2000; last = 65535 }) }) } ∷
     record { moment = 1523000333; command = Stop 4 } ∷
     record { moment = 1600000000; command = Flow 2 (record { src = 167772162; sport = 0; dst = 167772418; dport = 2000; smss = 536; segments = 1; ssthresh = 65535; window = 65535; timing = Fixed 60000 }) } ∷
     record { moment = 1600000000; command = Train 2 (record { packet = record { proto = Udp; src = 167772162; sport = 1; dst = 167772418; dport = 65535; size = 1460 }; count = 1; gap = 1000 }) } ∷
@@ -499,8 +499,8 @@ exp_6-records =
     PipeLine 1 (record { bw = 0; delay = 400; queue = Slots 1000; plr = 200000; mask = record { proto = 0; src = 0; dst = 0; sport = 0; dport = 0 }; discipline = ControlledDelay 3000000 7000000 }) ∷
     PipeLine 3 (record { bw = 997; delay = 50; queue = Slots 3; plr = 0; mask = record { proto = 0; src = 0; dst = 0; sport = 0; dport = 0 }; discipline = ControlledDelay 5000000 100000000 }) ∷
     CommandDone 5000000000 10 ∷
-    RuleLine (record { number = 100; action = Forbid; proto = AnyProtocol; src = address_span 167772161 32; sports = None; dst = record { address = 0; len = 0 }; dports = Some (record { first = 2000; last = 65535 }) }) 0 0 ∷
-    RuleLine (record { number = 65535; action = Forbid; proto = AnyProtocol; src = record { address = 0; len = 0 }; sports = None; dst = record { address = 0; len = 0 }; dports = None }) 7 4846 ∷
+    RuleLine (record { number = 100; action = Deny; proto = AnyProtocol; src = address_span 167772161 32; sports = None; dst = record { address = 0; len = 0 }; dports = Some (record { first = 2000; last = 65535 }) }) 0 0 ∷
+    RuleLine (record { number = 65535; action = Deny; proto = AnyProtocol; src = record { address = 0; len = 0 }; sports = None; dst = record { address = 0; len = 0 }; dports = None }) 7 4846 ∷
     CommandDone 5000000000 11 ∷
     []
 
@@ -520,13 +520,13 @@ exp_6 = refl
 abbrev exp_7-commands : List Timed
 exp_7-commands =
     record { moment = 0; command = Config 4 (record { bw = 7777777; delay = 2; queue = Slots 50; plr = 50000; mask = record { proto = 0; src = 0; dst = 0; sport = 0; dport = 0 }; discipline = ControlledDelay 1000000 10000000 }) } ∷
-    record { moment = 0; command = Add (record { number = 200; action = SendTo 1; proto = OnlyTcp; src = address_span 167772160 24; sports = None; dst = record { address = 0; len = 0 }; dports = None }) } ∷
+    record { moment = 0; command = Add (record { number = 200; action = Pipe 1; proto = OnlyTcp; src = address_span 167772160 24; sports = None; dst = record { address = 0; len = 0 }; dports = None }) } ∷
     record { moment = 0; command = Config 3 (record { bw = 0; delay = 10; queue = Slots 5; plr = 0; mask = record { proto = 0; src = 0; dst = 0; sport = 0; dport = 0 }; discipline = TailDrop }) } ∷
-    record { moment = 0; command = Add (record { number = 100; action = SendTo 1; proto = AnyProtocol; src = address_span 167772160 24; sports = None; dst = record { address = 0; len = 0 }; dports = None }) } ∷
+    record { moment = 0; command = Add (record { number = 100; action = Pipe 1; proto = AnyProtocol; src = address_span 167772160 24; sports = None; dst = record { address = 0; len = 0 }; dports = None }) } ∷
     record { moment = 0; command = Add (record { number = 100; action = Count; proto = AnyProtocol; src = record { address = 0; len = 0 }; sports = None; dst = record { address = 0; len = 0 }; dports = None }) } ∷
     record { moment = 0; command = Config 1 (record { bw = 7777777; delay = 0; queue = Slots 2; plr = 200000; mask = record { proto = 0; src = 0; dst = 0; sport = 0; dport = 0 }; discipline = TailDrop }) } ∷
     record { moment = 0; command = Config 2 (record { bw = 1000000000; delay = 0; queue = Slots 5; plr = 1; mask = record { proto = 0; src = 0; dst = 0; sport = 0; dport = 0 }; discipline = ControlledDelay 1000000 1000000000 }) } ∷
-    record { moment = 0; command = Add (record { number = 200; action = SendTo 3; proto = AnyProtocol; src = record { address = 0; len = 0 }; sports = None; dst = record { address = 0; len = 0 }; dports = None }) } ∷
+    record { moment = 0; command = Add (record { number = 200; action = Pipe 3; proto = AnyProtocol; src = record { address = 0; len = 0 }; sports = None; dst = record { address = 0; len = 0 }; dports = None }) } ∷
     record { moment = 0; command = Flow 3 (record { src = 167772161; sport = 2000; dst = 167772417; dport = 2000; smss = 536; segments = 6; ssthresh = 1000; window = 65535; timing = Fixed 25 }) } ∷
     record { moment = 0; command = Inject (record { proto = Tcp; src = 167772161; sport = 80; dst = 167772418; dport = 2000; size = 500 }) } ∷
     record { moment = 10000000; command = Flow 4 (record { src = 167772161; sport = 0; dst = 167772418; dport = 0; smss = 1095; segments = 6; ssthresh = 8000; window = 1460; timing = Adaptive }) } ∷
@@ -582,9 +582,9 @@ exp_8-commands =
     record { moment = 0; command = Config 2 (record { bw = 0; delay = 1; queue = KBytes 1; plr = 0; mask = record { proto = 0; src = 0; dst = 0; sport = 0; dport = 0 }; discipline = TailDrop }) } ∷
     record { moment = 0; command = Add (record { number = 1; action = SkipTo 150; proto = OnlyUdp; src = address_span 167772162 31; sports = None; dst = address_span 0 0; dports = None }) } ∷
     record { moment = 0; command = Config 3 (record { bw = 8000000; delay = 1200; queue = Slots 2; plr = 50000; mask = record { proto = 0; src = 4294967295; dst = 0; sport = 0; dport = 15 }; discipline = TailDrop }) } ∷
-    record { moment = 0; command = Add (record { number = 200; action = SendTo 2; proto = AnyProtocol; src = record { address = 0; len = 0 }; sports = None; dst = record { address = 0; len = 0 }; dports = None }) } ∷
+    record { moment = 0; command = Add (record { number = 200; action = Pipe 2; proto = AnyProtocol; src = record { address = 0; len = 0 }; sports = None; dst = record { address = 0; len = 0 }; dports = None }) } ∷
     record { moment = 0; command = Add (record { number = 200; action = SkipTo 65534; proto = OnlyTcp; src = record { address = 0; len = 0 }; sports = None; dst = address_span 3232235520 16; dports = Some (record { first = 2000; last = 2000 }) }) } ∷
-    record { moment = 0; command = Add (record { number = 100; action = SendTo 2; proto = AnyProtocol; src = address_span 167772160 24; sports = None; dst = record { address = 0; len = 0 }; dports = None }) } ∷
+    record { moment = 0; command = Add (record { number = 100; action = Pipe 2; proto = AnyProtocol; src = address_span 167772160 24; sports = None; dst = record { address = 0; len = 0 }; dports = None }) } ∷
     record { moment = 0; command = Config 4 (record { bw = 56000; delay = 400; queue = Slots 50; plr = 0; mask = record { proto = 0; src = 0; dst = 0; sport = 0; dport = 0 }; discipline = TailDrop }) } ∷
     record { moment = 0; command = Inject (record { proto = Udp; src = 3232237321; sport = 2000; dst = 167772417; dport = 0; size = 40 }) } ∷
     record { moment = 0; command = Inject (record { proto = Tcp; src = 167772162; sport = 7; dst = 167772418; dport = 7; size = 1500 }) } ∷
@@ -593,7 +593,7 @@ exp_8-commands =
     record { moment = 15000000; command = Delete 7 } ∷
     record { moment = 15080000; command = Config 3 (record { bw = 10000000000; delay = 0; queue = Slots 50; plr = 0; mask = record { proto = 0; src = 4294967295; dst = 0; sport = 0; dport = 15 }; discipline = ControlledDelay 1000000 1000 }) } ∷
     record { moment = 15080000; command = Delete 1 } ∷
-    record { moment = 20080000; command = Add (record { number = 100; action = SendTo 1; proto = AnyProtocol; src = address_span 167772162 31; sports = None; dst = record { address = 0; len = 0 }; dports = None }) } ∷
+    record { moment = 20080000; command = Add (record { number = 100; action = Pipe 1; proto = AnyProtocol; src = address_span 167772162 31; sports = None; dst = record { address = 0; len = 0 }; dports = None }) } ∷
     record { moment = 23000000; command = Flow 65535 (record { src = 167772161; sport = 0; dst = 167772418; dport = 0; smss = 536; segments = 3; ssthresh = 65535; window = 3000; timing = Fixed 60000 }) } ∷
     record { moment = 23000000; command = End } ∷
     []
@@ -620,10 +620,10 @@ exp_8-records =
     PacketDelivered 1000000 2 Plain ∷
     CommandDone 15000000 11 ∷
     RuleLine (record { number = 1; action = SkipTo 150; proto = OnlyUdp; src = address_span 167772162 31; sports = None; dst = record { address = 0; len = 0 }; dports = None }) 0 0 ∷
-    RuleLine (record { number = 100; action = SendTo 2; proto = AnyProtocol; src = address_span 167772160 24; sports = None; dst = record { address = 0; len = 0 }; dports = None }) 2 2500 ∷
-    RuleLine (record { number = 200; action = SendTo 2; proto = AnyProtocol; src = record { address = 0; len = 0 }; sports = None; dst = record { address = 0; len = 0 }; dports = None }) 1 40 ∷
+    RuleLine (record { number = 100; action = Pipe 2; proto = AnyProtocol; src = address_span 167772160 24; sports = None; dst = record { address = 0; len = 0 }; dports = None }) 2 2500 ∷
+    RuleLine (record { number = 200; action = Pipe 2; proto = AnyProtocol; src = record { address = 0; len = 0 }; sports = None; dst = record { address = 0; len = 0 }; dports = None }) 1 40 ∷
     RuleLine (record { number = 200; action = SkipTo 65534; proto = OnlyTcp; src = record { address = 0; len = 0 }; sports = None; dst = address_span 3232235520 16; dports = Some (record { first = 2000; last = 2000 }) }) 0 0 ∷
-    RuleLine (record { number = 65535; action = Forbid; proto = AnyProtocol; src = record { address = 0; len = 0 }; sports = None; dst = record { address = 0; len = 0 }; dports = None }) 0 0 ∷
+    RuleLine (record { number = 65535; action = Deny; proto = AnyProtocol; src = record { address = 0; len = 0 }; sports = None; dst = record { address = 0; len = 0 }; dports = None }) 0 0 ∷
     CommandRefused 15000000 12 NoRule ∷
     CommandDone 15080000 13 ∷
     CommandDone 15080000 14 ∷
@@ -647,8 +647,8 @@ exp_8 = refl
 -- experiment d49
 abbrev exp_9-commands : List Timed
 exp_9-commands =
-    record { moment = 0; command = Add (record { number = 200; action = SendTo 1; proto = AnyProtocol; src = record { address = 0; len = 0 }; sports = None; dst = record { address = 0; len = 0 }; dports = None }) } ∷
-    record { moment = 0; command = Add (record { number = 100; action = SendTo 2; proto = AnyProtocol; src = address_span 167772160 24; sports = None; dst = record { address = 0; len = 0 }; dports = None }) } ∷
+    record { moment = 0; command = Add (record { number = 200; action = Pipe 1; proto = AnyProtocol; src = record { address = 0; len = 0 }; sports = None; dst = record { address = 0; len = 0 }; dports = None }) } ∷
+    record { moment = 0; command = Add (record { number = 100; action = Pipe 2; proto = AnyProtocol; src = address_span 167772160 24; sports = None; dst = record { address = 0; len = 0 }; dports = None }) } ∷
     record { moment = 0; command = Config 3 (record { bw = 7777777; delay = 400; queue = Slots 50; plr = 0; mask = record { proto = 0; src = 0; dst = 0; sport = 0; dport = 0 }; discipline = TailDrop }) } ∷
     record { moment = 0; command = Config 4 (record { bw = 1000000; delay = 1200; queue = Slots 10; plr = 0; mask = record { proto = 0; src = 0; dst = 0; sport = 0; dport = 0 }; discipline = ControlledDelay 20000000 20000000 }) } ∷
     record { moment = 0; command = Config 1 (record { bw = 997; delay = 1200; queue = KBytes 2; plr = 1000000; mask = record { proto = 0; src = 0; dst = 0; sport = 0; dport = 0 }; discipline = TailDrop }) } ∷
@@ -656,7 +656,7 @@ exp_9-commands =
     record { moment = 0; command = Config 2 (record { bw = 7777777; delay = 400; queue = Slots 3; plr = 20000; mask = record { proto = 0; src = 0; dst = 0; sport = 0; dport = 0 }; discipline = ControlledDelay 100000 2000000 }) } ∷
     record { moment = 500; command = Inject (record { proto = Tcp; src = 167772161; sport = 2000; dst = 167772417; dport = 0; size = 1500 }) } ∷
     record { moment = 500; command = Config 4 (record { bw = 1000000; delay = 0; queue = Slots 10; plr = 0; mask = record { proto = 0; src = 0; dst = 0; sport = 0; dport = 0 }; discipline = TailDrop }) } ∷
-    record { moment = 60000000; command = Add (record { number = 1; action = SendTo 2; proto = AnyProtocol; src = record { address = 0; len = 0 }; sports = Some (record { first = 65535; last = 65535 }); dst = address_span 167772160 24; dports = None }) } ∷
+    record { moment = 60000000; command = Add (record { number = 1; action = Pipe 2; proto = AnyProtocol; src = record { address = 0; len = 0 }; sports = Some (record { first = 65535; last = 65535 }); dst = address_span 167772160 24; dports = None }) } ∷
     record { moment = 60000000; command = Inject (record { proto = Tcp; src = 167772417; sport = 1; dst = 167772418; dport = 7; size = 41 }) } ∷
     record { moment = 68000000; command = Add (record { number = 100; action = Count; proto = OnlyTcp; src = record { address = 0; len = 0 }; sports = None; dst = address_span 167772160 8; dports = None }) } ∷
     record { moment = 68000000; command = Stop 3 } ∷
@@ -704,11 +704,11 @@ exp_9-records =
     PipeLine 3 (record { bw = 3000000; delay = 2; queue = KBytes 1; plr = 1000000; mask = record { proto = 0; src = 0; dst = 0; sport = 0; dport = 15 }; discipline = ControlledDelay 5000000 100000000 }) ∷
     PipeLine 4 (record { bw = 0; delay = 1200; queue = Slots 1000; plr = 0; mask = record { proto = 0; src = 0; dst = 0; sport = 0; dport = 0 }; discipline = TailDrop }) ∷
     CommandDone 148000000 19 ∷
-    RuleLine (record { number = 1; action = SendTo 2; proto = AnyProtocol; src = record { address = 0; len = 0 }; sports = Some (record { first = 65535; last = 65535 }); dst = address_span 167772160 24; dports = None }) 0 0 ∷
-    RuleLine (record { number = 100; action = SendTo 2; proto = AnyProtocol; src = address_span 167772160 24; sports = None; dst = record { address = 0; len = 0 }; dports = None }) 5 3500 ∷
+    RuleLine (record { number = 1; action = Pipe 2; proto = AnyProtocol; src = record { address = 0; len = 0 }; sports = Some (record { first = 65535; last = 65535 }); dst = address_span 167772160 24; dports = None }) 0 0 ∷
+    RuleLine (record { number = 100; action = Pipe 2; proto = AnyProtocol; src = address_span 167772160 24; sports = None; dst = record { address = 0; len = 0 }; dports = None }) 5 3500 ∷
     RuleLine (record { number = 100; action = Count; proto = OnlyTcp; src = record { address = 0; len = 0 }; sports = None; dst = address_span 167772160 8; dports = None }) 0 0 ∷
-    RuleLine (record { number = 200; action = SendTo 1; proto = AnyProtocol; src = record { address = 0; len = 0 }; sports = None; dst = record { address = 0; len = 0 }; dports = None }) 1 41 ∷
-    RuleLine (record { number = 65535; action = Forbid; proto = AnyProtocol; src = record { address = 0; len = 0 }; sports = None; dst = record { address = 0; len = 0 }; dports = None }) 0 0 ∷
+    RuleLine (record { number = 200; action = Pipe 1; proto = AnyProtocol; src = record { address = 0; len = 0 }; sports = None; dst = record { address = 0; len = 0 }; dports = None }) 1 41 ∷
+    RuleLine (record { number = 65535; action = Deny; proto = AnyProtocol; src = record { address = 0; len = 0 }; sports = None; dst = record { address = 0; len = 0 }; dports = None }) 0 0 ∷
     CommandDone 148000000 20 ∷
     []
 

@@ -3,7 +3,7 @@ use Rattle.std.specs.Prelude.{◌≡◌, refl, List, [], ◌∷◌, Some, None, 
 use Rattle.emu_model.specs.Spans.{address_span}
 use Rattle.emu_model.specs.declared.packets.Load.TheVariants.{Plain, Seg, Ack}
 use Rattle.emu_model.specs.declared.packets.Protocol.TheVariants.{Tcp, Udp}
-use Rattle.emu_model.specs.declared.rules.Action.TheVariants.{Permit, Forbid, Count, SkipTo, SendTo}
+use Rattle.emu_model.specs.declared.rules.Action.TheVariants.{Allow, Deny, Count, SkipTo, Pipe}
 use Rattle.emu_model.specs.declared.rules.ProtocolMatch.TheVariants.{AnyProtocol, OnlyTcp, OnlyUdp}
 use Rattle.emu_model.specs.declared.pipes.QueueLimit.TheVariants.{Slots, KBytes}
 use Rattle.emu_model.specs.declared.pipes.Discipline.TheVariants.{TailDrop, ControlledDelay}
@@ -25,15 +25,15 @@ use Rattle.rand_core.specs.Steps.{u32_at}
 abbrev exp_0-commands : List Timed
 exp_0-commands =
     record { moment = 0; command = Config 1 (record { bw = 3000000; delay = 0; queue = KBytes 1; plr = 0; mask = record { proto = 0; src = 0; dst = 0; sport = 0; dport = 0 }; discipline = TailDrop }) } ∷
-    record { moment = 0; command = Add (record { number = 2; action = SendTo 1; proto = OnlyTcp; src = record { address = 0; len = 0 }; sports = Some (record { first = 2000; last = 2000 }); dst = address_span 3232235520 16; dports = None }) } ∷
+    record { moment = 0; command = Add (record { number = 2; action = Pipe 1; proto = OnlyTcp; src = record { address = 0; len = 0 }; sports = Some (record { first = 2000; last = 2000 }); dst = address_span 3232235520 16; dports = None }) } ∷
     record { moment = 0; command = Config 3 (record { bw = 997; delay = 5; queue = Slots 50; plr = 200000; mask = record { proto = 0; src = 0; dst = 0; sport = 0; dport = 0 }; discipline = TailDrop }) } ∷
-    record { moment = 0; command = Add (record { number = 100; action = SendTo 1; proto = OnlyUdp; src = record { address = 0; len = 0 }; sports = None; dst = address_span 4294967295 32; dports = None }) } ∷
+    record { moment = 0; command = Add (record { number = 100; action = Pipe 1; proto = OnlyUdp; src = record { address = 0; len = 0 }; sports = None; dst = address_span 4294967295 32; dports = None }) } ∷
     record { moment = 0; command = Add (record { number = 100; action = SkipTo 65535; proto = OnlyUdp; src = record { address = 0; len = 0 }; sports = None; dst = record { address = 0; len = 0 }; dports = Some (record { first = 2000; last = 2000 }) }) } ∷
-    record { moment = 0; command = Add (record { number = 100; action = SendTo 1; proto = AnyProtocol; src = address_span 167772160 24; sports = None; dst = record { address = 0; len = 0 }; dports = None }) } ∷
-    record { moment = 0; command = Add (record { number = 200; action = SendTo 2; proto = AnyProtocol; src = record { address = 0; len = 0 }; sports = None; dst = record { address = 0; len = 0 }; dports = None }) } ∷
+    record { moment = 0; command = Add (record { number = 100; action = Pipe 1; proto = AnyProtocol; src = address_span 167772160 24; sports = None; dst = record { address = 0; len = 0 }; dports = None }) } ∷
+    record { moment = 0; command = Add (record { number = 200; action = Pipe 2; proto = AnyProtocol; src = record { address = 0; len = 0 }; sports = None; dst = record { address = 0; len = 0 }; dports = None }) } ∷
     record { moment = 0; command = Config 4 (record { bw = 56000; delay = 0; queue = Slots 50; plr = 0; mask = record { proto = 0; src = 255; dst = 0; sport = 0; dport = 0 }; discipline = ControlledDelay 5000000 5000000 }) } ∷
     record { moment = 0; command = Add (record { number = 300; action = SkipTo 65534; proto = OnlyUdp; src = record { address = 0; len = 0 }; sports = None; dst = address_span 167772160 8; dports = Some (record { first = 0; last = 0 }) }) } ∷
-    record { moment = 0; command = Add (record { number = 200; action = SendTo 2; proto = AnyProtocol; src = address_span 167772160 24; sports = Some (record { first = 0; last = 0 }); dst = record { address = 0; len = 0 }; dports = None }) } ∷
+    record { moment = 0; command = Add (record { number = 200; action = Pipe 2; proto = AnyProtocol; src = address_span 167772160 24; sports = Some (record { first = 0; last = 0 }); dst = record { address = 0; len = 0 }; dports = None }) } ∷
     record { moment = 0; command = Add (record { number = 100; action = SkipTo 65535; proto = AnyProtocol; src = record { address = 0; len = 0 }; sports = None; dst = record { address = 0; len = 0 }; dports = Some (record { first = 1; last = 1000 }) }) } ∷
     record { moment = 10059785; command = Flow 4 (record { src = 3232237321; sport = 65535; dst = 3232237321; dport = 7; smss = 536; segments = 3; ssthresh = 65535; window = 65535; timing = Fixed 1000 }) } ∷
     record { moment = 10059785; command = Train 2 (record { packet = record { proto = Tcp; src = 167772162; sport = 80; dst = 167772417; dport = 65535; size = 1000 }; count = 3; gap = 125000 }) } ∷
@@ -91,18 +91,18 @@ exp_0 = refl
 -- experiment d51
 abbrev exp_1-commands : List Timed
 exp_1-commands =
-    record { moment = 0; command = Add (record { number = 400; action = SendTo 3; proto = AnyProtocol; src = address_span 167772161 32; sports = None; dst = record { address = 0; len = 0 }; dports = None }) } ∷
-    record { moment = 0; command = Add (record { number = 400; action = SendTo 1; proto = OnlyUdp; src = address_span 167772160 8; sports = None; dst = record { address = 0; len = 0 }; dports = None }) } ∷
+    record { moment = 0; command = Add (record { number = 400; action = Pipe 3; proto = AnyProtocol; src = address_span 167772161 32; sports = None; dst = record { address = 0; len = 0 }; dports = None }) } ∷
+    record { moment = 0; command = Add (record { number = 400; action = Pipe 1; proto = OnlyUdp; src = address_span 167772160 8; sports = None; dst = record { address = 0; len = 0 }; dports = None }) } ∷
     record { moment = 0; command = Config 2 (record { bw = 1000000000; delay = 0; queue = Slots 50; plr = 0; mask = record { proto = 0; src = 0; dst = 0; sport = 0; dport = 0 }; discipline = TailDrop }) } ∷
     record { moment = 0; command = Config 1 (record { bw = 0; delay = 2; queue = Slots 10; plr = 1000000; mask = record { proto = 0; src = 0; dst = 0; sport = 0; dport = 0 }; discipline = ControlledDelay 5000000 7000000 }) } ∷
-    record { moment = 0; command = Add (record { number = 200; action = SendTo 2; proto = OnlyTcp; src = record { address = 0; len = 0 }; sports = None; dst = address_span 167772160 24; dports = None }) } ∷
+    record { moment = 0; command = Add (record { number = 200; action = Pipe 2; proto = OnlyTcp; src = record { address = 0; len = 0 }; sports = None; dst = address_span 167772160 24; dports = None }) } ∷
     record { moment = 0; command = Add (record { number = 150; action = SkipTo 400; proto = OnlyTcp; src = address_span 167772162 31; sports = Some (record { first = 2000; last = 2000 }); dst = address_span 167772161 32; dports = None }) } ∷
-    record { moment = 0; command = Add (record { number = 200; action = SendTo 2; proto = AnyProtocol; src = record { address = 0; len = 0 }; sports = None; dst = record { address = 0; len = 0 }; dports = None }) } ∷
+    record { moment = 0; command = Add (record { number = 200; action = Pipe 2; proto = AnyProtocol; src = record { address = 0; len = 0 }; sports = None; dst = record { address = 0; len = 0 }; dports = None }) } ∷
     record { moment = 0; command = OnePass false } ∷
-    record { moment = 0; command = Add (record { number = 200; action = Permit; proto = OnlyTcp; src = address_span 3232235520 16; sports = None; dst = address_span 167772160 24; dports = None }) } ∷
+    record { moment = 0; command = Add (record { number = 200; action = Allow; proto = OnlyTcp; src = address_span 3232235520 16; sports = None; dst = address_span 167772160 24; dports = None }) } ∷
     record { moment = 0; command = Config 4 (record { bw = 8000000; delay = 10; queue = Slots 50; plr = 50000; mask = record { proto = 0; src = 0; dst = 0; sport = 0; dport = 0 }; discipline = TailDrop }) } ∷
-    record { moment = 0; command = Add (record { number = 100; action = SendTo 2; proto = OnlyUdp; src = record { address = 0; len = 0 }; sports = None; dst = record { address = 0; len = 0 }; dports = Some (record { first = 80; last = 80 }) }) } ∷
-    record { moment = 0; command = Add (record { number = 100; action = SendTo 3; proto = AnyProtocol; src = address_span 167772160 24; sports = None; dst = record { address = 0; len = 0 }; dports = None }) } ∷
+    record { moment = 0; command = Add (record { number = 100; action = Pipe 2; proto = OnlyUdp; src = record { address = 0; len = 0 }; sports = None; dst = record { address = 0; len = 0 }; dports = Some (record { first = 80; last = 80 }) }) } ∷
+    record { moment = 0; command = Add (record { number = 100; action = Pipe 3; proto = AnyProtocol; src = address_span 167772160 24; sports = None; dst = record { address = 0; len = 0 }; dports = None }) } ∷
     record { moment = 0; command = Config 3 (record { bw = 3000000; delay = 400; queue = Slots 10; plr = 50000; mask = record { proto = 0; src = 0; dst = 0; sport = 0; dport = 0 }; discipline = TailDrop }) } ∷
     record { moment = 0; command = Inject (record { proto = Tcp; src = 167772161; sport = 1000; dst = 167772417; dport = 65535; size = 1499 }) } ∷
     record { moment = 0; command = Flow 2 (record { src = 167772162; sport = 1000; dst = 167772417; dport = 1; smss = 1095; segments = 5; ssthresh = 1000; window = 65535; timing = Adaptive }) } ∷
@@ -149,15 +149,15 @@ exp_1-records =
     InstanceLine 3 0 0 0 false 2 4 ∷
     PipeLine 4 (record { bw = 8000000; delay = 10; queue = Slots 50; plr = 50000; mask = record { proto = 0; src = 0; dst = 0; sport = 0; dport = 0 }; discipline = TailDrop }) ∷
     CommandDone 200000000 19 ∷
-    RuleLine (record { number = 100; action = SendTo 2; proto = OnlyUdp; src = record { address = 0; len = 0 }; sports = None; dst = record { address = 0; len = 0 }; dports = Some (record { first = 80; last = 80 }) }) 0 0 ∷
-    RuleLine (record { number = 100; action = SendTo 3; proto = AnyProtocol; src = address_span 167772160 24; sports = None; dst = record { address = 0; len = 0 }; dports = None }) 4 3810 ∷
+    RuleLine (record { number = 100; action = Pipe 2; proto = OnlyUdp; src = record { address = 0; len = 0 }; sports = None; dst = record { address = 0; len = 0 }; dports = Some (record { first = 80; last = 80 }) }) 0 0 ∷
+    RuleLine (record { number = 100; action = Pipe 3; proto = AnyProtocol; src = address_span 167772160 24; sports = None; dst = record { address = 0; len = 0 }; dports = None }) 4 3810 ∷
     RuleLine (record { number = 150; action = SkipTo 400; proto = OnlyTcp; src = address_span 167772162 31; sports = Some (record { first = 2000; last = 2000 }); dst = address_span 167772161 32; dports = None }) 0 0 ∷
-    RuleLine (record { number = 200; action = SendTo 2; proto = OnlyTcp; src = record { address = 0; len = 0 }; sports = None; dst = address_span 167772160 24; dports = None }) 0 0 ∷
-    RuleLine (record { number = 200; action = SendTo 2; proto = AnyProtocol; src = record { address = 0; len = 0 }; sports = None; dst = record { address = 0; len = 0 }; dports = None }) 0 0 ∷
-    RuleLine (record { number = 200; action = Permit; proto = OnlyTcp; src = address_span 3232235520 16; sports = None; dst = address_span 167772160 24; dports = None }) 0 0 ∷
-    RuleLine (record { number = 400; action = SendTo 3; proto = AnyProtocol; src = address_span 167772161 32; sports = None; dst = record { address = 0; len = 0 }; dports = None }) 0 0 ∷
-    RuleLine (record { number = 400; action = SendTo 1; proto = OnlyUdp; src = address_span 167772160 8; sports = None; dst = record { address = 0; len = 0 }; dports = None }) 0 0 ∷
-    RuleLine (record { number = 65535; action = Forbid; proto = AnyProtocol; src = record { address = 0; len = 0 }; sports = None; dst = record { address = 0; len = 0 }; dports = None }) 0 0 ∷
+    RuleLine (record { number = 200; action = Pipe 2; proto = OnlyTcp; src = record { address = 0; len = 0 }; sports = None; dst = address_span 167772160 24; dports = None }) 0 0 ∷
+    RuleLine (record { number = 200; action = Pipe 2; proto = AnyProtocol; src = record { address = 0; len = 0 }; sports = None; dst = record { address = 0; len = 0 }; dports = None }) 0 0 ∷
+    RuleLine (record { number = 200; action = Allow; proto = OnlyTcp; src = address_span 3232235520 16; sports = None; dst = address_span 167772160 24; dports = None }) 0 0 ∷
+    RuleLine (record { number = 400; action = Pipe 3; proto = AnyProtocol; src = address_span 167772161 32; sports = None; dst = record { address = 0; len = 0 }; dports = None }) 0 0 ∷
+    RuleLine (record { number = 400; action = Pipe 1; proto = OnlyUdp; src = address_span 167772160 8; sports = None; dst = record { address = 0; len = 0 }; dports = None }) 0 0 ∷
+    RuleLine (record { number = 65535; action = Deny; proto = AnyProtocol; src = record { address = 0; len = 0 }; sports = None; dst = record { address = 0; len = 0 }; dports = None }) 0 0 ∷
     CommandDone 200000000 20 ∷
     []
 
@@ -176,9 +176,9 @@ exp_1 = refl
 -- experiment d52
 abbrev exp_2-commands : List Timed
 exp_2-commands =
-    record { moment = 0; command = Add (record { number = 100; action = SendTo 1; proto = AnyProtocol; src = address_span 167772160 24; sports = None; dst = record { address = 0; len = 0 }; dports = None }) } ∷
+    record { moment = 0; command = Add (record { number = 100; action = Pipe 1; proto = AnyProtocol; src = address_span 167772160 24; sports = None; dst = record { address = 0; len = 0 }; dports = None }) } ∷
     record { moment = 0; command = Config 1 (record { bw = 8000000; delay = 0; queue = Slots 50; plr = 200000; mask = record { proto = 0; src = 0; dst = 0; sport = 0; dport = 0 }; discipline = ControlledDelay 20000000 7000000 }) } ∷
-    record { moment = 0; command = Add (record { number = 200; action = SendTo 1; proto = AnyProtocol; src = record { address = 0; len = 0 }; sports = None; dst = record { address = 0; len = 0 }; dports = None }) } ∷
+    record { moment = 0; command = Add (record { number = 200; action = Pipe 1; proto = AnyProtocol; src = record { address = 0; len = 0 }; sports = None; dst = record { address = 0; len = 0 }; dports = None }) } ∷
     record { moment = 0; command = Config 4 (record { bw = 0; delay = 0; queue = Slots 1; plr = 0; mask = record { proto = 0; src = 0; dst = 0; sport = 0; dport = 0 }; discipline = TailDrop }) } ∷
     record { moment = 0; command = Config 3 (record { bw = 56000; delay = 0; queue = Slots 1000; plr = 0; mask = record { proto = 0; src = 0; dst = 0; sport = 0; dport = 0 }; discipline = ControlledDelay 3000000 10000000 }) } ∷
     record { moment = 0; command = Add (record { number = 100; action = Count; proto = OnlyUdp; src = record { address = 0; len = 0 }; sports = None; dst = address_span 3232235520 16; dports = None }) } ∷
@@ -221,10 +221,10 @@ exp_2-records =
     PipeLine 3 (record { bw = 56000; delay = 0; queue = Slots 1000; plr = 0; mask = record { proto = 0; src = 0; dst = 0; sport = 0; dport = 0 }; discipline = ControlledDelay 3000000 10000000 }) ∷
     PipeLine 4 (record { bw = 0; delay = 0; queue = Slots 1; plr = 0; mask = record { proto = 0; src = 0; dst = 0; sport = 0; dport = 0 }; discipline = TailDrop }) ∷
     CommandDone 100000000000 8 ∷
-    RuleLine (record { number = 100; action = SendTo 1; proto = AnyProtocol; src = address_span 167772160 24; sports = None; dst = record { address = 0; len = 0 }; dports = None }) 3 4500 ∷
+    RuleLine (record { number = 100; action = Pipe 1; proto = AnyProtocol; src = address_span 167772160 24; sports = None; dst = record { address = 0; len = 0 }; dports = None }) 3 4500 ∷
     RuleLine (record { number = 100; action = Count; proto = OnlyUdp; src = record { address = 0; len = 0 }; sports = None; dst = address_span 3232235520 16; dports = None }) 0 0 ∷
-    RuleLine (record { number = 200; action = SendTo 1; proto = AnyProtocol; src = record { address = 0; len = 0 }; sports = None; dst = record { address = 0; len = 0 }; dports = None }) 3 120 ∷
-    RuleLine (record { number = 65535; action = Forbid; proto = AnyProtocol; src = record { address = 0; len = 0 }; sports = None; dst = record { address = 0; len = 0 }; dports = None }) 0 0 ∷
+    RuleLine (record { number = 200; action = Pipe 1; proto = AnyProtocol; src = record { address = 0; len = 0 }; sports = None; dst = record { address = 0; len = 0 }; dports = None }) 3 120 ∷
+    RuleLine (record { number = 65535; action = Deny; proto = AnyProtocol; src = record { address = 0; len = 0 }; sports = None; dst = record { address = 0; len = 0 }; dports = None }) 0 0 ∷
     CommandDone 100000000000 9 ∷
     []
 
@@ -244,10 +244,10 @@ exp_2 = refl
 abbrev exp_3-commands : List Timed
 exp_3-commands =
     record { moment = 0; command = Config 2 (record { bw = 7777777; delay = 10; queue = Slots 50; plr = 0; mask = record { proto = 255; src = 4294967295; dst = 4294967295; sport = 65535; dport = 65535 }; discipline = TailDrop }) } ∷
-    record { moment = 0; command = Add (record { number = 200; action = SendTo 2; proto = AnyProtocol; src = record { address = 0; len = 0 }; sports = None; dst = record { address = 0; len = 0 }; dports = None }) } ∷
+    record { moment = 0; command = Add (record { number = 200; action = Pipe 2; proto = AnyProtocol; src = record { address = 0; len = 0 }; sports = None; dst = record { address = 0; len = 0 }; dports = None }) } ∷
     record { moment = 0; command = Config 4 (record { bw = 8000000; delay = 0; queue = KBytes 3; plr = 0; mask = record { proto = 255; src = 4294967295; dst = 4294967295; sport = 65535; dport = 65535 }; discipline = TailDrop }) } ∷
     record { moment = 0; command = Config 1 (record { bw = 7777777; delay = 400; queue = Slots 10; plr = 1; mask = record { proto = 1; src = 0; dst = 0; sport = 1; dport = 0 }; discipline = ControlledDelay 5000000 1000000000 }) } ∷
-    record { moment = 0; command = Add (record { number = 100; action = SendTo 3; proto = AnyProtocol; src = address_span 167772160 24; sports = None; dst = record { address = 0; len = 0 }; dports = None }) } ∷
+    record { moment = 0; command = Add (record { number = 100; action = Pipe 3; proto = AnyProtocol; src = address_span 167772160 24; sports = None; dst = record { address = 0; len = 0 }; dports = None }) } ∷
     record { moment = 0; command = Inject (record { proto = Tcp; src = 167772161; sport = 0; dst = 167772417; dport = 2000; size = 500 }) } ∷
     record { moment = 3000000000; command = OnePass false } ∷
     record { moment = 3008000000; command = Add (record { number = 65535; action = SkipTo 65535; proto = OnlyUdp; src = address_span 0 0; sports = Some (record { first = 2000; last = 2000 }); dst = address_span 167772160 24; dports = None }) } ∷
@@ -295,8 +295,8 @@ abbrev exp_4-commands : List Timed
 exp_4-commands =
     record { moment = 0; command = Config 3 (record { bw = 1000000; delay = 0; queue = Slots 1000; plr = 0; mask = record { proto = 0; src = 0; dst = 0; sport = 0; dport = 0 }; discipline = TailDrop }) } ∷
     record { moment = 0; command = Config 2 (record { bw = 56000; delay = 400; queue = KBytes 3; plr = 0; mask = record { proto = 0; src = 0; dst = 0; sport = 65535; dport = 0 }; discipline = TailDrop }) } ∷
-    record { moment = 0; command = Add (record { number = 200; action = SendTo 2; proto = AnyProtocol; src = record { address = 0; len = 0 }; sports = None; dst = record { address = 0; len = 0 }; dports = None }) } ∷
-    record { moment = 0; command = Add (record { number = 100; action = SendTo 3; proto = AnyProtocol; src = address_span 167772160 24; sports = None; dst = record { address = 0; len = 0 }; dports = None }) } ∷
+    record { moment = 0; command = Add (record { number = 200; action = Pipe 2; proto = AnyProtocol; src = record { address = 0; len = 0 }; sports = None; dst = record { address = 0; len = 0 }; dports = None }) } ∷
+    record { moment = 0; command = Add (record { number = 100; action = Pipe 3; proto = AnyProtocol; src = address_span 167772160 24; sports = None; dst = record { address = 0; len = 0 }; dports = None }) } ∷
     record { moment = 0; command = Config 1 (record { bw = 3000000; delay = 400; queue = Slots 3; plr = 0; mask = record { proto = 255; src = 4294967295; dst = 4294967295; sport = 65535; dport = 65535 }; discipline = TailDrop }) } ∷
     record { moment = 0; command = Flow 1 (record { src = 167772418; sport = 2000; dst = 167772161; dport = 1; smss = 1096; segments = 3; ssthresh = 8000; window = 10000; timing = Fixed 1000 }) } ∷
     record { moment = 1080000; command = Inject (record { proto = Udp; src = 0; sport = 7; dst = 4294967295; dport = 7; size = 1499 }) } ∷
@@ -357,17 +357,17 @@ abbrev exp_5-commands : List Timed
 exp_5-commands =
     record { moment = 0; command = Config 3 (record { bw = 1000000; delay = 0; queue = Slots 1000; plr = 50000; mask = record { proto = 0; src = 0; dst = 0; sport = 0; dport = 0 }; discipline = ControlledDelay 5000000 5000000 }) } ∷
     record { moment = 0; command = Config 2 (record { bw = 8000000; delay = 400; queue = Slots 50; plr = 50000; mask = record { proto = 0; src = 0; dst = 0; sport = 0; dport = 0 }; discipline = TailDrop }) } ∷
-    record { moment = 0; command = Add (record { number = 100; action = SendTo 2; proto = AnyProtocol; src = address_span 167772160 24; sports = None; dst = record { address = 0; len = 0 }; dports = None }) } ∷
+    record { moment = 0; command = Add (record { number = 100; action = Pipe 2; proto = AnyProtocol; src = address_span 167772160 24; sports = None; dst = record { address = 0; len = 0 }; dports = None }) } ∷
     record { moment = 0; command = Config 4 (record { bw = 1000000000; delay = 400; queue = Slots 10; plr = 0; mask = record { proto = 255; src = 4294967295; dst = 4294967295; sport = 65535; dport = 65535 }; discipline = ControlledDelay 5000000 20000000 }) } ∷
     record { moment = 0; command = Config 1 (record { bw = 0; delay = 0; queue = Slots 50; plr = 0; mask = record { proto = 0; src = 0; dst = 0; sport = 0; dport = 0 }; discipline = ControlledDelay 5000000 100000000 }) } ∷
-    record { moment = 0; command = Add (record { number = 200; action = SendTo 1; proto = AnyProtocol; src = record { address = 0; len = 0 }; sports = None; dst = record { address = 0; len = 0 }; dports = None }) } ∷
+    record { moment = 0; command = Add (record { number = 200; action = Pipe 1; proto = AnyProtocol; src = record { address = 0; len = 0 }; sports = None; dst = record { address = 0; len = 0 }; dports = None }) } ∷
     record { moment = 0; command = Train 5 (record { packet = record { proto = Tcp; src = 167772161; sport = 1; dst = 167772418; dport = 0; size = 500 }; count = 3; gap = 0 }) } ∷
     record { moment = 6291458; command = Inject (record { proto = Udp; src = 167772162; sport = 2000; dst = 167772417; dport = 1000; size = 40 }) } ∷
     record { moment = 6291458; command = Flow 65535 (record { src = 4294967295; sport = 1000; dst = 167772418; dport = 2000; smss = 1096; segments = 3; ssthresh = 1000000000; window = 1; timing = Adaptive }) } ∷
     record { moment = 6291458; command = PipeDelete 2 } ∷
     record { moment = 6291458; command = Show } ∷
     record { moment = 7000000; command = Train 4 (record { packet = record { proto = Udp; src = 167772162; sport = 65535; dst = 167772417; dport = 1; size = 125 }; count = 5; gap = 10000000 }) } ∷
-    record { moment = 7000001; command = Add (record { number = 300; action = Permit; proto = OnlyUdp; src = address_span 167772160 8; sports = None; dst = address_span 4294967295 32; dports = Some (record { first = 65535; last = 65535 }) }) } ∷
+    record { moment = 7000001; command = Add (record { number = 300; action = Allow; proto = OnlyUdp; src = address_span 167772160 8; sports = None; dst = address_span 4294967295 32; dports = Some (record { first = 65535; last = 65535 }) }) } ∷
     record { moment = 7000001; command = Delete 100 } ∷
     record { moment = 7000001; command = Config 3 (record { bw = 997; delay = 1; queue = Slots 50; plr = 0; mask = record { proto = 0; src = 0; dst = 0; sport = 0; dport = 0 }; discipline = ControlledDelay 3000000 5000000 }) } ∷
     record { moment = 15000000; command = OnePass false } ∷
@@ -398,9 +398,9 @@ exp_5-records =
     PacketDropped 6291458 2 Plain Deleted ∷
     PacketDropped 6291458 3 Plain Deleted ∷
     CommandDone 6291458 10 ∷
-    RuleLine (record { number = 100; action = SendTo 2; proto = AnyProtocol; src = address_span 167772160 24; sports = None; dst = record { address = 0; len = 0 }; dports = None }) 4 1540 ∷
-    RuleLine (record { number = 200; action = SendTo 1; proto = AnyProtocol; src = record { address = 0; len = 0 }; sports = None; dst = record { address = 0; len = 0 }; dports = None }) 0 0 ∷
-    RuleLine (record { number = 65535; action = Forbid; proto = AnyProtocol; src = record { address = 0; len = 0 }; sports = None; dst = record { address = 0; len = 0 }; dports = None }) 0 0 ∷
+    RuleLine (record { number = 100; action = Pipe 2; proto = AnyProtocol; src = address_span 167772160 24; sports = None; dst = record { address = 0; len = 0 }; dports = None }) 4 1540 ∷
+    RuleLine (record { number = 200; action = Pipe 1; proto = AnyProtocol; src = record { address = 0; len = 0 }; sports = None; dst = record { address = 0; len = 0 }; dports = None }) 0 0 ∷
+    RuleLine (record { number = 65535; action = Deny; proto = AnyProtocol; src = record { address = 0; len = 0 }; sports = None; dst = record { address = 0; len = 0 }; dports = None }) 0 0 ∷
     CommandDone 7000000 11 ∷
     PacketDropped 7000000 4 Plain NoPipe ∷
     CommandDone 7000001 12 ∷
@@ -445,12 +445,12 @@ exp_5 = refl
 -- experiment d56
 abbrev exp_6-commands : List Timed
 exp_6-commands =
-    record { moment = 0; command = Add (record { number = 100; action = SendTo 2; proto = AnyProtocol; src = address_span 167772160 24; sports = None; dst = record { address = 0; len = 0 }; dports = None }) } ∷
+    record { moment = 0; command = Add (record { number = 100; action = Pipe 2; proto = AnyProtocol; src = address_span 167772160 24; sports = None; dst = record { address = 0; len = 0 }; dports = None }) } ∷
     record { moment = 0; command = Config 2 (record { bw = 10000000000; delay = 1200; queue = KBytes 1; plr = 0; mask = record { proto = 0; src = 0; dst = 0; sport = 0; dport = 0 }; discipline = TailDrop }) } ∷
     record { moment = 0; command = Config 1 (record { bw = 3000000; delay = 10; queue = KBytes 2; plr = 0; mask = record { proto = 0; src = 0; dst = 0; sport = 0; dport = 0 }; discipline = ControlledDelay 1000 20000000 }) } ∷
     record { moment = 0; command = Config 4 (record { bw = 0; delay = 1; queue = KBytes 10; plr = 0; mask = record { proto = 0; src = 0; dst = 0; sport = 0; dport = 0 }; discipline = TailDrop }) } ∷
     record { moment = 0; command = Config 3 (record { bw = 997; delay = 1; queue = KBytes 1; plr = 0; mask = record { proto = 1; src = 0; dst = 4294901760; sport = 0; dport = 15 }; discipline = TailDrop }) } ∷
-    record { moment = 0; command = Add (record { number = 200; action = SendTo 1; proto = AnyProtocol; src = record { address = 0; len = 0 }; sports = None; dst = record { address = 0; len = 0 }; dports = None }) } ∷
+    record { moment = 0; command = Add (record { number = 200; action = Pipe 1; proto = AnyProtocol; src = record { address = 0; len = 0 }; sports = None; dst = record { address = 0; len = 0 }; dports = None }) } ∷
     record { moment = 0; command = Train 3 (record { packet = record { proto = Tcp; src = 167772161; sport = 7; dst = 167772418; dport = 2000; size = 1499 }; count = 3; gap = 125000 }) } ∷
     record { moment = 0; command = Train 65535 (record { packet = record { proto = Tcp; src = 167772161; sport = 2000; dst = 167772418; dport = 2000; size = 125 }; count = 1; gap = 1 }) } ∷
     record { moment = 3000000; command = Inject (record { proto = Udp; src = 167772161; sport = 65535; dst = 167772417; dport = 65535; size = 1040 }) } ∷
@@ -458,8 +458,8 @@ exp_6-commands =
     record { moment = 8000500; command = Flow 65535 (record { src = 167772162; sport = 0; dst = 167772417; dport = 80; smss = 1000; segments = 6; ssthresh = 65535; window = 10000; timing = Adaptive }) } ∷
     record { moment = 19923142; command = Train 2 (record { packet = record { proto = Udp; src = 167772162; sport = 1000; dst = 167772418; dport = 65535; size = 1040 }; count = 5; gap = 10000000 }) } ∷
     record { moment = 19923142; command = Flow 300 (record { src = 167772162; sport = 7; dst = 167772417; dport = 1; smss = 1460; segments = 1; ssthresh = 65535; window = 65535; timing = Adaptive }) } ∷
-    record { moment = 19923142; command = Add (record { number = 100; action = Forbid; proto = AnyProtocol; src = record { address = 0; len = 0 }; sports = None; dst = address_span 167772160 8; dports = None }) } ∷
-    record { moment = 27000000; command = Add (record { number = 400; action = SendTo 1; proto = OnlyUdp; src = record { address = 0; len = 0 }; sports = None; dst = record { address = 0; len = 0 }; dports = None }) } ∷
+    record { moment = 19923142; command = Add (record { number = 100; action = Deny; proto = AnyProtocol; src = record { address = 0; len = 0 }; sports = None; dst = address_span 167772160 8; dports = None }) } ∷
+    record { moment = 27000000; command = Add (record { number = 400; action = Pipe 1; proto = OnlyUdp; src = record { address = 0; len = 0 }; sports = None; dst = record { address = 0; len = 0 }; dports = None }) } ∷
     record { moment = 27000000; command = Delete 65535 } ∷
     record { moment = 200000000; command = PipeShow } ∷
     record { moment = 200000000; command = Show } ∷
@@ -500,11 +500,11 @@ exp_6-records =
     PipeLine 3 (record { bw = 997; delay = 1; queue = KBytes 1; plr = 0; mask = record { proto = 1; src = 0; dst = 4294901760; sport = 0; dport = 15 }; discipline = TailDrop }) ∷
     PipeLine 4 (record { bw = 0; delay = 1; queue = KBytes 10; plr = 0; mask = record { proto = 0; src = 0; dst = 0; sport = 0; dport = 0 }; discipline = TailDrop }) ∷
     CommandDone 200000000 17 ∷
-    RuleLine (record { number = 100; action = SendTo 2; proto = AnyProtocol; src = address_span 167772160 24; sports = None; dst = record { address = 0; len = 0 }; dports = None }) 6 6162 ∷
-    RuleLine (record { number = 100; action = Forbid; proto = AnyProtocol; src = record { address = 0; len = 0 }; sports = None; dst = address_span 167772160 8; dports = None }) 0 0 ∷
-    RuleLine (record { number = 200; action = SendTo 1; proto = AnyProtocol; src = record { address = 0; len = 0 }; sports = None; dst = record { address = 0; len = 0 }; dports = None }) 0 0 ∷
-    RuleLine (record { number = 400; action = SendTo 1; proto = OnlyUdp; src = record { address = 0; len = 0 }; sports = None; dst = record { address = 0; len = 0 }; dports = None }) 0 0 ∷
-    RuleLine (record { number = 65535; action = Forbid; proto = AnyProtocol; src = record { address = 0; len = 0 }; sports = None; dst = record { address = 0; len = 0 }; dports = None }) 0 0 ∷
+    RuleLine (record { number = 100; action = Pipe 2; proto = AnyProtocol; src = address_span 167772160 24; sports = None; dst = record { address = 0; len = 0 }; dports = None }) 6 6162 ∷
+    RuleLine (record { number = 100; action = Deny; proto = AnyProtocol; src = record { address = 0; len = 0 }; sports = None; dst = address_span 167772160 8; dports = None }) 0 0 ∷
+    RuleLine (record { number = 200; action = Pipe 1; proto = AnyProtocol; src = record { address = 0; len = 0 }; sports = None; dst = record { address = 0; len = 0 }; dports = None }) 0 0 ∷
+    RuleLine (record { number = 400; action = Pipe 1; proto = OnlyUdp; src = record { address = 0; len = 0 }; sports = None; dst = record { address = 0; len = 0 }; dports = None }) 0 0 ∷
+    RuleLine (record { number = 65535; action = Deny; proto = AnyProtocol; src = record { address = 0; len = 0 }; sports = None; dst = record { address = 0; len = 0 }; dports = None }) 0 0 ∷
     CommandDone 200000000 18 ∷
     []
 
@@ -526,9 +526,9 @@ exp_7-commands =
     record { moment = 0; command = Add (record { number = 1; action = Count; proto = AnyProtocol; src = address_span 167772160 24; sports = None; dst = record { address = 0; len = 0 }; dports = None }) } ∷
     record { moment = 0; command = Config 1 (record { bw = 0; delay = 50; queue = KBytes 10; plr = 1; mask = record { proto = 255; src = 4294967295; dst = 4294967295; sport = 65535; dport = 65535 }; discipline = TailDrop }) } ∷
     record { moment = 0; command = Config 2 (record { bw = 0; delay = 0; queue = Slots 3; plr = 0; mask = record { proto = 255; src = 0; dst = 3; sport = 0; dport = 255 }; discipline = ControlledDelay 5000000 2000000 }) } ∷
-    record { moment = 0; command = Add (record { number = 100; action = SendTo 3; proto = AnyProtocol; src = address_span 167772160 24; sports = None; dst = record { address = 0; len = 0 }; dports = None }) } ∷
+    record { moment = 0; command = Add (record { number = 100; action = Pipe 3; proto = AnyProtocol; src = address_span 167772160 24; sports = None; dst = record { address = 0; len = 0 }; dports = None }) } ∷
     record { moment = 0; command = OnePass false } ∷
-    record { moment = 0; command = Add (record { number = 200; action = SendTo 3; proto = AnyProtocol; src = record { address = 0; len = 0 }; sports = None; dst = record { address = 0; len = 0 }; dports = None }) } ∷
+    record { moment = 0; command = Add (record { number = 200; action = Pipe 3; proto = AnyProtocol; src = record { address = 0; len = 0 }; sports = None; dst = record { address = 0; len = 0 }; dports = None }) } ∷
     record { moment = 0; command = Config 4 (record { bw = 8000000; delay = 0; queue = KBytes 1; plr = 0; mask = record { proto = 0; src = 0; dst = 0; sport = 0; dport = 0 }; discipline = TailDrop }) } ∷
     record { moment = 6000000001; command = Flow 65535 (record { src = 167772162; sport = 65535; dst = 167772417; dport = 1000; smss = 1000; segments = 4; ssthresh = 8000; window = 65535; timing = Adaptive }) } ∷
     record { moment = 6000000001; command = Train 2 (record { packet = record { proto = Udp; src = 167772161; sport = 7; dst = 167772417; dport = 1; size = 40 }; count = 2; gap = 10000000 }) } ∷
@@ -571,9 +571,9 @@ exp_7-records =
     PipeLine 4 (record { bw = 8000000; delay = 0; queue = KBytes 1; plr = 0; mask = record { proto = 0; src = 0; dst = 0; sport = 0; dport = 0 }; discipline = TailDrop }) ∷
     CommandDone 13008000000 12 ∷
     RuleLine (record { number = 1; action = Count; proto = AnyProtocol; src = address_span 167772160 24; sports = None; dst = record { address = 0; len = 0 }; dports = None }) 9 7360 ∷
-    RuleLine (record { number = 100; action = SendTo 3; proto = AnyProtocol; src = address_span 167772160 24; sports = None; dst = record { address = 0; len = 0 }; dports = None }) 9 7360 ∷
-    RuleLine (record { number = 200; action = SendTo 3; proto = AnyProtocol; src = record { address = 0; len = 0 }; sports = None; dst = record { address = 0; len = 0 }; dports = None }) 0 0 ∷
-    RuleLine (record { number = 65535; action = Forbid; proto = AnyProtocol; src = record { address = 0; len = 0 }; sports = None; dst = record { address = 0; len = 0 }; dports = None }) 0 0 ∷
+    RuleLine (record { number = 100; action = Pipe 3; proto = AnyProtocol; src = address_span 167772160 24; sports = None; dst = record { address = 0; len = 0 }; dports = None }) 9 7360 ∷
+    RuleLine (record { number = 200; action = Pipe 3; proto = AnyProtocol; src = record { address = 0; len = 0 }; sports = None; dst = record { address = 0; len = 0 }; dports = None }) 0 0 ∷
+    RuleLine (record { number = 65535; action = Deny; proto = AnyProtocol; src = record { address = 0; len = 0 }; sports = None; dst = record { address = 0; len = 0 }; dports = None }) 0 0 ∷
     CommandDone 13008000000 13 ∷
     []
 
@@ -594,11 +594,11 @@ abbrev exp_8-commands : List Timed
 exp_8-commands =
     record { moment = 0; command = Config 2 (record { bw = 3000000; delay = 2; queue = Slots 50; plr = 500000; mask = record { proto = 255; src = 4294967295; dst = 4294967295; sport = 65535; dport = 65535 }; discipline = TailDrop }) } ∷
     record { moment = 0; command = Config 1 (record { bw = 3000000; delay = 10; queue = Slots 10; plr = 500000; mask = record { proto = 0; src = 255; dst = 0; sport = 65535; dport = 15 }; discipline = ControlledDelay 5000000 100000000 }) } ∷
-    record { moment = 0; command = Add (record { number = 200; action = SendTo 1; proto = AnyProtocol; src = record { address = 0; len = 0 }; sports = None; dst = record { address = 0; len = 0 }; dports = None }) } ∷
+    record { moment = 0; command = Add (record { number = 200; action = Pipe 1; proto = AnyProtocol; src = record { address = 0; len = 0 }; sports = None; dst = record { address = 0; len = 0 }; dports = None }) } ∷
     record { moment = 0; command = Config 3 (record { bw = 8000000; delay = 1; queue = Slots 1; plr = 1000000; mask = record { proto = 255; src = 0; dst = 0; sport = 1; dport = 15 }; discipline = TailDrop }) } ∷
     record { moment = 0; command = Config 4 (record { bw = 0; delay = 400; queue = Slots 5; plr = 0; mask = record { proto = 0; src = 0; dst = 0; sport = 0; dport = 0 }; discipline = TailDrop }) } ∷
     record { moment = 0; command = Add (record { number = 300; action = Count; proto = OnlyUdp; src = record { address = 0; len = 0 }; sports = None; dst = record { address = 0; len = 0 }; dports = Some (record { first = 2000; last = 65535 }) }) } ∷
-    record { moment = 0; command = Add (record { number = 100; action = SendTo 1; proto = AnyProtocol; src = address_span 167772160 24; sports = None; dst = record { address = 0; len = 0 }; dports = None }) } ∷
+    record { moment = 0; command = Add (record { number = 100; action = Pipe 1; proto = AnyProtocol; src = address_span 167772160 24; sports = None; dst = record { address = 0; len = 0 }; dports = None }) } ∷
     record { moment = 0; command = Flow 300 (record { src = 167772161; sport = 1; dst = 167772418; dport = 7; smss = 1095; segments = 2; ssthresh = 65535; window = 65535; timing = Fixed 1000 }) } ∷
     record { moment = 5944054; command = Stop 300 } ∷
     record { moment = 9000000; command = Flow 4 (record { src = 167772162; sport = 2000; dst = 167772418; dport = 0; smss = 64; segments = 2; ssthresh = 65535; window = 65535; timing = Adaptive }) } ∷
@@ -650,10 +650,10 @@ exp_8-records =
     PipeLine 3 (record { bw = 8000000; delay = 1; queue = Slots 1; plr = 1000000; mask = record { proto = 255; src = 0; dst = 0; sport = 1; dport = 15 }; discipline = TailDrop }) ∷
     PipeLine 4 (record { bw = 0; delay = 400; queue = Slots 5; plr = 0; mask = record { proto = 0; src = 0; dst = 0; sport = 0; dport = 0 }; discipline = TailDrop }) ∷
     CommandDone 19000000 14 ∷
-    RuleLine (record { number = 100; action = SendTo 1; proto = AnyProtocol; src = address_span 167772160 24; sports = None; dst = record { address = 0; len = 0 }; dports = None }) 2 2270 ∷
-    RuleLine (record { number = 200; action = SendTo 1; proto = AnyProtocol; src = record { address = 0; len = 0 }; sports = None; dst = record { address = 0; len = 0 }; dports = None }) 2 80 ∷
+    RuleLine (record { number = 100; action = Pipe 1; proto = AnyProtocol; src = address_span 167772160 24; sports = None; dst = record { address = 0; len = 0 }; dports = None }) 2 2270 ∷
+    RuleLine (record { number = 200; action = Pipe 1; proto = AnyProtocol; src = record { address = 0; len = 0 }; sports = None; dst = record { address = 0; len = 0 }; dports = None }) 2 80 ∷
     RuleLine (record { number = 300; action = Count; proto = OnlyUdp; src = record { address = 0; len = 0 }; sports = None; dst = record { address = 0; len = 0 }; dports = Some (record { first = 2000; last = 65535 }) }) 0 0 ∷
-    RuleLine (record { number = 65535; action = Forbid; proto = AnyProtocol; src = record { address = 0; len = 0 }; sports = None; dst = record { address = 0; len = 0 }; dports = None }) 0 0 ∷
+    RuleLine (record { number = 65535; action = Deny; proto = AnyProtocol; src = record { address = 0; len = 0 }; sports = None; dst = record { address = 0; len = 0 }; dports = None }) 0 0 ∷
     CommandDone 19000000 15 ∷
     []
 
@@ -673,8 +673,8 @@ exp_8 = refl
 abbrev exp_9-commands : List Timed
 exp_9-commands =
     record { moment = 0; command = Config 4 (record { bw = 56000; delay = 50; queue = Slots 5; plr = 0; mask = record { proto = 255; src = 4294967295; dst = 4294967295; sport = 65535; dport = 65535 }; discipline = TailDrop }) } ∷
-    record { moment = 0; command = Add (record { number = 100; action = SendTo 1; proto = AnyProtocol; src = address_span 167772160 24; sports = None; dst = record { address = 0; len = 0 }; dports = None }) } ∷
-    record { moment = 0; command = Add (record { number = 200; action = SendTo 1; proto = AnyProtocol; src = record { address = 0; len = 0 }; sports = None; dst = record { address = 0; len = 0 }; dports = None }) } ∷
+    record { moment = 0; command = Add (record { number = 100; action = Pipe 1; proto = AnyProtocol; src = address_span 167772160 24; sports = None; dst = record { address = 0; len = 0 }; dports = None }) } ∷
+    record { moment = 0; command = Add (record { number = 200; action = Pipe 1; proto = AnyProtocol; src = record { address = 0; len = 0 }; sports = None; dst = record { address = 0; len = 0 }; dports = None }) } ∷
     record { moment = 13473692; command = Flow 3 (record { src = 167772161; sport = 65535; dst = 167772417; dport = 2000; smss = 960; segments = 1; ssthresh = 4000; window = 65535; timing = Adaptive }) } ∷
     record { moment = 13473692; command = Delete 100 } ∷
     record { moment = 13473692; command = Config 3 (record { bw = 10000000; delay = 0; queue = Slots 50; plr = 500000; mask = record { proto = 0; src = 0; dst = 0; sport = 0; dport = 0 }; discipline = ControlledDelay 5000000 20000000 }) } ∷
@@ -739,9 +739,9 @@ exp_9-records =
     PipeLine 3 (record { bw = 10000000; delay = 10; queue = Slots 3; plr = 0; mask = record { proto = 0; src = 0; dst = 0; sport = 0; dport = 0 }; discipline = TailDrop }) ∷
     PipeLine 4 (record { bw = 56000; delay = 50; queue = Slots 5; plr = 0; mask = record { proto = 255; src = 4294967295; dst = 4294967295; sport = 65535; dport = 65535 }; discipline = TailDrop }) ∷
     CommandDone 30000000000 18 ∷
-    RuleLine (record { number = 200; action = SendTo 1; proto = AnyProtocol; src = record { address = 0; len = 0 }; sports = None; dst = record { address = 0; len = 0 }; dports = None }) 13 14485 ∷
+    RuleLine (record { number = 200; action = Pipe 1; proto = AnyProtocol; src = record { address = 0; len = 0 }; sports = None; dst = record { address = 0; len = 0 }; dports = None }) 13 14485 ∷
     RuleLine (record { number = 200; action = SkipTo 300; proto = AnyProtocol; src = record { address = 0; len = 0 }; sports = Some (record { first = 65535; last = 65535 }); dst = record { address = 0; len = 0 }; dports = None }) 0 0 ∷
-    RuleLine (record { number = 65535; action = Forbid; proto = AnyProtocol; src = record { address = 0; len = 0 }; sports = None; dst = record { address = 0; len = 0 }; dports = None }) 0 0 ∷
+    RuleLine (record { number = 65535; action = Deny; proto = AnyProtocol; src = record { address = 0; len = 0 }; sports = None; dst = record { address = 0; len = 0 }; dports = None }) 0 0 ∷
     CommandDone 30000000000 19 ∷
     []
 

@@ -3,7 +3,7 @@ use Rattle.std.specs.Prelude.{◌≡◌, refl, List, [], ◌∷◌, Some, None, 
 use Rattle.emu_model.specs.Spans.{address_span}
 use Rattle.emu_model.specs.declared.packets.Load.TheVariants.{Plain, Seg, Ack}
 use Rattle.emu_model.specs.declared.packets.Protocol.TheVariants.{Tcp, Udp}
-use Rattle.emu_model.specs.declared.rules.Action.TheVariants.{Forbid, Count, SkipTo, SendTo}
+use Rattle.emu_model.specs.declared.rules.Action.TheVariants.{Deny, Count, SkipTo, Pipe}
 use Rattle.emu_model.specs.declared.rules.ProtocolMatch.TheVariants.{AnyProtocol, OnlyTcp, OnlyUdp}
 use Rattle.emu_model.specs.declared.pipes.QueueLimit.TheVariants.{Slots, KBytes}
 use Rattle.emu_model.specs.declared.pipes.Discipline.TheVariants.{TailDrop, ControlledDelay}
@@ -28,7 +28,7 @@ exp_0-commands =
     record { moment = 0; command = Config 4 (record { bw = 1000000; delay = 2; queue = KBytes 2; plr = 0; mask = record { proto = 0; src = 0; dst = 0; sport = 0; dport = 0 }; discipline = TailDrop }) } ∷
     record { moment = 0; command = Config 1 (record { bw = 997; delay = 0; queue = Slots 50; plr = 0; mask = record { proto = 0; src = 0; dst = 0; sport = 65535; dport = 15 }; discipline = ControlledDelay 5000000 2000000 }) } ∷
     record { moment = 0; command = Config 2 (record { bw = 0; delay = 50; queue = Slots 10; plr = 0; mask = record { proto = 0; src = 0; dst = 0; sport = 1; dport = 255 }; discipline = TailDrop }) } ∷
-    record { moment = 0; command = Add (record { number = 100; action = SendTo 3; proto = OnlyUdp; src = record { address = 0; len = 0 }; sports = None; dst = record { address = 0; len = 0 }; dports = Some (record { first = 0; last = 80 }) }) } ∷
+    record { moment = 0; command = Add (record { number = 100; action = Pipe 3; proto = OnlyUdp; src = record { address = 0; len = 0 }; sports = None; dst = record { address = 0; len = 0 }; dports = Some (record { first = 0; last = 80 }) }) } ∷
     record { moment = 0; command = Train 300 (record { packet = record { proto = Udp; src = 167772162; sport = 2000; dst = 167772417; dport = 1000; size = 999 }; count = 5; gap = 1000000 }) } ∷
     record { moment = 0; command = Flow 2 (record { src = 167772418; sport = 65535; dst = 4294967295; dport = 0; smss = 1096; segments = 4; ssthresh = 1000; window = 65535; timing = Adaptive }) } ∷
     record { moment = 120000000; command = Flow 4 (record { src = 167772162; sport = 80; dst = 167772417; dport = 80; smss = 1095; segments = 5; ssthresh = 65535; window = 10000; timing = Fixed 1000 }) } ∷
@@ -65,8 +65,8 @@ exp_0-records =
     PipeLine 3 (record { bw = 10000000; delay = 0; queue = Slots 50; plr = 1000000; mask = record { proto = 0; src = 0; dst = 0; sport = 65535; dport = 15 }; discipline = TailDrop }) ∷
     PipeLine 4 (record { bw = 1000000; delay = 2; queue = KBytes 2; plr = 0; mask = record { proto = 0; src = 0; dst = 0; sport = 0; dport = 0 }; discipline = TailDrop }) ∷
     CommandDone 120000000 11 ∷
-    RuleLine (record { number = 100; action = SendTo 3; proto = OnlyUdp; src = record { address = 0; len = 0 }; sports = None; dst = record { address = 0; len = 0 }; dports = Some (record { first = 0; last = 80 }) }) 0 0 ∷
-    RuleLine (record { number = 65535; action = Forbid; proto = AnyProtocol; src = record { address = 0; len = 0 }; sports = None; dst = record { address = 0; len = 0 }; dports = None }) 8 8403 ∷
+    RuleLine (record { number = 100; action = Pipe 3; proto = OnlyUdp; src = record { address = 0; len = 0 }; sports = None; dst = record { address = 0; len = 0 }; dports = Some (record { first = 0; last = 80 }) }) 0 0 ∷
+    RuleLine (record { number = 65535; action = Deny; proto = AnyProtocol; src = record { address = 0; len = 0 }; sports = None; dst = record { address = 0; len = 0 }; dports = None }) 8 8403 ∷
     StepsSpent 120000000 ∷
     []
 
@@ -86,11 +86,11 @@ exp_0 = refl
 abbrev exp_1-commands : List Timed
 exp_1-commands =
     record { moment = 0; command = Config 2 (record { bw = 0; delay = 50; queue = Slots 10; plr = 0; mask = record { proto = 255; src = 4294967295; dst = 4294967295; sport = 65535; dport = 65535 }; discipline = ControlledDelay 1000000 7000000 }) } ∷
-    record { moment = 0; command = Add (record { number = 100; action = SendTo 1; proto = AnyProtocol; src = address_span 167772160 24; sports = None; dst = record { address = 0; len = 0 }; dports = None }) } ∷
+    record { moment = 0; command = Add (record { number = 100; action = Pipe 1; proto = AnyProtocol; src = address_span 167772160 24; sports = None; dst = record { address = 0; len = 0 }; dports = None }) } ∷
     record { moment = 0; command = Config 3 (record { bw = 8000000; delay = 1; queue = KBytes 3; plr = 0; mask = record { proto = 0; src = 0; dst = 0; sport = 0; dport = 0 }; discipline = ControlledDelay 5000000 2000000 }) } ∷
     record { moment = 0; command = Config 1 (record { bw = 7777777; delay = 2; queue = Slots 1; plr = 0; mask = record { proto = 0; src = 0; dst = 255; sport = 0; dport = 0 }; discipline = ControlledDelay 1000 100000000 }) } ∷
     record { moment = 0; command = Config 4 (record { bw = 0; delay = 10; queue = Slots 10; plr = 0; mask = record { proto = 0; src = 0; dst = 0; sport = 0; dport = 0 }; discipline = TailDrop }) } ∷
-    record { moment = 0; command = Add (record { number = 200; action = SendTo 3; proto = AnyProtocol; src = record { address = 0; len = 0 }; sports = None; dst = record { address = 0; len = 0 }; dports = None }) } ∷
+    record { moment = 0; command = Add (record { number = 200; action = Pipe 3; proto = AnyProtocol; src = record { address = 0; len = 0 }; sports = None; dst = record { address = 0; len = 0 }; dports = None }) } ∷
     record { moment = 0; command = Flow 300 (record { src = 167772161; sport = 65535; dst = 167772417; dport = 65535; smss = 960; segments = 3; ssthresh = 4000; window = 65535; timing = Adaptive }) } ∷
     record { moment = 20000000000; command = Train 2 (record { packet = record { proto = Udp; src = 167772162; sport = 0; dst = 167772417; dport = 65535; size = 41 }; count = 1; gap = 2000000 }) } ∷
     record { moment = 100000000000; command = PipeShow } ∷
@@ -135,9 +135,9 @@ exp_1-records =
     InstanceLine 3 0 0 0 false 0 3 ∷
     PipeLine 4 (record { bw = 0; delay = 10; queue = Slots 10; plr = 0; mask = record { proto = 0; src = 0; dst = 0; sport = 0; dport = 0 }; discipline = TailDrop }) ∷
     CommandDone 100000000000 9 ∷
-    RuleLine (record { number = 100; action = SendTo 1; proto = AnyProtocol; src = address_span 167772160 24; sports = None; dst = record { address = 0; len = 0 }; dports = None }) 5 4041 ∷
-    RuleLine (record { number = 200; action = SendTo 3; proto = AnyProtocol; src = record { address = 0; len = 0 }; sports = None; dst = record { address = 0; len = 0 }; dports = None }) 3 120 ∷
-    RuleLine (record { number = 65535; action = Forbid; proto = AnyProtocol; src = record { address = 0; len = 0 }; sports = None; dst = record { address = 0; len = 0 }; dports = None }) 0 0 ∷
+    RuleLine (record { number = 100; action = Pipe 1; proto = AnyProtocol; src = address_span 167772160 24; sports = None; dst = record { address = 0; len = 0 }; dports = None }) 5 4041 ∷
+    RuleLine (record { number = 200; action = Pipe 3; proto = AnyProtocol; src = record { address = 0; len = 0 }; sports = None; dst = record { address = 0; len = 0 }; dports = None }) 3 120 ∷
+    RuleLine (record { number = 65535; action = Deny; proto = AnyProtocol; src = record { address = 0; len = 0 }; sports = None; dst = record { address = 0; len = 0 }; dports = None }) 0 0 ∷
     CommandDone 100000000000 10 ∷
     []
 
@@ -157,13 +157,13 @@ exp_1 = refl
 abbrev exp_2-commands : List Timed
 exp_2-commands =
     record { moment = 0; command = Config 4 (record { bw = 8000000; delay = 0; queue = Slots 50; plr = 0; mask = record { proto = 0; src = 0; dst = 0; sport = 0; dport = 0 }; discipline = TailDrop }) } ∷
-    record { moment = 0; command = Add (record { number = 200; action = SendTo 3; proto = AnyProtocol; src = record { address = 0; len = 0 }; sports = None; dst = record { address = 0; len = 0 }; dports = None }) } ∷
+    record { moment = 0; command = Add (record { number = 200; action = Pipe 3; proto = AnyProtocol; src = record { address = 0; len = 0 }; sports = None; dst = record { address = 0; len = 0 }; dports = None }) } ∷
     record { moment = 0; command = Add (record { number = 65534; action = SkipTo 50; proto = OnlyUdp; src = record { address = 0; len = 0 }; sports = None; dst = record { address = 0; len = 0 }; dports = None }) } ∷
     record { moment = 0; command = Config 3 (record { bw = 8000000; delay = 10; queue = Slots 1; plr = 1000000; mask = record { proto = 0; src = 0; dst = 0; sport = 0; dport = 0 }; discipline = TailDrop }) } ∷
     record { moment = 0; command = Config 2 (record { bw = 1000000000; delay = 0; queue = Slots 3; plr = 0; mask = record { proto = 255; src = 4294967295; dst = 4294967295; sport = 65535; dport = 65535 }; discipline = TailDrop }) } ∷
     record { moment = 0; command = Add (record { number = 2; action = Count; proto = AnyProtocol; src = record { address = 0; len = 0 }; sports = None; dst = address_span 167772493 25; dports = None }) } ∷
     record { moment = 0; command = Config 1 (record { bw = 1000000000; delay = 400; queue = KBytes 3; plr = 200000; mask = record { proto = 0; src = 0; dst = 0; sport = 0; dport = 0 }; discipline = ControlledDelay 5000000 100000000 }) } ∷
-    record { moment = 0; command = Add (record { number = 100; action = SendTo 1; proto = AnyProtocol; src = address_span 167772160 24; sports = None; dst = record { address = 0; len = 0 }; dports = None }) } ∷
+    record { moment = 0; command = Add (record { number = 100; action = Pipe 1; proto = AnyProtocol; src = address_span 167772160 24; sports = None; dst = record { address = 0; len = 0 }; dports = None }) } ∷
     record { moment = 120000000; command = Inject (record { proto = Tcp; src = 167772161; sport = 7; dst = 167772417; dport = 0; size = 1499 }) } ∷
     record { moment = 120000500; command = Train 5 (record { packet = record { proto = Udp; src = 167772161; sport = 80; dst = 167772417; dport = 80; size = 40 }; count = 2; gap = 10000000 }) } ∷
     record { moment = 120000500; command = End } ∷
@@ -201,17 +201,17 @@ abbrev exp_3-commands : List Timed
 exp_3-commands =
     record { moment = 0; command = Add (record { number = 150; action = Count; proto = OnlyTcp; src = record { address = 0; len = 0 }; sports = Some (record { first = 65535; last = 65535 }); dst = address_span 3232235520 16; dports = None }) } ∷
     record { moment = 0; command = Add (record { number = 100; action = SkipTo 65535; proto = AnyProtocol; src = address_span 167772493 25; sports = None; dst = record { address = 0; len = 0 }; dports = Some (record { first = 1; last = 1 }) }) } ∷
-    record { moment = 0; command = Add (record { number = 100; action = SendTo 1; proto = AnyProtocol; src = address_span 167772160 24; sports = None; dst = record { address = 0; len = 0 }; dports = None }) } ∷
+    record { moment = 0; command = Add (record { number = 100; action = Pipe 1; proto = AnyProtocol; src = address_span 167772160 24; sports = None; dst = record { address = 0; len = 0 }; dports = None }) } ∷
     record { moment = 0; command = OnePass false } ∷
-    record { moment = 0; command = Add (record { number = 300; action = SendTo 3; proto = AnyProtocol; src = record { address = 0; len = 0 }; sports = None; dst = record { address = 0; len = 0 }; dports = None }) } ∷
+    record { moment = 0; command = Add (record { number = 300; action = Pipe 3; proto = AnyProtocol; src = record { address = 0; len = 0 }; sports = None; dst = record { address = 0; len = 0 }; dports = None }) } ∷
     record { moment = 0; command = Config 4 (record { bw = 10000000000; delay = 2; queue = Slots 1000; plr = 500000; mask = record { proto = 0; src = 0; dst = 0; sport = 0; dport = 0 }; discipline = ControlledDelay 5000000 100000000 }) } ∷
-    record { moment = 0; command = Add (record { number = 99999; action = Forbid; proto = AnyProtocol; src = record { address = 0; len = 0 }; sports = None; dst = address_span 167772161 32; dports = None }) } ∷
+    record { moment = 0; command = Add (record { number = 99999; action = Deny; proto = AnyProtocol; src = record { address = 0; len = 0 }; sports = None; dst = address_span 167772161 32; dports = None }) } ∷
     record { moment = 0; command = Add (record { number = 50; action = Count; proto = AnyProtocol; src = record { address = 0; len = 0 }; sports = Some (record { first = 1; last = 1 }); dst = record { address = 0; len = 0 }; dports = None }) } ∷
     record { moment = 0; command = Config 2 (record { bw = 0; delay = 0; queue = Slots 3; plr = 200000; mask = record { proto = 0; src = 0; dst = 0; sport = 0; dport = 0 }; discipline = ControlledDelay 1000 100000000 }) } ∷
     record { moment = 0; command = Config 1 (record { bw = 8000000; delay = 2; queue = Slots 1; plr = 0; mask = record { proto = 0; src = 0; dst = 0; sport = 0; dport = 0 }; discipline = ControlledDelay 1000 100000000 }) } ∷
     record { moment = 0; command = Config 3 (record { bw = 56000; delay = 1200; queue = Slots 50; plr = 50000; mask = record { proto = 0; src = 0; dst = 0; sport = 0; dport = 0 }; discipline = TailDrop }) } ∷
-    record { moment = 0; command = Add (record { number = 200; action = Forbid; proto = AnyProtocol; src = address_span 4294967295 32; sports = None; dst = record { address = 0; len = 0 }; dports = None }) } ∷
-    record { moment = 0; command = Add (record { number = 200; action = SendTo 3; proto = AnyProtocol; src = record { address = 0; len = 0 }; sports = None; dst = record { address = 0; len = 0 }; dports = None }) } ∷
+    record { moment = 0; command = Add (record { number = 200; action = Deny; proto = AnyProtocol; src = address_span 4294967295 32; sports = None; dst = record { address = 0; len = 0 }; dports = None }) } ∷
+    record { moment = 0; command = Add (record { number = 200; action = Pipe 3; proto = AnyProtocol; src = record { address = 0; len = 0 }; sports = None; dst = record { address = 0; len = 0 }; dports = None }) } ∷
     record { moment = 0; command = Flow 4 (record { src = 167772162; sport = 0; dst = 167772417; dport = 1; smss = 1460; segments = 1; ssthresh = 65535; window = 65535; timing = Adaptive }) } ∷
     record { moment = 0; command = Inject (record { proto = Tcp; src = 167772161; sport = 2000; dst = 167772417; dport = 65535; size = 1499 }) } ∷
     record { moment = 0; command = Inject (record { proto = Udp; src = 167772418; sport = 0; dst = 167772162; dport = 65535; size = 40 }) } ∷
@@ -265,8 +265,8 @@ exp_4-commands =
     record { moment = 0; command = Config 3 (record { bw = 1000000; delay = 10; queue = KBytes 10; plr = 0; mask = record { proto = 0; src = 0; dst = 0; sport = 0; dport = 0 }; discipline = ControlledDelay 20000000 100000000 }) } ∷
     record { moment = 0; command = Config 2 (record { bw = 0; delay = 1200; queue = Slots 1000; plr = 0; mask = record { proto = 0; src = 0; dst = 0; sport = 0; dport = 0 }; discipline = ControlledDelay 1000 10000000 }) } ∷
     record { moment = 0; command = Config 1 (record { bw = 1000000; delay = 400; queue = Slots 1000; plr = 0; mask = record { proto = 0; src = 0; dst = 0; sport = 0; dport = 0 }; discipline = TailDrop }) } ∷
-    record { moment = 0; command = Add (record { number = 100; action = SendTo 2; proto = AnyProtocol; src = address_span 167772160 24; sports = None; dst = record { address = 0; len = 0 }; dports = None }) } ∷
-    record { moment = 0; command = Add (record { number = 200; action = SendTo 2; proto = AnyProtocol; src = record { address = 0; len = 0 }; sports = None; dst = record { address = 0; len = 0 }; dports = None }) } ∷
+    record { moment = 0; command = Add (record { number = 100; action = Pipe 2; proto = AnyProtocol; src = address_span 167772160 24; sports = None; dst = record { address = 0; len = 0 }; dports = None }) } ∷
+    record { moment = 0; command = Add (record { number = 200; action = Pipe 2; proto = AnyProtocol; src = record { address = 0; len = 0 }; sports = None; dst = record { address = 0; len = 0 }; dports = None }) } ∷
     record { moment = 0; command = Config 4 (record { bw = 56000; delay = 10; queue = Slots 50; plr = 0; mask = record { proto = 0; src = 0; dst = 0; sport = 0; dport = 0 }; discipline = TailDrop }) } ∷
     record { moment = 0; command = OnePass false } ∷
     record { moment = 0; command = Inject (record { proto = Tcp; src = 167772162; sport = 1000; dst = 167772417; dport = 0; size = 1499 }) } ∷
@@ -281,8 +281,8 @@ exp_4-commands =
     record { moment = 13000000; command = Config 1 (record { bw = 0; delay = 5; queue = Slots 50; plr = 20000; mask = record { proto = 0; src = 0; dst = 0; sport = 0; dport = 0 }; discipline = TailDrop }) } ∷
     record { moment = 13000000; command = Config 1 (record { bw = 0; delay = 400; queue = KBytes 1; plr = 200000; mask = record { proto = 0; src = 0; dst = 0; sport = 0; dport = 0 }; discipline = TailDrop }) } ∷
     record { moment = 21000000; command = Flow 3 (record { src = 167772162; sport = 1000; dst = 167772417; dport = 0; smss = 536; segments = 5; ssthresh = 1; window = 65535; timing = Adaptive }) } ∷
-    record { moment = 21000000; command = Add (record { number = 2; action = SendTo 3; proto = OnlyUdp; src = address_span 0 0; sports = None; dst = record { address = 0; len = 0 }; dports = Some (record { first = 7; last = 7 }) }) } ∷
-    record { moment = 21000000; command = Add (record { number = 200; action = SendTo 3; proto = AnyProtocol; src = record { address = 0; len = 0 }; sports = None; dst = record { address = 0; len = 0 }; dports = None }) } ∷
+    record { moment = 21000000; command = Add (record { number = 2; action = Pipe 3; proto = OnlyUdp; src = address_span 0 0; sports = None; dst = record { address = 0; len = 0 }; dports = Some (record { first = 7; last = 7 }) }) } ∷
+    record { moment = 21000000; command = Add (record { number = 200; action = Pipe 3; proto = AnyProtocol; src = record { address = 0; len = 0 }; sports = None; dst = record { address = 0; len = 0 }; dports = None }) } ∷
     record { moment = 21000000; command = PipeDelete 2 } ∷
     record { moment = 200000000; command = End } ∷
     []
@@ -344,10 +344,10 @@ exp_4 = refl
 -- experiment d65
 abbrev exp_5-commands : List Timed
 exp_5-commands =
-    record { moment = 0; command = Add (record { number = 200; action = SendTo 3; proto = AnyProtocol; src = record { address = 0; len = 0 }; sports = None; dst = record { address = 0; len = 0 }; dports = None }) } ∷
+    record { moment = 0; command = Add (record { number = 200; action = Pipe 3; proto = AnyProtocol; src = record { address = 0; len = 0 }; sports = None; dst = record { address = 0; len = 0 }; dports = None }) } ∷
     record { moment = 0; command = Config 1 (record { bw = 8000000; delay = 1200; queue = KBytes 1; plr = 1; mask = record { proto = 0; src = 0; dst = 0; sport = 0; dport = 0 }; discipline = TailDrop }) } ∷
     record { moment = 0; command = Config 3 (record { bw = 56000; delay = 10; queue = Slots 50; plr = 0; mask = record { proto = 255; src = 0; dst = 0; sport = 0; dport = 15 }; discipline = TailDrop }) } ∷
-    record { moment = 0; command = Add (record { number = 100; action = SendTo 1; proto = AnyProtocol; src = address_span 167772160 24; sports = None; dst = record { address = 0; len = 0 }; dports = None }) } ∷
+    record { moment = 0; command = Add (record { number = 100; action = Pipe 1; proto = AnyProtocol; src = address_span 167772160 24; sports = None; dst = record { address = 0; len = 0 }; dports = None }) } ∷
     record { moment = 0; command = Config 2 (record { bw = 0; delay = 0; queue = KBytes 1; plr = 50000; mask = record { proto = 255; src = 4294967295; dst = 4294967295; sport = 65535; dport = 65535 }; discipline = TailDrop }) } ∷
     record { moment = 0; command = Config 4 (record { bw = 56000; delay = 10; queue = Slots 50; plr = 0; mask = record { proto = 0; src = 0; dst = 255; sport = 0; dport = 0 }; discipline = ControlledDelay 100000 10000000 }) } ∷
     record { moment = 0; command = Inject (record { proto = Tcp; src = 167772161; sport = 2000; dst = 167772417; dport = 1000; size = 1040 }) } ∷
@@ -358,8 +358,8 @@ exp_5-commands =
     record { moment = 400000001; command = OnePass true } ∷
     record { moment = 900000000; command = Train 65535 (record { packet = record { proto = Udp; src = 167772162; sport = 0; dst = 167772417; dport = 0; size = 1000 }; count = 1; gap = 1000000 }) } ∷
     record { moment = 908000000; command = Config 1 (record { bw = 1000000; delay = 5; queue = Slots 50; plr = 0; mask = record { proto = 255; src = 4294967295; dst = 4294967295; sport = 65535; dport = 65535 }; discipline = TailDrop }) } ∷
-    record { moment = 1032954402; command = Add (record { number = 1; action = SendTo 1; proto = AnyProtocol; src = record { address = 0; len = 0 }; sports = None; dst = address_span 167772160 8; dports = None }) } ∷
-    record { moment = 1900000000; command = Add (record { number = 1; action = SendTo 2; proto = AnyProtocol; src = address_span 167772493 25; sports = Some (record { first = 1; last = 1 }); dst = record { address = 0; len = 0 }; dports = None }) } ∷
+    record { moment = 1032954402; command = Add (record { number = 1; action = Pipe 1; proto = AnyProtocol; src = record { address = 0; len = 0 }; sports = None; dst = address_span 167772160 8; dports = None }) } ∷
+    record { moment = 1900000000; command = Add (record { number = 1; action = Pipe 2; proto = AnyProtocol; src = address_span 167772493 25; sports = Some (record { first = 1; last = 1 }); dst = record { address = 0; len = 0 }; dports = None }) } ∷
     record { moment = 1900000000; command = Show } ∷
     record { moment = 1900000001; command = Config 1 (record { bw = 1000000000; delay = 5; queue = KBytes 1; plr = 1000000; mask = record { proto = 0; src = 0; dst = 0; sport = 0; dport = 0 }; discipline = TailDrop }) } ∷
     record { moment = 2000000000; command = PipeDelete 4 } ∷
@@ -396,11 +396,11 @@ exp_5-records =
     CommandDone 1032954402 14 ∷
     CommandDone 1900000000 15 ∷
     CommandDone 1900000000 16 ∷
-    RuleLine (record { number = 1; action = SendTo 1; proto = AnyProtocol; src = record { address = 0; len = 0 }; sports = None; dst = address_span 167772160 8; dports = None }) 0 0 ∷
-    RuleLine (record { number = 1; action = SendTo 2; proto = AnyProtocol; src = address_span 167772416 25; sports = Some (record { first = 1; last = 1 }); dst = record { address = 0; len = 0 }; dports = None }) 0 0 ∷
-    RuleLine (record { number = 100; action = SendTo 1; proto = AnyProtocol; src = address_span 167772160 24; sports = None; dst = record { address = 0; len = 0 }; dports = None }) 3 3080 ∷
-    RuleLine (record { number = 200; action = SendTo 3; proto = AnyProtocol; src = record { address = 0; len = 0 }; sports = None; dst = record { address = 0; len = 0 }; dports = None }) 0 0 ∷
-    RuleLine (record { number = 65535; action = Forbid; proto = AnyProtocol; src = record { address = 0; len = 0 }; sports = None; dst = record { address = 0; len = 0 }; dports = None }) 0 0 ∷
+    RuleLine (record { number = 1; action = Pipe 1; proto = AnyProtocol; src = record { address = 0; len = 0 }; sports = None; dst = address_span 167772160 8; dports = None }) 0 0 ∷
+    RuleLine (record { number = 1; action = Pipe 2; proto = AnyProtocol; src = address_span 167772416 25; sports = Some (record { first = 1; last = 1 }); dst = record { address = 0; len = 0 }; dports = None }) 0 0 ∷
+    RuleLine (record { number = 100; action = Pipe 1; proto = AnyProtocol; src = address_span 167772160 24; sports = None; dst = record { address = 0; len = 0 }; dports = None }) 3 3080 ∷
+    RuleLine (record { number = 200; action = Pipe 3; proto = AnyProtocol; src = record { address = 0; len = 0 }; sports = None; dst = record { address = 0; len = 0 }; dports = None }) 0 0 ∷
+    RuleLine (record { number = 65535; action = Deny; proto = AnyProtocol; src = record { address = 0; len = 0 }; sports = None; dst = record { address = 0; len = 0 }; dports = None }) 0 0 ∷
     CommandDone 1900000001 17 ∷
     CommandDone 2000000000 18 ∷
     CommandDone 2000000000 19 ∷
@@ -410,11 +410,11 @@ exp_5-records =
     PipeLine 2 (record { bw = 1000000; delay = 5; queue = KBytes 1; plr = 0; mask = record { proto = 255; src = 4294967295; dst = 4294967295; sport = 65535; dport = 65535 }; discipline = ControlledDelay 1000 7000000 }) ∷
     PipeLine 3 (record { bw = 56000; delay = 10; queue = Slots 50; plr = 0; mask = record { proto = 255; src = 0; dst = 0; sport = 0; dport = 15 }; discipline = TailDrop }) ∷
     CommandDone 2000000000 21 ∷
-    RuleLine (record { number = 1; action = SendTo 1; proto = AnyProtocol; src = record { address = 0; len = 0 }; sports = None; dst = address_span 167772160 8; dports = None }) 0 0 ∷
-    RuleLine (record { number = 1; action = SendTo 2; proto = AnyProtocol; src = address_span 167772416 25; sports = Some (record { first = 1; last = 1 }); dst = record { address = 0; len = 0 }; dports = None }) 0 0 ∷
-    RuleLine (record { number = 100; action = SendTo 1; proto = AnyProtocol; src = address_span 167772160 24; sports = None; dst = record { address = 0; len = 0 }; dports = None }) 3 3080 ∷
-    RuleLine (record { number = 200; action = SendTo 3; proto = AnyProtocol; src = record { address = 0; len = 0 }; sports = None; dst = record { address = 0; len = 0 }; dports = None }) 0 0 ∷
-    RuleLine (record { number = 65535; action = Forbid; proto = AnyProtocol; src = record { address = 0; len = 0 }; sports = None; dst = record { address = 0; len = 0 }; dports = None }) 0 0 ∷
+    RuleLine (record { number = 1; action = Pipe 1; proto = AnyProtocol; src = record { address = 0; len = 0 }; sports = None; dst = address_span 167772160 8; dports = None }) 0 0 ∷
+    RuleLine (record { number = 1; action = Pipe 2; proto = AnyProtocol; src = address_span 167772416 25; sports = Some (record { first = 1; last = 1 }); dst = record { address = 0; len = 0 }; dports = None }) 0 0 ∷
+    RuleLine (record { number = 100; action = Pipe 1; proto = AnyProtocol; src = address_span 167772160 24; sports = None; dst = record { address = 0; len = 0 }; dports = None }) 3 3080 ∷
+    RuleLine (record { number = 200; action = Pipe 3; proto = AnyProtocol; src = record { address = 0; len = 0 }; sports = None; dst = record { address = 0; len = 0 }; dports = None }) 0 0 ∷
+    RuleLine (record { number = 65535; action = Deny; proto = AnyProtocol; src = record { address = 0; len = 0 }; sports = None; dst = record { address = 0; len = 0 }; dports = None }) 0 0 ∷
     CommandDone 2000000000 22 ∷
     []
 
@@ -433,18 +433,18 @@ exp_5 = refl
 -- experiment d66
 abbrev exp_6-commands : List Timed
 exp_6-commands =
-    record { moment = 0; command = Add (record { number = 200; action = SendTo 3; proto = AnyProtocol; src = record { address = 0; len = 0 }; sports = None; dst = record { address = 0; len = 0 }; dports = None }) } ∷
+    record { moment = 0; command = Add (record { number = 200; action = Pipe 3; proto = AnyProtocol; src = record { address = 0; len = 0 }; sports = None; dst = record { address = 0; len = 0 }; dports = None }) } ∷
     record { moment = 0; command = Config 2 (record { bw = 8000000; delay = 0; queue = Slots 5; plr = 0; mask = record { proto = 0; src = 0; dst = 0; sport = 0; dport = 0 }; discipline = TailDrop }) } ∷
-    record { moment = 0; command = Add (record { number = 65534; action = SendTo 2; proto = AnyProtocol; src = address_span 167772162 31; sports = None; dst = address_span 4294967295 32; dports = None }) } ∷
+    record { moment = 0; command = Add (record { number = 65534; action = Pipe 2; proto = AnyProtocol; src = address_span 167772162 31; sports = None; dst = address_span 4294967295 32; dports = None }) } ∷
     record { moment = 0; command = Add (record { number = 1; action = SkipTo 200; proto = OnlyUdp; src = address_span 167772161 32; sports = None; dst = address_span 3232235520 16; dports = None }) } ∷
     record { moment = 0; command = Add (record { number = 400; action = Count; proto = OnlyUdp; src = record { address = 0; len = 0 }; sports = None; dst = record { address = 0; len = 0 }; dports = None }) } ∷
     record { moment = 0; command = Config 4 (record { bw = 56000; delay = 0; queue = Slots 50; plr = 0; mask = record { proto = 0; src = 0; dst = 0; sport = 0; dport = 0 }; discipline = ControlledDelay 1000 20000000 }) } ∷
     record { moment = 0; command = Config 3 (record { bw = 10000000000; delay = 400; queue = Slots 50; plr = 0; mask = record { proto = 0; src = 0; dst = 0; sport = 0; dport = 0 }; discipline = ControlledDelay 5000000 5000000 }) } ∷
-    record { moment = 0; command = Add (record { number = 100; action = SendTo 3; proto = AnyProtocol; src = address_span 167772160 24; sports = None; dst = record { address = 0; len = 0 }; dports = None }) } ∷
+    record { moment = 0; command = Add (record { number = 100; action = Pipe 3; proto = AnyProtocol; src = address_span 167772160 24; sports = None; dst = record { address = 0; len = 0 }; dports = None }) } ∷
     record { moment = 0; command = Add (record { number = 2; action = SkipTo 200; proto = OnlyTcp; src = record { address = 0; len = 0 }; sports = Some (record { first = 7; last = 2000 }); dst = address_span 167772160 8; dports = None }) } ∷
-    record { moment = 0; command = Add (record { number = 0; action = SendTo 3; proto = OnlyTcp; src = record { address = 0; len = 0 }; sports = None; dst = address_span 167772160 8; dports = None }) } ∷
+    record { moment = 0; command = Add (record { number = 0; action = Pipe 3; proto = OnlyTcp; src = record { address = 0; len = 0 }; sports = None; dst = address_span 167772160 8; dports = None }) } ∷
     record { moment = 0; command = Config 1 (record { bw = 0; delay = 10; queue = Slots 2; plr = 20000; mask = record { proto = 0; src = 0; dst = 0; sport = 1; dport = 0 }; discipline = TailDrop }) } ∷
-    record { moment = 0; command = Add (record { number = 300; action = SendTo 3; proto = AnyProtocol; src = address_span 3232235520 16; sports = None; dst = record { address = 0; len = 0 }; dports = None }) } ∷
+    record { moment = 0; command = Add (record { number = 300; action = Pipe 3; proto = AnyProtocol; src = address_span 3232235520 16; sports = None; dst = record { address = 0; len = 0 }; dports = None }) } ∷
     record { moment = 0; command = Flow 5 (record { src = 167772161; sport = 80; dst = 167772418; dport = 7; smss = 1000; segments = 5; ssthresh = 65535; window = 65535; timing = Fixed 1000 }) } ∷
     record { moment = 21938499; command = Train 1 (record { packet = record { proto = Tcp; src = 167772162; sport = 1; dst = 167772418; dport = 7; size = 1500 }; count = 5; gap = 1 }) } ∷
     record { moment = 30000000; command = Inject (record { proto = Udp; src = 167772162; sport = 80; dst = 167772418; dport = 7; size = 500 }) } ∷
@@ -491,12 +491,12 @@ exp_6-records =
     CommandDone 30000000 17 ∷
     RuleLine (record { number = 1; action = SkipTo 200; proto = OnlyUdp; src = address_span 167772161 32; sports = None; dst = address_span 3232235520 16; dports = None }) 0 0 ∷
     RuleLine (record { number = 2; action = SkipTo 200; proto = OnlyTcp; src = record { address = 0; len = 0 }; sports = Some (record { first = 7; last = 2000 }); dst = address_span 167772160 8; dports = None }) 1 1040 ∷
-    RuleLine (record { number = 100; action = SendTo 3; proto = AnyProtocol; src = address_span 167772160 24; sports = None; dst = record { address = 0; len = 0 }; dports = None }) 0 0 ∷
-    RuleLine (record { number = 200; action = SendTo 3; proto = AnyProtocol; src = record { address = 0; len = 0 }; sports = None; dst = record { address = 0; len = 0 }; dports = None }) 1 1040 ∷
-    RuleLine (record { number = 300; action = SendTo 3; proto = AnyProtocol; src = address_span 3232235520 16; sports = None; dst = record { address = 0; len = 0 }; dports = None }) 0 0 ∷
+    RuleLine (record { number = 100; action = Pipe 3; proto = AnyProtocol; src = address_span 167772160 24; sports = None; dst = record { address = 0; len = 0 }; dports = None }) 0 0 ∷
+    RuleLine (record { number = 200; action = Pipe 3; proto = AnyProtocol; src = record { address = 0; len = 0 }; sports = None; dst = record { address = 0; len = 0 }; dports = None }) 1 1040 ∷
+    RuleLine (record { number = 300; action = Pipe 3; proto = AnyProtocol; src = address_span 3232235520 16; sports = None; dst = record { address = 0; len = 0 }; dports = None }) 0 0 ∷
     RuleLine (record { number = 400; action = Count; proto = OnlyUdp; src = record { address = 0; len = 0 }; sports = None; dst = record { address = 0; len = 0 }; dports = None }) 0 0 ∷
-    RuleLine (record { number = 65534; action = SendTo 2; proto = AnyProtocol; src = address_span 167772162 31; sports = None; dst = address_span 4294967295 32; dports = None }) 0 0 ∷
-    RuleLine (record { number = 65535; action = Forbid; proto = AnyProtocol; src = record { address = 0; len = 0 }; sports = None; dst = record { address = 0; len = 0 }; dports = None }) 0 0 ∷
+    RuleLine (record { number = 65534; action = Pipe 2; proto = AnyProtocol; src = address_span 167772162 31; sports = None; dst = address_span 4294967295 32; dports = None }) 0 0 ∷
+    RuleLine (record { number = 65535; action = Deny; proto = AnyProtocol; src = record { address = 0; len = 0 }; sports = None; dst = record { address = 0; len = 0 }; dports = None }) 0 0 ∷
     CommandDone 30000000 18 ∷
     []
 
@@ -515,10 +515,10 @@ exp_6 = refl
 -- experiment d67
 abbrev exp_7-commands : List Timed
 exp_7-commands =
-    record { moment = 0; command = Add (record { number = 200; action = SendTo 3; proto = AnyProtocol; src = record { address = 0; len = 0 }; sports = None; dst = record { address = 0; len = 0 }; dports = None }) } ∷
+    record { moment = 0; command = Add (record { number = 200; action = Pipe 3; proto = AnyProtocol; src = record { address = 0; len = 0 }; sports = None; dst = record { address = 0; len = 0 }; dports = None }) } ∷
     record { moment = 0; command = Config 2 (record { bw = 8000000; delay = 400; queue = Slots 1000; plr = 0; mask = record { proto = 255; src = 4294967295; dst = 0; sport = 1; dport = 0 }; discipline = TailDrop }) } ∷
     record { moment = 0; command = Config 4 (record { bw = 1000000; delay = 0; queue = Slots 3; plr = 500000; mask = record { proto = 0; src = 0; dst = 0; sport = 0; dport = 0 }; discipline = TailDrop }) } ∷
-    record { moment = 0; command = Add (record { number = 100; action = SendTo 2; proto = AnyProtocol; src = address_span 167772160 24; sports = None; dst = record { address = 0; len = 0 }; dports = None }) } ∷
+    record { moment = 0; command = Add (record { number = 100; action = Pipe 2; proto = AnyProtocol; src = address_span 167772160 24; sports = None; dst = record { address = 0; len = 0 }; dports = None }) } ∷
     record { moment = 0; command = Config 3 (record { bw = 1000000; delay = 400; queue = Slots 50; plr = 500000; mask = record { proto = 255; src = 255; dst = 255; sport = 0; dport = 0 }; discipline = TailDrop }) } ∷
     record { moment = 0; command = Flow 1 (record { src = 3232237321; sport = 1; dst = 167772417; dport = 7; smss = 64; segments = 2; ssthresh = 2000; window = 65535; timing = Adaptive }) } ∷
     record { moment = 727577649; command = Inject (record { proto = Tcp; src = 167772161; sport = 7; dst = 167772418; dport = 1000; size = 1460 }) } ∷
@@ -551,9 +551,9 @@ exp_7-records =
     CommandDone 1700000000 8 ∷
     PacketDropped 1700000000 5 Plain Budget ∷
     CommandDone 1700000000 9 ∷
-    RuleLine (record { number = 100; action = SendTo 2; proto = AnyProtocol; src = address_span 167772160 24; sports = None; dst = record { address = 0; len = 0 }; dports = None }) 1 500 ∷
-    RuleLine (record { number = 200; action = SendTo 3; proto = AnyProtocol; src = record { address = 0; len = 0 }; sports = None; dst = record { address = 0; len = 0 }; dports = None }) 2 144 ∷
-    RuleLine (record { number = 65535; action = Forbid; proto = AnyProtocol; src = record { address = 0; len = 0 }; sports = None; dst = record { address = 0; len = 0 }; dports = None }) 0 0 ∷
+    RuleLine (record { number = 100; action = Pipe 2; proto = AnyProtocol; src = address_span 167772160 24; sports = None; dst = record { address = 0; len = 0 }; dports = None }) 1 500 ∷
+    RuleLine (record { number = 200; action = Pipe 3; proto = AnyProtocol; src = record { address = 0; len = 0 }; sports = None; dst = record { address = 0; len = 0 }; dports = None }) 2 144 ∷
+    RuleLine (record { number = 65535; action = Deny; proto = AnyProtocol; src = record { address = 0; len = 0 }; sports = None; dst = record { address = 0; len = 0 }; dports = None }) 0 0 ∷
     CommandRefused 1700000500 10 FlowThere ∷
     CommandDone 1700000500 11 ∷
     CommandDone 1700000500 12 ∷
@@ -574,9 +574,9 @@ exp_7 = refl
 -- experiment d68
 abbrev exp_8-commands : List Timed
 exp_8-commands =
-    record { moment = 0; command = Add (record { number = 200; action = SendTo 3; proto = AnyProtocol; src = record { address = 0; len = 0 }; sports = None; dst = record { address = 0; len = 0 }; dports = None }) } ∷
+    record { moment = 0; command = Add (record { number = 200; action = Pipe 3; proto = AnyProtocol; src = record { address = 0; len = 0 }; sports = None; dst = record { address = 0; len = 0 }; dports = None }) } ∷
     record { moment = 0; command = Config 2 (record { bw = 997; delay = 10; queue = Slots 1000; plr = 50000; mask = record { proto = 0; src = 4294967295; dst = 0; sport = 0; dport = 255 }; discipline = ControlledDelay 1000 1000000000 }) } ∷
-    record { moment = 0; command = Add (record { number = 100; action = SendTo 3; proto = AnyProtocol; src = address_span 167772160 24; sports = None; dst = record { address = 0; len = 0 }; dports = None }) } ∷
+    record { moment = 0; command = Add (record { number = 100; action = Pipe 3; proto = AnyProtocol; src = address_span 167772160 24; sports = None; dst = record { address = 0; len = 0 }; dports = None }) } ∷
     record { moment = 0; command = Config 3 (record { bw = 7777777; delay = 5; queue = KBytes 10; plr = 0; mask = record { proto = 0; src = 0; dst = 0; sport = 0; dport = 0 }; discipline = TailDrop }) } ∷
     record { moment = 0; command = Config 4 (record { bw = 7777777; delay = 400; queue = Slots 3; plr = 0; mask = record { proto = 0; src = 0; dst = 0; sport = 0; dport = 15 }; discipline = ControlledDelay 5000000 100000000 }) } ∷
     record { moment = 0; command = Add (record { number = 150; action = SkipTo 65535; proto = AnyProtocol; src = record { address = 0; len = 0 }; sports = None; dst = record { address = 0; len = 0 }; dports = None }) } ∷
@@ -631,11 +631,11 @@ exp_8-records =
     InstanceLine 3 0 0 0 false 0 5 ∷
     PipeLine 4 (record { bw = 7777777; delay = 400; queue = Slots 3; plr = 0; mask = record { proto = 0; src = 0; dst = 0; sport = 0; dport = 15 }; discipline = ControlledDelay 5000000 100000000 }) ∷
     CommandDone 13008000000 15 ∷
-    RuleLine (record { number = 100; action = SendTo 3; proto = AnyProtocol; src = address_span 167772160 24; sports = None; dst = record { address = 0; len = 0 }; dports = None }) 5 4993 ∷
+    RuleLine (record { number = 100; action = Pipe 3; proto = AnyProtocol; src = address_span 167772160 24; sports = None; dst = record { address = 0; len = 0 }; dports = None }) 5 4993 ∷
     RuleLine (record { number = 100; action = Count; proto = AnyProtocol; src = record { address = 0; len = 0 }; sports = None; dst = record { address = 0; len = 0 }; dports = None }) 3 120 ∷
     RuleLine (record { number = 150; action = SkipTo 65535; proto = AnyProtocol; src = record { address = 0; len = 0 }; sports = None; dst = record { address = 0; len = 0 }; dports = None }) 3 120 ∷
-    RuleLine (record { number = 200; action = SendTo 3; proto = AnyProtocol; src = record { address = 0; len = 0 }; sports = None; dst = record { address = 0; len = 0 }; dports = None }) 0 0 ∷
-    RuleLine (record { number = 65535; action = Forbid; proto = AnyProtocol; src = record { address = 0; len = 0 }; sports = None; dst = record { address = 0; len = 0 }; dports = None }) 3 120 ∷
+    RuleLine (record { number = 200; action = Pipe 3; proto = AnyProtocol; src = record { address = 0; len = 0 }; sports = None; dst = record { address = 0; len = 0 }; dports = None }) 0 0 ∷
+    RuleLine (record { number = 65535; action = Deny; proto = AnyProtocol; src = record { address = 0; len = 0 }; sports = None; dst = record { address = 0; len = 0 }; dports = None }) 3 120 ∷
     CommandDone 13008000000 16 ∷
     []
 
@@ -655,11 +655,11 @@ exp_8 = refl
 abbrev exp_9-commands : List Timed
 exp_9-commands =
     record { moment = 0; command = Add (record { number = 65535; action = Count; proto = AnyProtocol; src = address_span 167772160 24; sports = Some (record { first = 7; last = 7 }); dst = record { address = 0; len = 0 }; dports = None }) } ∷
-    record { moment = 0; command = Add (record { number = 100; action = SendTo 1; proto = AnyProtocol; src = address_span 167772160 24; sports = None; dst = record { address = 0; len = 0 }; dports = None }) } ∷
+    record { moment = 0; command = Add (record { number = 100; action = Pipe 1; proto = AnyProtocol; src = address_span 167772160 24; sports = None; dst = record { address = 0; len = 0 }; dports = None }) } ∷
     record { moment = 0; command = OnePass false } ∷
     record { moment = 0; command = Config 3 (record { bw = 1000000000; delay = 0; queue = KBytes 1; plr = 0; mask = record { proto = 0; src = 0; dst = 0; sport = 0; dport = 0 }; discipline = TailDrop }) } ∷
     record { moment = 0; command = Config 4 (record { bw = 1000000; delay = 1200; queue = Slots 50; plr = 0; mask = record { proto = 0; src = 0; dst = 0; sport = 0; dport = 0 }; discipline = ControlledDelay 1000000 5000000 }) } ∷
-    record { moment = 0; command = Add (record { number = 200; action = SendTo 1; proto = AnyProtocol; src = record { address = 0; len = 0 }; sports = None; dst = record { address = 0; len = 0 }; dports = None }) } ∷
+    record { moment = 0; command = Add (record { number = 200; action = Pipe 1; proto = AnyProtocol; src = record { address = 0; len = 0 }; sports = None; dst = record { address = 0; len = 0 }; dports = None }) } ∷
     record { moment = 0; command = Inject (record { proto = Tcp; src = 167772162; sport = 1; dst = 167772417; dport = 65535; size = 1499 }) } ∷
     record { moment = 0; command = Inject (record { proto = Udp; src = 167772161; sport = 1; dst = 167772417; dport = 1; size = 41 }) } ∷
     record { moment = 0; command = Flow 2 (record { src = 167772162; sport = 2000; dst = 167772418; dport = 1000; smss = 1096; segments = 2; ssthresh = 1; window = 65535; timing = Fixed 25 }) } ∷
@@ -704,9 +704,9 @@ exp_9-records =
     PipeLine 4 (record { bw = 56000; delay = 50; queue = Slots 10; plr = 0; mask = record { proto = 0; src = 0; dst = 0; sport = 0; dport = 0 }; discipline = TailDrop }) ∷
     CommandDone 28000000 16 ∷
     RuleLine (record { number = 2; action = SkipTo 400; proto = AnyProtocol; src = record { address = 0; len = 0 }; sports = None; dst = record { address = 0; len = 0 }; dports = None }) 2 2135 ∷
-    RuleLine (record { number = 100; action = SendTo 1; proto = AnyProtocol; src = address_span 167772160 24; sports = None; dst = record { address = 0; len = 0 }; dports = None }) 4 3812 ∷
-    RuleLine (record { number = 200; action = SendTo 1; proto = AnyProtocol; src = record { address = 0; len = 0 }; sports = None; dst = record { address = 0; len = 0 }; dports = None }) 0 0 ∷
-    RuleLine (record { number = 65535; action = Forbid; proto = AnyProtocol; src = record { address = 0; len = 0 }; sports = None; dst = record { address = 0; len = 0 }; dports = None }) 2 2135 ∷
+    RuleLine (record { number = 100; action = Pipe 1; proto = AnyProtocol; src = address_span 167772160 24; sports = None; dst = record { address = 0; len = 0 }; dports = None }) 4 3812 ∷
+    RuleLine (record { number = 200; action = Pipe 1; proto = AnyProtocol; src = record { address = 0; len = 0 }; sports = None; dst = record { address = 0; len = 0 }; dports = None }) 0 0 ∷
+    RuleLine (record { number = 65535; action = Deny; proto = AnyProtocol; src = record { address = 0; len = 0 }; sports = None; dst = record { address = 0; len = 0 }; dports = None }) 2 2135 ∷
     CommandDone 28000000 17 ∷
     []
 

@@ -3,7 +3,7 @@ use Rattle.std.specs.Prelude.{◌≡◌, refl, List, [], ◌∷◌, Some, None, 
 use Rattle.emu_model.specs.Spans.{address_span}
 use Rattle.emu_model.specs.declared.packets.Load.TheVariants.{Plain, Seg, Ack}
 use Rattle.emu_model.specs.declared.packets.Protocol.TheVariants.{Tcp, Udp}
-use Rattle.emu_model.specs.declared.rules.Action.TheVariants.{Permit, Forbid, Count, SkipTo, SendTo}
+use Rattle.emu_model.specs.declared.rules.Action.TheVariants.{Allow, Deny, Count, SkipTo, Pipe}
 use Rattle.emu_model.specs.declared.rules.ProtocolMatch.TheVariants.{AnyProtocol, OnlyTcp, OnlyUdp}
 use Rattle.emu_model.specs.declared.pipes.QueueLimit.TheVariants.{Slots, KBytes}
 use Rattle.emu_model.specs.declared.pipes.Discipline.TheVariants.{TailDrop, ControlledDelay}
@@ -25,11 +25,11 @@ use Rattle.rand_core.specs.Steps.{u32_at}
 abbrev exp_0-commands : List Timed
 exp_0-commands =
     record { moment = 0; command = Config 2 (record { bw = 8000000; delay = 0; queue = KBytes 1; plr = 50000; mask = record { proto = 0; src = 0; dst = 0; sport = 0; dport = 0 }; discipline = TailDrop }) } ∷
-    record { moment = 0; command = Add (record { number = 200; action = SendTo 3; proto = AnyProtocol; src = record { address = 0; len = 0 }; sports = None; dst = record { address = 0; len = 0 }; dports = None }) } ∷
-    record { moment = 0; command = Add (record { number = 100; action = SendTo 2; proto = AnyProtocol; src = address_span 167772160 24; sports = None; dst = record { address = 0; len = 0 }; dports = None }) } ∷
-    record { moment = 0; command = Add (record { number = 150; action = Permit; proto = OnlyTcp; src = record { address = 0; len = 0 }; sports = None; dst = record { address = 0; len = 0 }; dports = None }) } ∷
+    record { moment = 0; command = Add (record { number = 200; action = Pipe 3; proto = AnyProtocol; src = record { address = 0; len = 0 }; sports = None; dst = record { address = 0; len = 0 }; dports = None }) } ∷
+    record { moment = 0; command = Add (record { number = 100; action = Pipe 2; proto = AnyProtocol; src = address_span 167772160 24; sports = None; dst = record { address = 0; len = 0 }; dports = None }) } ∷
+    record { moment = 0; command = Add (record { number = 150; action = Allow; proto = OnlyTcp; src = record { address = 0; len = 0 }; sports = None; dst = record { address = 0; len = 0 }; dports = None }) } ∷
     record { moment = 0; command = Config 3 (record { bw = 0; delay = 50; queue = Slots 1; plr = 0; mask = record { proto = 0; src = 0; dst = 4294901760; sport = 1; dport = 0 }; discipline = ControlledDelay 5000000 1000 }) } ∷
-    record { moment = 0; command = Add (record { number = 2; action = SendTo 2; proto = AnyProtocol; src = record { address = 0; len = 0 }; sports = None; dst = record { address = 0; len = 0 }; dports = Some (record { first = 80; last = 2000 }) }) } ∷
+    record { moment = 0; command = Add (record { number = 2; action = Pipe 2; proto = AnyProtocol; src = record { address = 0; len = 0 }; sports = None; dst = record { address = 0; len = 0 }; dports = Some (record { first = 80; last = 2000 }) }) } ∷
     record { moment = 0; command = Config 1 (record { bw = 7777777; delay = 5; queue = Slots 50; plr = 500000; mask = record { proto = 0; src = 0; dst = 0; sport = 0; dport = 0 }; discipline = TailDrop }) } ∷
     record { moment = 0; command = Config 4 (record { bw = 1000000000; delay = 5; queue = KBytes 3; plr = 500000; mask = record { proto = 0; src = 0; dst = 0; sport = 0; dport = 0 }; discipline = TailDrop }) } ∷
     record { moment = 0; command = Flow 3 (record { src = 167772161; sport = 2000; dst = 167772418; dport = 7; smss = 64; segments = 2; ssthresh = 65535; window = 65535; timing = Adaptive }) } ∷
@@ -81,17 +81,17 @@ exp_0 = refl
 -- experiment d71
 abbrev exp_1-commands : List Timed
 exp_1-commands =
-    record { moment = 0; command = Add (record { number = 200; action = SendTo 3; proto = AnyProtocol; src = address_span 167772161 32; sports = None; dst = address_span 167772162 31; dports = None }) } ∷
+    record { moment = 0; command = Add (record { number = 200; action = Pipe 3; proto = AnyProtocol; src = address_span 167772161 32; sports = None; dst = address_span 167772162 31; dports = None }) } ∷
     record { moment = 0; command = Config 2 (record { bw = 10000000000; delay = 50; queue = Slots 5; plr = 1; mask = record { proto = 0; src = 0; dst = 0; sport = 0; dport = 255 }; discipline = ControlledDelay 100000 10000000 }) } ∷
-    record { moment = 0; command = Add (record { number = 100; action = SendTo 3; proto = OnlyUdp; src = address_span 167772416 24; sports = None; dst = record { address = 0; len = 0 }; dports = None }) } ∷
-    record { moment = 0; command = Add (record { number = 200; action = SendTo 3; proto = AnyProtocol; src = record { address = 0; len = 0 }; sports = None; dst = record { address = 0; len = 0 }; dports = None }) } ∷
-    record { moment = 0; command = Add (record { number = 65534; action = SendTo 3; proto = OnlyUdp; src = record { address = 0; len = 0 }; sports = None; dst = address_span 167772160 24; dports = None }) } ∷
+    record { moment = 0; command = Add (record { number = 100; action = Pipe 3; proto = OnlyUdp; src = address_span 167772416 24; sports = None; dst = record { address = 0; len = 0 }; dports = None }) } ∷
+    record { moment = 0; command = Add (record { number = 200; action = Pipe 3; proto = AnyProtocol; src = record { address = 0; len = 0 }; sports = None; dst = record { address = 0; len = 0 }; dports = None }) } ∷
+    record { moment = 0; command = Add (record { number = 65534; action = Pipe 3; proto = OnlyUdp; src = record { address = 0; len = 0 }; sports = None; dst = address_span 167772160 24; dports = None }) } ∷
     record { moment = 0; command = Config 1 (record { bw = 1000000; delay = 10; queue = KBytes 2; plr = 1; mask = record { proto = 0; src = 0; dst = 0; sport = 0; dport = 0 }; discipline = ControlledDelay 5000000 100000000 }) } ∷
-    record { moment = 0; command = Add (record { number = 100; action = SendTo 1; proto = OnlyUdp; src = address_span 0 0; sports = None; dst = address_span 167772162 31; dports = None }) } ∷
-    record { moment = 0; command = Add (record { number = 100; action = SendTo 3; proto = AnyProtocol; src = address_span 167772160 24; sports = None; dst = record { address = 0; len = 0 }; dports = None }) } ∷
-    record { moment = 0; command = Add (record { number = 300; action = Permit; proto = OnlyTcp; src = address_span 167772160 24; sports = None; dst = address_span 167772493 25; dports = None }) } ∷
+    record { moment = 0; command = Add (record { number = 100; action = Pipe 1; proto = OnlyUdp; src = address_span 0 0; sports = None; dst = address_span 167772162 31; dports = None }) } ∷
+    record { moment = 0; command = Add (record { number = 100; action = Pipe 3; proto = AnyProtocol; src = address_span 167772160 24; sports = None; dst = record { address = 0; len = 0 }; dports = None }) } ∷
+    record { moment = 0; command = Add (record { number = 300; action = Allow; proto = OnlyTcp; src = address_span 167772160 24; sports = None; dst = address_span 167772493 25; dports = None }) } ∷
     record { moment = 0; command = Config 4 (record { bw = 7777777; delay = 1200; queue = Slots 2; plr = 0; mask = record { proto = 255; src = 4294967295; dst = 4294967295; sport = 65535; dport = 65535 }; discipline = TailDrop }) } ∷
-    record { moment = 0; command = Add (record { number = 50; action = Forbid; proto = AnyProtocol; src = record { address = 0; len = 0 }; sports = None; dst = record { address = 0; len = 0 }; dports = None }) } ∷
+    record { moment = 0; command = Add (record { number = 50; action = Deny; proto = AnyProtocol; src = record { address = 0; len = 0 }; sports = None; dst = record { address = 0; len = 0 }; dports = None }) } ∷
     record { moment = 0; command = Config 3 (record { bw = 0; delay = 10; queue = KBytes 3; plr = 1000000; mask = record { proto = 0; src = 0; dst = 0; sport = 0; dport = 0 }; discipline = ControlledDelay 1000 5000000 }) } ∷
     record { moment = 0; command = Flow 1 (record { src = 167772161; sport = 0; dst = 167772418; dport = 7; smss = 1095; segments = 4; ssthresh = 8000; window = 65535; timing = Adaptive }) } ∷
     record { moment = 8000000000; command = Train 1 (record { packet = record { proto = Udp; src = 167772162; sport = 65535; dst = 167772418; dport = 80; size = 1499 }; count = 3; gap = 999 }) } ∷
@@ -158,8 +158,8 @@ exp_2-commands =
     record { moment = 0; command = Config 3 (record { bw = 10000000000; delay = 1200; queue = Slots 5; plr = 200000; mask = record { proto = 0; src = 0; dst = 0; sport = 0; dport = 0 }; discipline = TailDrop }) } ∷
     record { moment = 0; command = Add (record { number = 100; action = Count; proto = OnlyTcp; src = record { address = 0; len = 0 }; sports = None; dst = record { address = 0; len = 0 }; dports = Some (record { first = 7; last = 65535 }) }) } ∷
     record { moment = 0; command = Config 2 (record { bw = 997; delay = 0; queue = Slots 1; plr = 0; mask = record { proto = 0; src = 0; dst = 0; sport = 0; dport = 0 }; discipline = ControlledDelay 5000000 100000000 }) } ∷
-    record { moment = 0; command = Add (record { number = 100; action = SendTo 2; proto = AnyProtocol; src = address_span 167772160 24; sports = None; dst = record { address = 0; len = 0 }; dports = None }) } ∷
-    record { moment = 0; command = Add (record { number = 200; action = SendTo 3; proto = AnyProtocol; src = record { address = 0; len = 0 }; sports = None; dst = record { address = 0; len = 0 }; dports = None }) } ∷
+    record { moment = 0; command = Add (record { number = 100; action = Pipe 2; proto = AnyProtocol; src = address_span 167772160 24; sports = None; dst = record { address = 0; len = 0 }; dports = None }) } ∷
+    record { moment = 0; command = Add (record { number = 200; action = Pipe 3; proto = AnyProtocol; src = record { address = 0; len = 0 }; sports = None; dst = record { address = 0; len = 0 }; dports = None }) } ∷
     record { moment = 0; command = Config 4 (record { bw = 8000000; delay = 1200; queue = Slots 50; plr = 500000; mask = record { proto = 0; src = 0; dst = 0; sport = 0; dport = 0 }; discipline = ControlledDelay 1000 2000000 }) } ∷
     record { moment = 0; command = Inject (record { proto = Udp; src = 4294967295; sport = 80; dst = 4294967295; dport = 80; size = 125 }) } ∷
     record { moment = 9000000; command = Train 4 (record { packet = record { proto = Tcp; src = 167772162; sport = 1000; dst = 167772418; dport = 0; size = 1499 }; count = 2; gap = 999 }) } ∷
@@ -194,9 +194,9 @@ exp_2-records =
     PipeLine 4 (record { bw = 8000000; delay = 1200; queue = Slots 50; plr = 500000; mask = record { proto = 0; src = 0; dst = 0; sport = 0; dport = 0 }; discipline = ControlledDelay 1000 2000000 }) ∷
     CommandDone 16000500 11 ∷
     RuleLine (record { number = 100; action = Count; proto = OnlyTcp; src = record { address = 0; len = 0 }; sports = None; dst = record { address = 0; len = 0 }; dports = Some (record { first = 7; last = 65535 }) }) 3 123 ∷
-    RuleLine (record { number = 100; action = SendTo 2; proto = AnyProtocol; src = address_span 167772160 24; sports = None; dst = record { address = 0; len = 0 }; dports = None }) 5 3121 ∷
-    RuleLine (record { number = 200; action = SendTo 3; proto = AnyProtocol; src = record { address = 0; len = 0 }; sports = None; dst = record { address = 0; len = 0 }; dports = None }) 1 125 ∷
-    RuleLine (record { number = 65535; action = Forbid; proto = AnyProtocol; src = record { address = 0; len = 0 }; sports = None; dst = record { address = 0; len = 0 }; dports = None }) 0 0 ∷
+    RuleLine (record { number = 100; action = Pipe 2; proto = AnyProtocol; src = address_span 167772160 24; sports = None; dst = record { address = 0; len = 0 }; dports = None }) 5 3121 ∷
+    RuleLine (record { number = 200; action = Pipe 3; proto = AnyProtocol; src = record { address = 0; len = 0 }; sports = None; dst = record { address = 0; len = 0 }; dports = None }) 1 125 ∷
+    RuleLine (record { number = 65535; action = Deny; proto = AnyProtocol; src = record { address = 0; len = 0 }; sports = None; dst = record { address = 0; len = 0 }; dports = None }) 0 0 ∷
     CommandDone 16000500 12 ∷
     []
 
@@ -215,12 +215,12 @@ exp_2 = refl
 -- experiment d73
 abbrev exp_3-commands : List Timed
 exp_3-commands =
-    record { moment = 0; command = Add (record { number = 200; action = SendTo 2; proto = AnyProtocol; src = record { address = 0; len = 0 }; sports = None; dst = record { address = 0; len = 0 }; dports = None }) } ∷
-    record { moment = 0; command = Add (record { number = 100; action = SendTo 2; proto = AnyProtocol; src = address_span 167772160 24; sports = None; dst = record { address = 0; len = 0 }; dports = None }) } ∷
+    record { moment = 0; command = Add (record { number = 200; action = Pipe 2; proto = AnyProtocol; src = record { address = 0; len = 0 }; sports = None; dst = record { address = 0; len = 0 }; dports = None }) } ∷
+    record { moment = 0; command = Add (record { number = 100; action = Pipe 2; proto = AnyProtocol; src = address_span 167772160 24; sports = None; dst = record { address = 0; len = 0 }; dports = None }) } ∷
     record { moment = 0; command = Config 1 (record { bw = 1000000; delay = 50; queue = Slots 50; plr = 0; mask = record { proto = 0; src = 0; dst = 0; sport = 0; dport = 0 }; discipline = TailDrop }) } ∷
     record { moment = 0; command = Config 2 (record { bw = 0; delay = 400; queue = Slots 1000; plr = 500000; mask = record { proto = 0; src = 0; dst = 0; sport = 0; dport = 0 }; discipline = TailDrop }) } ∷
-    record { moment = 0; command = Add (record { number = 150; action = SendTo 2; proto = OnlyUdp; src = record { address = 0; len = 0 }; sports = None; dst = address_span 167772162 31; dports = None }) } ∷
-    record { moment = 0; command = Add (record { number = 150; action = SendTo 3; proto = AnyProtocol; src = address_span 3232235520 16; sports = None; dst = record { address = 0; len = 0 }; dports = Some (record { first = 65535; last = 65535 }) }) } ∷
+    record { moment = 0; command = Add (record { number = 150; action = Pipe 2; proto = OnlyUdp; src = record { address = 0; len = 0 }; sports = None; dst = address_span 167772162 31; dports = None }) } ∷
+    record { moment = 0; command = Add (record { number = 150; action = Pipe 3; proto = AnyProtocol; src = address_span 3232235520 16; sports = None; dst = record { address = 0; len = 0 }; dports = Some (record { first = 65535; last = 65535 }) }) } ∷
     record { moment = 0; command = Config 4 (record { bw = 0; delay = 10; queue = Slots 1; plr = 50000; mask = record { proto = 0; src = 0; dst = 0; sport = 0; dport = 0 }; discipline = TailDrop }) } ∷
     record { moment = 0; command = Train 2 (record { packet = record { proto = Udp; src = 167772418; sport = 7; dst = 4294967295; dport = 1000; size = 41 }; count = 2; gap = 1 }) } ∷
     record { moment = 0; command = Flow 3 (record { src = 167772162; sport = 2000; dst = 167772417; dport = 1000; smss = 1460; segments = 4; ssthresh = 65535; window = 1; timing = Adaptive }) } ∷
@@ -261,21 +261,21 @@ exp_3-records =
     CommandRefused 9000000 13 NoRule ∷
     CommandDone 9000500 14 ∷
     CommandDone 9000500 15 ∷
-    RuleLine (record { number = 100; action = SendTo 2; proto = AnyProtocol; src = address_span 167772160 24; sports = None; dst = record { address = 0; len = 0 }; dports = None }) 1 1000 ∷
+    RuleLine (record { number = 100; action = Pipe 2; proto = AnyProtocol; src = address_span 167772160 24; sports = None; dst = record { address = 0; len = 0 }; dports = None }) 1 1000 ∷
     RuleLine (record { number = 100; action = Count; proto = OnlyUdp; src = record { address = 0; len = 0 }; sports = Some (record { first = 1000; last = 2000 }); dst = address_span 167772416 24; dports = None }) 0 0 ∷
-    RuleLine (record { number = 150; action = SendTo 2; proto = OnlyUdp; src = record { address = 0; len = 0 }; sports = None; dst = address_span 167772162 31; dports = None }) 0 0 ∷
-    RuleLine (record { number = 150; action = SendTo 3; proto = AnyProtocol; src = address_span 3232235520 16; sports = None; dst = record { address = 0; len = 0 }; dports = Some (record { first = 65535; last = 65535 }) }) 0 0 ∷
-    RuleLine (record { number = 200; action = SendTo 2; proto = AnyProtocol; src = record { address = 0; len = 0 }; sports = None; dst = record { address = 0; len = 0 }; dports = None }) 2 82 ∷
-    RuleLine (record { number = 65535; action = Forbid; proto = AnyProtocol; src = record { address = 0; len = 0 }; sports = None; dst = record { address = 0; len = 0 }; dports = None }) 0 0 ∷
+    RuleLine (record { number = 150; action = Pipe 2; proto = OnlyUdp; src = record { address = 0; len = 0 }; sports = None; dst = address_span 167772162 31; dports = None }) 0 0 ∷
+    RuleLine (record { number = 150; action = Pipe 3; proto = AnyProtocol; src = address_span 3232235520 16; sports = None; dst = record { address = 0; len = 0 }; dports = Some (record { first = 65535; last = 65535 }) }) 0 0 ∷
+    RuleLine (record { number = 200; action = Pipe 2; proto = AnyProtocol; src = record { address = 0; len = 0 }; sports = None; dst = record { address = 0; len = 0 }; dports = None }) 2 82 ∷
+    RuleLine (record { number = 65535; action = Deny; proto = AnyProtocol; src = record { address = 0; len = 0 }; sports = None; dst = record { address = 0; len = 0 }; dports = None }) 0 0 ∷
     CommandDone 9000500 16 ∷
     CommandDone 20000000 17 ∷
     CommandDone 20000000 18 ∷
-    RuleLine (record { number = 100; action = SendTo 2; proto = AnyProtocol; src = address_span 167772160 24; sports = None; dst = record { address = 0; len = 0 }; dports = None }) 1 1000 ∷
+    RuleLine (record { number = 100; action = Pipe 2; proto = AnyProtocol; src = address_span 167772160 24; sports = None; dst = record { address = 0; len = 0 }; dports = None }) 1 1000 ∷
     RuleLine (record { number = 100; action = Count; proto = OnlyUdp; src = record { address = 0; len = 0 }; sports = Some (record { first = 1000; last = 2000 }); dst = address_span 167772416 24; dports = None }) 0 0 ∷
-    RuleLine (record { number = 150; action = SendTo 2; proto = OnlyUdp; src = record { address = 0; len = 0 }; sports = None; dst = address_span 167772162 31; dports = None }) 0 0 ∷
-    RuleLine (record { number = 150; action = SendTo 3; proto = AnyProtocol; src = address_span 3232235520 16; sports = None; dst = record { address = 0; len = 0 }; dports = Some (record { first = 65535; last = 65535 }) }) 0 0 ∷
-    RuleLine (record { number = 200; action = SendTo 2; proto = AnyProtocol; src = record { address = 0; len = 0 }; sports = None; dst = record { address = 0; len = 0 }; dports = None }) 2 82 ∷
-    RuleLine (record { number = 65535; action = Forbid; proto = AnyProtocol; src = record { address = 0; len = 0 }; sports = None; dst = record { address = 0; len = 0 }; dports = None }) 0 0 ∷
+    RuleLine (record { number = 150; action = Pipe 2; proto = OnlyUdp; src = record { address = 0; len = 0 }; sports = None; dst = address_span 167772162 31; dports = None }) 0 0 ∷
+    RuleLine (record { number = 150; action = Pipe 3; proto = AnyProtocol; src = address_span 3232235520 16; sports = None; dst = record { address = 0; len = 0 }; dports = Some (record { first = 65535; last = 65535 }) }) 0 0 ∷
+    RuleLine (record { number = 200; action = Pipe 2; proto = AnyProtocol; src = record { address = 0; len = 0 }; sports = None; dst = record { address = 0; len = 0 }; dports = None }) 2 82 ∷
+    RuleLine (record { number = 65535; action = Deny; proto = AnyProtocol; src = record { address = 0; len = 0 }; sports = None; dst = record { address = 0; len = 0 }; dports = None }) 0 0 ∷
     CommandDone 20000000 19 ∷
     CommandDone 20000000 20 ∷
     CommandDone 20000001 21 ∷
@@ -305,9 +305,9 @@ exp_3 = refl
 abbrev exp_4-commands : List Timed
 exp_4-commands =
     record { moment = 0; command = Config 2 (record { bw = 3000000; delay = 10; queue = Slots 1; plr = 0; mask = record { proto = 0; src = 0; dst = 0; sport = 0; dport = 0 }; discipline = TailDrop }) } ∷
-    record { moment = 0; command = Add (record { number = 200; action = SendTo 2; proto = AnyProtocol; src = record { address = 0; len = 0 }; sports = None; dst = record { address = 0; len = 0 }; dports = None }) } ∷
+    record { moment = 0; command = Add (record { number = 200; action = Pipe 2; proto = AnyProtocol; src = record { address = 0; len = 0 }; sports = None; dst = record { address = 0; len = 0 }; dports = None }) } ∷
     record { moment = 0; command = Config 3 (record { bw = 8000000; delay = 10; queue = KBytes 10; plr = 0; mask = record { proto = 0; src = 0; dst = 0; sport = 0; dport = 0 }; discipline = TailDrop }) } ∷
-    record { moment = 0; command = Add (record { number = 100; action = SendTo 1; proto = AnyProtocol; src = address_span 167772160 24; sports = None; dst = record { address = 0; len = 0 }; dports = None }) } ∷
+    record { moment = 0; command = Add (record { number = 100; action = Pipe 1; proto = AnyProtocol; src = address_span 167772160 24; sports = None; dst = record { address = 0; len = 0 }; dports = None }) } ∷
     record { moment = 0; command = Add (record { number = 400; action = SkipTo 65535; proto = OnlyTcp; src = address_span 167772161 32; sports = None; dst = record { address = 0; len = 0 }; dports = None }) } ∷
     record { moment = 0; command = Config 1 (record { bw = 7777777; delay = 5; queue = Slots 5; plr = 200000; mask = record { proto = 0; src = 0; dst = 0; sport = 0; dport = 0 }; discipline = ControlledDelay 5000000 100000000 }) } ∷
     record { moment = 0; command = Inject (record { proto = Tcp; src = 167772161; sport = 1000; dst = 167772418; dport = 65535; size = 1499 }) } ∷
@@ -342,10 +342,10 @@ exp_4-records =
     PipeLine 2 (record { bw = 3000000; delay = 10; queue = Slots 1; plr = 0; mask = record { proto = 0; src = 0; dst = 0; sport = 0; dport = 0 }; discipline = TailDrop }) ∷
     PipeLine 3 (record { bw = 8000000; delay = 10; queue = KBytes 10; plr = 0; mask = record { proto = 0; src = 0; dst = 0; sport = 0; dport = 0 }; discipline = TailDrop }) ∷
     CommandDone 200000000 10 ∷
-    RuleLine (record { number = 100; action = SendTo 1; proto = AnyProtocol; src = address_span 167772160 24; sports = None; dst = record { address = 0; len = 0 }; dports = None }) 4 1874 ∷
-    RuleLine (record { number = 200; action = SendTo 2; proto = AnyProtocol; src = record { address = 0; len = 0 }; sports = None; dst = record { address = 0; len = 0 }; dports = None }) 0 0 ∷
+    RuleLine (record { number = 100; action = Pipe 1; proto = AnyProtocol; src = address_span 167772160 24; sports = None; dst = record { address = 0; len = 0 }; dports = None }) 4 1874 ∷
+    RuleLine (record { number = 200; action = Pipe 2; proto = AnyProtocol; src = record { address = 0; len = 0 }; sports = None; dst = record { address = 0; len = 0 }; dports = None }) 0 0 ∷
     RuleLine (record { number = 400; action = SkipTo 65535; proto = OnlyTcp; src = address_span 167772161 32; sports = None; dst = record { address = 0; len = 0 }; dports = None }) 0 0 ∷
-    RuleLine (record { number = 65535; action = Forbid; proto = AnyProtocol; src = record { address = 0; len = 0 }; sports = None; dst = record { address = 0; len = 0 }; dports = None }) 0 0 ∷
+    RuleLine (record { number = 65535; action = Deny; proto = AnyProtocol; src = record { address = 0; len = 0 }; sports = None; dst = record { address = 0; len = 0 }; dports = None }) 0 0 ∷
     CommandDone 200000000 11 ∷
     []
 
@@ -364,13 +364,13 @@ exp_4 = refl
 -- experiment d75
 abbrev exp_5-commands : List Timed
 exp_5-commands =
-    record { moment = 0; command = Add (record { number = 100; action = SendTo 3; proto = AnyProtocol; src = address_span 4294967295 32; sports = None; dst = record { address = 0; len = 0 }; dports = Some (record { first = 7; last = 80 }) }) } ∷
+    record { moment = 0; command = Add (record { number = 100; action = Pipe 3; proto = AnyProtocol; src = address_span 4294967295 32; sports = None; dst = record { address = 0; len = 0 }; dports = Some (record { first = 7; last = 80 }) }) } ∷
     record { moment = 0; command = Config 3 (record { bw = 0; delay = 50; queue = KBytes 10; plr = 1; mask = record { proto = 0; src = 0; dst = 0; sport = 0; dport = 0 }; discipline = TailDrop }) } ∷
     record { moment = 0; command = Config 4 (record { bw = 1000000; delay = 0; queue = KBytes 10; plr = 0; mask = record { proto = 0; src = 0; dst = 0; sport = 0; dport = 0 }; discipline = ControlledDelay 5000000 100000000 }) } ∷
-    record { moment = 0; command = Add (record { number = 100; action = SendTo 1; proto = AnyProtocol; src = address_span 167772160 24; sports = None; dst = record { address = 0; len = 0 }; dports = None }) } ∷
+    record { moment = 0; command = Add (record { number = 100; action = Pipe 1; proto = AnyProtocol; src = address_span 167772160 24; sports = None; dst = record { address = 0; len = 0 }; dports = None }) } ∷
     record { moment = 0; command = Add (record { number = 100; action = Count; proto = AnyProtocol; src = record { address = 0; len = 0 }; sports = None; dst = address_span 167772161 32; dports = None }) } ∷
     record { moment = 0; command = Config 2 (record { bw = 7777777; delay = 50; queue = Slots 1; plr = 0; mask = record { proto = 0; src = 0; dst = 0; sport = 0; dport = 0 }; discipline = ControlledDelay 20000000 2000000 }) } ∷
-    record { moment = 0; command = Add (record { number = 200; action = SendTo 3; proto = AnyProtocol; src = record { address = 0; len = 0 }; sports = None; dst = record { address = 0; len = 0 }; dports = None }) } ∷
+    record { moment = 0; command = Add (record { number = 200; action = Pipe 3; proto = AnyProtocol; src = record { address = 0; len = 0 }; sports = None; dst = record { address = 0; len = 0 }; dports = None }) } ∷
     record { moment = 0; command = Train 1 (record { packet = record { proto = Tcp; src = 167772161; sport = 0; dst = 167772418; dport = 7; size = 1460 }; count = 5; gap = 1 }) } ∷
     record { moment = 0; command = Flow 300 (record { src = 167772162; sport = 1000; dst = 167772417; dport = 65535; smss = 1095; segments = 3; ssthresh = 1; window = 65535; timing = Fixed 1000 }) } ∷
     record { moment = 0; command = Inject (record { proto = Tcp; src = 3232237321; sport = 1000; dst = 167772162; dport = 80; size = 1460 }) } ∷
@@ -411,11 +411,11 @@ exp_5-records =
     InstanceLine 3 0 0 0 false 0 1 ∷
     PipeLine 4 (record { bw = 1000000000; delay = 5; queue = Slots 5; plr = 1000000; mask = record { proto = 0; src = 0; dst = 0; sport = 0; dport = 0 }; discipline = TailDrop }) ∷
     CommandDone 150000000 13 ∷
-    RuleLine (record { number = 100; action = SendTo 3; proto = AnyProtocol; src = address_span 4294967295 32; sports = None; dst = record { address = 0; len = 0 }; dports = Some (record { first = 7; last = 80 }) }) 0 0 ∷
-    RuleLine (record { number = 100; action = SendTo 1; proto = AnyProtocol; src = address_span 167772160 24; sports = None; dst = record { address = 0; len = 0 }; dports = None }) 8 10705 ∷
+    RuleLine (record { number = 100; action = Pipe 3; proto = AnyProtocol; src = address_span 4294967295 32; sports = None; dst = record { address = 0; len = 0 }; dports = Some (record { first = 7; last = 80 }) }) 0 0 ∷
+    RuleLine (record { number = 100; action = Pipe 1; proto = AnyProtocol; src = address_span 167772160 24; sports = None; dst = record { address = 0; len = 0 }; dports = None }) 8 10705 ∷
     RuleLine (record { number = 100; action = Count; proto = AnyProtocol; src = record { address = 0; len = 0 }; sports = None; dst = address_span 167772161 32; dports = None }) 0 0 ∷
-    RuleLine (record { number = 200; action = SendTo 3; proto = AnyProtocol; src = record { address = 0; len = 0 }; sports = None; dst = record { address = 0; len = 0 }; dports = None }) 1 1460 ∷
-    RuleLine (record { number = 65535; action = Forbid; proto = AnyProtocol; src = record { address = 0; len = 0 }; sports = None; dst = record { address = 0; len = 0 }; dports = None }) 0 0 ∷
+    RuleLine (record { number = 200; action = Pipe 3; proto = AnyProtocol; src = record { address = 0; len = 0 }; sports = None; dst = record { address = 0; len = 0 }; dports = None }) 1 1460 ∷
+    RuleLine (record { number = 65535; action = Deny; proto = AnyProtocol; src = record { address = 0; len = 0 }; sports = None; dst = record { address = 0; len = 0 }; dports = None }) 0 0 ∷
     CommandDone 150000000 14 ∷
     []
 
@@ -434,12 +434,12 @@ exp_5 = refl
 -- experiment d76
 abbrev exp_6-commands : List Timed
 exp_6-commands =
-    record { moment = 0; command = Add (record { number = 100; action = SendTo 3; proto = AnyProtocol; src = address_span 167772160 24; sports = None; dst = record { address = 0; len = 0 }; dports = None }) } ∷
+    record { moment = 0; command = Add (record { number = 100; action = Pipe 3; proto = AnyProtocol; src = address_span 167772160 24; sports = None; dst = record { address = 0; len = 0 }; dports = None }) } ∷
     record { moment = 0; command = Config 3 (record { bw = 10000000000; delay = 0; queue = Slots 50; plr = 0; mask = record { proto = 0; src = 0; dst = 0; sport = 0; dport = 0 }; discipline = TailDrop }) } ∷
     record { moment = 0; command = Config 2 (record { bw = 1000000; delay = 400; queue = Slots 50; plr = 0; mask = record { proto = 0; src = 0; dst = 0; sport = 0; dport = 0 }; discipline = ControlledDelay 5000000 100000000 }) } ∷
     record { moment = 0; command = Config 1 (record { bw = 7777777; delay = 0; queue = Slots 1000; plr = 1; mask = record { proto = 0; src = 0; dst = 255; sport = 0; dport = 0 }; discipline = ControlledDelay 1000 7000000 }) } ∷
     record { moment = 0; command = Config 4 (record { bw = 0; delay = 2; queue = KBytes 3; plr = 0; mask = record { proto = 0; src = 0; dst = 0; sport = 0; dport = 0 }; discipline = ControlledDelay 5000000 100000000 }) } ∷
-    record { moment = 0; command = Add (record { number = 200; action = SendTo 2; proto = AnyProtocol; src = record { address = 0; len = 0 }; sports = None; dst = record { address = 0; len = 0 }; dports = None }) } ∷
+    record { moment = 0; command = Add (record { number = 200; action = Pipe 2; proto = AnyProtocol; src = record { address = 0; len = 0 }; sports = None; dst = record { address = 0; len = 0 }; dports = None }) } ∷
     record { moment = 0; command = OnePass false } ∷
     record { moment = 0; command = Inject (record { proto = Tcp; src = 167772161; sport = 0; dst = 167772418; dport = 1; size = 500 }) } ∷
     record { moment = 0; command = Flow 1 (record { src = 167772161; sport = 80; dst = 167772418; dport = 80; smss = 536; segments = 2; ssthresh = 65535; window = 65535; timing = Adaptive }) } ∷
@@ -489,9 +489,9 @@ exp_6-records =
     InstanceLine 3 0 0 0 true 0 3 ∷
     PipeLine 4 (record { bw = 0; delay = 2; queue = KBytes 3; plr = 0; mask = record { proto = 0; src = 0; dst = 0; sport = 0; dport = 0 }; discipline = ControlledDelay 5000000 100000000 }) ∷
     CommandDone 15202465 14 ∷
-    RuleLine (record { number = 100; action = SendTo 3; proto = AnyProtocol; src = address_span 167772160 24; sports = None; dst = record { address = 0; len = 0 }; dports = None }) 3 2075 ∷
-    RuleLine (record { number = 200; action = SendTo 2; proto = AnyProtocol; src = record { address = 0; len = 0 }; sports = None; dst = record { address = 0; len = 0 }; dports = None }) 2 1076 ∷
-    RuleLine (record { number = 65535; action = Forbid; proto = AnyProtocol; src = record { address = 0; len = 0 }; sports = None; dst = record { address = 0; len = 0 }; dports = None }) 2 1076 ∷
+    RuleLine (record { number = 100; action = Pipe 3; proto = AnyProtocol; src = address_span 167772160 24; sports = None; dst = record { address = 0; len = 0 }; dports = None }) 3 2075 ∷
+    RuleLine (record { number = 200; action = Pipe 2; proto = AnyProtocol; src = record { address = 0; len = 0 }; sports = None; dst = record { address = 0; len = 0 }; dports = None }) 2 1076 ∷
+    RuleLine (record { number = 65535; action = Deny; proto = AnyProtocol; src = record { address = 0; len = 0 }; sports = None; dst = record { address = 0; len = 0 }; dports = None }) 2 1076 ∷
     CommandDone 15202465 15 ∷
     []
 
@@ -512,10 +512,10 @@ abbrev exp_7-commands : List Timed
 exp_7-commands =
     record { moment = 0; command = Config 1 (record { bw = 0; delay = 2; queue = Slots 5; plr = 1000000; mask = record { proto = 255; src = 4294967295; dst = 4294967295; sport = 65535; dport = 65535 }; discipline = TailDrop }) } ∷
     record { moment = 0; command = Config 4 (record { bw = 10000000; delay = 0; queue = KBytes 1; plr = 20000; mask = record { proto = 0; src = 0; dst = 3; sport = 0; dport = 0 }; discipline = ControlledDelay 20000000 5000000 }) } ∷
-    record { moment = 0; command = Add (record { number = 100; action = SendTo 3; proto = AnyProtocol; src = address_span 167772160 24; sports = None; dst = record { address = 0; len = 0 }; dports = None }) } ∷
+    record { moment = 0; command = Add (record { number = 100; action = Pipe 3; proto = AnyProtocol; src = address_span 167772160 24; sports = None; dst = record { address = 0; len = 0 }; dports = None }) } ∷
     record { moment = 0; command = Config 3 (record { bw = 0; delay = 0; queue = Slots 1000; plr = 0; mask = record { proto = 0; src = 0; dst = 0; sport = 0; dport = 0 }; discipline = TailDrop }) } ∷
     record { moment = 0; command = Config 2 (record { bw = 8000000; delay = 1200; queue = KBytes 1; plr = 1; mask = record { proto = 0; src = 4294967295; dst = 0; sport = 0; dport = 255 }; discipline = TailDrop }) } ∷
-    record { moment = 0; command = Add (record { number = 200; action = SendTo 3; proto = AnyProtocol; src = record { address = 0; len = 0 }; sports = None; dst = record { address = 0; len = 0 }; dports = None }) } ∷
+    record { moment = 0; command = Add (record { number = 200; action = Pipe 3; proto = AnyProtocol; src = record { address = 0; len = 0 }; sports = None; dst = record { address = 0; len = 0 }; dports = None }) } ∷
     record { moment = 8000000; command = Flow 5 (record { src = 167772162; sport = 1000; dst = 167772418; dport = 65535; smss = 460; segments = 3; ssthresh = 65535; window = 3000; timing = Adaptive }) } ∷
     record { moment = 10000000; command = Config 1 (record { bw = 7777777; delay = 5; queue = Slots 10; plr = 0; mask = record { proto = 255; src = 4294967295; dst = 4294967295; sport = 65535; dport = 65535 }; discipline = TailDrop }) } ∷
     record { moment = 10080000; command = PipeShow } ∷
@@ -564,9 +564,9 @@ exp_7-records =
     InstanceLine 3 0 0 0 false 0 6 ∷
     PipeLine 4 (record { bw = 10000000; delay = 0; queue = KBytes 1; plr = 20000; mask = record { proto = 0; src = 0; dst = 3; sport = 0; dport = 0 }; discipline = ControlledDelay 20000000 5000000 }) ∷
     CommandDone 100000000000 10 ∷
-    RuleLine (record { number = 100; action = SendTo 3; proto = AnyProtocol; src = address_span 167772160 24; sports = None; dst = record { address = 0; len = 0 }; dports = None }) 3 1500 ∷
-    RuleLine (record { number = 200; action = SendTo 3; proto = AnyProtocol; src = record { address = 0; len = 0 }; sports = None; dst = record { address = 0; len = 0 }; dports = None }) 3 120 ∷
-    RuleLine (record { number = 65535; action = Forbid; proto = AnyProtocol; src = record { address = 0; len = 0 }; sports = None; dst = record { address = 0; len = 0 }; dports = None }) 0 0 ∷
+    RuleLine (record { number = 100; action = Pipe 3; proto = AnyProtocol; src = address_span 167772160 24; sports = None; dst = record { address = 0; len = 0 }; dports = None }) 3 1500 ∷
+    RuleLine (record { number = 200; action = Pipe 3; proto = AnyProtocol; src = record { address = 0; len = 0 }; sports = None; dst = record { address = 0; len = 0 }; dports = None }) 3 120 ∷
+    RuleLine (record { number = 65535; action = Deny; proto = AnyProtocol; src = record { address = 0; len = 0 }; sports = None; dst = record { address = 0; len = 0 }; dports = None }) 0 0 ∷
     CommandDone 100000000000 11 ∷
     []
 
@@ -586,19 +586,19 @@ exp_7 = refl
 abbrev exp_8-commands : List Timed
 exp_8-commands =
     record { moment = 0; command = Config 4 (record { bw = 3000000; delay = 0; queue = Slots 1; plr = 0; mask = record { proto = 0; src = 0; dst = 0; sport = 0; dport = 0 }; discipline = ControlledDelay 3000000 100000000 }) } ∷
-    record { moment = 0; command = Add (record { number = 200; action = SendTo 2; proto = AnyProtocol; src = record { address = 0; len = 0 }; sports = None; dst = record { address = 0; len = 0 }; dports = None }) } ∷
+    record { moment = 0; command = Add (record { number = 200; action = Pipe 2; proto = AnyProtocol; src = record { address = 0; len = 0 }; sports = None; dst = record { address = 0; len = 0 }; dports = None }) } ∷
     record { moment = 0; command = Add (record { number = 50; action = Count; proto = OnlyUdp; src = record { address = 0; len = 0 }; sports = None; dst = record { address = 0; len = 0 }; dports = Some (record { first = 7; last = 7 }) }) } ∷
-    record { moment = 0; command = Add (record { number = 100; action = SendTo 2; proto = AnyProtocol; src = address_span 167772160 24; sports = None; dst = record { address = 0; len = 0 }; dports = None }) } ∷
+    record { moment = 0; command = Add (record { number = 100; action = Pipe 2; proto = AnyProtocol; src = address_span 167772160 24; sports = None; dst = record { address = 0; len = 0 }; dports = None }) } ∷
     record { moment = 0; command = Config 1 (record { bw = 1000000; delay = 0; queue = KBytes 10; plr = 50000; mask = record { proto = 0; src = 255; dst = 0; sport = 1; dport = 0 }; discipline = ControlledDelay 5000000 100000000 }) } ∷
-    record { moment = 0; command = Add (record { number = 100; action = SendTo 1; proto = AnyProtocol; src = address_span 167772161 32; sports = None; dst = address_span 3232235520 16; dports = Some (record { first = 80; last = 80 }) }) } ∷
-    record { moment = 0; command = Add (record { number = 300; action = SendTo 2; proto = OnlyTcp; src = address_span 167772160 24; sports = None; dst = record { address = 0; len = 0 }; dports = None }) } ∷
+    record { moment = 0; command = Add (record { number = 100; action = Pipe 1; proto = AnyProtocol; src = address_span 167772161 32; sports = None; dst = address_span 3232235520 16; dports = Some (record { first = 80; last = 80 }) }) } ∷
+    record { moment = 0; command = Add (record { number = 300; action = Pipe 2; proto = OnlyTcp; src = address_span 167772160 24; sports = None; dst = record { address = 0; len = 0 }; dports = None }) } ∷
     record { moment = 0; command = Config 2 (record { bw = 997; delay = 400; queue = Slots 50; plr = 50000; mask = record { proto = 0; src = 255; dst = 3; sport = 65535; dport = 0 }; discipline = TailDrop }) } ∷
-    record { moment = 0; command = Add (record { number = 150; action = SendTo 3; proto = AnyProtocol; src = record { address = 0; len = 0 }; sports = None; dst = address_span 167772162 31; dports = None }) } ∷
-    record { moment = 0; command = Add (record { number = 2; action = SendTo 3; proto = OnlyTcp; src = address_span 167772160 8; sports = None; dst = address_span 3232235520 16; dports = None }) } ∷
+    record { moment = 0; command = Add (record { number = 150; action = Pipe 3; proto = AnyProtocol; src = record { address = 0; len = 0 }; sports = None; dst = address_span 167772162 31; dports = None }) } ∷
+    record { moment = 0; command = Add (record { number = 2; action = Pipe 3; proto = OnlyTcp; src = address_span 167772160 8; sports = None; dst = address_span 3232235520 16; dports = None }) } ∷
     record { moment = 0; command = Config 3 (record { bw = 7777777; delay = 10; queue = KBytes 1; plr = 0; mask = record { proto = 0; src = 255; dst = 4294901760; sport = 1; dport = 0 }; discipline = ControlledDelay 5000000 100000000 }) } ∷
     record { moment = 0; command = Add (record { number = 150; action = Count; proto = OnlyUdp; src = address_span 167772162 31; sports = None; dst = record { address = 0; len = 0 }; dports = None }) } ∷
     record { moment = 0; command = Flow 3 (record { src = 3232237321; sport = 1000; dst = 4294967295; dport = 7; smss = 460; segments = 5; ssthresh = 65535; window = 65535; timing = Fixed 1000 }) } ∷
-    record { moment = 1000000; command = Add (record { number = 1; action = SendTo 2; proto = AnyProtocol; src = record { address = 0; len = 0 }; sports = Some (record { first = 1000; last = 1000 }); dst = address_span 167772160 8; dports = None }) } ∷
+    record { moment = 1000000; command = Add (record { number = 1; action = Pipe 2; proto = AnyProtocol; src = record { address = 0; len = 0 }; sports = Some (record { first = 1000; last = 1000 }); dst = address_span 167772160 8; dports = None }) } ∷
     record { moment = 1000001; command = Train 5 (record { packet = record { proto = Udp; src = 167772161; sport = 2000; dst = 167772417; dport = 1000; size = 999 }; count = 3; gap = 10000000 }) } ∷
     record { moment = 1000001; command = PipeDelete 2 } ∷
     record { moment = 2080000; command = Flow 3 (record { src = 167772162; sport = 80; dst = 167772417; dport = 7; smss = 960; segments = 2; ssthresh = 65535; window = 65535; timing = Adaptive }) } ∷
@@ -636,16 +636,16 @@ exp_8-records =
     CommandRefused 2080000 16 FlowThere ∷
     CommandRefused 3000000 17 FlowThere ∷
     CommandDone 3000000 18 ∷
-    RuleLine (record { number = 1; action = SendTo 2; proto = AnyProtocol; src = record { address = 0; len = 0 }; sports = Some (record { first = 1000; last = 1000 }); dst = address_span 167772160 8; dports = None }) 0 0 ∷
-    RuleLine (record { number = 2; action = SendTo 3; proto = OnlyTcp; src = address_span 167772160 8; sports = None; dst = address_span 3232235520 16; dports = None }) 0 0 ∷
+    RuleLine (record { number = 1; action = Pipe 2; proto = AnyProtocol; src = record { address = 0; len = 0 }; sports = Some (record { first = 1000; last = 1000 }); dst = address_span 167772160 8; dports = None }) 0 0 ∷
+    RuleLine (record { number = 2; action = Pipe 3; proto = OnlyTcp; src = address_span 167772160 8; sports = None; dst = address_span 3232235520 16; dports = None }) 0 0 ∷
     RuleLine (record { number = 50; action = Count; proto = OnlyUdp; src = record { address = 0; len = 0 }; sports = None; dst = record { address = 0; len = 0 }; dports = Some (record { first = 7; last = 7 }) }) 0 0 ∷
-    RuleLine (record { number = 100; action = SendTo 2; proto = AnyProtocol; src = address_span 167772160 24; sports = None; dst = record { address = 0; len = 0 }; dports = None }) 1 999 ∷
-    RuleLine (record { number = 100; action = SendTo 1; proto = AnyProtocol; src = address_span 167772161 32; sports = None; dst = address_span 3232235520 16; dports = Some (record { first = 80; last = 80 }) }) 0 0 ∷
-    RuleLine (record { number = 150; action = SendTo 3; proto = AnyProtocol; src = record { address = 0; len = 0 }; sports = None; dst = address_span 167772162 31; dports = None }) 0 0 ∷
+    RuleLine (record { number = 100; action = Pipe 2; proto = AnyProtocol; src = address_span 167772160 24; sports = None; dst = record { address = 0; len = 0 }; dports = None }) 1 999 ∷
+    RuleLine (record { number = 100; action = Pipe 1; proto = AnyProtocol; src = address_span 167772161 32; sports = None; dst = address_span 3232235520 16; dports = Some (record { first = 80; last = 80 }) }) 0 0 ∷
+    RuleLine (record { number = 150; action = Pipe 3; proto = AnyProtocol; src = record { address = 0; len = 0 }; sports = None; dst = address_span 167772162 31; dports = None }) 0 0 ∷
     RuleLine (record { number = 150; action = Count; proto = OnlyUdp; src = address_span 167772162 31; sports = None; dst = record { address = 0; len = 0 }; dports = None }) 0 0 ∷
-    RuleLine (record { number = 200; action = SendTo 2; proto = AnyProtocol; src = record { address = 0; len = 0 }; sports = None; dst = record { address = 0; len = 0 }; dports = None }) 2 1000 ∷
-    RuleLine (record { number = 300; action = SendTo 2; proto = OnlyTcp; src = address_span 167772160 24; sports = None; dst = record { address = 0; len = 0 }; dports = None }) 0 0 ∷
-    RuleLine (record { number = 65535; action = Forbid; proto = AnyProtocol; src = record { address = 0; len = 0 }; sports = None; dst = record { address = 0; len = 0 }; dports = None }) 0 0 ∷
+    RuleLine (record { number = 200; action = Pipe 2; proto = AnyProtocol; src = record { address = 0; len = 0 }; sports = None; dst = record { address = 0; len = 0 }; dports = None }) 2 1000 ∷
+    RuleLine (record { number = 300; action = Pipe 2; proto = OnlyTcp; src = address_span 167772160 24; sports = None; dst = record { address = 0; len = 0 }; dports = None }) 0 0 ∷
+    RuleLine (record { number = 65535; action = Deny; proto = AnyProtocol; src = record { address = 0; len = 0 }; sports = None; dst = record { address = 0; len = 0 }; dports = None }) 0 0 ∷
     PacketDropped 11000001 5 Plain NoPipe ∷
     CommandDone 16764822 19 ∷
     PacketDropped 21000001 6 Plain NoPipe ∷
@@ -654,16 +654,16 @@ exp_8-records =
     PipeLine 3 (record { bw = 7777777; delay = 10; queue = KBytes 1; plr = 0; mask = record { proto = 0; src = 255; dst = 4294901760; sport = 1; dport = 0 }; discipline = ControlledDelay 5000000 100000000 }) ∷
     PipeLine 4 (record { bw = 8000000; delay = 0; queue = Slots 5; plr = 0; mask = record { proto = 0; src = 0; dst = 0; sport = 0; dport = 0 }; discipline = TailDrop }) ∷
     CommandDone 200000000 21 ∷
-    RuleLine (record { number = 1; action = SendTo 2; proto = AnyProtocol; src = record { address = 0; len = 0 }; sports = Some (record { first = 1000; last = 1000 }); dst = address_span 167772160 8; dports = None }) 0 0 ∷
-    RuleLine (record { number = 2; action = SendTo 3; proto = OnlyTcp; src = address_span 167772160 8; sports = None; dst = address_span 3232235520 16; dports = None }) 0 0 ∷
+    RuleLine (record { number = 1; action = Pipe 2; proto = AnyProtocol; src = record { address = 0; len = 0 }; sports = Some (record { first = 1000; last = 1000 }); dst = address_span 167772160 8; dports = None }) 0 0 ∷
+    RuleLine (record { number = 2; action = Pipe 3; proto = OnlyTcp; src = address_span 167772160 8; sports = None; dst = address_span 3232235520 16; dports = None }) 0 0 ∷
     RuleLine (record { number = 50; action = Count; proto = OnlyUdp; src = record { address = 0; len = 0 }; sports = None; dst = record { address = 0; len = 0 }; dports = Some (record { first = 7; last = 7 }) }) 0 0 ∷
-    RuleLine (record { number = 100; action = SendTo 2; proto = AnyProtocol; src = address_span 167772160 24; sports = None; dst = record { address = 0; len = 0 }; dports = None }) 3 2997 ∷
-    RuleLine (record { number = 100; action = SendTo 1; proto = AnyProtocol; src = address_span 167772161 32; sports = None; dst = address_span 3232235520 16; dports = Some (record { first = 80; last = 80 }) }) 0 0 ∷
-    RuleLine (record { number = 150; action = SendTo 3; proto = AnyProtocol; src = record { address = 0; len = 0 }; sports = None; dst = address_span 167772162 31; dports = None }) 0 0 ∷
+    RuleLine (record { number = 100; action = Pipe 2; proto = AnyProtocol; src = address_span 167772160 24; sports = None; dst = record { address = 0; len = 0 }; dports = None }) 3 2997 ∷
+    RuleLine (record { number = 100; action = Pipe 1; proto = AnyProtocol; src = address_span 167772161 32; sports = None; dst = address_span 3232235520 16; dports = Some (record { first = 80; last = 80 }) }) 0 0 ∷
+    RuleLine (record { number = 150; action = Pipe 3; proto = AnyProtocol; src = record { address = 0; len = 0 }; sports = None; dst = address_span 167772162 31; dports = None }) 0 0 ∷
     RuleLine (record { number = 150; action = Count; proto = OnlyUdp; src = address_span 167772162 31; sports = None; dst = record { address = 0; len = 0 }; dports = None }) 0 0 ∷
-    RuleLine (record { number = 200; action = SendTo 2; proto = AnyProtocol; src = record { address = 0; len = 0 }; sports = None; dst = record { address = 0; len = 0 }; dports = None }) 2 1000 ∷
-    RuleLine (record { number = 300; action = SendTo 2; proto = OnlyTcp; src = address_span 167772160 24; sports = None; dst = record { address = 0; len = 0 }; dports = None }) 0 0 ∷
-    RuleLine (record { number = 65535; action = Forbid; proto = AnyProtocol; src = record { address = 0; len = 0 }; sports = None; dst = record { address = 0; len = 0 }; dports = None }) 0 0 ∷
+    RuleLine (record { number = 200; action = Pipe 2; proto = AnyProtocol; src = record { address = 0; len = 0 }; sports = None; dst = record { address = 0; len = 0 }; dports = None }) 2 1000 ∷
+    RuleLine (record { number = 300; action = Pipe 2; proto = OnlyTcp; src = address_span 167772160 24; sports = None; dst = record { address = 0; len = 0 }; dports = None }) 0 0 ∷
+    RuleLine (record { number = 65535; action = Deny; proto = AnyProtocol; src = record { address = 0; len = 0 }; sports = None; dst = record { address = 0; len = 0 }; dports = None }) 0 0 ∷
     CommandDone 200000000 22 ∷
     []
 
@@ -731,7 +731,7 @@ exp_9-records =
     PipeLine 3 (record { bw = 0; delay = 0; queue = KBytes 10; plr = 0; mask = record { proto = 0; src = 0; dst = 3; sport = 0; dport = 15 }; discipline = ControlledDelay 1000 100000000 }) ∷
     PipeLine 4 (record { bw = 997; delay = 0; queue = Slots 5; plr = 0; mask = record { proto = 0; src = 0; dst = 0; sport = 0; dport = 0 }; discipline = ControlledDelay 5000000 100000000 }) ∷
     CommandDone 5000000000 10 ∷
-    RuleLine (record { number = 65535; action = Forbid; proto = AnyProtocol; src = record { address = 0; len = 0 }; sports = None; dst = record { address = 0; len = 0 }; dports = None }) 14 17351 ∷
+    RuleLine (record { number = 65535; action = Deny; proto = AnyProtocol; src = record { address = 0; len = 0 }; sports = None; dst = record { address = 0; len = 0 }; dports = None }) 14 17351 ∷
     CommandDone 5000000000 11 ∷
     []
 

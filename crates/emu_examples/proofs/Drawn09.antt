@@ -3,7 +3,7 @@ use Rattle.std.specs.Prelude.{◌≡◌, refl, List, [], ◌∷◌, Some, None, 
 use Rattle.emu_model.specs.Spans.{address_span}
 use Rattle.emu_model.specs.declared.packets.Load.TheVariants.{Plain, Seg, Ack}
 use Rattle.emu_model.specs.declared.packets.Protocol.TheVariants.{Tcp, Udp}
-use Rattle.emu_model.specs.declared.rules.Action.TheVariants.{Permit, Forbid, Count, SkipTo, SendTo}
+use Rattle.emu_model.specs.declared.rules.Action.TheVariants.{Allow, Deny, Count, SkipTo, Pipe}
 use Rattle.emu_model.specs.declared.rules.ProtocolMatch.TheVariants.{AnyProtocol, OnlyTcp, OnlyUdp}
 use Rattle.emu_model.specs.declared.pipes.QueueLimit.TheVariants.{Slots, KBytes}
 use Rattle.emu_model.specs.declared.pipes.Discipline.TheVariants.{TailDrop, ControlledDelay}
@@ -24,14 +24,14 @@ use Rattle.rand_core.specs.Steps.{u32_at}
 -- experiment d80
 abbrev exp_0-commands : List Timed
 exp_0-commands =
-    record { moment = 0; command = Add (record { number = 200; action = SendTo 3; proto = AnyProtocol; src = record { address = 0; len = 0 }; sports = None; dst = record { address = 0; len = 0 }; dports = None }) } ∷
+    record { moment = 0; command = Add (record { number = 200; action = Pipe 3; proto = AnyProtocol; src = record { address = 0; len = 0 }; sports = None; dst = record { address = 0; len = 0 }; dports = None }) } ∷
     record { moment = 0; command = Config 4 (record { bw = 8000000; delay = 1; queue = Slots 1; plr = 0; mask = record { proto = 0; src = 0; dst = 3; sport = 0; dport = 0 }; discipline = ControlledDelay 5000000 10000000 }) } ∷
     record { moment = 0; command = Config 2 (record { bw = 0; delay = 2; queue = Slots 5; plr = 0; mask = record { proto = 0; src = 0; dst = 0; sport = 0; dport = 0 }; discipline = TailDrop }) } ∷
-    record { moment = 0; command = Add (record { number = 100; action = SendTo 3; proto = AnyProtocol; src = address_span 167772160 24; sports = None; dst = record { address = 0; len = 0 }; dports = None }) } ∷
+    record { moment = 0; command = Add (record { number = 100; action = Pipe 3; proto = AnyProtocol; src = address_span 167772160 24; sports = None; dst = record { address = 0; len = 0 }; dports = None }) } ∷
     record { moment = 0; command = Config 3 (record { bw = 0; delay = 5; queue = Slots 1000; plr = 0; mask = record { proto = 0; src = 0; dst = 0; sport = 0; dport = 0 }; discipline = TailDrop }) } ∷
     record { moment = 0; command = Config 1 (record { bw = 0; delay = 1200; queue = Slots 50; plr = 0; mask = record { proto = 0; src = 0; dst = 255; sport = 0; dport = 0 }; discipline = TailDrop }) } ∷
     record { moment = 0; command = Flow 300 (record { src = 167772162; sport = 7; dst = 167772417; dport = 2000; smss = 1095; segments = 3; ssthresh = 65535; window = 1; timing = Fixed 1000 }) } ∷
-    record { moment = 500000500; command = Add (record { number = 1; action = SendTo 3; proto = OnlyUdp; src = address_span 4294967295 32; sports = Some (record { first = 80; last = 80 }); dst = address_span 167772493 25; dports = None }) } ∷
+    record { moment = 500000500; command = Add (record { number = 1; action = Pipe 3; proto = OnlyUdp; src = address_span 4294967295 32; sports = Some (record { first = 80; last = 80 }); dst = address_span 167772493 25; dports = None }) } ∷
     record { moment = 1400000000; command = Flow 2 (record { src = 167772162; sport = 0; dst = 167772417; dport = 80; smss = 960; segments = 1; ssthresh = 1; window = 65535; timing = Adaptive }) } ∷
     record { moment = 1400000000; command = Delete 150 } ∷
     record { moment = 1400000000; command = Config 1 (record { bw = 0; delay = 0; queue = Slots 50; plr = 0; mask = record { proto = 0; src = 0; dst = 0; sport = 0; dport = 0 }; discipline = ControlledDelay 1000000 5000000 }) } ∷
@@ -69,10 +69,10 @@ exp_0-records =
     InstanceLine 3 0 0 0 true 0 3 ∷
     PipeLine 4 (record { bw = 8000000; delay = 1; queue = Slots 1; plr = 0; mask = record { proto = 0; src = 0; dst = 3; sport = 0; dport = 0 }; discipline = ControlledDelay 5000000 10000000 }) ∷
     CommandDone 1800000000 14 ∷
-    RuleLine (record { number = 1; action = SendTo 3; proto = OnlyUdp; src = address_span 4294967295 32; sports = Some (record { first = 80; last = 80 }); dst = address_span 167772416 25; dports = None }) 0 0 ∷
-    RuleLine (record { number = 100; action = SendTo 3; proto = AnyProtocol; src = address_span 167772160 24; sports = None; dst = record { address = 0; len = 0 }; dports = None }) 2 2040 ∷
-    RuleLine (record { number = 200; action = SendTo 3; proto = AnyProtocol; src = record { address = 0; len = 0 }; sports = None; dst = record { address = 0; len = 0 }; dports = None }) 1 40 ∷
-    RuleLine (record { number = 65535; action = Forbid; proto = AnyProtocol; src = record { address = 0; len = 0 }; sports = None; dst = record { address = 0; len = 0 }; dports = None }) 0 0 ∷
+    RuleLine (record { number = 1; action = Pipe 3; proto = OnlyUdp; src = address_span 4294967295 32; sports = Some (record { first = 80; last = 80 }); dst = address_span 167772416 25; dports = None }) 0 0 ∷
+    RuleLine (record { number = 100; action = Pipe 3; proto = AnyProtocol; src = address_span 167772160 24; sports = None; dst = record { address = 0; len = 0 }; dports = None }) 2 2040 ∷
+    RuleLine (record { number = 200; action = Pipe 3; proto = AnyProtocol; src = record { address = 0; len = 0 }; sports = None; dst = record { address = 0; len = 0 }; dports = None }) 1 40 ∷
+    RuleLine (record { number = 65535; action = Deny; proto = AnyProtocol; src = record { address = 0; len = 0 }; sports = None; dst = record { address = 0; len = 0 }; dports = None }) 0 0 ∷
     CommandDone 1800000000 15 ∷
     []
 
@@ -93,10 +93,10 @@ abbrev exp_1-commands : List Timed
 exp_1-commands =
     record { moment = 0; command = Config 3 (record { bw = 8000000; delay = 10; queue = Slots 3; plr = 1; mask = record { proto = 0; src = 0; dst = 0; sport = 0; dport = 0 }; discipline = TailDrop }) } ∷
     record { moment = 0; command = Config 2 (record { bw = 10000000000; delay = 1; queue = Slots 5; plr = 0; mask = record { proto = 0; src = 0; dst = 0; sport = 0; dport = 0 }; discipline = ControlledDelay 5000000 5000000 }) } ∷
-    record { moment = 0; command = Add (record { number = 100; action = SendTo 1; proto = AnyProtocol; src = address_span 167772160 24; sports = None; dst = record { address = 0; len = 0 }; dports = None }) } ∷
+    record { moment = 0; command = Add (record { number = 100; action = Pipe 1; proto = AnyProtocol; src = address_span 167772160 24; sports = None; dst = record { address = 0; len = 0 }; dports = None }) } ∷
     record { moment = 0; command = Config 4 (record { bw = 10000000; delay = 400; queue = KBytes 10; plr = 0; mask = record { proto = 255; src = 4294967295; dst = 4294967295; sport = 65535; dport = 65535 }; discipline = ControlledDelay 1000000 100000000 }) } ∷
     record { moment = 0; command = Config 1 (record { bw = 7777777; delay = 10; queue = KBytes 1; plr = 200000; mask = record { proto = 0; src = 0; dst = 0; sport = 0; dport = 0 }; discipline = TailDrop }) } ∷
-    record { moment = 0; command = Add (record { number = 200; action = SendTo 2; proto = AnyProtocol; src = record { address = 0; len = 0 }; sports = None; dst = record { address = 0; len = 0 }; dports = None }) } ∷
+    record { moment = 0; command = Add (record { number = 200; action = Pipe 2; proto = AnyProtocol; src = record { address = 0; len = 0 }; sports = None; dst = record { address = 0; len = 0 }; dports = None }) } ∷
     record { moment = 0; command = OnePass false } ∷
     record { moment = 0; command = Flow 300 (record { src = 167772162; sport = 0; dst = 167772417; dport = 0; smss = 1096; segments = 6; ssthresh = 65535; window = 65535; timing = Adaptive }) } ∷
     record { moment = 0; command = Flow 2 (record { src = 167772162; sport = 80; dst = 167772417; dport = 2000; smss = 1000; segments = 2; ssthresh = 65535; window = 3000; timing = Adaptive }) } ∷
@@ -140,9 +140,9 @@ exp_1-records =
     PipeLine 3 (record { bw = 8000000; delay = 10; queue = Slots 3; plr = 1; mask = record { proto = 0; src = 0; dst = 0; sport = 0; dport = 0 }; discipline = TailDrop }) ∷
     PipeLine 4 (record { bw = 10000000; delay = 400; queue = KBytes 10; plr = 0; mask = record { proto = 255; src = 4294967295; dst = 4294967295; sport = 65535; dport = 65535 }; discipline = ControlledDelay 1000000 100000000 }) ∷
     CommandDone 144239647 13 ∷
-    RuleLine (record { number = 100; action = SendTo 1; proto = AnyProtocol; src = address_span 167772160 24; sports = None; dst = record { address = 0; len = 0 }; dports = None }) 6 5528 ∷
-    RuleLine (record { number = 200; action = SendTo 2; proto = AnyProtocol; src = record { address = 0; len = 0 }; sports = None; dst = record { address = 0; len = 0 }; dports = None }) 0 0 ∷
-    RuleLine (record { number = 65535; action = Forbid; proto = AnyProtocol; src = record { address = 0; len = 0 }; sports = None; dst = record { address = 0; len = 0 }; dports = None }) 0 0 ∷
+    RuleLine (record { number = 100; action = Pipe 1; proto = AnyProtocol; src = address_span 167772160 24; sports = None; dst = record { address = 0; len = 0 }; dports = None }) 6 5528 ∷
+    RuleLine (record { number = 200; action = Pipe 2; proto = AnyProtocol; src = record { address = 0; len = 0 }; sports = None; dst = record { address = 0; len = 0 }; dports = None }) 0 0 ∷
+    RuleLine (record { number = 65535; action = Deny; proto = AnyProtocol; src = record { address = 0; len = 0 }; sports = None; dst = record { address = 0; len = 0 }; dports = None }) 0 0 ∷
     CommandDone 144239647 14 ∷
     []
 
@@ -161,13 +161,13 @@ exp_1 = refl
 -- experiment d82
 abbrev exp_2-commands : List Timed
 exp_2-commands =
-    record { moment = 0; command = Add (record { number = 99999; action = SendTo 3; proto = AnyProtocol; src = record { address = 0; len = 0 }; sports = None; dst = record { address = 0; len = 0 }; dports = None }) } ∷
+    record { moment = 0; command = Add (record { number = 99999; action = Pipe 3; proto = AnyProtocol; src = record { address = 0; len = 0 }; sports = None; dst = record { address = 0; len = 0 }; dports = None }) } ∷
     record { moment = 0; command = Config 1 (record { bw = 7777777; delay = 1; queue = Slots 50; plr = 0; mask = record { proto = 0; src = 255; dst = 255; sport = 65535; dport = 0 }; discipline = ControlledDelay 20000000 10000000 }) } ∷
     record { moment = 0; command = Config 2 (record { bw = 10000000000; delay = 10; queue = Slots 10; plr = 0; mask = record { proto = 0; src = 0; dst = 0; sport = 0; dport = 0 }; discipline = TailDrop }) } ∷
     record { moment = 0; command = Config 3 (record { bw = 56000; delay = 10; queue = KBytes 1; plr = 1; mask = record { proto = 0; src = 0; dst = 0; sport = 0; dport = 0 }; discipline = ControlledDelay 1000 1000 }) } ∷
     record { moment = 0; command = Config 4 (record { bw = 0; delay = 1; queue = Slots 1000; plr = 200000; mask = record { proto = 0; src = 0; dst = 0; sport = 0; dport = 0 }; discipline = ControlledDelay 1000000 5000000 }) } ∷
     record { moment = 0; command = OnePass false } ∷
-    record { moment = 0; command = Add (record { number = 1; action = SendTo 1; proto = AnyProtocol; src = record { address = 0; len = 0 }; sports = None; dst = record { address = 0; len = 0 }; dports = None }) } ∷
+    record { moment = 0; command = Add (record { number = 1; action = Pipe 1; proto = AnyProtocol; src = record { address = 0; len = 0 }; sports = None; dst = record { address = 0; len = 0 }; dports = None }) } ∷
     record { moment = 100000000; command = Inject (record { proto = Tcp; src = 167772161; sport = 80; dst = 167772417; dport = 80; size = 1499 }) } ∷
     record { moment = 100000000; command = PipeShow } ∷
     record { moment = 100000000; command = Show } ∷
@@ -191,8 +191,8 @@ exp_2-records =
     PipeLine 3 (record { bw = 56000; delay = 10; queue = KBytes 1; plr = 1; mask = record { proto = 0; src = 0; dst = 0; sport = 0; dport = 0 }; discipline = ControlledDelay 1000 1000 }) ∷
     PipeLine 4 (record { bw = 0; delay = 1; queue = Slots 1000; plr = 200000; mask = record { proto = 0; src = 0; dst = 0; sport = 0; dport = 0 }; discipline = ControlledDelay 1000000 5000000 }) ∷
     CommandDone 100000000 9 ∷
-    RuleLine (record { number = 1; action = SendTo 1; proto = AnyProtocol; src = record { address = 0; len = 0 }; sports = None; dst = record { address = 0; len = 0 }; dports = None }) 1 1499 ∷
-    RuleLine (record { number = 65535; action = Forbid; proto = AnyProtocol; src = record { address = 0; len = 0 }; sports = None; dst = record { address = 0; len = 0 }; dports = None }) 0 0 ∷
+    RuleLine (record { number = 1; action = Pipe 1; proto = AnyProtocol; src = record { address = 0; len = 0 }; sports = None; dst = record { address = 0; len = 0 }; dports = None }) 1 1499 ∷
+    RuleLine (record { number = 65535; action = Deny; proto = AnyProtocol; src = record { address = 0; len = 0 }; sports = None; dst = record { address = 0; len = 0 }; dports = None }) 0 0 ∷
     CommandDone 100000000 10 ∷
     []
 
@@ -212,7 +212,7 @@ exp_2 = refl
 abbrev exp_3-commands : List Timed
 exp_3-commands =
     record { moment = 0; command = Config 2 (record { bw = 997; delay = 10; queue = KBytes 2; plr = 0; mask = record { proto = 255; src = 4294967295; dst = 4294967295; sport = 65535; dport = 65535 }; discipline = TailDrop }) } ∷
-    record { moment = 0; command = Add (record { number = 65534; action = SendTo 1; proto = OnlyTcp; src = record { address = 0; len = 0 }; sports = None; dst = address_span 167772160 8; dports = None }) } ∷
+    record { moment = 0; command = Add (record { number = 65534; action = Pipe 1; proto = OnlyTcp; src = record { address = 0; len = 0 }; sports = None; dst = address_span 167772160 8; dports = None }) } ∷
     record { moment = 0; command = Config 3 (record { bw = 56000; delay = 50; queue = Slots 1; plr = 50000; mask = record { proto = 0; src = 0; dst = 0; sport = 0; dport = 0 }; discipline = ControlledDelay 5000000 100000000 }) } ∷
     record { moment = 0; command = Config 1 (record { bw = 10000000; delay = 50; queue = Slots 1; plr = 0; mask = record { proto = 0; src = 0; dst = 0; sport = 0; dport = 0 }; discipline = TailDrop }) } ∷
     record { moment = 0; command = Config 4 (record { bw = 0; delay = 10; queue = Slots 1; plr = 0; mask = record { proto = 0; src = 0; dst = 0; sport = 0; dport = 0 }; discipline = ControlledDelay 5000000 100000000 }) } ∷
@@ -226,8 +226,8 @@ exp_3-commands =
     record { moment = 11000000; command = Config 2 (record { bw = 0; delay = 400; queue = KBytes 10; plr = 200000; mask = record { proto = 255; src = 4294967295; dst = 4294967295; sport = 65535; dport = 65535 }; discipline = TailDrop }) } ∷
     record { moment = 11000000; command = Inject (record { proto = Tcp; src = 4294967295; sport = 80; dst = 0; dport = 7; size = 1040 }) } ∷
     record { moment = 18420585; command = Flow 1 (record { src = 167772161; sport = 80; dst = 167772417; dport = 0; smss = 1095; segments = 1; ssthresh = 65535; window = 65535; timing = Fixed 1000 }) } ∷
-    record { moment = 18420585; command = Add (record { number = 2; action = SendTo 3; proto = AnyProtocol; src = record { address = 0; len = 0 }; sports = None; dst = address_span 167772416 24; dports = None }) } ∷
-    record { moment = 18420585; command = Add (record { number = 2; action = SendTo 1; proto = OnlyUdp; src = address_span 167772160 8; sports = None; dst = address_span 3232235520 16; dports = None }) } ∷
+    record { moment = 18420585; command = Add (record { number = 2; action = Pipe 3; proto = AnyProtocol; src = record { address = 0; len = 0 }; sports = None; dst = address_span 167772416 24; dports = None }) } ∷
+    record { moment = 18420585; command = Add (record { number = 2; action = Pipe 1; proto = OnlyUdp; src = address_span 167772160 8; sports = None; dst = address_span 3232235520 16; dports = None }) } ∷
     record { moment = 18420585; command = Stop 1 } ∷
     record { moment = 18420585; command = Inject (record { proto = Udp; src = 167772161; sport = 1; dst = 167772417; dport = 65535; size = 1460 }) } ∷
     record { moment = 18420585; command = Flow 65535 (record { src = 167772162; sport = 1; dst = 167772418; dport = 0; smss = 536; segments = 2; ssthresh = 2000; window = 65535; timing = Adaptive }) } ∷
@@ -253,8 +253,8 @@ exp_3-records =
     CommandDone 3000000 8 ∷
     CommandRefused 3000000 9 NoFlow ∷
     CommandDone 3000000 10 ∷
-    RuleLine (record { number = 65534; action = SendTo 1; proto = OnlyTcp; src = record { address = 0; len = 0 }; sports = None; dst = address_span 167772160 8; dports = None }) 4 4160 ∷
-    RuleLine (record { number = 65535; action = Forbid; proto = AnyProtocol; src = record { address = 0; len = 0 }; sports = None; dst = record { address = 0; len = 0 }; dports = None }) 1 1000 ∷
+    RuleLine (record { number = 65534; action = Pipe 1; proto = OnlyTcp; src = record { address = 0; len = 0 }; sports = None; dst = address_span 167772160 8; dports = None }) 4 4160 ∷
+    RuleLine (record { number = 65535; action = Deny; proto = AnyProtocol; src = record { address = 0; len = 0 }; sports = None; dst = record { address = 0; len = 0 }; dports = None }) 1 1000 ∷
     CommandRefused 3000000 11 NoSuchPipe ∷
     PacketDropped 3333333 5 Plain Denied ∷
     PacketDropped 6666666 6 Plain Denied ∷
@@ -268,10 +268,10 @@ exp_3-records =
     CommandDone 18420585 18 ∷
     CommandRefused 18420585 19 FlowThere ∷
     CommandDone 18420585 20 ∷
-    RuleLine (record { number = 2; action = SendTo 3; proto = AnyProtocol; src = record { address = 0; len = 0 }; sports = None; dst = address_span 167772416 24; dports = None }) 1 1460 ∷
-    RuleLine (record { number = 2; action = SendTo 1; proto = OnlyUdp; src = address_span 167772160 8; sports = None; dst = address_span 3232235520 16; dports = None }) 0 0 ∷
-    RuleLine (record { number = 65534; action = SendTo 1; proto = OnlyTcp; src = record { address = 0; len = 0 }; sports = None; dst = address_span 167772160 8; dports = None }) 4 4160 ∷
-    RuleLine (record { number = 65535; action = Forbid; proto = AnyProtocol; src = record { address = 0; len = 0 }; sports = None; dst = record { address = 0; len = 0 }; dports = None }) 4 4040 ∷
+    RuleLine (record { number = 2; action = Pipe 3; proto = AnyProtocol; src = record { address = 0; len = 0 }; sports = None; dst = address_span 167772416 24; dports = None }) 1 1460 ∷
+    RuleLine (record { number = 2; action = Pipe 1; proto = OnlyUdp; src = address_span 167772160 8; sports = None; dst = address_span 3232235520 16; dports = None }) 0 0 ∷
+    RuleLine (record { number = 65534; action = Pipe 1; proto = OnlyTcp; src = record { address = 0; len = 0 }; sports = None; dst = address_span 167772160 8; dports = None }) 4 4160 ∷
+    RuleLine (record { number = 65535; action = Deny; proto = AnyProtocol; src = record { address = 0; len = 0 }; sports = None; dst = record { address = 0; len = 0 }; dports = None }) 4 4040 ∷
     CommandDone 18420585 21 ∷
     []
 
@@ -293,9 +293,9 @@ exp_4-commands =
     record { moment = 0; command = Config 4 (record { bw = 997; delay = 0; queue = Slots 1000; plr = 20000; mask = record { proto = 0; src = 0; dst = 0; sport = 0; dport = 0 }; discipline = ControlledDelay 5000000 100000000 }) } ∷
     record { moment = 0; command = Add (record { number = 0; action = Count; proto = OnlyTcp; src = record { address = 0; len = 0 }; sports = None; dst = record { address = 0; len = 0 }; dports = None }) } ∷
     record { moment = 0; command = Config 1 (record { bw = 8000000; delay = 1; queue = Slots 50; plr = 1; mask = record { proto = 0; src = 0; dst = 0; sport = 0; dport = 0 }; discipline = TailDrop }) } ∷
-    record { moment = 0; command = Add (record { number = 200; action = SendTo 2; proto = AnyProtocol; src = record { address = 0; len = 0 }; sports = None; dst = record { address = 0; len = 0 }; dports = None }) } ∷
+    record { moment = 0; command = Add (record { number = 200; action = Pipe 2; proto = AnyProtocol; src = record { address = 0; len = 0 }; sports = None; dst = record { address = 0; len = 0 }; dports = None }) } ∷
     record { moment = 0; command = Config 2 (record { bw = 997; delay = 10; queue = Slots 2; plr = 500000; mask = record { proto = 0; src = 1; dst = 3; sport = 0; dport = 255 }; discipline = TailDrop }) } ∷
-    record { moment = 0; command = Add (record { number = 100; action = SendTo 3; proto = AnyProtocol; src = address_span 167772160 24; sports = None; dst = record { address = 0; len = 0 }; dports = None }) } ∷
+    record { moment = 0; command = Add (record { number = 100; action = Pipe 3; proto = AnyProtocol; src = address_span 167772160 24; sports = None; dst = record { address = 0; len = 0 }; dports = None }) } ∷
     record { moment = 0; command = Config 3 (record { bw = 7777777; delay = 10; queue = Slots 3; plr = 0; mask = record { proto = 1; src = 0; dst = 0; sport = 0; dport = 15 }; discipline = ControlledDelay 5000000 100000000 }) } ∷
     record { moment = 300000000; command = Flow 2 (record { src = 167772161; sport = 2000; dst = 167772418; dport = 2000; smss = 1000; segments = 1; ssthresh = 65535; window = 65535; timing = Fixed 1000 }) } ∷
     record { moment = 300000000; command = Flow 300 (record { src = 167772161; sport = 65535; dst = 167772418; dport = 1000; smss = 64; segments = 1; ssthresh = 1000000000; window = 65535; timing = Fixed 1000 }) } ∷
@@ -304,7 +304,7 @@ exp_4-commands =
     record { moment = 1600000000; command = Inject (record { proto = Udp; src = 167772161; sport = 1000; dst = 167772417; dport = 7; size = 40 }) } ∷
     record { moment = 1600000000; command = Config 2 (record { bw = 1000000; delay = 5; queue = Slots 50; plr = 0; mask = record { proto = 0; src = 1; dst = 3; sport = 0; dport = 255 }; discipline = TailDrop }) } ∷
     record { moment = 2000000500; command = Config 4 (record { bw = 997; delay = 2; queue = Slots 3; plr = 0; mask = record { proto = 0; src = 0; dst = 0; sport = 0; dport = 0 }; discipline = ControlledDelay 5000000 100000000 }) } ∷
-    record { moment = 2000000500; command = Add (record { number = 50; action = Permit; proto = AnyProtocol; src = address_span 167772161 32; sports = Some (record { first = 65535; last = 65535 }); dst = record { address = 0; len = 0 }; dports = None }) } ∷
+    record { moment = 2000000500; command = Add (record { number = 50; action = Allow; proto = AnyProtocol; src = address_span 167772161 32; sports = Some (record { first = 65535; last = 65535 }); dst = record { address = 0; len = 0 }; dports = None }) } ∷
     record { moment = 2000000500; command = End } ∷
     []
 
@@ -359,10 +359,10 @@ abbrev exp_5-commands : List Timed
 exp_5-commands =
     record { moment = 0; command = Config 1 (record { bw = 1000000; delay = 50; queue = Slots 50; plr = 0; mask = record { proto = 0; src = 0; dst = 0; sport = 0; dport = 0 }; discipline = TailDrop }) } ∷
     record { moment = 0; command = Config 3 (record { bw = 8000000; delay = 5; queue = Slots 50; plr = 0; mask = record { proto = 255; src = 4294967295; dst = 4294967295; sport = 65535; dport = 65535 }; discipline = TailDrop }) } ∷
-    record { moment = 0; command = Add (record { number = 200; action = SendTo 2; proto = AnyProtocol; src = record { address = 0; len = 0 }; sports = None; dst = record { address = 0; len = 0 }; dports = None }) } ∷
+    record { moment = 0; command = Add (record { number = 200; action = Pipe 2; proto = AnyProtocol; src = record { address = 0; len = 0 }; sports = None; dst = record { address = 0; len = 0 }; dports = None }) } ∷
     record { moment = 0; command = Config 2 (record { bw = 3000000; delay = 1200; queue = Slots 50; plr = 0; mask = record { proto = 0; src = 0; dst = 0; sport = 65535; dport = 0 }; discipline = TailDrop }) } ∷
     record { moment = 0; command = Config 4 (record { bw = 997; delay = 5; queue = Slots 50; plr = 500000; mask = record { proto = 0; src = 0; dst = 0; sport = 0; dport = 0 }; discipline = TailDrop }) } ∷
-    record { moment = 0; command = Add (record { number = 100; action = SendTo 3; proto = AnyProtocol; src = address_span 167772160 24; sports = None; dst = record { address = 0; len = 0 }; dports = None }) } ∷
+    record { moment = 0; command = Add (record { number = 100; action = Pipe 3; proto = AnyProtocol; src = address_span 167772160 24; sports = None; dst = record { address = 0; len = 0 }; dports = None }) } ∷
     record { moment = 0; command = OnePass false } ∷
     record { moment = 0; command = Add (record { number = 400; action = SkipTo 65535; proto = OnlyUdp; src = record { address = 0; len = 0 }; sports = None; dst = address_span 167772162 31; dports = Some (record { first = 2000; last = 65535 }) }) } ∷
     record { moment = 0; command = Flow 65535 (record { src = 167772162; sport = 2000; dst = 167772418; dport = 1; smss = 536; segments = 4; ssthresh = 1000000000; window = 65535; timing = Fixed 1000 }) } ∷
@@ -423,7 +423,7 @@ exp_5 = refl
 abbrev exp_6-commands : List Timed
 exp_6-commands =
     record { moment = 0; command = Config 4 (record { bw = 8000000; delay = 0; queue = Slots 50; plr = 1; mask = record { proto = 0; src = 0; dst = 0; sport = 0; dport = 0 }; discipline = ControlledDelay 100000 100000000 }) } ∷
-    record { moment = 0; command = Add (record { number = 100; action = SendTo 2; proto = OnlyTcp; src = record { address = 0; len = 0 }; sports = None; dst = record { address = 0; len = 0 }; dports = Some (record { first = 2000; last = 2000 }) }) } ∷
+    record { moment = 0; command = Add (record { number = 100; action = Pipe 2; proto = OnlyTcp; src = record { address = 0; len = 0 }; sports = None; dst = record { address = 0; len = 0 }; dports = Some (record { first = 2000; last = 2000 }) }) } ∷
     record { moment = 0; command = Config 1 (record { bw = 0; delay = 50; queue = Slots 1; plr = 0; mask = record { proto = 0; src = 0; dst = 0; sport = 1; dport = 0 }; discipline = ControlledDelay 5000000 100000000 }) } ∷
     record { moment = 0; command = Config 3 (record { bw = 10000000; delay = 400; queue = Slots 50; plr = 50000; mask = record { proto = 0; src = 0; dst = 0; sport = 0; dport = 0 }; discipline = TailDrop }) } ∷
     record { moment = 0; command = Add (record { number = 65534; action = SkipTo 400; proto = OnlyUdp; src = address_span 167772416 24; sports = None; dst = record { address = 0; len = 0 }; dports = Some (record { first = 2000; last = 2000 }) }) } ∷
@@ -461,15 +461,15 @@ exp_6 = refl
 abbrev exp_7-commands : List Timed
 exp_7-commands =
     record { moment = 0; command = Config 2 (record { bw = 0; delay = 1; queue = Slots 10; plr = 0; mask = record { proto = 0; src = 0; dst = 0; sport = 0; dport = 0 }; discipline = ControlledDelay 5000000 100000000 }) } ∷
-    record { moment = 0; command = Add (record { number = 400; action = SendTo 3; proto = AnyProtocol; src = record { address = 0; len = 0 }; sports = None; dst = record { address = 0; len = 0 }; dports = None }) } ∷
-    record { moment = 0; command = Add (record { number = 65534; action = Forbid; proto = OnlyTcp; src = address_span 3232235520 16; sports = None; dst = address_span 4294967295 32; dports = None }) } ∷
-    record { moment = 0; command = Add (record { number = 2; action = SendTo 4; proto = AnyProtocol; src = record { address = 0; len = 0 }; sports = None; dst = record { address = 0; len = 0 }; dports = Some (record { first = 2000; last = 2000 }) }) } ∷
-    record { moment = 0; command = Add (record { number = 100; action = SendTo 1; proto = AnyProtocol; src = record { address = 0; len = 0 }; sports = None; dst = address_span 167772160 8; dports = None }) } ∷
-    record { moment = 0; command = Add (record { number = 100; action = SendTo 2; proto = AnyProtocol; src = address_span 167772160 24; sports = None; dst = record { address = 0; len = 0 }; dports = None }) } ∷
-    record { moment = 0; command = Add (record { number = 300; action = Forbid; proto = OnlyUdp; src = record { address = 0; len = 0 }; sports = None; dst = address_span 167772162 31; dports = None }) } ∷
+    record { moment = 0; command = Add (record { number = 400; action = Pipe 3; proto = AnyProtocol; src = record { address = 0; len = 0 }; sports = None; dst = record { address = 0; len = 0 }; dports = None }) } ∷
+    record { moment = 0; command = Add (record { number = 65534; action = Deny; proto = OnlyTcp; src = address_span 3232235520 16; sports = None; dst = address_span 4294967295 32; dports = None }) } ∷
+    record { moment = 0; command = Add (record { number = 2; action = Pipe 4; proto = AnyProtocol; src = record { address = 0; len = 0 }; sports = None; dst = record { address = 0; len = 0 }; dports = Some (record { first = 2000; last = 2000 }) }) } ∷
+    record { moment = 0; command = Add (record { number = 100; action = Pipe 1; proto = AnyProtocol; src = record { address = 0; len = 0 }; sports = None; dst = address_span 167772160 8; dports = None }) } ∷
+    record { moment = 0; command = Add (record { number = 100; action = Pipe 2; proto = AnyProtocol; src = address_span 167772160 24; sports = None; dst = record { address = 0; len = 0 }; dports = None }) } ∷
+    record { moment = 0; command = Add (record { number = 300; action = Deny; proto = OnlyUdp; src = record { address = 0; len = 0 }; sports = None; dst = address_span 167772162 31; dports = None }) } ∷
     record { moment = 0; command = Config 3 (record { bw = 0; delay = 10; queue = Slots 50; plr = 0; mask = record { proto = 0; src = 0; dst = 0; sport = 0; dport = 0 }; discipline = TailDrop }) } ∷
-    record { moment = 0; command = Add (record { number = 100; action = SendTo 1; proto = OnlyUdp; src = address_span 167772160 24; sports = None; dst = address_span 167772160 24; dports = None }) } ∷
-    record { moment = 0; command = Add (record { number = 200; action = SendTo 1; proto = AnyProtocol; src = record { address = 0; len = 0 }; sports = None; dst = record { address = 0; len = 0 }; dports = None }) } ∷
+    record { moment = 0; command = Add (record { number = 100; action = Pipe 1; proto = OnlyUdp; src = address_span 167772160 24; sports = None; dst = address_span 167772160 24; dports = None }) } ∷
+    record { moment = 0; command = Add (record { number = 200; action = Pipe 1; proto = AnyProtocol; src = record { address = 0; len = 0 }; sports = None; dst = record { address = 0; len = 0 }; dports = None }) } ∷
     record { moment = 0; command = Config 4 (record { bw = 3000000; delay = 400; queue = Slots 2; plr = 200000; mask = record { proto = 0; src = 4294967295; dst = 0; sport = 65535; dport = 0 }; discipline = ControlledDelay 5000000 100000000 }) } ∷
     record { moment = 0; command = Config 1 (record { bw = 56000; delay = 400; queue = Slots 50; plr = 0; mask = record { proto = 0; src = 0; dst = 0; sport = 0; dport = 0 }; discipline = TailDrop }) } ∷
     record { moment = 500; command = Inject (record { proto = Udp; src = 167772162; sport = 65535; dst = 167772418; dport = 2000; size = 1460 }) } ∷
@@ -525,8 +525,8 @@ abbrev exp_8-commands : List Timed
 exp_8-commands =
     record { moment = 0; command = Config 3 (record { bw = 0; delay = 0; queue = Slots 3; plr = 0; mask = record { proto = 255; src = 4294967295; dst = 4294967295; sport = 65535; dport = 65535 }; discipline = ControlledDelay 3000000 20000000 }) } ∷
     record { moment = 0; command = Config 1 (record { bw = 0; delay = 1200; queue = KBytes 10; plr = 0; mask = record { proto = 0; src = 0; dst = 255; sport = 0; dport = 0 }; discipline = ControlledDelay 5000000 100000000 }) } ∷
-    record { moment = 0; command = Add (record { number = 200; action = SendTo 3; proto = AnyProtocol; src = record { address = 0; len = 0 }; sports = None; dst = record { address = 0; len = 0 }; dports = None }) } ∷
-    record { moment = 0; command = Add (record { number = 100; action = SendTo 3; proto = AnyProtocol; src = address_span 167772160 24; sports = None; dst = record { address = 0; len = 0 }; dports = None }) } ∷
+    record { moment = 0; command = Add (record { number = 200; action = Pipe 3; proto = AnyProtocol; src = record { address = 0; len = 0 }; sports = None; dst = record { address = 0; len = 0 }; dports = None }) } ∷
+    record { moment = 0; command = Add (record { number = 100; action = Pipe 3; proto = AnyProtocol; src = address_span 167772160 24; sports = None; dst = record { address = 0; len = 0 }; dports = None }) } ∷
     record { moment = 0; command = Config 2 (record { bw = 997; delay = 0; queue = KBytes 1; plr = 0; mask = record { proto = 0; src = 0; dst = 0; sport = 0; dport = 0 }; discipline = ControlledDelay 1000000 100000000 }) } ∷
     record { moment = 0; command = Config 4 (record { bw = 1000000; delay = 1200; queue = Slots 10; plr = 0; mask = record { proto = 255; src = 0; dst = 0; sport = 65535; dport = 15 }; discipline = ControlledDelay 3000000 100000000 }) } ∷
     record { moment = 0; command = Flow 300 (record { src = 167772161; sport = 80; dst = 167772418; dport = 1000; smss = 1096; segments = 6; ssthresh = 65535; window = 65535; timing = Fixed 200 }) } ∷
@@ -584,9 +584,9 @@ exp_8-records =
     InstanceLine 3 3 0 0 false 0 3 ∷
     PipeLine 4 (record { bw = 1000000; delay = 1200; queue = Slots 10; plr = 0; mask = record { proto = 255; src = 0; dst = 0; sport = 65535; dport = 15 }; discipline = ControlledDelay 3000000 100000000 }) ∷
     CommandDone 10000000 12 ∷
-    RuleLine (record { number = 100; action = SendTo 3; proto = AnyProtocol; src = address_span 167772160 24; sports = None; dst = record { address = 0; len = 0 }; dports = None }) 4 4543 ∷
-    RuleLine (record { number = 200; action = SendTo 3; proto = AnyProtocol; src = record { address = 0; len = 0 }; sports = None; dst = record { address = 0; len = 0 }; dports = None }) 4 160 ∷
-    RuleLine (record { number = 65535; action = Forbid; proto = AnyProtocol; src = record { address = 0; len = 0 }; sports = None; dst = record { address = 0; len = 0 }; dports = None }) 0 0 ∷
+    RuleLine (record { number = 100; action = Pipe 3; proto = AnyProtocol; src = address_span 167772160 24; sports = None; dst = record { address = 0; len = 0 }; dports = None }) 4 4543 ∷
+    RuleLine (record { number = 200; action = Pipe 3; proto = AnyProtocol; src = record { address = 0; len = 0 }; sports = None; dst = record { address = 0; len = 0 }; dports = None }) 4 160 ∷
+    RuleLine (record { number = 65535; action = Deny; proto = AnyProtocol; src = record { address = 0; len = 0 }; sports = None; dst = record { address = 0; len = 0 }; dports = None }) 0 0 ∷
     CommandDone 10000000 13 ∷
     []
 
@@ -607,9 +607,9 @@ abbrev exp_9-commands : List Timed
 exp_9-commands =
     record { moment = 0; command = Config 3 (record { bw = 3000000; delay = 50; queue = Slots 5; plr = 0; mask = record { proto = 1; src = 0; dst = 0; sport = 1; dport = 0 }; discipline = ControlledDelay 5000000 2000000 }) } ∷
     record { moment = 0; command = OnePass false } ∷
-    record { moment = 0; command = Add (record { number = 200; action = SendTo 2; proto = AnyProtocol; src = record { address = 0; len = 0 }; sports = None; dst = record { address = 0; len = 0 }; dports = None }) } ∷
+    record { moment = 0; command = Add (record { number = 200; action = Pipe 2; proto = AnyProtocol; src = record { address = 0; len = 0 }; sports = None; dst = record { address = 0; len = 0 }; dports = None }) } ∷
     record { moment = 0; command = Config 4 (record { bw = 3000000; delay = 400; queue = Slots 10; plr = 0; mask = record { proto = 0; src = 0; dst = 0; sport = 0; dport = 0 }; discipline = ControlledDelay 1000 7000000 }) } ∷
-    record { moment = 0; command = Add (record { number = 100; action = SendTo 1; proto = AnyProtocol; src = address_span 167772160 24; sports = None; dst = record { address = 0; len = 0 }; dports = None }) } ∷
+    record { moment = 0; command = Add (record { number = 100; action = Pipe 1; proto = AnyProtocol; src = address_span 167772160 24; sports = None; dst = record { address = 0; len = 0 }; dports = None }) } ∷
     record { moment = 0; command = Config 1 (record { bw = 3000000; delay = 1200; queue = Slots 2; plr = 500000; mask = record { proto = 0; src = 0; dst = 0; sport = 0; dport = 0 }; discipline = TailDrop }) } ∷
     record { moment = 0; command = Config 2 (record { bw = 10000000000; delay = 0; queue = KBytes 10; plr = 0; mask = record { proto = 255; src = 4294967295; dst = 4294967295; sport = 65535; dport = 65535 }; discipline = ControlledDelay 5000000 20000000 }) } ∷
     record { moment = 0; command = Train 5 (record { packet = record { proto = Tcp; src = 167772162; sport = 80; dst = 167772418; dport = 0; size = 500 }; count = 3; gap = 999 }) } ∷

@@ -3,7 +3,7 @@ use Rattle.std.specs.Prelude.{◌≡◌, refl, List, [], ◌∷◌, Some, None, 
 use Rattle.emu_model.specs.Spans.{address_span}
 use Rattle.emu_model.specs.declared.packets.Load.TheVariants.{Plain, Seg, Ack}
 use Rattle.emu_model.specs.declared.packets.Protocol.TheVariants.{Tcp, Udp}
-use Rattle.emu_model.specs.declared.rules.Action.TheVariants.{Permit, Forbid, Count, SkipTo, SendTo}
+use Rattle.emu_model.specs.declared.rules.Action.TheVariants.{Allow, Deny, Count, SkipTo, Pipe}
 use Rattle.emu_model.specs.declared.rules.ProtocolMatch.TheVariants.{AnyProtocol, OnlyTcp, OnlyUdp}
 use Rattle.emu_model.specs.declared.pipes.QueueLimit.TheVariants.{Slots, KBytes}
 use Rattle.emu_model.specs.declared.pipes.Discipline.TheVariants.{TailDrop, ControlledDelay}
@@ -25,8 +25,8 @@ use Rattle.rand_core.specs.Steps.{u32_at}
 abbrev exp_0-commands : List Timed
 exp_0-commands =
     record { moment = 0; command = Config 3 (record { bw = 56000; delay = 400; queue = Slots 50; plr = 0; mask = record { proto = 0; src = 0; dst = 0; sport = 0; dport = 0 }; discipline = TailDrop }) } ∷
-    record { moment = 0; command = Add (record { number = 200; action = SendTo 3; proto = AnyProtocol; src = record { address = 0; len = 0 }; sports = None; dst = record { address = 0; len = 0 }; dports = None }) } ∷
-    record { moment = 0; command = Add (record { number = 100; action = SendTo 2; proto = AnyProtocol; src = address_span 167772160 24; sports = None; dst = record { address = 0; len = 0 }; dports = None }) } ∷
+    record { moment = 0; command = Add (record { number = 200; action = Pipe 3; proto = AnyProtocol; src = record { address = 0; len = 0 }; sports = None; dst = record { address = 0; len = 0 }; dports = None }) } ∷
+    record { moment = 0; command = Add (record { number = 100; action = Pipe 2; proto = AnyProtocol; src = address_span 167772160 24; sports = None; dst = record { address = 0; len = 0 }; dports = None }) } ∷
     record { moment = 0; command = Config 4 (record { bw = 1000000; delay = 1; queue = Slots 50; plr = 0; mask = record { proto = 255; src = 4294967295; dst = 4294967295; sport = 65535; dport = 65535 }; discipline = ControlledDelay 20000000 100000000 }) } ∷
     record { moment = 0; command = OnePass false } ∷
     record { moment = 0; command = Config 1 (record { bw = 3000000; delay = 400; queue = Slots 3; plr = 0; mask = record { proto = 0; src = 0; dst = 0; sport = 0; dport = 0 }; discipline = ControlledDelay 20000000 1000000000 }) } ∷
@@ -67,11 +67,11 @@ exp_0-records =
     PacketFinished 82285715 0 3 0 ∷
     CommandDone 88000000 16 ∷
     CommandDone 88000000 17 ∷
-    RuleLine (record { number = 200; action = SendTo 3; proto = AnyProtocol; src = record { address = 0; len = 0 }; sports = None; dst = record { address = 0; len = 0 }; dports = None }) 1 576 ∷
-    RuleLine (record { number = 65535; action = Forbid; proto = AnyProtocol; src = record { address = 0; len = 0 }; sports = None; dst = record { address = 0; len = 0 }; dports = None }) 0 0 ∷
+    RuleLine (record { number = 200; action = Pipe 3; proto = AnyProtocol; src = record { address = 0; len = 0 }; sports = None; dst = record { address = 0; len = 0 }; dports = None }) 1 576 ∷
+    RuleLine (record { number = 65535; action = Deny; proto = AnyProtocol; src = record { address = 0; len = 0 }; sports = None; dst = record { address = 0; len = 0 }; dports = None }) 0 0 ∷
     CommandDone 88000000 18 ∷
-    RuleLine (record { number = 200; action = SendTo 3; proto = AnyProtocol; src = record { address = 0; len = 0 }; sports = None; dst = record { address = 0; len = 0 }; dports = None }) 1 576 ∷
-    RuleLine (record { number = 65535; action = Forbid; proto = AnyProtocol; src = record { address = 0; len = 0 }; sports = None; dst = record { address = 0; len = 0 }; dports = None }) 0 0 ∷
+    RuleLine (record { number = 200; action = Pipe 3; proto = AnyProtocol; src = record { address = 0; len = 0 }; sports = None; dst = record { address = 0; len = 0 }; dports = None }) 1 576 ∷
+    RuleLine (record { number = 65535; action = Deny; proto = AnyProtocol; src = record { address = 0; len = 0 }; sports = None; dst = record { address = 0; len = 0 }; dports = None }) 0 0 ∷
     PacketDelivered 482285715 0 (Seg 2 0) ∷
     PacketMade 482285715 1 (Ack 2 536) Tcp 167772161 65535 3232237321 1 40 ∷
     PacketArrived 482285715 1 3 0 ∷
@@ -102,11 +102,11 @@ exp_0 = refl
 -- experiment d91
 abbrev exp_1-commands : List Timed
 exp_1-commands =
-    record { moment = 0; command = Add (record { number = 200; action = SendTo 1; proto = AnyProtocol; src = record { address = 0; len = 0 }; sports = None; dst = record { address = 0; len = 0 }; dports = None }) } ∷
+    record { moment = 0; command = Add (record { number = 200; action = Pipe 1; proto = AnyProtocol; src = record { address = 0; len = 0 }; sports = None; dst = record { address = 0; len = 0 }; dports = None }) } ∷
     record { moment = 0; command = Config 4 (record { bw = 7777777; delay = 0; queue = Slots 1000; plr = 0; mask = record { proto = 0; src = 0; dst = 0; sport = 0; dport = 0 }; discipline = ControlledDelay 100000 100000000 }) } ∷
     record { moment = 0; command = Config 3 (record { bw = 0; delay = 0; queue = KBytes 10; plr = 500000; mask = record { proto = 0; src = 0; dst = 0; sport = 0; dport = 0 }; discipline = ControlledDelay 1000 10000000 }) } ∷
-    record { moment = 0; command = Add (record { number = 100; action = SendTo 3; proto = AnyProtocol; src = address_span 167772160 24; sports = None; dst = record { address = 0; len = 0 }; dports = None }) } ∷
-    record { moment = 0; command = Add (record { number = 1; action = SendTo 1; proto = AnyProtocol; src = record { address = 0; len = 0 }; sports = Some (record { first = 2000; last = 2000 }); dst = address_span 167772160 8; dports = Some (record { first = 1000; last = 2000 }) }) } ∷
+    record { moment = 0; command = Add (record { number = 100; action = Pipe 3; proto = AnyProtocol; src = address_span 167772160 24; sports = None; dst = record { address = 0; len = 0 }; dports = None }) } ∷
+    record { moment = 0; command = Add (record { number = 1; action = Pipe 1; proto = AnyProtocol; src = record { address = 0; len = 0 }; sports = Some (record { first = 2000; last = 2000 }); dst = address_span 167772160 8; dports = Some (record { first = 1000; last = 2000 }) }) } ∷
     record { moment = 0; command = Config 1 (record { bw = 10000000; delay = 0; queue = Slots 50; plr = 50000; mask = record { proto = 0; src = 0; dst = 0; sport = 0; dport = 0 }; discipline = ControlledDelay 1000000 20000000 }) } ∷
     record { moment = 0; command = Config 2 (record { bw = 8000000; delay = 1; queue = Slots 10; plr = 1; mask = record { proto = 0; src = 0; dst = 0; sport = 0; dport = 0 }; discipline = TailDrop }) } ∷
     record { moment = 400000000; command = Train 3 (record { packet = record { proto = Tcp; src = 167772161; sport = 0; dst = 167772418; dport = 1000; size = 999 }; count = 2; gap = 1000000 }) } ∷
@@ -143,10 +143,10 @@ exp_1-records =
     InstanceLine 3 0 0 0 false 0 2 ∷
     PipeLine 4 (record { bw = 0; delay = 5; queue = KBytes 2; plr = 0; mask = record { proto = 0; src = 0; dst = 0; sport = 0; dport = 0 }; discipline = TailDrop }) ∷
     CommandDone 2000000000 13 ∷
-    RuleLine (record { number = 1; action = SendTo 1; proto = AnyProtocol; src = record { address = 0; len = 0 }; sports = Some (record { first = 2000; last = 2000 }); dst = address_span 167772160 8; dports = Some (record { first = 1000; last = 2000 }) }) 0 0 ∷
-    RuleLine (record { number = 100; action = SendTo 3; proto = AnyProtocol; src = address_span 167772160 24; sports = None; dst = record { address = 0; len = 0 }; dports = None }) 2 1998 ∷
-    RuleLine (record { number = 200; action = SendTo 1; proto = AnyProtocol; src = record { address = 0; len = 0 }; sports = None; dst = record { address = 0; len = 0 }; dports = None }) 0 0 ∷
-    RuleLine (record { number = 65535; action = Forbid; proto = AnyProtocol; src = record { address = 0; len = 0 }; sports = None; dst = record { address = 0; len = 0 }; dports = None }) 0 0 ∷
+    RuleLine (record { number = 1; action = Pipe 1; proto = AnyProtocol; src = record { address = 0; len = 0 }; sports = Some (record { first = 2000; last = 2000 }); dst = address_span 167772160 8; dports = Some (record { first = 1000; last = 2000 }) }) 0 0 ∷
+    RuleLine (record { number = 100; action = Pipe 3; proto = AnyProtocol; src = address_span 167772160 24; sports = None; dst = record { address = 0; len = 0 }; dports = None }) 2 1998 ∷
+    RuleLine (record { number = 200; action = Pipe 1; proto = AnyProtocol; src = record { address = 0; len = 0 }; sports = None; dst = record { address = 0; len = 0 }; dports = None }) 0 0 ∷
+    RuleLine (record { number = 65535; action = Deny; proto = AnyProtocol; src = record { address = 0; len = 0 }; sports = None; dst = record { address = 0; len = 0 }; dports = None }) 0 0 ∷
     CommandDone 2000000000 14 ∷
     []
 
@@ -168,10 +168,10 @@ exp_2-commands =
     record { moment = 0; command = Config 1 (record { bw = 8000000; delay = 10; queue = KBytes 3; plr = 0; mask = record { proto = 0; src = 0; dst = 0; sport = 0; dport = 0 }; discipline = ControlledDelay 1000 10000000 }) } ∷
     record { moment = 0; command = OnePass false } ∷
     record { moment = 0; command = Add (record { number = 100; action = SkipTo 65535; proto = AnyProtocol; src = record { address = 0; len = 0 }; sports = Some (record { first = 1; last = 1 }); dst = record { address = 0; len = 0 }; dports = None }) } ∷
-    record { moment = 0; command = Add (record { number = 200; action = SendTo 2; proto = AnyProtocol; src = record { address = 0; len = 0 }; sports = None; dst = record { address = 0; len = 0 }; dports = None }) } ∷
+    record { moment = 0; command = Add (record { number = 200; action = Pipe 2; proto = AnyProtocol; src = record { address = 0; len = 0 }; sports = None; dst = record { address = 0; len = 0 }; dports = None }) } ∷
     record { moment = 0; command = Config 2 (record { bw = 1000000000; delay = 50; queue = KBytes 2; plr = 20000; mask = record { proto = 255; src = 4294967295; dst = 4294967295; sport = 65535; dport = 65535 }; discipline = TailDrop }) } ∷
-    record { moment = 0; command = Add (record { number = 300; action = SendTo 3; proto = AnyProtocol; src = address_span 167772160 24; sports = None; dst = address_span 3232235520 16; dports = Some (record { first = 0; last = 80 }) }) } ∷
-    record { moment = 0; command = Add (record { number = 100; action = SendTo 1; proto = AnyProtocol; src = address_span 167772160 24; sports = None; dst = record { address = 0; len = 0 }; dports = None }) } ∷
+    record { moment = 0; command = Add (record { number = 300; action = Pipe 3; proto = AnyProtocol; src = address_span 167772160 24; sports = None; dst = address_span 3232235520 16; dports = Some (record { first = 0; last = 80 }) }) } ∷
+    record { moment = 0; command = Add (record { number = 100; action = Pipe 1; proto = AnyProtocol; src = address_span 167772160 24; sports = None; dst = record { address = 0; len = 0 }; dports = None }) } ∷
     record { moment = 0; command = Config 3 (record { bw = 3000000; delay = 1200; queue = Slots 3; plr = 0; mask = record { proto = 0; src = 0; dst = 0; sport = 0; dport = 0 }; discipline = ControlledDelay 100000 1000 }) } ∷
     record { moment = 0; command = Flow 5 (record { src = 167772161; sport = 1; dst = 167772418; dport = 1000; smss = 536; segments = 4; ssthresh = 4000; window = 65535; timing = Adaptive }) } ∷
     record { moment = 5000000000; command = PipeShow } ∷
@@ -204,10 +204,10 @@ exp_2-records =
     PipeLine 3 (record { bw = 3000000; delay = 1200; queue = Slots 3; plr = 0; mask = record { proto = 0; src = 0; dst = 0; sport = 0; dport = 0 }; discipline = ControlledDelay 100000 1000 }) ∷
     CommandDone 5000000000 10 ∷
     RuleLine (record { number = 100; action = SkipTo 65535; proto = AnyProtocol; src = record { address = 0; len = 0 }; sports = Some (record { first = 1; last = 1 }); dst = record { address = 0; len = 0 }; dports = None }) 6 3456 ∷
-    RuleLine (record { number = 100; action = SendTo 1; proto = AnyProtocol; src = address_span 167772160 24; sports = None; dst = record { address = 0; len = 0 }; dports = None }) 0 0 ∷
-    RuleLine (record { number = 200; action = SendTo 2; proto = AnyProtocol; src = record { address = 0; len = 0 }; sports = None; dst = record { address = 0; len = 0 }; dports = None }) 0 0 ∷
-    RuleLine (record { number = 300; action = SendTo 3; proto = AnyProtocol; src = address_span 167772160 24; sports = None; dst = address_span 3232235520 16; dports = Some (record { first = 0; last = 80 }) }) 0 0 ∷
-    RuleLine (record { number = 65535; action = Forbid; proto = AnyProtocol; src = record { address = 0; len = 0 }; sports = None; dst = record { address = 0; len = 0 }; dports = None }) 6 3456 ∷
+    RuleLine (record { number = 100; action = Pipe 1; proto = AnyProtocol; src = address_span 167772160 24; sports = None; dst = record { address = 0; len = 0 }; dports = None }) 0 0 ∷
+    RuleLine (record { number = 200; action = Pipe 2; proto = AnyProtocol; src = record { address = 0; len = 0 }; sports = None; dst = record { address = 0; len = 0 }; dports = None }) 0 0 ∷
+    RuleLine (record { number = 300; action = Pipe 3; proto = AnyProtocol; src = address_span 167772160 24; sports = None; dst = address_span 3232235520 16; dports = Some (record { first = 0; last = 80 }) }) 0 0 ∷
+    RuleLine (record { number = 65535; action = Deny; proto = AnyProtocol; src = record { address = 0; len = 0 }; sports = None; dst = record { address = 0; len = 0 }; dports = None }) 6 3456 ∷
     CommandDone 5000000000 11 ∷
     []
 
@@ -228,8 +228,8 @@ abbrev exp_3-commands : List Timed
 exp_3-commands =
     record { moment = 0; command = Config 2 (record { bw = 1000000; delay = 10; queue = KBytes 10; plr = 0; mask = record { proto = 0; src = 0; dst = 0; sport = 0; dport = 0 }; discipline = TailDrop }) } ∷
     record { moment = 0; command = Config 3 (record { bw = 7777777; delay = 1200; queue = KBytes 3; plr = 0; mask = record { proto = 0; src = 0; dst = 0; sport = 0; dport = 0 }; discipline = TailDrop }) } ∷
-    record { moment = 0; command = Add (record { number = 100; action = SendTo 1; proto = AnyProtocol; src = address_span 167772160 24; sports = None; dst = record { address = 0; len = 0 }; dports = None }) } ∷
-    record { moment = 0; command = Add (record { number = 200; action = SendTo 1; proto = AnyProtocol; src = record { address = 0; len = 0 }; sports = None; dst = record { address = 0; len = 0 }; dports = None }) } ∷
+    record { moment = 0; command = Add (record { number = 100; action = Pipe 1; proto = AnyProtocol; src = address_span 167772160 24; sports = None; dst = record { address = 0; len = 0 }; dports = None }) } ∷
+    record { moment = 0; command = Add (record { number = 200; action = Pipe 1; proto = AnyProtocol; src = record { address = 0; len = 0 }; sports = None; dst = record { address = 0; len = 0 }; dports = None }) } ∷
     record { moment = 0; command = Config 4 (record { bw = 10000000; delay = 5; queue = KBytes 2; plr = 1000000; mask = record { proto = 0; src = 0; dst = 0; sport = 0; dport = 0 }; discipline = TailDrop }) } ∷
     record { moment = 0; command = Config 1 (record { bw = 0; delay = 50; queue = Slots 50; plr = 500000; mask = record { proto = 0; src = 0; dst = 0; sport = 0; dport = 0 }; discipline = TailDrop }) } ∷
     record { moment = 0; command = Flow 2 (record { src = 167772161; sport = 1; dst = 167772418; dport = 7; smss = 1095; segments = 1; ssthresh = 65535; window = 65535; timing = Fixed 60000 }) } ∷
@@ -289,9 +289,9 @@ abbrev exp_4-commands : List Timed
 exp_4-commands =
     record { moment = 0; command = Config 2 (record { bw = 8000000; delay = 1; queue = Slots 50; plr = 0; mask = record { proto = 0; src = 0; dst = 0; sport = 0; dport = 255 }; discipline = TailDrop }) } ∷
     record { moment = 0; command = Config 1 (record { bw = 10000000000; delay = 2; queue = Slots 10; plr = 500000; mask = record { proto = 0; src = 0; dst = 0; sport = 0; dport = 0 }; discipline = ControlledDelay 5000000 100000000 }) } ∷
-    record { moment = 0; command = Add (record { number = 150; action = SendTo 3; proto = OnlyUdp; src = record { address = 0; len = 0 }; sports = None; dst = record { address = 0; len = 0 }; dports = Some (record { first = 0; last = 80 }) }) } ∷
+    record { moment = 0; command = Add (record { number = 150; action = Pipe 3; proto = OnlyUdp; src = record { address = 0; len = 0 }; sports = None; dst = record { address = 0; len = 0 }; dports = Some (record { first = 0; last = 80 }) }) } ∷
     record { moment = 0; command = Config 3 (record { bw = 997; delay = 5; queue = KBytes 3; plr = 0; mask = record { proto = 255; src = 4294967295; dst = 4294967295; sport = 65535; dport = 65535 }; discipline = TailDrop }) } ∷
-    record { moment = 0; command = Add (record { number = 150; action = SendTo 2; proto = OnlyTcp; src = address_span 167772160 24; sports = None; dst = record { address = 0; len = 0 }; dports = Some (record { first = 7; last = 7 }) }) } ∷
+    record { moment = 0; command = Add (record { number = 150; action = Pipe 2; proto = OnlyTcp; src = address_span 167772160 24; sports = None; dst = record { address = 0; len = 0 }; dports = Some (record { first = 7; last = 7 }) }) } ∷
     record { moment = 0; command = Train 4 (record { packet = record { proto = Udp; src = 167772162; sport = 65535; dst = 167772418; dport = 80; size = 1000 }; count = 5; gap = 125000 }) } ∷
     record { moment = 30000000000; command = PipeShow } ∷
     record { moment = 30000000000; command = Show } ∷
@@ -319,9 +319,9 @@ exp_4-records =
     PipeLine 3 (record { bw = 997; delay = 5; queue = KBytes 3; plr = 0; mask = record { proto = 255; src = 4294967295; dst = 4294967295; sport = 65535; dport = 65535 }; discipline = TailDrop }) ∷
     InstanceLine 3 0 0 0 true 0 5 ∷
     CommandDone 30000000000 7 ∷
-    RuleLine (record { number = 150; action = SendTo 3; proto = OnlyUdp; src = record { address = 0; len = 0 }; sports = None; dst = record { address = 0; len = 0 }; dports = Some (record { first = 0; last = 80 }) }) 5 5000 ∷
-    RuleLine (record { number = 150; action = SendTo 2; proto = OnlyTcp; src = address_span 167772160 24; sports = None; dst = record { address = 0; len = 0 }; dports = Some (record { first = 7; last = 7 }) }) 0 0 ∷
-    RuleLine (record { number = 65535; action = Forbid; proto = AnyProtocol; src = record { address = 0; len = 0 }; sports = None; dst = record { address = 0; len = 0 }; dports = None }) 0 0 ∷
+    RuleLine (record { number = 150; action = Pipe 3; proto = OnlyUdp; src = record { address = 0; len = 0 }; sports = None; dst = record { address = 0; len = 0 }; dports = Some (record { first = 0; last = 80 }) }) 5 5000 ∷
+    RuleLine (record { number = 150; action = Pipe 2; proto = OnlyTcp; src = address_span 167772160 24; sports = None; dst = record { address = 0; len = 0 }; dports = Some (record { first = 7; last = 7 }) }) 0 0 ∷
+    RuleLine (record { number = 65535; action = Deny; proto = AnyProtocol; src = record { address = 0; len = 0 }; sports = None; dst = record { address = 0; len = 0 }; dports = None }) 0 0 ∷
     CommandDone 30000000000 8 ∷
     []
 
@@ -343,8 +343,8 @@ exp_5-commands =
     record { moment = 0; command = Config 1 (record { bw = 1000000; delay = 5; queue = Slots 1; plr = 20000; mask = record { proto = 255; src = 4294967295; dst = 4294967295; sport = 65535; dport = 65535 }; discipline = ControlledDelay 3000000 100000000 }) } ∷
     record { moment = 0; command = Config 3 (record { bw = 997; delay = 50; queue = Slots 50; plr = 0; mask = record { proto = 0; src = 0; dst = 0; sport = 0; dport = 0 }; discipline = TailDrop }) } ∷
     record { moment = 0; command = Config 4 (record { bw = 56000; delay = 50; queue = KBytes 2; plr = 1000000; mask = record { proto = 0; src = 0; dst = 0; sport = 0; dport = 0 }; discipline = ControlledDelay 20000000 100000000 }) } ∷
-    record { moment = 0; command = Add (record { number = 200; action = SendTo 2; proto = AnyProtocol; src = record { address = 0; len = 0 }; sports = None; dst = record { address = 0; len = 0 }; dports = None }) } ∷
-    record { moment = 0; command = Add (record { number = 100; action = SendTo 1; proto = AnyProtocol; src = address_span 167772160 24; sports = None; dst = record { address = 0; len = 0 }; dports = None }) } ∷
+    record { moment = 0; command = Add (record { number = 200; action = Pipe 2; proto = AnyProtocol; src = record { address = 0; len = 0 }; sports = None; dst = record { address = 0; len = 0 }; dports = None }) } ∷
+    record { moment = 0; command = Add (record { number = 100; action = Pipe 1; proto = AnyProtocol; src = address_span 167772160 24; sports = None; dst = record { address = 0; len = 0 }; dports = None }) } ∷
     record { moment = 0; command = OnePass false } ∷
     record { moment = 0; command = Flow 300 (record { src = 167772162; sport = 65535; dst = 167772417; dport = 80; smss = 1096; segments = 4; ssthresh = 65535; window = 65535; timing = Adaptive }) } ∷
     record { moment = 0; command = Train 1 (record { packet = record { proto = Udp; src = 167772162; sport = 65535; dst = 167772417; dport = 1; size = 41 }; count = 2; gap = 2000000 }) } ∷
@@ -411,9 +411,9 @@ exp_6-commands =
     record { moment = 0; command = Config 4 (record { bw = 3000000; delay = 50; queue = Slots 50; plr = 1000000; mask = record { proto = 0; src = 255; dst = 0; sport = 0; dport = 15 }; discipline = ControlledDelay 3000000 100000000 }) } ∷
     record { moment = 0; command = OnePass false } ∷
     record { moment = 0; command = Config 1 (record { bw = 1000000; delay = 10; queue = KBytes 3; plr = 0; mask = record { proto = 255; src = 4294967295; dst = 4294967295; sport = 65535; dport = 65535 }; discipline = TailDrop }) } ∷
-    record { moment = 0; command = Add (record { number = 200; action = SendTo 2; proto = AnyProtocol; src = record { address = 0; len = 0 }; sports = None; dst = record { address = 0; len = 0 }; dports = None }) } ∷
+    record { moment = 0; command = Add (record { number = 200; action = Pipe 2; proto = AnyProtocol; src = record { address = 0; len = 0 }; sports = None; dst = record { address = 0; len = 0 }; dports = None }) } ∷
     record { moment = 0; command = Config 3 (record { bw = 1000000000; delay = 10; queue = Slots 3; plr = 200000; mask = record { proto = 0; src = 0; dst = 0; sport = 0; dport = 0 }; discipline = ControlledDelay 1000 100000000 }) } ∷
-    record { moment = 0; command = Add (record { number = 100; action = SendTo 2; proto = AnyProtocol; src = address_span 167772160 24; sports = None; dst = record { address = 0; len = 0 }; dports = None }) } ∷
+    record { moment = 0; command = Add (record { number = 100; action = Pipe 2; proto = AnyProtocol; src = address_span 167772160 24; sports = None; dst = record { address = 0; len = 0 }; dports = None }) } ∷
     record { moment = 0; command = Inject (record { proto = Tcp; src = 167772162; sport = 0; dst = 167772417; dport = 1; size = 1499 }) } ∷
     record { moment = 4000000000; command = Delete 1 } ∷
     record { moment = 13000000000; command = Inject (record { proto = Tcp; src = 167772162; sport = 80; dst = 167772417; dport = 7; size = 1000 }) } ∷
@@ -470,10 +470,10 @@ exp_6-records =
     PipeLine 3 (record { bw = 1000000000; delay = 10; queue = Slots 3; plr = 200000; mask = record { proto = 0; src = 0; dst = 0; sport = 0; dport = 0 }; discipline = ControlledDelay 1000 100000000 }) ∷
     PipeLine 4 (record { bw = 3000000; delay = 50; queue = Slots 50; plr = 1000000; mask = record { proto = 0; src = 255; dst = 0; sport = 0; dport = 15 }; discipline = ControlledDelay 3000000 100000000 }) ∷
     CommandDone 100000000000 12 ∷
-    RuleLine (record { number = 100; action = SendTo 2; proto = AnyProtocol; src = address_span 167772160 24; sports = None; dst = record { address = 0; len = 0 }; dports = None }) 2 2499 ∷
+    RuleLine (record { number = 100; action = Pipe 2; proto = AnyProtocol; src = address_span 167772160 24; sports = None; dst = record { address = 0; len = 0 }; dports = None }) 2 2499 ∷
     RuleLine (record { number = 100; action = SkipTo 65535; proto = OnlyUdp; src = record { address = 0; len = 0 }; sports = None; dst = record { address = 0; len = 0 }; dports = None }) 0 0 ∷
-    RuleLine (record { number = 200; action = SendTo 2; proto = AnyProtocol; src = record { address = 0; len = 0 }; sports = None; dst = record { address = 0; len = 0 }; dports = None }) 15 7500 ∷
-    RuleLine (record { number = 65535; action = Forbid; proto = AnyProtocol; src = record { address = 0; len = 0 }; sports = None; dst = record { address = 0; len = 0 }; dports = None }) 0 0 ∷
+    RuleLine (record { number = 200; action = Pipe 2; proto = AnyProtocol; src = record { address = 0; len = 0 }; sports = None; dst = record { address = 0; len = 0 }; dports = None }) 15 7500 ∷
+    RuleLine (record { number = 65535; action = Deny; proto = AnyProtocol; src = record { address = 0; len = 0 }; sports = None; dst = record { address = 0; len = 0 }; dports = None }) 0 0 ∷
     CommandDone 100000000000 13 ∷
     []
 
@@ -492,17 +492,17 @@ exp_6 = refl
 -- experiment d97
 abbrev exp_7-commands : List Timed
 exp_7-commands =
-    record { moment = 0; command = Add (record { number = 100; action = SendTo 1; proto = AnyProtocol; src = address_span 167772160 24; sports = None; dst = record { address = 0; len = 0 }; dports = None }) } ∷
-    record { moment = 0; command = Add (record { number = 200; action = Permit; proto = AnyProtocol; src = record { address = 0; len = 0 }; sports = None; dst = record { address = 0; len = 0 }; dports = None }) } ∷
+    record { moment = 0; command = Add (record { number = 100; action = Pipe 1; proto = AnyProtocol; src = address_span 167772160 24; sports = None; dst = record { address = 0; len = 0 }; dports = None }) } ∷
+    record { moment = 0; command = Add (record { number = 200; action = Allow; proto = AnyProtocol; src = record { address = 0; len = 0 }; sports = None; dst = record { address = 0; len = 0 }; dports = None }) } ∷
     record { moment = 0; command = Config 2 (record { bw = 997; delay = 10; queue = Slots 1; plr = 0; mask = record { proto = 0; src = 0; dst = 0; sport = 0; dport = 0 }; discipline = TailDrop }) } ∷
-    record { moment = 0; command = Add (record { number = 200; action = SendTo 2; proto = AnyProtocol; src = record { address = 0; len = 0 }; sports = None; dst = record { address = 0; len = 0 }; dports = None }) } ∷
+    record { moment = 0; command = Add (record { number = 200; action = Pipe 2; proto = AnyProtocol; src = record { address = 0; len = 0 }; sports = None; dst = record { address = 0; len = 0 }; dports = None }) } ∷
     record { moment = 0; command = OnePass false } ∷
     record { moment = 0; command = Config 1 (record { bw = 10000000000; delay = 0; queue = Slots 50; plr = 0; mask = record { proto = 0; src = 0; dst = 0; sport = 0; dport = 0 }; discipline = TailDrop }) } ∷
     record { moment = 0; command = Config 4 (record { bw = 8000000; delay = 10; queue = Slots 3; plr = 200000; mask = record { proto = 0; src = 0; dst = 0; sport = 0; dport = 0 }; discipline = ControlledDelay 1000000 1000 }) } ∷
     record { moment = 0; command = Config 3 (record { bw = 0; delay = 10; queue = Slots 5; plr = 0; mask = record { proto = 0; src = 0; dst = 0; sport = 0; dport = 0 }; discipline = ControlledDelay 3000000 100000000 }) } ∷
     record { moment = 0; command = Flow 4 (record { src = 4294967295; sport = 80; dst = 0; dport = 80; smss = 1000; segments = 5; ssthresh = 65535; window = 65535; timing = Adaptive }) } ∷
     record { moment = 0; command = Inject (record { proto = Udp; src = 167772161; sport = 2000; dst = 167772417; dport = 7; size = 41 }) } ∷
-    record { moment = 0; command = Add (record { number = 1; action = SendTo 3; proto = OnlyTcp; src = record { address = 0; len = 0 }; sports = Some (record { first = 2000; last = 2000 }); dst = address_span 3232235520 16; dports = None }) } ∷
+    record { moment = 0; command = Add (record { number = 1; action = Pipe 3; proto = OnlyTcp; src = record { address = 0; len = 0 }; sports = Some (record { first = 2000; last = 2000 }); dst = address_span 3232235520 16; dports = None }) } ∷
     record { moment = 80000; command = Flow 1 (record { src = 167772161; sport = 0; dst = 167772418; dport = 1000; smss = 1096; segments = 1; ssthresh = 65535; window = 65535; timing = Fixed 1000 }) } ∷
     record { moment = 13057781992; command = Train 4 (record { packet = record { proto = Tcp; src = 0; sport = 1; dst = 167772417; dport = 1000; size = 1499 }; count = 3; gap = 125000 }) } ∷
     record { moment = 13057781992; command = End } ∷
@@ -615,7 +615,7 @@ exp_8-records =
     CommandDone 5000000000 12 ∷
     RuleLine (record { number = 200; action = SkipTo 400; proto = OnlyTcp; src = address_span 167772160 24; sports = None; dst = record { address = 0; len = 0 }; dports = Some (record { first = 80; last = 65535 }) }) 4 4160 ∷
     RuleLine (record { number = 400; action = Count; proto = OnlyUdp; src = address_span 167772162 31; sports = Some (record { first = 65535; last = 65535 }); dst = address_span 167772416 24; dports = None }) 2 1539 ∷
-    RuleLine (record { number = 65535; action = Forbid; proto = AnyProtocol; src = record { address = 0; len = 0 }; sports = None; dst = record { address = 0; len = 0 }; dports = None }) 11 11159 ∷
+    RuleLine (record { number = 65535; action = Deny; proto = AnyProtocol; src = record { address = 0; len = 0 }; sports = None; dst = record { address = 0; len = 0 }; dports = None }) 11 11159 ∷
     CommandDone 5000000000 13 ∷
     []
 
@@ -634,18 +634,18 @@ exp_8 = refl
 -- experiment d99
 abbrev exp_9-commands : List Timed
 exp_9-commands =
-    record { moment = 0; command = Add (record { number = 200; action = SendTo 3; proto = OnlyUdp; src = record { address = 0; len = 0 }; sports = None; dst = address_span 167772416 24; dports = Some (record { first = 7; last = 7 }) }) } ∷
-    record { moment = 0; command = Add (record { number = 100; action = SendTo 3; proto = AnyProtocol; src = address_span 167772160 24; sports = None; dst = record { address = 0; len = 0 }; dports = None }) } ∷
+    record { moment = 0; command = Add (record { number = 200; action = Pipe 3; proto = OnlyUdp; src = record { address = 0; len = 0 }; sports = None; dst = address_span 167772416 24; dports = Some (record { first = 7; last = 7 }) }) } ∷
+    record { moment = 0; command = Add (record { number = 100; action = Pipe 3; proto = AnyProtocol; src = address_span 167772160 24; sports = None; dst = record { address = 0; len = 0 }; dports = None }) } ∷
     record { moment = 0; command = Config 1 (record { bw = 0; delay = 50; queue = Slots 1000; plr = 0; mask = record { proto = 0; src = 0; dst = 0; sport = 0; dport = 0 }; discipline = ControlledDelay 1000000 100000000 }) } ∷
     record { moment = 0; command = Config 4 (record { bw = 997; delay = 2; queue = Slots 50; plr = 0; mask = record { proto = 255; src = 4294967295; dst = 4294967295; sport = 65535; dport = 65535 }; discipline = TailDrop }) } ∷
-    record { moment = 0; command = Add (record { number = 100; action = SendTo 2; proto = AnyProtocol; src = record { address = 0; len = 0 }; sports = None; dst = address_span 167772162 31; dports = None }) } ∷
+    record { moment = 0; command = Add (record { number = 100; action = Pipe 2; proto = AnyProtocol; src = record { address = 0; len = 0 }; sports = None; dst = address_span 167772162 31; dports = None }) } ∷
     record { moment = 0; command = Config 3 (record { bw = 0; delay = 1; queue = Slots 5; plr = 20000; mask = record { proto = 0; src = 0; dst = 0; sport = 0; dport = 0 }; discipline = TailDrop }) } ∷
     record { moment = 0; command = Add (record { number = 300; action = Count; proto = OnlyUdp; src = record { address = 0; len = 0 }; sports = None; dst = record { address = 0; len = 0 }; dports = Some (record { first = 65535; last = 65535 }) }) } ∷
-    record { moment = 0; command = Add (record { number = 200; action = SendTo 2; proto = AnyProtocol; src = record { address = 0; len = 0 }; sports = None; dst = record { address = 0; len = 0 }; dports = None }) } ∷
+    record { moment = 0; command = Add (record { number = 200; action = Pipe 2; proto = AnyProtocol; src = record { address = 0; len = 0 }; sports = None; dst = record { address = 0; len = 0 }; dports = None }) } ∷
     record { moment = 0; command = Config 2 (record { bw = 7777777; delay = 10; queue = Slots 2; plr = 20000; mask = record { proto = 0; src = 0; dst = 0; sport = 0; dport = 0 }; discipline = TailDrop }) } ∷
-    record { moment = 0; command = Add (record { number = 1; action = SendTo 2; proto = AnyProtocol; src = record { address = 0; len = 0 }; sports = None; dst = address_span 167772162 31; dports = None }) } ∷
-    record { moment = 0; command = Add (record { number = 200; action = Permit; proto = OnlyTcp; src = record { address = 0; len = 0 }; sports = None; dst = record { address = 0; len = 0 }; dports = None }) } ∷
-    record { moment = 0; command = Add (record { number = 1; action = SendTo 2; proto = OnlyTcp; src = record { address = 0; len = 0 }; sports = Some (record { first = 1000; last = 2000 }); dst = address_span 167772162 31; dports = None }) } ∷
+    record { moment = 0; command = Add (record { number = 1; action = Pipe 2; proto = AnyProtocol; src = record { address = 0; len = 0 }; sports = None; dst = address_span 167772162 31; dports = None }) } ∷
+    record { moment = 0; command = Add (record { number = 200; action = Allow; proto = OnlyTcp; src = record { address = 0; len = 0 }; sports = None; dst = record { address = 0; len = 0 }; dports = None }) } ∷
+    record { moment = 0; command = Add (record { number = 1; action = Pipe 2; proto = OnlyTcp; src = record { address = 0; len = 0 }; sports = Some (record { first = 1000; last = 2000 }); dst = address_span 167772162 31; dports = None }) } ∷
     record { moment = 0; command = Inject (record { proto = Udp; src = 167772161; sport = 1000; dst = 167772417; dport = 2000; size = 1000 }) } ∷
     record { moment = 0; command = Train 2 (record { packet = record { proto = Tcp; src = 167772161; sport = 65535; dst = 167772418; dport = 65535; size = 125 }; count = 2; gap = 1 }) } ∷
     record { moment = 0; command = Flow 1 (record { src = 167772162; sport = 1000; dst = 167772418; dport = 1; smss = 1460; segments = 2; ssthresh = 65535; window = 65535; timing = Fixed 1000 }) } ∷

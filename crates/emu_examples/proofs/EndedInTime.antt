@@ -1,6 +1,6 @@
 -- EndedInTime: the report of a scenario, computed by the definitions.
 use Rattle.std.specs.Prelude.{◌≡◌, refl, List, [], ◌∷◌, None}
-use Rattle.emu_model.specs.declared.rules.Action.TheVariants.{Forbid}
+use Rattle.emu_model.specs.declared.rules.Action.TheVariants.{Deny}
 use Rattle.emu_model.specs.declared.rules.ProtocolMatch.TheVariants.{AnyProtocol}
 use Rattle.emu_model.specs.declared.commands.Spec.{Spec}
 use Rattle.emu_model.specs.declared.commands.Timed.{Timed}
@@ -20,7 +20,7 @@ exp_0-commands =
 abbrev exp_0-records : List Record
 exp_0-records =
     CommandDone 0 0 ∷
-    RuleLine (record { number = 65535; action = Forbid; proto = AnyProtocol; src = record { address = 0; len = 0 }; sports = None; dst = record { address = 0; len = 0 }; dports = None }) 0 0 ∷
+    RuleLine (record { number = 65535; action = Deny; proto = AnyProtocol; src = record { address = 0; len = 0 }; sports = None; dst = record { address = 0; len = 0 }; dports = None }) 0 0 ∷
     CommandDone 5 1 ∷
     []
 

@@ -2,7 +2,7 @@
 use Rattle.std.specs.Prelude.{◌≡◌, refl, List, [], ◌∷◌, None, false}
 use Rattle.emu_model.specs.declared.packets.Load.TheVariants.{Plain}
 use Rattle.emu_model.specs.declared.packets.Protocol.TheVariants.{Tcp, Udp}
-use Rattle.emu_model.specs.declared.rules.Action.TheVariants.{SendTo}
+use Rattle.emu_model.specs.declared.rules.Action.TheVariants.{Pipe}
 use Rattle.emu_model.specs.declared.rules.ProtocolMatch.TheVariants.{AnyProtocol}
 use Rattle.emu_model.specs.declared.pipes.QueueLimit.TheVariants.{Slots}
 use Rattle.emu_model.specs.declared.pipes.Discipline.TheVariants.{TailDrop}
@@ -25,12 +25,12 @@ exp_0-commands =
     record { moment = 0; command = Config 4 (record { bw = 0; delay = 0; queue = Slots 50; plr = 0; mask = record { proto = 0; src = 0; dst = 0; sport = 0; dport = 1 }; discipline = TailDrop }) } ∷
     record { moment = 0; command = Config 5 (record { bw = 0; delay = 0; queue = Slots 50; plr = 0; mask = record { proto = 255; src = 0; dst = 0; sport = 0; dport = 0 }; discipline = TailDrop }) } ∷
     record { moment = 0; command = Config 6 (record { bw = 0; delay = 0; queue = Slots 50; plr = 0; mask = record { proto = 255; src = 4294967295; dst = 4294967295; sport = 65535; dport = 65535 }; discipline = TailDrop }) } ∷
-    record { moment = 0; command = Add (record { number = 100; action = SendTo 1; proto = AnyProtocol; src = record { address = 0; len = 0 }; sports = None; dst = record { address = 0; len = 0 }; dports = None }) } ∷
-    record { moment = 0; command = Add (record { number = 200; action = SendTo 2; proto = AnyProtocol; src = record { address = 0; len = 0 }; sports = None; dst = record { address = 0; len = 0 }; dports = None }) } ∷
-    record { moment = 0; command = Add (record { number = 300; action = SendTo 3; proto = AnyProtocol; src = record { address = 0; len = 0 }; sports = None; dst = record { address = 0; len = 0 }; dports = None }) } ∷
-    record { moment = 0; command = Add (record { number = 400; action = SendTo 4; proto = AnyProtocol; src = record { address = 0; len = 0 }; sports = None; dst = record { address = 0; len = 0 }; dports = None }) } ∷
-    record { moment = 0; command = Add (record { number = 500; action = SendTo 5; proto = AnyProtocol; src = record { address = 0; len = 0 }; sports = None; dst = record { address = 0; len = 0 }; dports = None }) } ∷
-    record { moment = 0; command = Add (record { number = 600; action = SendTo 6; proto = AnyProtocol; src = record { address = 0; len = 0 }; sports = None; dst = record { address = 0; len = 0 }; dports = None }) } ∷
+    record { moment = 0; command = Add (record { number = 100; action = Pipe 1; proto = AnyProtocol; src = record { address = 0; len = 0 }; sports = None; dst = record { address = 0; len = 0 }; dports = None }) } ∷
+    record { moment = 0; command = Add (record { number = 200; action = Pipe 2; proto = AnyProtocol; src = record { address = 0; len = 0 }; sports = None; dst = record { address = 0; len = 0 }; dports = None }) } ∷
+    record { moment = 0; command = Add (record { number = 300; action = Pipe 3; proto = AnyProtocol; src = record { address = 0; len = 0 }; sports = None; dst = record { address = 0; len = 0 }; dports = None }) } ∷
+    record { moment = 0; command = Add (record { number = 400; action = Pipe 4; proto = AnyProtocol; src = record { address = 0; len = 0 }; sports = None; dst = record { address = 0; len = 0 }; dports = None }) } ∷
+    record { moment = 0; command = Add (record { number = 500; action = Pipe 5; proto = AnyProtocol; src = record { address = 0; len = 0 }; sports = None; dst = record { address = 0; len = 0 }; dports = None }) } ∷
+    record { moment = 0; command = Add (record { number = 600; action = Pipe 6; proto = AnyProtocol; src = record { address = 0; len = 0 }; sports = None; dst = record { address = 0; len = 0 }; dports = None }) } ∷
     record { moment = 0; command = Inject (record { proto = Udp; src = 167772162; sport = 1000; dst = 167772164; dport = 2000; size = 100 }) } ∷
     record { moment = 10; command = Inject (record { proto = Udp; src = 167772163; sport = 1000; dst = 167772164; dport = 2000; size = 100 }) } ∷
     record { moment = 20; command = Inject (record { proto = Udp; src = 167772162; sport = 1000; dst = 167772165; dport = 2000; size = 100 }) } ∷

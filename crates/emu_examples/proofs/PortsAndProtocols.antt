@@ -3,7 +3,7 @@ use Rattle.std.specs.Prelude.{◌≡◌, refl, List, [], ◌∷◌, Some, None}
 use Rattle.emu_model.specs.Spans.{address_span}
 use Rattle.emu_model.specs.declared.packets.Load.TheVariants.{Plain}
 use Rattle.emu_model.specs.declared.packets.Protocol.TheVariants.{Tcp, Udp}
-use Rattle.emu_model.specs.declared.rules.Action.TheVariants.{Permit, Forbid}
+use Rattle.emu_model.specs.declared.rules.Action.TheVariants.{Allow, Deny}
 use Rattle.emu_model.specs.declared.rules.ProtocolMatch.TheVariants.{AnyProtocol, OnlyTcp, OnlyUdp}
 use Rattle.emu_model.specs.declared.commands.Spec.{Spec}
 use Rattle.emu_model.specs.declared.commands.Timed.{Timed}
@@ -17,9 +17,9 @@ use Rattle.emu_model.specs.Alone.{alone, trace_of}
 -- experiment ports-and-protocols
 abbrev exp_0-commands : List Timed
 exp_0-commands =
-    record { moment = 0; command = Add (record { number = 100; action = Forbid; proto = OnlyTcp; src = record { address = 0; len = 0 }; sports = None; dst = record { address = 0; len = 0 }; dports = None }) } ∷
-    record { moment = 0; command = Add (record { number = 200; action = Permit; proto = OnlyUdp; src = record { address = 0; len = 0 }; sports = Some (record { first = 1000; last = 1002 }); dst = record { address = 0; len = 0 }; dports = Some (record { first = 80; last = 80 }) }) } ∷
-    record { moment = 0; command = Add (record { number = 300; action = Permit; proto = OnlyUdp; src = address_span 167772161 32; sports = None; dst = address_span 167772162 32; dports = Some (record { first = 90; last = 92 }) }) } ∷
+    record { moment = 0; command = Add (record { number = 100; action = Deny; proto = OnlyTcp; src = record { address = 0; len = 0 }; sports = None; dst = record { address = 0; len = 0 }; dports = None }) } ∷
+    record { moment = 0; command = Add (record { number = 200; action = Allow; proto = OnlyUdp; src = record { address = 0; len = 0 }; sports = Some (record { first = 1000; last = 1002 }); dst = record { address = 0; len = 0 }; dports = Some (record { first = 80; last = 80 }) }) } ∷
+    record { moment = 0; command = Add (record { number = 300; action = Allow; proto = OnlyUdp; src = address_span 167772161 32; sports = None; dst = address_span 167772162 32; dports = Some (record { first = 90; last = 92 }) }) } ∷
     record { moment = 0; command = Inject (record { proto = Tcp; src = 167772161; sport = 1000; dst = 167772162; dport = 80; size = 40 }) } ∷
     record { moment = 1; command = Inject (record { proto = Udp; src = 167772161; sport = 1000; dst = 167772162; dport = 80; size = 40 }) } ∷
     record { moment = 2; command = Inject (record { proto = Udp; src = 167772161; sport = 1002; dst = 167772162; dport = 80; size = 40 }) } ∷
@@ -63,10 +63,10 @@ exp_0-records =
     CommandDone 10 13 ∷
     PacketDropped 10 10 Plain Denied ∷
     CommandDone 20 14 ∷
-    RuleLine (record { number = 100; action = Forbid; proto = OnlyTcp; src = record { address = 0; len = 0 }; sports = None; dst = record { address = 0; len = 0 }; dports = None }) 1 40 ∷
-    RuleLine (record { number = 200; action = Permit; proto = OnlyUdp; src = record { address = 0; len = 0 }; sports = Some (record { first = 1000; last = 1002 }); dst = record { address = 0; len = 0 }; dports = Some (record { first = 80; last = 80 }) }) 2 80 ∷
-    RuleLine (record { number = 300; action = Permit; proto = OnlyUdp; src = address_span 167772161 32; sports = None; dst = address_span 167772162 32; dports = Some (record { first = 90; last = 92 }) }) 2 80 ∷
-    RuleLine (record { number = 65535; action = Forbid; proto = AnyProtocol; src = record { address = 0; len = 0 }; sports = None; dst = record { address = 0; len = 0 }; dports = None }) 6 240 ∷
+    RuleLine (record { number = 100; action = Deny; proto = OnlyTcp; src = record { address = 0; len = 0 }; sports = None; dst = record { address = 0; len = 0 }; dports = None }) 1 40 ∷
+    RuleLine (record { number = 200; action = Allow; proto = OnlyUdp; src = record { address = 0; len = 0 }; sports = Some (record { first = 1000; last = 1002 }); dst = record { address = 0; len = 0 }; dports = Some (record { first = 80; last = 80 }) }) 2 80 ∷
+    RuleLine (record { number = 300; action = Allow; proto = OnlyUdp; src = address_span 167772161 32; sports = None; dst = address_span 167772162 32; dports = Some (record { first = 90; last = 92 }) }) 2 80 ∷
+    RuleLine (record { number = 65535; action = Deny; proto = AnyProtocol; src = record { address = 0; len = 0 }; sports = None; dst = record { address = 0; len = 0 }; dports = None }) 6 240 ∷
     CommandDone 20 15 ∷
     []
 

@@ -5,10 +5,10 @@ use Rattle.emu_model.specs.declared.packets.Protocol.TheVariants.{Tcp, Udp}
 use Rattle.emu_model.specs.declared.packets.Load.TheVariants.{Plain}
 use Rattle.emu_model.specs.declared.packets.Packet.{Packet}
 use Rattle.emu_model.specs.declared.rules.Action.{Action}
-use Rattle.emu_model.specs.declared.rules.Action.TheVariants.{Permit, Forbid, Count, SkipTo, SendTo}
+use Rattle.emu_model.specs.declared.rules.Action.TheVariants.{Allow, Deny, Count, SkipTo, Pipe}
 use Rattle.emu_model.specs.declared.rules.ProtocolMatch.TheVariants.{OnlyTcp}
 use Rattle.emu_model.specs.declared.rules.Rule.{Rule}
-use Rattle.emu_model.specs.declared.rules.Verdict.TheVariants.{Allow, Deny, Pipe}
+use Rattle.emu_model.specs.declared.rules.Verdict.TheVariants.{OverTheLink, Dropped, IntoPipe}
 use Rattle.emu_model.specs.declared.records.Refusal.TheVariants.{BadNumber, BadSkip, RulesFull, NoRule}
 use Rattle.emu_model.specs.Rules.{Counted, RuleBook, rule_matches, is_behind, start_behind, verdict_by, verdict_of_match, verdict, counted_rules, default_rule, initial_book, is_rule_number, is_bad_skip, add_refusal, delete_refusal}
 
@@ -38,12 +38,12 @@ rule number action = record {
   dports = Some (record { first = 80; last = 80 });
 }
 
-its_rule : rule_matches packet (rule 100 Permit) ≡ true
+its_rule : rule_matches packet (rule 100 Allow) ≡ true
 its_rule = refl
 
 -- each of the five decides: another protocol, 10.0.1.1 and 10.0.0.2 as the ends, ports below and above
 each_of_five_decides :
-    map (λ p. rule_matches p (rule 100 Permit))
+    map (λ p. rule_matches p (rule 100 Allow))
     (record packet { proto = Udp } ∷ record packet { src = 167772417 } ∷ record packet { sport = 999 }
     ∷ record packet { sport = 1002 } ∷ record packet { dst = 167772162 } ∷ record packet { dport = 79 }
     ∷ record packet { dport = 81 } ∷ [])
@@ -57,25 +57,25 @@ counted number order action = record { rule = rule number action; order = order;
 behind_its_place :
     map
     (is_behind (record { number = 200; order = 5 }))
-    (counted 100 9 Permit ∷ counted 200 4 Permit ∷ counted 200 5 Permit ∷ counted 200 6 Permit
-    ∷ counted 300 1 Permit ∷ [])
+    (counted 100 9 Allow ∷ counted 200 4 Allow ∷ counted 200 5 Allow ∷ counted 200 6 Allow
+    ∷ counted 300 1 Allow ∷ [])
     ≡ false ∷ false ∷ false ∷ true ∷ true ∷ []
 behind_its_place = refl
 
 -- a packet that no rule matches is denied, though the default matches every one; the other verdicts are the actions'
-nothing_matches : verdict_of_match None ≡ Deny
+nothing_matches : verdict_of_match None ≡ Dropped
 nothing_matches = refl
 
 verdicts :
-    map (λ a. verdict_by a (counted 200 5 a)) (Permit ∷ Forbid ∷ SendTo 3 ∷ [])
-    ≡ Allow ∷ Deny ∷ Pipe 3 (record { number = 200; order = 5 }) ∷ []
+    map (λ a. verdict_by a (counted 200 5 a)) (Allow ∷ Deny ∷ Pipe 3 ∷ [])
+    ≡ OverTheLink ∷ Dropped ∷ IntoPipe 3 (record { number = 200; order = 5 }) ∷ []
 verdicts = refl
 
 -- a search counts where it passes: `count` at 100, `skipto 300` at 200, not the pipe at 250, and the pipe at 300; behind
 -- the last of them comes the default
 abbrev rules : List Counted
 rules =
-    counted 100 0 Count ∷ counted 200 1 (SkipTo 300) ∷ counted 250 2 (SendTo 4) ∷ counted 300 3 (SendTo 5)
+    counted 100 0 Count ∷ counted 200 1 (SkipTo 300) ∷ counted 250 2 (Pipe 4) ∷ counted 300 3 (Pipe 5)
     ∷ default_rule ∷ []
 
 goes_to_the_fifth_pipe : verdict 0 packet rules ≡ Pipe 5 (record { number = 300; order = 3 })
@@ -84,7 +84,7 @@ goes_to_the_fifth_pipe = refl
 behind_the_fifth_pipe : start_behind (record { number = 300; order = 3 }) rules ≡ 4
 behind_the_fifth_pipe = refl
 
-denied_behind_it : verdict 4 packet rules ≡ Deny
+denied_behind_it : verdict 4 packet rules ≡ Dropped
 denied_behind_it = refl
 
 abbrev once_more : Counted → Counted
@@ -92,13 +92,13 @@ once_more c = record c { packets = 8; bytes = 509 }
 
 counted_where_it_passes :
     counted_rules 0 packet rules
-    ≡ once_more (counted 100 0 Count) ∷ once_more (counted 200 1 (SkipTo 300)) ∷ counted 250 2 (SendTo 4)
-    ∷ once_more (counted 300 3 (SendTo 5)) ∷ default_rule ∷ []
+    ≡ once_more (counted 100 0 Count) ∷ once_more (counted 200 1 (SkipTo 300)) ∷ counted 250 2 (Pipe 4)
+    ∷ once_more (counted 300 3 (Pipe 5)) ∷ default_rule ∷ []
 counted_where_it_passes = refl
 
 counted_behind :
     counted_rules 4 packet rules
-    ≡ counted 100 0 Count ∷ counted 200 1 (SkipTo 300) ∷ counted 250 2 (SendTo 4) ∷ counted 300 3 (SendTo 5)
+    ≡ counted 100 0 Count ∷ counted 200 1 (SkipTo 300) ∷ counted 250 2 (Pipe 4) ∷ counted 300 3 (Pipe 5)
     ∷ record default_rule { packets = 1; bytes = 500 } ∷ []
 counted_behind = refl
 
@@ -122,13 +122,13 @@ refused_first_of_all = refl
 refused_before_the_limit : add_refusal (rule 100 (SkipTo 5)) (book 257 0) ≡ Some BadSkip
 refused_before_the_limit = refl
 
-room_for_the_last : add_refusal (rule 100 Permit) (book 256 (2 ^ 64 - 2)) ≡ None
+room_for_the_last : add_refusal (rule 100 Allow) (book 256 (2 ^ 64 - 2)) ≡ None
 room_for_the_last = refl
 
-no_room_for_a_rule : add_refusal (rule 100 Permit) (book 257 0) ≡ Some RulesFull
+no_room_for_a_rule : add_refusal (rule 100 Allow) (book 257 0) ≡ Some RulesFull
 no_room_for_a_rule = refl
 
-no_room_for_an_adding : add_refusal (rule 100 Permit) (book 1 (2 ^ 64 - 1)) ≡ Some RulesFull
+no_room_for_an_adding : add_refusal (rule 100 Allow) (book 1 (2 ^ 64 - 1)) ≡ Some RulesFull
 no_room_for_an_adding = refl
 
 deletions :

@@ -8,7 +8,7 @@ use Rattle.std.proofs.lemmas.Bool.{ltb-true, lt-ltb}
 use Rattle.emu_model.specs.Types.{Spec, Timed, Packet, Class, NextCommand, Exit, Finish, Expiry, Emission, PipeConfig, FlowSpec, Lost, Full, Command, Add, Delete, Config, PipeDelete, PipeShow, Show, Inject, Train, Flow, Stop, OnePass, Trace, End}
 use Rattle.emu_model.specs.declared.sources.Due.{Due}
 use Rattle.emu_model.specs.Lists.{tail}
-use Rattle.emu_model.specs.Rate.{quotient_up, finish_at, Period, follow, begin, cut_period}
+use Rattle.emu_model.specs.Rate.{div_ceil, finish_at, Period, follow, begin, cut_period}
 use Rattle.emu_model.specs.Delay.{exit_after, Leaving, Line, enter, leave, delay_ns}
 use Rattle.emu_model.specs.Reno.{Sender, ack, ack_new, ack_duplicate, is_new, is_duplicate, enter_recovery, emit, started_timer, round_trip, timeout_after, bounded}
 use Rattle.emu_model.specs.DropTail.{Waiting, accepts}
@@ -77,7 +77,7 @@ pub div-rises : (a b d : ℕ) → a ≤ b → a / suc d ≤ b / suc d
 div-rises a b d h = le-div (a / suc d) b (suc d) (omega arith) (omega (arith, h, div-mul-le_self a (suc d)))
 
 -- nothing is rounded up to 0
-quotient_up_none : (d : ℕ) → quotient_up (8 * 10 ^ 9 * 0) (suc d) ≡ 0
+quotient_up_none : (d : ℕ) → div_ceil (8 * 10 ^ 9 * 0) (suc d) ≡ 0
 quotient_up_none d = div-eq_of_lt (omega arith)
 
 pub finish_at-none : (bw start : ℕ) → start ≡ finish_at bw start 0

@@ -6,7 +6,7 @@ use Rattle.std.proofs.lemmas.Bool.{ltb-true, lt-ltb}
 use Rattle.emu_model.specs.Types.{Packet, Spec, Timed, Class, NextCommand, Exit, Finish, Expiry, Emission, FlowSpec, Timing, Fixed, Adaptive, Command, Add, Delete, Config, PipeDelete, PipeShow, Show, Inject, Train, Flow, Stop, OnePass, Trace, End}
 use Rattle.emu_model.specs.declared.sources.Due.{Due}
 use Rattle.emu_model.specs.Delay.{Leaving, Line}
-use Rattle.emu_model.specs.Reno.{Sender, Estimate, timeout_at, longest, ack, ack_new, ack_duplicate, is_new, is_duplicate, enter_recovery, emit, expire, started_timer, round_trip, timeout_after, estimated_timeout, new_estimate, bounded}
+use Rattle.emu_model.specs.Reno.{Sender, Estimate, timeout_at, most_rto, ack, ack_new, ack_duplicate, is_new, is_duplicate, enter_recovery, emit, expire, started_timer, round_trip, timeout_after, estimated_timeout, new_estimate, bounded}
 use Rattle.emu_model.specs.Pipes.{InService, Instance, PipeState}
 use Rattle.emu_model.specs.Net.{Net, Setting, FlowState, TrainState, find_pipe, find_train}
 use Rattle.emu_model.specs.Dues.{dues_of}
@@ -50,7 +50,7 @@ next-time Adaptive (Some r) s h p = bound (new_estimate r s.estimate)
     least a b = omega arith
 
     bound : (e : Estimate) → estimated_timeout e ≤ reach
-    bound e = omega (arith, least (max (e.srtt + max 1 (4 * e.rttvar)) (10 ^ 9)) longest)
+    bound e = omega (arith, least (max (e.srtt + max 1 (4 * e.rttvar)) (10 ^ 9)) most_rto)
 
 ack-near : (f : FlowSpec) (now upto : ℕ) (s : Sender) → IsTimingInRange f.timing → SenderNear now s →
     SenderNear now (ack f now upto s)
@@ -95,7 +95,7 @@ emit-near f now s h =
 expire-near : (f : FlowSpec) (now : ℕ) (s : Sender) → SenderNear now (expire f now s)
 expire-near f now s = record { time = doubled; timer = omega (arith, doubled) }
   where
-    doubled : min (2 * s.rto) longest ≤ reach
+    doubled : min (2 * s.rto) most_rto ≤ reach
     doubled = omega arith
 
 record TrainNear (m : ℕ) (t : TrainState) : Type 0 where

@@ -4,7 +4,7 @@ use Rattle.std.proofs.Common.{◌≡◌, ℕ, zero, suc, ◌+◌, ◌/◌, ◌%�
 use Rattle.std.specs.Prelude.{if◌then◌else◌, is_some, nat_lt, map, flat_map}
 use Rattle.std.specs.Option.{option_map_or}
 use Rattle.std.specs.List.{AllByRecursion}
-use Rattle.emu_model.specs.Types.{Spec, Timed, Class, NextCommand, Exit, Finish, Expiry, Emission, Place, Packet, Load, Plain, Seg, Ack, Verdict, Allow, Deny, Pipe, SendSpec, PipeConfig, DropCause, Denied, NoPipe, Budget, Command, Add, Delete, Config, PipeDelete, PipeShow, Show, Inject, Train, Flow, Stop, OnePass, Trace, End, Record, CommandDone, CommandRefused, PacketMade, PacketArrived, PacketFinished, PacketDelivered, PacketPassed, PacketDropped, AckTaken, TimerExpired, StepsSpent, RuleLine}
+use Rattle.emu_model.specs.Types.{Spec, Timed, Class, NextCommand, Exit, Finish, Expiry, Emission, Place, Packet, Load, Plain, Seg, Ack, Verdict, OverTheLink, Dropped, IntoPipe, SendSpec, PipeConfig, DropCause, Denied, NoPipe, Budget, Command, Add, Delete, Config, PipeDelete, PipeShow, Show, Inject, Train, Flow, Stop, OnePass, Trace, End, Record, CommandDone, CommandRefused, PacketMade, PacketArrived, PacketFinished, PacketDelivered, PacketPassed, PacketDropped, AckTaken, TimerExpired, StepsSpent, RuleLine}
 use Rattle.emu_model.specs.Rules.{Counted, verdict, start_behind, counted_book}
 use Rattle.emu_model.specs.Delay.{first_item, leave}
 use Rattle.emu_model.specs.Reno.{Sender, ack, with_segment, missing, emitted, emit, expire}
@@ -123,9 +123,9 @@ module _ (P : Option Packet → Net → Type 0) (keeps : Keeps P) where
 
   by_verdict-walks : (at : Setting) (v : Verdict) (p : Packet) (n : Net) → P (Some p) n →
       P None (by_verdict at v p n)
-  by_verdict-walks at Allow p n h = keeps.entered at.now p n h
-  by_verdict-walks at Deny p n h = keeps.dropped at.now Denied p n h
-  by_verdict-walks at (Pipe k place) p n h =
+  by_verdict-walks at OverTheLink p n h = keeps.entered at.now p n h
+  by_verdict-walks at Dropped p n h = keeps.dropped at.now Denied p n h
+  by_verdict-walks at (IntoPipe k place) p n h =
       to_pipe-walks at k (record p { place = place }) n (keeps.placed place p n h)
 
   pass_rules_from-walks : (at : Setting) (start : ℕ) (p : Packet) (n : Net) → P (Some p) n →

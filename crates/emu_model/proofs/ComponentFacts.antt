@@ -1,5 +1,5 @@
 -- The laws of the components.
-use Rattle.std.proofs.Common.{◌≡◌, ℕ, zero, suc, ◌+◌, ◌-◌, ◌^◌, ◌≤◌, ◌<◌, List, [], ◌∷◌, ◌++◌, Bool, true, false, refl, sym, ◌∙◌, ap, Some, append_assoc, append-nil, zero-add, add-one, length, take, arith}
+use Rattle.std.proofs.Common.{◌≡◌, subst, ℕ, zero, suc, ◌+◌, ◌-◌, ◌^◌, ◌≤◌, ◌<◌, List, [], ◌∷◌, ◌++◌, Bool, true, false, refl, sym, ◌∙◌, ap, Some, append_assoc, append-nil, zero-add, add-one, length, take, arith}
 use Rattle.std.specs.Prelude.{if◌then◌else◌, not, ◌||◌, nat_lt, nat_le, map, sum, All, slice_get, option_to_list}
 use Rattle.std.proofs.lemmas.Bool.{leb-true, lt-ltb, ltb-true, ltb-false}
 use Rattle.std.proofs.lemmas.List.{length-append, map-append}
@@ -10,7 +10,8 @@ use Rattle.rand_chacha.specs.Block.{block_word}
 use Rattle.emu_model.specs.Types.{Packet, Slots, KBytes}
 use Rattle.emu_model.specs.Loss.{loss_word}
 use Rattle.emu_model.specs.DropTail.{Waiting, bytes_of}
-use Rattle.emu_model.specs.Codel.{Times, CodelState, Dequeued, dodequeue, ok_to_drop, look, look_empty, drop_on, drop_first, count_up, set_next, codel_dequeue, after_drop, give, give_none, stop_dropping}
+use Rattle.emu_model.specs.Codel.{Times, CodelState, Dequeued, maxpacket, count_up, codel_dequeue}
+use Rattle.emu_model.proofs.CodelParts.{found_by, ok_to_drop, look, look_empty, drop_on, first_dropped, set_next, drop_head, give_head, give_none, stop_dropping, dequeue_by_parts, by_parts}
 use Rattle.emu_model.specs.Rate.{finish_at, finishes}
 use Rattle.emu_model.specs.Delay.{enter, exit_after, exits}
 use Rattle.emu_model.specs.ComponentLaws.{served, FinishesAreFolded, FinishesRoundOnce, exits_of, ExitsAreFolded, ExitsNeverFall, LossHasItsExtremes, AcceptsWithinLimit, CodelKeepsOrder, CodelSparesTheQuick}
@@ -93,12 +94,12 @@ record Faithful (times : Times) (now : ℕ) (ws : List (Waiting Packet)) (d : De
   late : All (λ w. times.target ≤ now - w.stamp) d.dropped
 
 given-faithful : (times : Times) (now : ℕ) (c : CodelState) (w : Waiting Packet) (rest : List (Waiting Packet)) →
-    Faithful times now (w ∷ rest) (give c w rest)
+    Faithful times now (w ∷ rest) (give_head c w rest)
 given-faithful times now c w rest = record { order = refl; late = All-nil (λ v. times.target ≤ now - v.stamp) }
 
 dropped-faithful : (times : Times) (now : ℕ) (w : Waiting Packet) (ws : List (Waiting Packet)) (d : Dequeued Packet) →
     times.target ≤ now - w.stamp → Faithful times now ws d →
-    Faithful times now (w ∷ ws) (after_drop w d)
+    Faithful times now (w ∷ ws) (drop_head w d)
 dropped-faithful times now w ws d h f = record {
   order = ap (λ xs. w ∷ xs) f.order;
   late = All-cons (λ v. times.target ≤ now - v.stamp) w d.dropped h f.late;
@@ -109,11 +110,11 @@ none-faithful times now c = record { order = refl; late = All-nil (λ v. times.t
 
 -- a head that may be dropped stayed for the target at least
 long_stay : (times : Times) (now above stay : ℕ) (few : Bool) →
-    (dodequeue times now above (nat_lt stay times.target || few)).ok_to_drop ≡ true → times.target ≤ stay
+    (found_by times now above (nat_lt stay times.target || few)).ok_to_drop ≡ true → times.target ≤ stay
 long_stay times now above stay few e = go (nat_lt stay times.target) refl e
   where
     go : (b : Bool) → nat_lt stay times.target ≡ b →
-        (dodequeue times now above (b || few)).ok_to_drop ≡ true → times.target ≤ stay
+        (found_by times now above (b || few)).ok_to_drop ≡ true → times.target ≤ stay
     go true h g = absurd (cc g)
     go false h g = ltb-false _ _ h
 
@@ -126,7 +127,7 @@ on-faithful : (times : Times) (now : ℕ) (rest : List (Waiting Packet)) (c : Co
     times.target ≤ now - w.stamp → Faithful times now (w ∷ rest) (drop_on times now c w rest)
 on-faithful times now [] c w h =
     elim (nat_lt now c.drop_next) as (λ b. Faithful times now (w ∷ [])
-    (if b then give c w [] else after_drop w (give_none (stop_dropping (look_empty (count_up c)))))) [
+    (if b then give_head c w [] else drop_head w (give_none (stop_dropping (look_empty (count_up c)))))) [
       | true ↦ given-faithful times now c w []
       | false ↦ dropped-faithful times now w [] _ h (none-faithful times now _)
     ]
@@ -138,35 +139,39 @@ on-faithful times now (v ∷ rest) c w h =
         (times.target ≤ now - v.stamp →
         Faithful times now (v ∷ rest) (drop_on times now (next times now c v rest) v rest)) →
         Faithful times now (w ∷ v ∷ rest)
-        (if b then give c w (v ∷ rest)
-        else (if d then after_drop w (drop_on times now (next times now c v rest) v rest)
-        else after_drop w (give (stop_dropping (look times now (count_up c) v rest)) v rest)))
+        (if b then give_head c w (v ∷ rest)
+        else (if d then drop_head w (drop_on times now (next times now c v rest) v rest)
+        else drop_head w (give_head (stop_dropping (look times now (count_up c) v rest)) v rest)))
     go true d e ih = given-faithful times now c w (v ∷ rest)
     go false true e ih =
-        dropped-faithful times now w (v ∷ rest) _ h (ih (long_stay times now c.first_above_time (now - v.stamp) (nat_le (bytes_of rest) 1500) e))
+        dropped-faithful times now w (v ∷ rest) _ h (ih (long_stay times now c.first_above_time (now - v.stamp) (nat_le (bytes_of rest) maxpacket) e))
     go false false e ih =
         dropped-faithful times now w (v ∷ rest) _ h (given-faithful times now _ v rest)
 
 first-faithful : (times : Times) (now : ℕ) (c : CodelState) (w : Waiting Packet) (rest : List (Waiting Packet)) →
-    times.target ≤ now - w.stamp → Faithful times now (w ∷ rest) (drop_first times now c w rest)
+    times.target ≤ now - w.stamp → Faithful times now (w ∷ rest) (first_dropped times now c w rest)
 first-faithful times now c w [] h =
     dropped-faithful times now w [] _ h (none-faithful times now _)
 first-faithful times now c w (v ∷ rest) h =
     dropped-faithful times now w (v ∷ rest) _ h (given-faithful times now _ v rest)
 
-codel-faithful : (times : Times) (now : ℕ) (c : CodelState) (ws : List (Waiting Packet)) →
-    Faithful times now ws (codel_dequeue times now c ws)
-codel-faithful times now c [] = none-faithful times now _
-codel-faithful times now c (w ∷ rest) = go (ok_to_drop times now c w rest) c.dropping refl
+parts-faithful : (times : Times) (now : ℕ) (c : CodelState) (ws : List (Waiting Packet)) →
+    Faithful times now ws (dequeue_by_parts times now c ws)
+parts-faithful times now c [] = none-faithful times now _
+parts-faithful times now c (w ∷ rest) = go (ok_to_drop times now c w rest) c.dropping refl
   where
     go : (d b : Bool) → ok_to_drop times now c w rest ≡ d →
         Faithful times now (w ∷ rest)
-        (if not d then give (stop_dropping (look times now c w rest)) w rest
+        (if not d then give_head (stop_dropping (look times now c w rest)) w rest
         else (if b then drop_on times now (look times now c w rest) w rest
-        else drop_first times now (look times now c w rest) w rest))
+        else first_dropped times now (look times now c w rest) w rest))
     go false b e = given-faithful times now (stop_dropping (look times now c w rest)) w rest
-    go true true e = on-faithful times now rest (look times now c w rest) w (long_stay times now c.first_above_time (now - w.stamp) (nat_le (bytes_of rest) 1500) e)
-    go true false e = first-faithful times now (look times now c w rest) w rest (long_stay times now c.first_above_time (now - w.stamp) (nat_le (bytes_of rest) 1500) e)
+    go true true e = on-faithful times now rest (look times now c w rest) w (long_stay times now c.first_above_time (now - w.stamp) (nat_le (bytes_of rest) maxpacket) e)
+    go true false e = first-faithful times now (look times now c w rest) w rest (long_stay times now c.first_above_time (now - w.stamp) (nat_le (bytes_of rest) maxpacket) e)
+
+codel-faithful : (times : Times) (now : ℕ) (c : CodelState) (ws : List (Waiting Packet)) →
+    Faithful times now ws (codel_dequeue times now c ws)
+codel-faithful times now c ws = subst (λ d. Faithful times now ws d) (sym (by_parts times now c ws)) (parts-faithful times now c ws)
 
 pub codel_keeps_order : CodelKeepsOrder
 codel_keeps_order times now c ws = (codel-faithful times now c ws).order

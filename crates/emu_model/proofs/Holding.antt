@@ -3,7 +3,7 @@ use Rattle.std.proofs.Common.{◌≡◌, true, false, ℕ, zero, suc, ◌+◌, �
 use Rattle.std.specs.Prelude.{nat_lt, ◌==◌}
 use Rattle.std.specs.Option.{option_map_or}
 use Rattle.std.specs.List.{AllByRecursion}
-use Rattle.emu_model.specs.Types.{Class, NextCommand, Exit, Finish, Expiry, Emission, Place, Packet, Load, Plain, Seg, Ack, Verdict, Allow, Deny, Pipe, SendSpec, PipeConfig, NoPipe, Budget, Command, Add, Delete, Config, PipeDelete, PipeShow, Show, Inject, Train, Flow, Stop, OnePass, Trace, End, CommandDone, CommandRefused, PacketDelivered, PacketPassed}
+use Rattle.emu_model.specs.Types.{Class, NextCommand, Exit, Finish, Expiry, Emission, Place, Packet, Load, Plain, Seg, Ack, Verdict, OverTheLink, Dropped, IntoPipe, SendSpec, PipeConfig, NoPipe, Budget, Command, Add, Delete, Config, PipeDelete, PipeShow, Show, Inject, Train, Flow, Stop, OnePass, Trace, End, CommandDone, CommandRefused, PacketDelivered, PacketPassed}
 use Rattle.emu_model.specs.Rules.{verdict, start_behind, counted_book}
 use Rattle.emu_model.specs.Delay.{Line, first_item, enter, leave}
 use Rattle.emu_model.specs.Reno.{ack, expire, with_segment, missing, emitted, emit, initial_sender}
@@ -135,9 +135,9 @@ module _ (h : Facts) (at : Setting) (keeps : Keeps h at) where
       enter_pipe-holds k p m fits (same_parts h n m refl refl refl refl s)
 
   by_verdict-holds : (v : Verdict) (p : Packet) (n : Net) → h.packet p → Holds h n → Holds h (by_verdict at v p n)
-  by_verdict-holds Allow p n fits s = direct-put h (enter p at.now 0 n.direct) n (keeps.entered p n.direct fits s.direct) s
-  by_verdict-holds Deny p n fits s = same_parts h n (by_verdict at Deny p n) refl refl refl refl s
-  by_verdict-holds (Pipe k place) p n fits s =
+  by_verdict-holds OverTheLink p n fits s = direct-put h (enter p at.now 0 n.direct) n (keeps.entered p n.direct fits s.direct) s
+  by_verdict-holds Dropped p n fits s = same_parts h n (by_verdict at Dropped p n) refl refl refl refl s
+  by_verdict-holds (IntoPipe k place) p n fits s =
       to_pipe-holds k (record p { place = place }) n (keeps.placed p place fits) s
 
   pass_rules_from-holds : (start : ℕ) (p : Packet) (n : Net) → h.packet p → Holds h n →

@@ -22,6 +22,7 @@ mod Single
 mod AllFacts
 mod Holding
 mod Ahead
+pub mod CodelParts
 mod Cuts
 mod FirstBy
 pub mod CallerLemmas

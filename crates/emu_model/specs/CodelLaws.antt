@@ -47,6 +47,6 @@ ReentryGoesOn = (times : Times) (now : ℕ) (c : CodelState) (ws : List (Waiting
     c.dropping ≡ false →
     let d = codel_dequeue times now c ws in
     length d.dropped ≡ 1 →
-    (now < c.drop_next + 16 * times.interval → 2 + c.last_count ≤ c.count →
+    (now - c.drop_next < 16 * times.interval → 2 + c.last_count ≤ c.count →
     d.control.count ≡ c.count - c.last_count)
-    × (c.drop_next + 16 * times.interval ≤ now → d.control.count ≡ 1)
+    × (16 * times.interval ≤ now - c.drop_next → d.control.count ≡ 1)

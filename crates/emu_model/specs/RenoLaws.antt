@@ -2,7 +2,7 @@
 -- alone.
 use Rattle.std.specs.Prelude.{◌≡◌, ℕ, ◌+◌, ◌*◌, ◌%◌, ◌<◌, ◌≤◌, min, true, false, Some, None, List, [], ◌∷◌, length}
 use Rattle.emu_model.specs.Types.{FlowSpec}
-use Rattle.emu_model.specs.Reno.{Sender, longest, greatest_word, is_new, is_duplicate, ack, expire, emit}
+use Rattle.emu_model.specs.Reno.{Sender, most_rto, greatest_word, is_new, is_duplicate, ack, expire, emit}
 
 -- no duplicate was counted, and there is no recovery and nothing to send again at once
 abbrev pub IsClear : Sender → Type 0
@@ -31,9 +31,9 @@ ExpiryClears = (f : FlowSpec) (now : ℕ) (s : Sender) →
 
 -- an expiry starts the timer with a longer time, up to the longest (RFC 6298, sections 5.5 and 5.6)
 abbrev pub ExpiryBacksOff : Type 0
-ExpiryBacksOff = (f : FlowSpec) (now : ℕ) (s : Sender) → s.rto ≤ longest →
+ExpiryBacksOff = (f : FlowSpec) (now : ℕ) (s : Sender) → s.rto ≤ most_rto →
     let t = expire f now s in
-    (t.timer ≡ Some (now + t.rto)) × (s.rto ≤ t.rto) × (t.rto ≤ longest)
+    (t.timer ≡ Some (now + t.rto)) × (s.rto ≤ t.rto) × (t.rto ≤ most_rto)
 
 -- one expiry behind another holds ssthresh (RFC 5681, section 3.1)
 abbrev pub SecondExpiryHolds : Type 0

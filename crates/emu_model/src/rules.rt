@@ -11,11 +11,11 @@ use std::marker::Model;
 /// What a rule does with a packet that it matches: `allow`, `deny`, `count`, `skipto`, `pipe`.
 #[derive(Clone, Copy, PartialEq)]
 pub enum Action {
-    Permit,
-    Forbid,
+    Allow,
+    Deny,
     Count,
     SkipTo(RuleNumber),
-    SendTo(PipeNumber),
+    Pipe(PipeNumber),
 }
 
 #[derive(Clone, Copy, PartialEq)]
@@ -140,7 +140,7 @@ pub struct Rule {
 /// What a search among the rules answers; with a pipe, the place of the rule that sends there.
 #[derive(Clone, Copy)]
 pub enum Verdict {
-    Allow,
-    Deny,
-    Pipe(PipeNumber, Place),
+    OverTheLink,
+    Dropped,
+    IntoPipe(PipeNumber, Place),
 }

@@ -7,7 +7,7 @@ use Rattle.std.proofs.lemmas.Bool.Decides.{nat_tests}
 use Rattle.std.proofs.lemmas.List.Elements.{All-nil, All-cons, All-head, All-tail, All-weaker, All-filter}
 use Rattle.emu_model.specs.declared.packets.Packet.{Packet}
 use Rattle.emu_model.specs.declared.rules.Action.{Action}
-use Rattle.emu_model.specs.declared.rules.Action.TheVariants.{Permit, Forbid, Count, SkipTo, SendTo}
+use Rattle.emu_model.specs.declared.rules.Action.TheVariants.{Allow, Deny, Count, SkipTo, Pipe}
 use Rattle.emu_model.specs.declared.rules.Rule.{Rule}
 use Rattle.emu_model.specs.declared.records.Refusal.TheVariants.{BadNumber, BadSkip, RulesFull, NoRule}
 use Rattle.emu_model.specs.Rules.{Counted, RuleBook, the_rules, place_of_number, count_packet, count_at, new_rule, with_rule, is_bad_skip, is_rule_number, is_full, add_refusal}
@@ -64,11 +64,11 @@ with_rule-insert o r (c ∷ cs) =
     ]
 
 good_skip : (own : ℕ) (a : Action) → is_bad_skip own a ≡ false → GoesForward own a
-good_skip own Permit e = tt
-good_skip own Forbid e = tt
+good_skip own Allow e = tt
+good_skip own Deny e = tt
 good_skip own Count e = tt
 good_skip own (SkipTo n) e = grind (arith, nat_tests)
-good_skip own (SendTo n) e = tt
+good_skip own (Pipe n) e = tt
 
 pub record IsAccepted (r : Rule) (b : RuleBook) : Type 0 where
   pub forward : GoesForward r.number r.action

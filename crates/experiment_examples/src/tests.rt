@@ -143,7 +143,7 @@ fn rule() -> Option<Command> {
     let any = Prefix::new(0, PrefixLength::new(0)?);
     Some(Command::Add(Rule {
         number: RuleNumber::new(100)?,
-        action: Action::SendTo(PipeNumber::new(1)?),
+        action: Action::Pipe(PipeNumber::new(1)?),
         proto: ProtocolMatch::AnyProtocol,
         src: any,
         sports: None,

@@ -5,7 +5,7 @@ use Rattle.emu_model.specs.declared.commands.Command.{Command}
 use Rattle.emu_model.specs.declared.commands.Command.TheVariants.{Add, Config, Flow}
 use Rattle.emu_model.specs.declared.commands.Timed.{Timed}
 use Rattle.emu_model.specs.declared.rules.Action.{Action}
-use Rattle.emu_model.specs.declared.rules.Action.TheVariants.{SendTo}
+use Rattle.emu_model.specs.declared.rules.Action.TheVariants.{Pipe}
 use Rattle.number_table.specs.Places.{place_in}
 use Rattle.explain_run.specs.declared.warning.Warning.{Warning}
 use Rattle.explain_run.specs.declared.warning.Concern.TheVariants.{NoPipe}
@@ -28,7 +28,7 @@ is_configured cs n = list_any (λ c. configures n c.command) cs
 
 -- the pipe that a rule names
 abbrev pub named_by : Action → Option ℕ
-named_by (SendTo n) = Some n
+named_by (Pipe n) = Some n
 named_by _ = None
 
 abbrev pub named_in : Command → Option ℕ

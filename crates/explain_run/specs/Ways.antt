@@ -6,7 +6,7 @@ use Rattle.emu_model.specs.declared.packets.Packet.{Packet}
 use Rattle.emu_model.specs.declared.sources.SendSpec.{SendSpec}
 use Rattle.emu_model.specs.declared.sources.FlowSpec.{FlowSpec}
 use Rattle.emu_model.specs.declared.rules.Verdict.{Verdict}
-use Rattle.emu_model.specs.declared.rules.Verdict.TheVariants.{Allow, Deny, Pipe}
+use Rattle.emu_model.specs.declared.rules.Verdict.TheVariants.{OverTheLink, Dropped, IntoPipe}
 use Rattle.emu_model.specs.Rules.{RuleBook, verdict}
 use Rattle.explain_run.specs.declared.ends.Ends.{Ends}
 
@@ -37,9 +37,9 @@ packet_of e = record {
 }
 
 abbrev pub is_deny : Verdict → Bool
-is_deny Deny = true
-is_deny Allow = false
-is_deny (Pipe n place) = false
+is_deny Dropped = true
+is_deny OverTheLink = false
+is_deny (IntoPipe n place) = false
 
 -- a packet of these ends is dropped by the rules
 abbrev pub is_denied : RuleBook → Ends → Bool

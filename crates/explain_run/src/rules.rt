@@ -13,7 +13,7 @@ fn is_deny(verdict: &Verdict) -> bool
     ensures { result ≡ is_deny verdict.now }
 {
     match verdict {
-        Verdict::Deny => true,
+        Verdict::Dropped => true,
         _ => false,
     }
 }

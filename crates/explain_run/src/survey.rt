@@ -29,7 +29,7 @@ fn named_by(action: Action) -> Option<PipeNumber>
     ensures { result ≡ named_by action }
 {
     match action {
-        Action::SendTo(pipe) => Some(pipe),
+        Action::Pipe(pipe) => Some(pipe),
         _ => None,
     }
 }

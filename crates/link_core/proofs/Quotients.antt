@@ -3,7 +3,7 @@ use Rattle.std.proofs.Common.{◌≡◌, ℕ, zero, suc, ◌+◌, ◌-◌, ◌*�
 use Rattle.std.specs.Prelude.{min}
 use Rattle.std.proofs.lemmas.Nat.{div-mul-add, div-add-mod'}
 use Rattle.std.proofs.Math.Nat.{mod-lt}
-use Rattle.emu_model.specs.Rate.{quotient_up, follow}
+use Rattle.emu_model.specs.Rate.{div_ceil, follow}
 use Rattle.link_core.specs.Served.{period_of, IsQuotient, Tells}
 use Rattle.link_core.specs.declared.rate.Busy.{Busy}
 
@@ -14,7 +14,7 @@ moved bw size b =
     record { start = b.start; sum = b.sum + size; reached = b.reached + work / bw; left_over = work % bw }
 
 -- a remainder counts as one whole
-up : (b a m : ℕ) → m < suc b → quotient_up (a * suc b + m) (suc b) ≡ a + min m 1
+up : (b a m : ℕ) → m < suc b → div_ceil (a * suc b + m) (suc b) ≡ a + min m 1
 up b a zero small =
     ap (λ n. n / suc b) (omega arith) ∙ div-mul-add a (suc b) b (omega arith)
     ∙ (let whole : a ≡ a + min 0 1 = omega arith in whole)
@@ -42,9 +42,9 @@ moved-work b size q h =
 
 -- what a quotient and a remainder reach, rounded up, is what the sum says
 reached_finish : (b : ℕ) (q : Busy) → IsQuotient (suc b) q →
-    q.start + quotient_up (8 * 10 ^ 9 * q.sum) (suc b) ≡ (period_of q).finish
+    q.start + div_ceil (8 * 10 ^ 9 * q.sum) (suc b) ≡ (period_of q).finish
 reached_finish b q h =
-    ap (λ n. q.start + quotient_up n (suc b)) h.work
+    ap (λ n. q.start + div_ceil n (suc b)) h.work
     ∙ ap (λ k. q.start + k) (up b (q.reached - q.start) q.left_over h.small)
     ∙ (let far : q.start + ((q.reached - q.start) + min q.left_over 1) ≡ q.reached + min q.left_over 1 = omega (arith, h.begun) in far)
 

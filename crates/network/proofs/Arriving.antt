@@ -14,7 +14,7 @@ use Rattle.emu_model.specs.declared.packets.Place.{Place}
 use Rattle.emu_model.specs.declared.records.DropCause.{DropCause}
 use Rattle.emu_model.specs.declared.records.DropCause.TheVariants.{Budget}
 use Rattle.emu_model.specs.declared.rules.Verdict.{Verdict}
-use Rattle.emu_model.specs.declared.rules.Verdict.TheVariants.{Allow, Deny, Pipe}
+use Rattle.emu_model.specs.declared.rules.Verdict.TheVariants.{OverTheLink, Dropped, IntoPipe}
 use Rattle.emu_model.specs.declared.rules.Rule.{Rule}
 use Rattle.emu_model.specs.declared.sources.SendSpec.{SendSpec}
 use Rattle.emu_model.specs.Rules.{Counted, verdict, verdict_of_match, matches_from, next_match, the_rules, least_match}
@@ -116,9 +116,9 @@ module _ (a b : Load) (send : SendSpec) (i j : ℕ) where
       ap (λ ks. verdict_of_match (option_and_then (slice_get cs) (last_or None ks))) (matches-same (length (the_rules cs)) (the_rules cs) (least_match (packet_of a send i) (the_rules cs) start))
 
   pub ready-same : (v : Verdict) (n : KeptNet) → IsReady v (packet_of a send i) n → IsReady v (packet_of b send j) n
-  ready-same Allow n ready = ready
-  ready-same Deny n ready = ready
-  ready-same (Pipe k place) n ready = λ p e.
+  ready-same OverTheLink n ready = ready
+  ready-same Dropped n ready = ready
+  ready-same (IntoPipe k place) n ready = λ p e.
       let r : HasRoomAt (packet_of a send i) p = ready p e in record { there = r.there; new = r.new }
 
 -- a packet of this header that is made is ready

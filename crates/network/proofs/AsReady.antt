@@ -4,7 +4,7 @@ use Rattle.emu_model.specs.declared.packets.Load.{Load}
 use Rattle.emu_model.specs.declared.packets.Load.TheVariants.{Plain, Seg, Ack}
 use Rattle.emu_model.specs.declared.packets.Packet.{Packet}
 use Rattle.emu_model.specs.declared.rules.Verdict.{Verdict}
-use Rattle.emu_model.specs.declared.rules.Verdict.TheVariants.{Allow, Deny, Pipe}
+use Rattle.emu_model.specs.declared.rules.Verdict.TheVariants.{OverTheLink, Dropped, IntoPipe}
 use Rattle.emu_model.specs.declared.sources.SendSpec.{SendSpec}
 use Rattle.emu_model.specs.Rules.{RuleBook, verdict, start_behind}
 use Rattle.pipe_table.specs.Table.{HasRoomIn}
@@ -27,9 +27,9 @@ pub record IsAsReady (n m : KeptNet) : Type 0 where
 
 module _ (n m : KeptNet) (a : IsRoomy n m) where
   pub as-ready : (v : Verdict) (x : Packet) → IsReady v x n → IsReady v x m
-  as-ready Allow x ready = omega (arith, ready, a.spare)
-  as-ready Deny x ready = ready
-  as-ready (Pipe k place) x ready = a.rooms k x ready
+  as-ready OverTheLink x ready = omega (arith, ready, a.spare)
+  as-ready Dropped x ready = ready
+  as-ready (IntoPipe k place) x ready = a.rooms k x ready
 
   pub as-make : (send : SendSpec) → CanMake send n → CanMake send m
   as-make send ready =

@@ -6,7 +6,7 @@ use Rattle.emu_model.specs.declared.packets.Load.{Load}
 use Rattle.emu_model.specs.declared.packets.Load.TheVariants.{Plain, Seg, Ack}
 use Rattle.emu_model.specs.declared.packets.Packet.{Packet}
 use Rattle.emu_model.specs.declared.rules.Verdict.{Verdict}
-use Rattle.emu_model.specs.declared.rules.Verdict.TheVariants.{Allow, Deny, Pipe}
+use Rattle.emu_model.specs.declared.rules.Verdict.TheVariants.{OverTheLink, Dropped, IntoPipe}
 use Rattle.emu_model.specs.declared.sources.SendSpec.{SendSpec}
 use Rattle.emu_model.specs.Commands.{refusal_of}
 use Rattle.emu_model.specs.Rules.{verdict, start_behind}
@@ -18,9 +18,9 @@ use Rattle.network.specs.Kept.{KeptNet}
 
 -- a packet can be handed on by this verdict
 abbrev pub IsReady : Verdict → Packet → KeptNet → Type 0
-IsReady Allow packet n = 0 < n.direct.spare
-IsReady Deny packet n = Unit {0}
-IsReady (Pipe k place) packet n = HasRoomIn k packet n.table.pipes
+IsReady OverTheLink packet n = 0 < n.direct.spare
+IsReady Dropped packet n = Unit {0}
+IsReady (IntoPipe k place) packet n = HasRoomIn k packet n.table.pipes
 
 -- what the rules say of a packet, from the first on, and behind its place
 abbrev pub verdict_on : Packet → KeptNet → Verdict

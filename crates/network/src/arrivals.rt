@@ -65,12 +65,12 @@ impl Network {
         ensures ready { OnOk result (IsReady verdict packet.now self.new) }
     {
         match verdict {
-            Verdict::Allow => {
+            Verdict::OverTheLink => {
                 self.direct.enter_ready(now, no_delay())?;
                 return Ok(());
             }
-            Verdict::Deny => return Ok(()),
-            Verdict::Pipe(number, _) => {
+            Verdict::Dropped => return Ok(()),
+            Verdict::IntoPipe(number, _) => {
                 return self.table.arrive_ready(shelf, owner, now, number, packet);
             }
         }
@@ -249,15 +249,15 @@ impl Network {
         ensures others { OthersStay owner (S.pocket shelf.old) (S.pocket shelf.new) }
     {
         match verdict {
-            Verdict::Allow => {
+            Verdict::OverTheLink => {
                 self.to_direct(shelf, owner, at.now, packet);
                 return;
             }
-            Verdict::Deny => {
+            Verdict::Dropped => {
                 self.drop_packet(at.now, packet, DropCause::Denied);
                 return;
             }
-            Verdict::Pipe(number, place) => {
+            Verdict::IntoPipe(number, place) => {
                 let sent = Packet { place, ..*packet };
                 self.to_pipe(shelf, owner, at, number, &sent);
                 return;

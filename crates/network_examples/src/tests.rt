@@ -263,7 +263,7 @@ fn rule(number: u32, action: Action) -> Option<Rule> {
 }
 
 fn send_to(pipe: u16) -> Option<Action> {
-    Some(Action::SendTo(PipeNumber::new(pipe)?))
+    Some(Action::Pipe(PipeNumber::new(pipe)?))
 }
 
 /// A packet of 1000 bytes.
@@ -298,7 +298,7 @@ fn between(number: u32, from: u32, to: u32, pipe: u16) -> Option<Command> {
     let host = PrefixLength::new(32)?;
     Some(Command::Add(Rule {
         number: RuleNumber::new(number)?,
-        action: Action::SendTo(PipeNumber::new(pipe)?),
+        action: Action::Pipe(PipeNumber::new(pipe)?),
         proto: ProtocolMatch::OnlyTcp,
         src: Prefix::new(from, host),
         sports: None,
@@ -368,9 +368,9 @@ fn two_pipes_in_turn(rt: HostRuntime) -> Result<(), Fail> {
     );
     let slow = pipe(1, 0, 10).ok_or("pipe 1")?;
     let fast = pipe(2, 0, 5).ok_or("pipe 2")?;
-    let first = rule(100, Action::SendTo(one)).ok_or("100")?;
-    let second = rule(200, Action::SendTo(two)).ok_or("200")?;
-    let third = rule(300, Action::Permit).ok_or("300")?;
+    let first = rule(100, Action::Pipe(one)).ok_or("100")?;
+    let second = rule(200, Action::Pipe(two)).ok_or("200")?;
+    let third = rule(300, Action::Allow).ok_or("300")?;
     let send = thousand().ok_or("packet")?;
     let commands = [
         timed(0, Command::OnePass(false)),
@@ -402,7 +402,7 @@ fn pipe_deleted(rt: HostRuntime) -> Result<(), Fail> {
     let room = PacketBudget::new(1000).ok_or("budget")?;
     let one = PipeNumber::new(1).ok_or("1")?;
     let config = pipe(1, 0, 100).ok_or("pipe")?;
-    let all = rule(100, Action::SendTo(one)).ok_or("rule")?;
+    let all = rule(100, Action::Pipe(one)).ok_or("rule")?;
     let other = thousand().ok_or("packet")?;
     let send = thousand().ok_or("packet")?;
     let commands = [
@@ -546,8 +546,8 @@ fn listed_rules(pipe: PipeNumber) -> Option<[Rule; 4]> {
     Some([
         rule(100, Action::Count)?,
         rule(100, Action::SkipTo(place))?,
-        rule(200, Action::Forbid)?,
-        rule(300, Action::SendTo(pipe))?,
+        rule(200, Action::Deny)?,
+        rule(300, Action::Pipe(pipe))?,
     ])
 }
 
@@ -570,7 +570,7 @@ fn listings(rt: HostRuntime) -> Result<(), Fail> {
         timed(0, Command::PipeShow),
     ];
     let [count, skip, deny, send] = listed_rules(one).ok_or("rules")?;
-    let default = rule(65535, Action::Forbid).ok_or("default")?;
+    let default = rule(65535, Action::Deny).ok_or("default")?;
     let config = config(1_000_000, 0).ok_or("config")?;
     let expected = [
         done(0, 6),
@@ -601,7 +601,7 @@ fn listings(rt: HostRuntime) -> Result<(), Fail> {
 #[test]
 fn steps_are_spent(rt: HostRuntime) -> Result<(), Fail> {
     let room = PacketBudget::new(10).ok_or("budget")?;
-    let default = rule(65535, Action::Forbid).ok_or("default")?;
+    let default = rule(65535, Action::Deny).ok_or("default")?;
     let expected = [
         done(0, 0),
         counted(default, 0, 0),

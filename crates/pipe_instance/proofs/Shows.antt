@@ -6,7 +6,8 @@ use Rattle.emu_model.specs.declared.packets.Packet.{Packet}
 use Rattle.emu_model.specs.declared.pipes.PipeConfig.{PipeConfig}
 use Rattle.emu_model.specs.FlowIds.{FlowId}
 use Rattle.emu_model.specs.DropTail.{Waiting}
-use Rattle.emu_model.specs.Codel.{Dequeued, give}
+use Rattle.emu_model.specs.Codel.{Dequeued}
+use Rattle.emu_model.proofs.CodelParts.{give_head}
 use Rattle.emu_model.specs.Rate.{begin}
 use Rattle.emu_model.specs.Delay.{Line, Leaving, enter, exit_after, delay_ns}
 use Rattle.emu_model.specs.Pipes.{InService, Instance, After, dequeue, period_with, codel_drops, no_drop, accept, send_off, instance_finish, cut_service, instance_configure}
@@ -67,7 +68,7 @@ accept-by f id config now key size i None tuned is idle =
     let shown : Instance = seen_instance f id (with_busy i None) in
     let w : Waiting Packet = record { item = f key; size = size; stamp = now } in
     let d : dequeue config.discipline now i.queue.control (map (seen_waiting f) i.queue.waiting ++ record { item = f key; size = (f key).size; stamp = now } ∷ [])
-    ≡ give (dequeue {A = ℕ} i.queue.discipline now i.queue.control []).control w [] =
+    ≡ give_head (dequeue {A = ℕ} i.queue.discipline now i.queue.control []).control w [] =
     (λ j. dequeue (sym tuned.discipline j) now i.queue.control (map (seen_waiting f) (none j) ++ record { item = f key; size = is j; stamp = now } ∷ []))
     ∙ lone_dequeue i.queue.discipline now i.queue.control w in
     (λ j. after_dequeue (sym tuned.bw j) now shown None shown.line (d j))

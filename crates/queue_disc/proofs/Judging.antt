@@ -2,7 +2,8 @@
 use Rattle.std.proofs.Common.{◌≡◌, ℕ, ◌+◌, ◌-◌, ◌<◌, ◌∙◌, ap, sym, refl, Bool, true, false, List, [], ◌∷◌, length, drop, arith}
 use Rattle.std.specs.Prelude.{nat_lt, nat_le, not, ◌||◌, if◌then◌else◌}
 use Rattle.emu_model.specs.DropTail.{Waiting, bytes_of}
-use Rattle.emu_model.specs.Codel.{Times, CodelState, Dequeued, Found, dodequeue, dodequeue_of, is_short, ok_to_drop, look, look_empty, stop_dropping, count_up, set_next, give, give_none, after_drop, drop_on, drop_first, codel_dequeue}
+use Rattle.emu_model.specs.Codel.{Times, CodelState, Dequeued, count_up, codel_dequeue}
+use Rattle.emu_model.proofs.CodelParts.{Found, found_by, found_of, is_short, ok_to_drop, look, look_empty, stop_dropping, set_next, give_head, give_none, drop_head, drop_on, first_dropped, dequeue_by_parts, by_parts}
 use Rattle.queue_disc.specs.declared.verdict.Verdict.{Verdict}
 use Rattle.queue_disc.specs.Judged.{verdict, verdict_of, after, drops_on}
 
@@ -14,7 +15,7 @@ pub record IsJudged {A : Type 0} (times : Times) (now : ℕ) (seen : CodelState)
       ≡ after drops (drops_on times now control (drop (drops + 1) ws))
 
 after_drop-is : {A : Type 0} (w : Waiting A) (d : Dequeued A) →
-    verdict_of (after_drop w d) ≡ after 1 (verdict_of d)
+    verdict_of (drop_head w d) ≡ after 1 (verdict_of d)
 after_drop-is w d =
     let more : length (w ∷ d.dropped) ≡ 1 + length d.dropped = omega arith in
     ap (λ n. verdict n d.control) more
@@ -25,7 +26,7 @@ drops_on-is : {A : Type 0} (times : Times) (now : ℕ) (c : CodelState) (w : Wai
 drops_on-is {A = A} times now c w [] = by (nat_lt now c.drop_next)
   where
     by : (b : Bool) →
-        verdict_of (if b then give c w [] else after_drop w (give_none (stop_dropping (look_empty (count_up c)))))
+        verdict_of (if b then give_head c w [] else drop_head w (give_none (stop_dropping (look_empty (count_up c)))))
         ≡ (if b then verdict 0 c else verdict 1 (stop_dropping (look_empty (count_up c))))
     by true = refl
     by false = refl
@@ -37,26 +38,26 @@ drops_on-is {A = A} times now c w (v ∷ rest) =
     counted = look times now (count_up c) v rest
 
     by : (b d : Bool) (later : Dequeued A) (judged : Verdict) → verdict_of later ≡ judged →
-        verdict_of (if b then give c w (v ∷ rest)
-        else (if d then after_drop w later else after_drop w (give (stop_dropping counted) v rest)))
+        verdict_of (if b then give_head c w (v ∷ rest)
+        else (if d then drop_head w later else drop_head w (give_head (stop_dropping counted) v rest)))
         ≡ (if b then verdict 0 c else (if d then after 1 judged else verdict 1 (stop_dropping counted)))
     by true d later judged e = refl
     by false true later judged e = after_drop-is w later ∙ ap (λ t. after 1 t) e
     by false false later judged e = refl
 
 -- a head that may be dropped, while dropping
-codel_dequeue-dropping : {A : Type 0} (times : Times) (now : ℕ) (c : CodelState) (w : Waiting A) (rest : List (Waiting A)) →
+parts-dropping : {A : Type 0} (times : Times) (now : ℕ) (c : CodelState) (w : Waiting A) (rest : List (Waiting A)) →
     ok_to_drop times now c w rest ≡ true → c.dropping ≡ true →
-    verdict_of (codel_dequeue times now c (w ∷ rest)) ≡ drops_on times now (look times now c w rest) rest
-codel_dequeue-dropping {A = A} times now c w rest may on =
+    verdict_of (dequeue_by_parts times now c (w ∷ rest)) ≡ drops_on times now (look times now c w rest) rest
+parts-dropping {A = A} times now c w rest may on =
     by (ok_to_drop times now c w rest) c.dropping may on
   where
     seen : CodelState
     seen = look times now c w rest
 
     by : (b d : Bool) → b ≡ true → d ≡ true →
-        verdict_of (if not b then give (stop_dropping seen) w rest
-        else (if d then drop_on times now seen w rest else drop_first times now seen w rest))
+        verdict_of (if not b then give_head (stop_dropping seen) w rest
+        else (if d then drop_on times now seen w rest else first_dropped times now seen w rest))
         ≡ drops_on times now seen rest
     by true true e f = drops_on-is times now seen w rest
     by true false e f = absurd (cc)
@@ -80,15 +81,17 @@ drops_on-all times now seen c ws drops left h e =
 pub judged_dropping : {A : Type 0} (times : Times) (now : ℕ) (c : CodelState) (head : Waiting A) (ws rest : List (Waiting A)) (left : ℕ) (short : Bool) (found : Found) (seen : CodelState) →
     ws ≡ head ∷ rest → left ≡ bytes_of rest →
     short ≡ (nat_lt (now - head.stamp) times.target || nat_le left 1500) →
-    found ≡ dodequeue times now c.first_above_time short → seen ≡ record c { first_above_time = found.first_above_time } →
+    found ≡ found_by times now c.first_above_time short → seen ≡ record c { first_above_time = found.first_above_time } →
     found.ok_to_drop ≡ true → c.dropping ≡ true →
     drops_on times now seen rest ≡ verdict_of (codel_dequeue times now c ws)
 judged_dropping times now c head ws rest left short found seen e l s looked f may on =
     let stay : short ≡ is_short times now head rest =
     s ∙ ap (λ n. nat_lt (now - head.stamp) times.target || nat_le n 1500) l in
-    let is : found ≡ dodequeue_of times now c head rest =
-    looked ∙ ap (λ b. dodequeue times now c.first_above_time b) stay in
-    rw (e, f, is) (sym (codel_dequeue-dropping times now c head rest (sym (ap (λ (x : Found). x.ok_to_drop) is) ∙ may) on))
+    let is : found ≡ found_of times now c head rest =
+    looked ∙ ap (λ b. found_by times now c.first_above_time b) stay in
+    rw (e, f, is)
+    (sym (ap verdict_of (by_parts times now c (head ∷ rest))
+    ∙ parts-dropping times now c head rest (sym (ap (λ (x : Found). x.ok_to_drop) is) ∙ may) on))
 
 -- a test that failed
 pub not_true : (b : Bool) → false ≡ not b → b ≡ true

@@ -2,7 +2,8 @@
 -- rests on what is behind it, so the head itself isn't named.
 use Rattle.std.specs.Prelude.{ℕ, ◌+◌, List, [], ◌∷◌, length, nat_lt, if◌then◌else◌}
 use Rattle.emu_model.specs.DropTail.{Waiting}
-use Rattle.emu_model.specs.Codel.{Times, CodelState, Dequeued, ok_to_drop, look, look_empty, stop_dropping, count_up, set_next, begin_dropping}
+use Rattle.emu_model.specs.Codel.{Times, CodelState, Dequeued, count_up, enter_drop_state}
+use Rattle.emu_model.proofs.CodelParts.{ok_to_drop, look, look_empty, stop_dropping, set_next}
 use Rattle.queue_disc.specs.declared.verdict.Verdict.{Verdict}
 
 abbrev pub verdict : ℕ → CodelState → Verdict
@@ -13,8 +14,8 @@ verdict_of d = verdict (length d.dropped) d.control
 
 -- as dropping begins
 abbrev pub drops_first : {A : Type 0} → Times → ℕ → CodelState → List (Waiting A) → Verdict
-drops_first times now c [] = verdict 1 (begin_dropping times now (look_empty c))
-drops_first times now c (v ∷ rest) = verdict 1 (begin_dropping times now (look times now c v rest))
+drops_first times now c [] = verdict 1 (enter_drop_state times now (look_empty c))
+drops_first times now c (v ∷ rest) = verdict 1 (enter_drop_state times now (look times now c v rest))
 
 -- after n drops
 abbrev pub after : ℕ → Verdict → Verdict

@@ -1,4 +1,4 @@
-//! CoDel's control law (RFC 8289, section 5.4) in whole nanoseconds; the rounding down is our choice.
+//! CoDel's control law (RFC 8289, section 5.6) in whole nanoseconds; the rounding down is our choice.
 
 ghost use Rattle.std.specs.Prelude.{◌≡◌, ◌+◌, ◌-◌, ◌*◌, ◌^◌, ◌<◌, ◌≤◌, nat_le};
 ghost use Rattle.emu_model.specs.Codel.{control_law, IsControlStep};

@@ -1,7 +1,8 @@
 //! CoDel's state, one small function for each step of RFC 8289's `dodequeue` and `dequeue`.
 
 ghost use Rattle.std.specs.Prelude.{◌≡◌, ◌+◌, ◌-◌, ◌*◌, ◌^◌, ◌<◌, ◌≤◌, ◌==◌, ◌&&◌, ◌||◌, not, nat_lt, nat_le, if◌then◌else◌};
-ghost use Rattle.emu_model.specs.Codel.{initial_control, dodequeue, look_empty, stop_dropping, count_up, set_next, begin_dropping};
+ghost use Rattle.emu_model.specs.Codel.{initial_control, count_up, enter_drop_state};
+ghost use Rattle.emu_model.proofs.CodelParts.{found_by, look_empty, stop_dropping, set_next};
 
 use crate::law::control_law;
 use emu_model::CodelTime;
@@ -47,7 +48,7 @@ pub(crate) struct Found {
 }
 
 impl Model for Found {
-    ghost use Rattle.emu_model.specs.Codel.{Found as CodelFound};
+    ghost use Rattle.emu_model.proofs.CodelParts.{Found as CodelFound};
 
     ghost Value = { CodelFound };
 
@@ -131,10 +132,10 @@ impl CodelState {
         self.drop_next <= now
     }
 
-    /// What is found of a head whose stay is short, or isn't (RFC 8289, section 5.4, `dodequeue`).
-    pub(crate) fn dodequeue(self, times: Times, now: u64, short: bool) -> Found
+    /// What is found of a head whose stay is short, or isn't (RFC 8289, section 5.6, `dodequeue`).
+    pub(crate) fn found(self, times: Times, now: u64, short: bool) -> Found
         requires { now < 2 * 10 ^ 15 }
-        ensures { result ≡ dodequeue times now self.first_above_time short }
+        ensures { result ≡ found_by times now self.first_above_time short }
     {
         if short {
             return Found {
@@ -205,13 +206,14 @@ impl CodelState {
     }
 
     /// Begins dropping, with a higher count where it ended a short while ago.
-    pub(crate) fn begin_dropping(self, times: Times, now: u64) -> Self
+    pub(crate) fn enter_drop_state(self, times: Times, now: u64) -> Self
         requires { now < 2 * 10 ^ 15 }
-        ensures { result ≡ begin_dropping times now self }
+        ensures { result ≡ enter_drop_state times now self }
     {
-        let since = self.count.saturating_sub(self.last_count);
-        let recent = self.drop_next + RECENT_INTERVALS * times.interval.get();
-        let count = if since > 1 && now < recent { since } else { 1 };
+        let delta = self.count.saturating_sub(self.last_count);
+        let since = now.saturating_sub(self.drop_next);
+        let is_recent = since < RECENT_INTERVALS * times.interval.get();
+        let count = if delta > 1 && is_recent { delta } else { 1 };
         CodelState {
             dropping: true,
             count,

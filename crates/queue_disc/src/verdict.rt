@@ -26,7 +26,7 @@ pub(crate) fn judge<A>(queue: &DropTail<A>, times: Times, control: CodelState, n
     };
     let left = queue.bytes() - u64::from(head.size.get());
     let short = times.is_short(now, head.stamp, left);
-    let found = control.dodequeue(times, now, short);
+    let found = control.found(times, now, short);
     let seen = control.look(found);
     if !found.ok_to_drop() {
         return Verdict {
@@ -56,13 +56,13 @@ fn judge_first<A>(
         Some(next) => {
             let behind = left - u64::from(next.size.get());
             let short = times.is_short(now, next.stamp, behind);
-            seen.look(seen.dodequeue(times, now, short))
+            seen.look(seen.found(times, now, short))
         }
         None => seen.look_empty(),
     };
     Verdict {
         drops: 1,
-        control: looked.begin_dropping(times, now),
+        control: looked.enter_drop_state(times, now),
     }
 }
 
@@ -93,7 +93,7 @@ fn judge_dropping<A>(
         };
         left -= u64::from(next.size.get());
         let short = times.is_short(now, next.stamp, left);
-        let found = counted.dodequeue(times, now, short);
+        let found = counted.found(times, now, short);
         let looked = counted.look(found);
         if !found.ok_to_drop() {
             return Verdict {

@@ -5,7 +5,7 @@ use Rattle.std.proofs.lemmas.Bool.{cond_both, and_parts, ltb-true, eqb-true, eq-
 use Rattle.std.proofs.lemmas.List.Sums.{sum_by-cons}
 use Rattle.emu_model.specs.declared.sources.FlowSpec.{FlowSpec}
 use Rattle.emu_model.specs.declared.sources.Timing.{Timing}
-use Rattle.emu_model.specs.Reno.{Sender, Sample, timeout_at, emit, emitted, may_emit, ack, ack_new, ack_duplicate, expire, is_new, is_duplicate, round_trip, sample_after, half_flight, bounded}
+use Rattle.emu_model.specs.Reno.{Sender, Sample, timeout_at, emit, emitted, may_emit, ack, ack_new, ack_duplicate, expire, is_new, is_duplicate, round_trip, sample_after, halved_ssthresh, bounded}
 use Rattle.reno_core.specs.Sound.{IsFlow, IsSound, IsSent}
 use Rattle.reno_core.specs.RenoLaws.{Event, acknowledged, expired, allowed, moment_of, IsHistory, sender_with, sender_after, sent_with, firsts_sent, PositionsStayInOrder, WindowHoldsASegment, LossLeavesTwoSegments, SecondExpiryHolds, TimedIsSentOnce, AdaptiveTimeIsBounded}
 use Rattle.reno_core.proofs.SoundnessKept.{ack_sound, expire_sound, emit_sound, initial_sound, multiple_after}
@@ -45,7 +45,7 @@ third f s out two = cond_both s.recovery _ _ (λ (t : Sender). 2 * f.smss ≤ t.
 
 pub loss_leaves_two_segments : LossLeavesTwoSegments
 loss_leaves_two_segments f now a s = (
-  λ first. cond_both s.backed_off s.ssthresh (half_flight f s) (λ n. 2 * f.smss ≤ n)
+  λ first. cond_both s.backed_off s.ssthresh (halved_ssthresh f s) (λ n. 2 * f.smss ≤ n)
       (λ e. absurd (true≢false (sym e ∙ first))) (λ _. omega arith),
   λ same out two. cond_both (is_new f a s) _ _ (λ (t : Sender). 2 * f.smss ≤ t.ssthresh)
       (λ new. absurd (not_both new same))
@@ -69,7 +69,7 @@ second_expiry_holds f now a s = (
   cond_both s.resend _ _ (λ (t : Sender). t.backed_off ≡ s.backed_off) (λ _. refl) (λ _. refl),
   λ old. cond_both (is_new f a s) _ _ (λ (t : Sender). t.backed_off ≡ s.backed_off) (λ new. absurd (true≢false (sym new ∙ old)))
       (λ _. cond_both (is_duplicate a s) _ _ (λ (t : Sender). t.backed_off ≡ s.backed_off) (λ _. duplicate_timed f s) (λ _. refl)),
-  λ timed. cond_both s.backed_off s.ssthresh (half_flight f s) (λ n. n ≡ s.ssthresh) (λ _. refl)
+  λ timed. cond_both s.backed_off s.ssthresh (halved_ssthresh f s) (λ n. n ≡ s.ssthresh) (λ _. refl)
       (λ e. absurd (true≢false (sym timed ∙ e))),
 )
 

@@ -6,7 +6,7 @@ use Rattle.std.proofs.lemmas.Bool.{cond_both, and_parts, or_cases, ltb-true, leb
 use Rattle.emu_model.specs.declared.sources.FlowSpec.{FlowSpec}
 use Rattle.emu_model.specs.declared.sources.Timing.{Timing}
 use Rattle.emu_model.specs.declared.sources.Timing.TheVariants.{Fixed, Adaptive}
-use Rattle.emu_model.specs.Reno.{Sender, Sample, Estimate, total_bytes, timeout_at, longest, greatest_word, has_room, may_emit, emitted, emit, started_sample, half_flight, grown_window, bounded, round_trip, new_estimate, timeout_after, estimate_after, sample_after, ack_new, ack_duplicate, enter_recovery, is_new, is_duplicate, ack, expire, initial_sender}
+use Rattle.emu_model.specs.Reno.{Sender, Sample, Estimate, total_bytes, timeout_at, most_rto, greatest_word, has_room, may_emit, emitted, emit, started_sample, halved_ssthresh, window_after, bounded, round_trip, new_estimate, timeout_after, estimate_after, sample_after, ack_new, ack_duplicate, enter_recovery, is_new, is_duplicate, ack, expire, initial_sender}
 use Rattle.reno_core.specs.Sound.{IsFlow, IsSound, IsEstimate, IsSent}
 
 -- a whole segment that begins below the total ends there at the latest
@@ -113,7 +113,7 @@ emit_sound f now s h may = cond_both s.resend _ _ (IsSound f)
 
 -- the window after an acknowledgement of new data holds a segment, and fits
 grown_bounds : (f : FlowSpec) (n : ℕ) (s : Sender) → IsSound f s →
-    (f.smss ≤ grown_window f n s) × (grown_window f n s ≤ greatest_word)
+    (f.smss ≤ window_after f n s) × (window_after f n s ≤ greatest_word)
 grown_bounds f n s h =
     let most = h.flow.most in
     let window = h.window in
@@ -139,8 +139,8 @@ estimate_below r (Some e) h p = (omega (arith, p.0), omega (arith, p.0, p.1))
 
 -- the time after an acknowledgement of new data is no shorter than the first, nor above 60 s
 time_bounds : (t : Timing) (r : Option ℕ) (s : Sender) →
-    timeout_at t ≤ longest → timeout_at t ≤ s.rto → s.rto ≤ longest →
-    (timeout_at t ≤ timeout_after t r s) × (timeout_after t r s ≤ longest)
+    timeout_at t ≤ most_rto → timeout_at t ≤ s.rto → s.rto ≤ most_rto →
+    (timeout_at t ≤ timeout_after t r s) × (timeout_after t r s ≤ most_rto)
 time_bounds (Fixed ms) r s slow h k = (omega arith, slow)
 time_bounds Adaptive None s slow h k = (h, k)
 time_bounds Adaptive (Some r) s slow h k = (omega arith, omega arith)
@@ -191,7 +191,7 @@ new_sound f now a s early h new =
 
 -- half of what is under way is two segments at least
 half_bounds : (f : FlowSpec) (s : Sender) → IsSound f s →
-    (2 * f.smss ≤ half_flight f s) × (half_flight f s ≤ 1000000000)
+    (2 * f.smss ≤ halved_ssthresh f s) × (halved_ssthresh f s ≤ 1000000000)
 half_bounds f s h =
     let few = h.flow.few in
     let most = h.flow.most in
@@ -310,8 +310,8 @@ expire_sound f now s h =
       top_whole = h.top_whole;
       window = omega arith;
       window_fits = omega arith;
-      threshold = cond_both s.backed_off s.ssthresh (half_flight f s) (λ n. 1 ≤ n) (λ _. h.threshold) (λ _. omega (arith, half.0));
-      threshold_fits = cond_both s.backed_off s.ssthresh (half_flight f s) (λ n. n ≤ 1000000000) (λ _. h.threshold_fits) (λ _. half.1);
+      threshold = cond_both s.backed_off s.ssthresh (halved_ssthresh f s) (λ n. 1 ≤ n) (λ _. h.threshold) (λ _. omega (arith, half.0));
+      threshold_fits = cond_both s.backed_off s.ssthresh (halved_ssthresh f s) (λ n. n ≤ 1000000000) (λ _. h.threshold_fits) (λ _. half.1);
       recovers = λ e. absurd (true≢false (sym e));
       duplicates_fit = omega arith;
       resends = λ e. absurd (true≢false (sym e));

@@ -3,7 +3,7 @@
 use Rattle.std.specs.Prelude.{◌≡◌, ℕ, ◌+◌, ◌*◌, ◌^◌, ◌<◌, ◌≤◌, ⊤, true, false, Some, List, [], ◌∷◌, ◌==◌, if◌then◌else◌, count_by}
 use Rattle.emu_model.specs.declared.sources.FlowSpec.{FlowSpec}
 use Rattle.emu_model.specs.declared.sources.Timing.TheVariants.{Adaptive}
-use Rattle.emu_model.specs.Reno.{Sender, Sample, total_bytes, longest, initial_sender, ack, expire, emit, emitted, may_emit, is_new, is_duplicate, with_segment, missing}
+use Rattle.emu_model.specs.Reno.{Sender, Sample, total_bytes, most_rto, initial_sender, ack, expire, emit, emitted, may_emit, is_new, is_duplicate, with_segment, missing}
 use Rattle.reno_core.specs.Sound.{IsFlow}
 
 -- what happens to a sender, at a moment: it is acknowledged all bytes below a number, its timer
@@ -78,7 +78,7 @@ TimedIsSentOnce = (f : FlowSpec) (es : List Event) (m : Sample) → IsFlow f →
 abbrev pub AdaptiveTimeIsBounded : Type 0
 AdaptiveTimeIsBounded = (f : FlowSpec) (es : List Event) → IsFlow f → IsHistory es →
     f.timing ≡ Adaptive →
-    (10 ^ 9 ≤ (sender_after f es).rto) × ((sender_after f es).rto ≤ longest)
+    (10 ^ 9 ≤ (sender_after f es).rto) × ((sender_after f es).rto ≤ most_rto)
 
 -- whatever comes, a receiver never takes back what it acknowledged (RFC 5681, section 2)
 abbrev pub NumberNeverFalls : Type 0

@@ -1,7 +1,7 @@
 -- What holds of every sender.
 use Rattle.std.specs.Prelude.{◌≡◌, ℕ, ◌*◌, ◌%◌, ◌^◌, ◌<◌, ◌≤◌, ⊤, Option, Some, None, true}
 use Rattle.emu_model.specs.declared.sources.FlowSpec.{FlowSpec}
-use Rattle.emu_model.specs.Reno.{Sender, Sample, Estimate, total_bytes, initial_rto, longest, greatest_word}
+use Rattle.emu_model.specs.Reno.{Sender, Sample, Estimate, total_bytes, initial_rto, most_rto, greatest_word}
 
 -- the ranges of a flow
 pub record IsFlow (f : FlowSpec) : Type 0 where
@@ -11,7 +11,7 @@ pub record IsFlow (f : FlowSpec) : Type 0 where
   pub threshold : 1 ≤ f.ssthresh
   pub bounded : f.ssthresh ≤ 1000000000
   pub quick : 1000000 ≤ initial_rto f
-  pub slow : initial_rto f ≤ longest
+  pub slow : initial_rto f ≤ most_rto
 
 -- round trips are below 2 * 10^15 ns, as all moments are
 abbrev pub IsEstimate : Option Estimate → Type 0
@@ -43,7 +43,7 @@ pub record IsSound (f : FlowSpec) (s : Sender) : Type 0 where
   pub resends : s.resend ≡ true → s.snd_una < s.snd_max
   -- the time is never shorter than the first, nor above 60 s
   pub quick : initial_rto f ≤ s.rto
-  pub slow : s.rto ≤ longest
+  pub slow : s.rto ≤ most_rto
   pub estimated : IsEstimate s.estimate
   -- what is timed was sent once
   pub timed_sent : IsSent s.snd_nxt s.sample

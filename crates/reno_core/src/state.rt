@@ -1,11 +1,11 @@
 //! What a sender knows, and how each event changes it: one function for each rule.
 
 ghost use Rattle.std.specs.Prelude.{◌≡◌, ℕ, ◌+◌, ◌-◌, ◌*◌, ◌^◌, ◌<◌, ◌≤◌, true, false, Some, None, option_map, min, max, if◌then◌else◌};
-ghost use Rattle.emu_model.specs.Reno.{initial_sender, longest, greatest_word, initial_rto, total_bytes, has_room, started_timer, started_sample, half_flight, bounded, grown_window, round_trip, timeout_after, sample_after, estimate_after, ack_new, ack_duplicate, enter_recovery, is_new, is_duplicate, ack, expire, emit, emitted, may_emit};
+ghost use Rattle.emu_model.specs.Reno.{initial_sender, most_rto, greatest_word, initial_rto, total_bytes, has_room, started_timer, started_sample, halved_ssthresh, bounded, window_after, round_trip, timeout_after, sample_after, estimate_after, ack_new, ack_duplicate, enter_recovery, is_new, is_duplicate, ack, expire, emit, emitted, may_emit};
 ghost use Rattle.reno_core.specs.States.{sender_of, sample_of, estimate_of};
 ghost use Rattle.reno_core.specs.Sound.{IsSound, IsFlow, IsEstimate};
 
-use crate::times::{Estimate, LONGEST, SHORTEST, Sample, nanoseconds};
+use crate::times::{Estimate, FIRST_RTO, MOST_RTO, Sample, nanoseconds};
 use emu_model::{FlowSpec, Timing};
 
 /// Where cwnd and duplicates stay (our choice).
@@ -76,7 +76,7 @@ impl State {
             backed_off: false,
             rto: match flow.timing {
                 Timing::Fixed(time) => nanoseconds(time),
-                Timing::Adaptive => SHORTEST,
+                Timing::Adaptive => FIRST_RTO,
             },
             timer: None,
             sample: None,
@@ -95,18 +95,18 @@ impl State {
     }
 
     /// Half of what is under way, and at least two segments (RFC 5681, equation 4).
-    fn half_flight(&self, flow: &FlowSpec) -> u64
+    fn halved_ssthresh(&self, flow: &FlowSpec) -> u64
         requires { self.now.snd_una ≤ self.now.snd_max }
-        ensures { result ≡ half_flight flow.now (sender_of self.now) }
+        ensures { result ≡ halved_ssthresh flow.now (sender_of self.now) }
     {
         ((self.snd_max - self.snd_una) / 2).max(2 * segment_bytes(flow))
     }
 
     /// The window after an acknowledgement of `count` new bytes: at recovery's end, in slow start, or
     /// in congestion avoidance (RFC 5681, sections 3.1 and 3.2).
-    fn grown_window(&self, flow: &FlowSpec, count: u64) -> u64
+    fn window_after(&self, flow: &FlowSpec, count: u64) -> u64
         requires { IsSound flow.now (sender_of self.now) }
-        ensures { result ≡ grown_window flow.now count (sender_of self.now) }
+        ensures { result ≡ window_after flow.now count (sender_of self.now) }
     {
         if self.recovery {
             return self.ssthresh;
@@ -158,7 +158,7 @@ impl State {
         requires new { is_new flow.now upto (sender_of self.old) ≡ true }
         ensures { sender_of self.new ≡ ack_new flow.now now upto (sender_of self.old) }
     {
-        self.cwnd = self.grown_window(flow, upto - self.snd_una);
+        self.cwnd = self.window_after(flow, upto - self.snd_una);
         self.take_round_trip(flow, now, upto);
         self.snd_una = upto;
         self.snd_nxt = self.snd_nxt.max(upto);
@@ -178,7 +178,7 @@ impl State {
         requires sound { IsSound flow.now (sender_of self.old) }
         ensures { sender_of self.new ≡ enter_recovery flow.now (sender_of self.old) }
     {
-        self.ssthresh = self.half_flight(flow);
+        self.ssthresh = self.halved_ssthresh(flow);
         self.cwnd = (self.ssthresh + 3 * segment_bytes(flow)).min(GREATEST_WORD);
         self.resend = true;
         self.recovery = true;
@@ -231,7 +231,7 @@ impl State {
         ensures { sender_of self.new ≡ expire flow.now now (sender_of self.old) }
     {
         if !self.backed_off {
-            self.ssthresh = self.half_flight(flow);
+            self.ssthresh = self.halved_ssthresh(flow);
         }
         self.cwnd = segment_bytes(flow);
         self.snd_nxt = self.snd_una;
@@ -239,7 +239,7 @@ impl State {
         self.recovery = false;
         self.resend = false;
         self.backed_off = true;
-        self.rto = (2 * self.rto).min(LONGEST);
+        self.rto = (2 * self.rto).min(MOST_RTO);
         self.timer = Some(now + self.rto);
         self.sample = None; // its segment may be sent again
     }

@@ -1,7 +1,7 @@
 //! Retransmission times: fixed, or from round trips (RFC 6298).
 
 ghost use Rattle.std.specs.Prelude.{◌≡◌, ◌*◌, ◌^◌, ◌<◌, ◌≤◌, option_map};
-ghost use Rattle.emu_model.specs.Reno.{longest, new_estimate, estimated_timeout, initial_rto, timeout_at};
+ghost use Rattle.emu_model.specs.Reno.{most_rto, new_estimate, estimated_timeout, initial_rto, timeout_at};
 ghost use Rattle.reno_core.specs.States.{estimate_of};
 ghost use Rattle.reno_core.specs.Sound.{IsEstimate};
 
@@ -9,13 +9,16 @@ use emu_model::Timeout;
 
 const NANOSECONDS_PER_MILLISECOND: u64 = 1_000_000;
 
-/// The shortest adaptive time and the first one, in nanoseconds (RFC 6298, sections 2.1 and 2.4).
-pub(crate) const SHORTEST: u64 = 1_000_000_000;
+/// RTO before a round trip was measured, in nanoseconds (RFC 6298, section 2.1).
+pub(crate) const FIRST_RTO: u64 = 1_000_000_000;
 
-/// The longest time, in nanoseconds (RFC 6298, section 2.5).
-pub(crate) const LONGEST: u64 = 60_000_000_000;
+/// The shortest adaptive time, in nanoseconds (RFC 6298, section 2.4).
+pub(crate) const LEAST_RTO: u64 = 1_000_000_000;
 
-/// A segment whose acknowledgement is backed_off: its end, and the moment (ns) at which it was sent.
+/// The longest retransmission time, in nanoseconds (RFC 6298, section 2.5).
+pub(crate) const MOST_RTO: u64 = 60_000_000_000;
+
+/// A segment whose acknowledgement is timed: its end, and the moment (ns) at which it was sent.
 #[derive(Clone, Copy)]
 pub(crate) struct Sample {
     pub(crate) end: u64,
@@ -55,7 +58,7 @@ impl Estimate {
         ensures { result ≡ estimated_timeout (estimate_of self) }
     {
         let time = self.srtt + (4 * self.rttvar).max(1);
-        time.max(SHORTEST).min(LONGEST)
+        time.max(LEAST_RTO).min(MOST_RTO)
     }
 }
 
@@ -63,7 +66,7 @@ impl Estimate {
 pub(crate) fn nanoseconds(time: Timeout) -> u64
     ensures value { result ≡ time * 10 ^ 6 }
     ensures least { 1000000 ≤ result }
-    ensures most { result ≤ longest }
+    ensures most { result ≤ most_rto }
 {
     u64::from(time.get()) * NANOSECONDS_PER_MILLISECOND
 }

@@ -3,7 +3,7 @@ use Rattle.std.specs.Prelude.{◌≡◌, refl, [], ◌∷◌, None, Some, true, 
 use Rattle.std.specs.Fmt.{digits}
 use Rattle.emu_model.specs.declared.packets.Protocol.TheVariants.{Udp}
 use Rattle.emu_model.specs.declared.packets.Load.TheVariants.{Plain, Seg, Ack}
-use Rattle.emu_model.specs.declared.rules.Action.TheVariants.{SkipTo, SendTo}
+use Rattle.emu_model.specs.declared.rules.Action.TheVariants.{SkipTo, Pipe}
 use Rattle.emu_model.specs.declared.rules.ProtocolMatch.TheVariants.{AnyProtocol, OnlyUdp}
 use Rattle.emu_model.specs.declared.pipes.QueueLimit.TheVariants.{Slots, KBytes}
 use Rattle.emu_model.specs.declared.pipes.Discipline.TheVariants.{TailDrop, ControlledDelay}
@@ -98,7 +98,7 @@ any_rule = refl
 close_rule :
     line_of
     (RuleLine
-    (record { number = 5; action = SendTo 1; proto = OnlyUdp; src = record { address = 167772161; len = 32 }; sports = Some (record { first = 53; last = 53 }); dst = record { address = 167837696; len = 16 }; dports = Some (record { first = 0; last = 65535 }) })
+    (record { number = 5; action = Pipe 1; proto = OnlyUdp; src = record { address = 167772161; len = 32 }; sports = Some (record { first = 53; last = 53 }); dst = record { address = 167837696; len = 16 }; dports = Some (record { first = 0; last = 65535 }) })
     0
     0)
     ≡ codes "rule 00005 0 0 pipe 1 udp from 10.0.0.1 53 to 10.1.0.0/16 0-65535\n"

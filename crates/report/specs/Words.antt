@@ -8,7 +8,7 @@ use Rattle.emu_model.specs.declared.packets.Protocol.TheVariants.{Tcp, Udp}
 use Rattle.emu_model.specs.declared.packets.Load.{Load}
 use Rattle.emu_model.specs.declared.packets.Load.TheVariants.{Plain, Seg, Ack}
 use Rattle.emu_model.specs.declared.rules.Action.{Action}
-use Rattle.emu_model.specs.declared.rules.Action.TheVariants.{Permit, Forbid, Count, SkipTo, SendTo}
+use Rattle.emu_model.specs.declared.rules.Action.TheVariants.{Allow, Deny, Count, SkipTo, Pipe}
 use Rattle.emu_model.specs.declared.rules.ProtocolMatch.{ProtocolMatch}
 use Rattle.emu_model.specs.declared.rules.ProtocolMatch.TheVariants.{AnyProtocol, OnlyTcp, OnlyUdp}
 use Rattle.emu_model.specs.declared.pipes.QueueLimit.{QueueLimit}
@@ -63,11 +63,11 @@ code_of TooManyPipes = 24
 code_of TooManyFlows = 25
 
 abbrev pub action_of : Action → List ℕ
-action_of Permit = codes "allow"
-action_of Forbid = codes "deny"
+action_of Allow = codes "allow"
+action_of Deny = codes "deny"
 action_of Count = codes "count"
 action_of (SkipTo number) = codes "skipto " ++ decimal number
-action_of (SendTo pipe) = codes "pipe " ++ decimal pipe
+action_of (Pipe pipe) = codes "pipe " ++ decimal pipe
 
 abbrev pub protocol_of : ProtocolMatch → List ℕ
 protocol_of AnyProtocol = codes "ip"

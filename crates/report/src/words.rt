@@ -20,7 +20,7 @@ pub fn append_instance(out: &mut Vec<u8>, pipe: PipeNumber, instance: u8)
     append_labelled(out, b".", u64::from(instance));
 }
 
-/// The code of a refused command (docs/REPORT.md).
+/// The code of a refused command (docs/use/REPORT.md).
 pub fn refusal_code(refusal: Refusal) -> u64
     ensures { result ≡ code_of refusal }
 {
@@ -33,11 +33,11 @@ pub fn append_action(out: &mut Vec<u8>, action: Action)
     ensures { Appends (action_of action) 27 out.old out.new }
 {
     match action {
-        Action::Permit => append(out, b"allow"),
-        Action::Forbid => append(out, b"deny"),
+        Action::Allow => append(out, b"allow"),
+        Action::Deny => append(out, b"deny"),
         Action::Count => append(out, b"count"),
         Action::SkipTo(number) => append_labelled(out, b"skipto ", u64::from(number.get())),
-        Action::SendTo(pipe) => append_labelled(out, b"pipe ", u64::from(pipe.get())),
+        Action::Pipe(pipe) => append_labelled(out, b"pipe ", u64::from(pipe.get())),
     }
 }
 

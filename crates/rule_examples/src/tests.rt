@@ -82,9 +82,9 @@ fn udp() -> Packet {
 
 fn word(verdict: Verdict) -> &'static str {
     match verdict {
-        Verdict::Allow => "allow",
-        Verdict::Deny => "deny",
-        Verdict::Pipe(_, _) => "pipe",
+        Verdict::OverTheLink => "allow",
+        Verdict::Dropped => "deny",
+        Verdict::IntoPipe(_, _) => "pipe",
     }
 }
 
@@ -143,11 +143,11 @@ fn foresee_after(list: &mut RuleList, n: u32, order: u64) -> &'static str {
 
 fn answer(list: &mut RuleList, call: Call) -> &'static str {
     match call {
-        Call::Allow(n) => add_plain(list, n, Action::Permit),
-        Call::Deny(n) => add_plain(list, n, Action::Forbid),
+        Call::Allow(n) => add_plain(list, n, Action::Allow),
+        Call::Deny(n) => add_plain(list, n, Action::Deny),
         Call::Count(n) => add_plain(list, n, Action::Count),
         Call::Skip(n, to) => add_plain(list, n, Action::SkipTo(number(to))),
-        Call::Pipe(n, pipe) => add_plain(list, n, Action::SendTo(pipe_number(pipe))),
+        Call::Pipe(n, pipe) => add_plain(list, n, Action::Pipe(pipe_number(pipe))),
         Call::Delete(n) => delete(list, n),
         Call::Send => send(list),
         Call::Look => look(list),
@@ -185,7 +185,7 @@ fn lists(list: &RuleList, wanted: &[(u32, u64, u64, u64)]) -> bool {
 fn finds_pipe(list: &RuleList, wanted: (u16, u32, u64)) -> bool {
     let verdict = list.find(&udp());
     match verdict {
-        Verdict::Pipe(pipe, place) => { (pipe.get(), place.number.get(), place.order) == wanted }
+        Verdict::IntoPipe(pipe, place) => { (pipe.get(), place.number.get(), place.order) == wanted }
         _ => false,
     }
 }

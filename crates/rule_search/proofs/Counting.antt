@@ -8,7 +8,7 @@ use Rattle.std.proofs.lemmas.Option.{same_Some, slice_get_within, get_or_from_sl
 use Rattle.std.proofs.lemmas.List.{length-map, length-set, map-set, set-get_or, get_or-set_same, get_or-set_other, same_lists, get_or-map}
 use Rattle.emu_model.specs.declared.packets.Packet.{Packet}
 use Rattle.emu_model.specs.declared.rules.Action.{Action}
-use Rattle.emu_model.specs.declared.rules.Action.TheVariants.{Permit, Forbid, Count, SkipTo, SendTo}
+use Rattle.emu_model.specs.declared.rules.Action.TheVariants.{Allow, Deny, Count, SkipTo, Pipe}
 use Rattle.emu_model.specs.declared.rules.Rule.{Rule}
 use Rattle.emu_model.specs.declared.rules.Verdict.{Verdict}
 use Rattle.emu_model.specs.Rules.{Counted, least_match, goes_on, action_at, next_match, matches_from, verdict_by, verdict_of_match, the_rules, count_packet, count_at, counted_rules}
@@ -107,18 +107,18 @@ the_rules-counted p cs k c there =
     ∙ set-get_or (the_rules cs) k c.rule
 
 verdict_by-counted : (a : Action) (p : Packet) (c : Counted) → verdict_by a (count_packet p c) ≡ verdict_by a c
-verdict_by-counted Permit p c = refl
-verdict_by-counted Forbid p c = refl
+verdict_by-counted Allow p c = refl
+verdict_by-counted Deny p c = refl
 verdict_by-counted Count p c = refl
 verdict_by-counted (SkipTo n) p c = refl
-verdict_by-counted (SendTo n) p c = refl
+verdict_by-counted (Pipe n) p c = refl
 
 decision-counted : (a : Action) (p : Packet) (c : Counted) → decision a (count_packet p c) ≡ decision a c
-decision-counted Permit p c = refl
-decision-counted Forbid p c = refl
+decision-counted Allow p c = refl
+decision-counted Deny p c = refl
 decision-counted Count p c = refl
 decision-counted (SkipTo n) p c = refl
-decision-counted (SendTo n) p c = refl
+decision-counted (Pipe n) p c = refl
 
 judged_at-counted : (p : Packet) (cs : List Counted) (k : ℕ) (c : Counted) → slice_get cs k ≡ Some c → (n : ℕ) → verdict_of_match (slice_get (set cs k (count_packet p c)) n) ≡ verdict_of_match (slice_get cs n)
 judged_at-counted p [] k c there n = refl

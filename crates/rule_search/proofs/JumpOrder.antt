@@ -9,7 +9,7 @@ use Rattle.std.proofs.lemmas.List.{length-map, get_or-map}
 use Rattle.std.proofs.lemmas.List.Sums.{position_or_len_is, passes_at_first}
 use Rattle.emu_model.specs.declared.packets.Place.{Place}
 use Rattle.emu_model.specs.declared.rules.Action.{Action}
-use Rattle.emu_model.specs.declared.rules.Action.TheVariants.{Permit, Forbid, Count, SkipTo, SendTo}
+use Rattle.emu_model.specs.declared.rules.Action.TheVariants.{Allow, Deny, Count, SkipTo, Pipe}
 use Rattle.emu_model.specs.declared.rules.Rule.{Rule}
 use Rattle.emu_model.specs.Rules.{Counted, the_rules, place_of_number, goes_on, action_at, is_behind, start_behind, default_rule}
 use Rattle.rule_search.specs.Walk.{Precedes, Ascends, IsOrdered, GoesForward, target_of}
@@ -78,18 +78,18 @@ start_behind-from_point p cs i within point =
 -- ---- jumps
 
 pub goes-by : (rs : List Rule) (k : ℕ) (a : Action) (j : ℕ) → goes_on rs k (Some a) ≡ Some j → ((target_of a ≡ None) × (j ≡ k + 1)) ⊎ ((n : ℕ) × (target_of a ≡ Some n) × (j ≡ place_of_number n rs))
-goes-by rs k Permit j e = absurd (none-some j e)
-goes-by rs k Forbid j e = absurd (none-some j e)
+goes-by rs k Allow j e = absurd (none-some j e)
+goes-by rs k Deny j e = absurd (none-some j e)
 goes-by rs k Count j e = inl (refl, sym (same_Some _ _ e))
 goes-by rs k (SkipTo n) j e = inr (n, refl, sym (same_Some _ _ e))
-goes-by rs k (SendTo n) j e = absurd (none-some j e)
+goes-by rs k (Pipe n) j e = absurd (none-some j e)
 
 target_forward : (own : ℕ) (a : Action) (n : ℕ) → GoesForward own a → target_of a ≡ Some n → own < n
-target_forward own Permit n h e = absurd (none-some n e)
-target_forward own Forbid n h e = absurd (none-some n e)
+target_forward own Allow n h e = absurd (none-some n e)
+target_forward own Deny n h e = absurd (none-some n e)
 target_forward own Count n h e = absurd (none-some n e)
 target_forward own (SkipTo m) n h e = let same : m ≡ n = same_Some m n e in omega (arith, h, same)
-target_forward own (SendTo m) n h e = absurd (none-some n e)
+target_forward own (Pipe m) n h e = absurd (none-some n e)
 
 -- where a search goes on, a rule is
 pub goes_within : (cs : List Counted) (k j : ℕ) → goes_on (the_rules cs) k (action_at (the_rules cs) k) ≡ Some j → (k < length cs) × (slice_get cs k ≡ Some (get_or cs k default_rule))

@@ -8,10 +8,10 @@ use Rattle.std.proofs.lemmas.List.{get_or-drop, get_or-map, length-map}
 use Rattle.std.proofs.lemmas.List.Sums.{position_or_len_is}
 use Rattle.emu_model.specs.declared.packets.Packet.{Packet}
 use Rattle.emu_model.specs.declared.rules.Action.{Action}
-use Rattle.emu_model.specs.declared.rules.Action.TheVariants.{Permit, Forbid, Count, SkipTo, SendTo}
+use Rattle.emu_model.specs.declared.rules.Action.TheVariants.{Allow, Deny, Count, SkipTo, Pipe}
 use Rattle.emu_model.specs.declared.rules.Rule.{Rule}
 use Rattle.emu_model.specs.declared.rules.Verdict.{Verdict}
-use Rattle.emu_model.specs.declared.rules.Verdict.TheVariants.{Deny}
+use Rattle.emu_model.specs.declared.rules.Verdict.TheVariants.{Dropped}
 use Rattle.emu_model.specs.Rules.{Counted, rule_matches, least_match, place_of_number, goes_on, action_at, next_match, matches_from, verdict_by, verdict_of_match, the_rules, verdict}
 use Rattle.rule_search.specs.Walk.{decision, AreJumps}
 
@@ -57,18 +57,18 @@ least_match-within p rs from k e =
 -- ---- one step of the walk
 
 pub ends : (rs : List Rule) (k : ℕ) (a : Action) (c : Counted) (v : Verdict) → decision a c ≡ Some v → (goes_on rs k (Some a) ≡ None) × (verdict_by a c ≡ v)
-ends rs k Permit c v e = (refl, same_Some _ _ e)
-ends rs k Forbid c v e = (refl, same_Some _ _ e)
+ends rs k Allow c v e = (refl, same_Some _ _ e)
+ends rs k Deny c v e = (refl, same_Some _ _ e)
 ends rs k Count c v e = absurd (none-some _ e)
 ends rs k (SkipTo n) c v e = absurd (none-some _ e)
-ends rs k (SendTo n) c v e = (refl, same_Some _ _ e)
+ends rs k (Pipe n) c v e = (refl, same_Some _ _ e)
 
-pub goes : (rs : List Rule) (k : ℕ) (a : Action) (c : Counted) → decision a c ≡ None → ((j : ℕ) × (goes_on rs k (Some a) ≡ Some j)) × (verdict_by a c ≡ Deny)
-goes rs k Permit c e = absurd (none-some _ (sym e))
-goes rs k Forbid c e = absurd (none-some _ (sym e))
+pub goes : (rs : List Rule) (k : ℕ) (a : Action) (c : Counted) → decision a c ≡ None → ((j : ℕ) × (goes_on rs k (Some a) ≡ Some j)) × (verdict_by a c ≡ Dropped)
+goes rs k Allow c e = absurd (none-some _ (sym e))
+goes rs k Deny c e = absurd (none-some _ (sym e))
 goes rs k Count c e = ((k + 1, refl), refl)
 goes rs k (SkipTo n) c e = ((place_of_number n rs, refl), refl)
-goes rs k (SendTo n) c e = absurd (none-some _ (sym e))
+goes rs k (Pipe n) c e = absurd (none-some _ (sym e))
 
 pub action : (cs : List Counted) (k : ℕ) (c : Counted) → slice_get cs k ≡ Some c → action_at (the_rules cs) k ≡ Some c.rule.action
 action cs k c e =
@@ -102,7 +102,7 @@ pub Answers-start : (p : Packet) (cs : List Counted) (start : ℕ) → Answers p
 Answers-start p cs start =
     (length (the_rules cs), omega (arith, length-map cs (λ (c : Counted). c.rule)), refl)
 
-pub Answers-none : (p : Packet) (cs : List Counted) (from : ℕ) (v : Verdict) → Answers p cs from v → least_match p (the_rules cs) from ≡ None → Deny ≡ v
+pub Answers-none : (p : Packet) (cs : List Counted) (from : ℕ) (v : Verdict) → Answers p cs from v → least_match p (the_rules cs) from ≡ None → Dropped ≡ v
 Answers-none p cs from v h e =
     sym (ap (λ at. judged h.0 p cs at) e ∙ ap (λ ks. judged_at cs (last_or None ks)) (no_matches h.0 p (the_rules cs))) ∙ h.2
 
@@ -119,7 +119,7 @@ judged-ends (suc m) p cs k c w pos there d =
     ∙ e.1
 
 -- what goes on judges nothing
-passed : (cs : List Counted) (k : ℕ) (ks : List ℕ) → judged_at cs (Some k) ≡ Deny → judged_at cs (last_or (Some k) ks) ≡ judged_at cs (last_or None ks)
+passed : (cs : List Counted) (k : ℕ) (ks : List ℕ) → judged_at cs (Some k) ≡ Dropped → judged_at cs (last_or (Some k) ks) ≡ judged_at cs (last_or None ks)
 passed cs k [] e = e
 passed cs k (j ∷ ks) e = refl
 

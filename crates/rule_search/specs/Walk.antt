@@ -1,19 +1,19 @@
 -- What a search rests on: rules in order and the jumps kept beside them; the verdict of one rule.
 use Rattle.std.specs.Prelude.{◌≡◌, ℕ, ◌<◌, ◌≤◌, ⊤, Option, Some, None, List, [], ◌∷◌, length, All, slice_index}
 use Rattle.emu_model.specs.declared.rules.Action.{Action}
-use Rattle.emu_model.specs.declared.rules.Action.TheVariants.{Permit, Forbid, Count, SkipTo, SendTo}
+use Rattle.emu_model.specs.declared.rules.Action.TheVariants.{Allow, Deny, Count, SkipTo, Pipe}
 use Rattle.emu_model.specs.declared.rules.Rule.{Rule}
 use Rattle.emu_model.specs.declared.rules.Verdict.{Verdict}
-use Rattle.emu_model.specs.declared.rules.Verdict.TheVariants.{Allow, Deny, Pipe}
+use Rattle.emu_model.specs.declared.rules.Verdict.TheVariants.{OverTheLink, Dropped, IntoPipe}
 use Rattle.emu_model.specs.Rules.{Counted, place_of, goes_on, action_at}
 
 -- the verdict of a rule that ends the search
 abbrev pub decision : Action → Counted → Option Verdict
-decision Permit c = Some Allow
-decision Forbid c = Some Deny
+decision Allow c = Some OverTheLink
+decision Deny c = Some Dropped
 decision Count c = None
 decision (SkipTo n) c = None
-decision (SendTo n) c = Some (Pipe n (place_of c))
+decision (Pipe n) c = Some (IntoPipe n (place_of c))
 
 -- the number to which a rule jumps
 abbrev pub target_of : Action → Option ℕ

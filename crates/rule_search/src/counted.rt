@@ -60,7 +60,7 @@ impl CountedRule {
         let any = Prefix::new(0, PrefixLength::new(0).unwrap());
         let rule = Rule {
             number: RuleNumber::new(65535).unwrap(),
-            action: Action::Forbid,
+            action: Action::Deny,
             proto: ProtocolMatch::AnyProtocol,
             src: any,
             sports: None,
@@ -127,10 +127,10 @@ impl CountedRule {
         ensures { result ≡ decision self.now.rule.action self.now }
     {
         match self.rule.action {
-            Action::Permit => Some(Verdict::Allow),
-            Action::Forbid => Some(Verdict::Deny),
+            Action::Allow => Some(Verdict::OverTheLink),
+            Action::Deny => Some(Verdict::Dropped),
             Action::Count | Action::SkipTo(_) => None,
-            Action::SendTo(pipe) => Some(Verdict::Pipe(pipe, self.place())),
+            Action::Pipe(pipe) => Some(Verdict::IntoPipe(pipe, self.place())),
         }
     }
 }
@@ -141,6 +141,6 @@ pub fn target_of(action: Action) -> Option<u32>
 {
     match action {
         Action::SkipTo(number) => Some(number.get()),
-        Action::Permit | Action::Forbid | Action::Count | Action::SendTo(_) => None,
+        Action::Allow | Action::Deny | Action::Count | Action::Pipe(_) => None,
     }
 }

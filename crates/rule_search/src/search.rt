@@ -35,7 +35,7 @@ pub fn judge(rules: &[CountedRule], jumps: &[usize], start: usize, packet: &Pack
         }
         from = jumps[place];
     }
-    Verdict::Deny
+    Verdict::Dropped
 }
 
 /// The same place, by the memory where it knows.
@@ -82,7 +82,7 @@ pub fn judge_by_memory(
         }
         from = jumps[place];
     }
-    Verdict::Deny
+    Verdict::Dropped
 }
 
 /// The same; each rule that matches counts the packet besides.
@@ -108,7 +108,7 @@ pub fn judge_and_count(
         }
         from = jumps[place];
     }
-    Verdict::Deny
+    Verdict::Dropped
 }
 
 /// The first place numbered `number` or higher.

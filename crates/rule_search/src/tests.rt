@@ -23,7 +23,7 @@ fn prefix(address: u32, len: u8) -> Prefix {
 fn narrow_rule() -> Rule {
     Rule {
         number: number(100),
-        action: Action::Permit,
+        action: Action::Allow,
         proto: ProtocolMatch::OnlyUdp,
         src: prefix(0x0a00_0000, 30),
         sports: PortRange::new(1000, 1001),

@@ -72,7 +72,7 @@ fn between(number: u32, from: u32, to: u32, pipe: u16) -> Option<Command> {
     let host = PrefixLength::new(32)?;
     Some(Command::Add(Rule {
         number: RuleNumber::new(number)?,
-        action: Action::SendTo(PipeNumber::new(pipe)?),
+        action: Action::Pipe(PipeNumber::new(pipe)?),
         proto: ProtocolMatch::AnyProtocol,
         src: Prefix::new(from, host),
         sports: None,

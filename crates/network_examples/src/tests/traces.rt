@@ -73,7 +73,7 @@ fn traced_budget(rt: HostRuntime) -> Result<(), Fail> {
     let room = PacketBudget::new(1).ok_or("budget")?;
     let one = PipeNumber::new(1).ok_or("1")?;
     let config = pipe(1, 0, 100).ok_or("pipe")?;
-    let all = rule(100, Action::SendTo(one)).ok_or("rule")?;
+    let all = rule(100, Action::Pipe(one)).ok_or("rule")?;
     let commands = [
         timed(0, Command::Trace(true)),
         timed(0, config),
@@ -126,7 +126,7 @@ fn refused_trace_changes_nothing(rt: HostRuntime) -> Result<(), Fail> {
     let room = PacketBudget::new(10).ok_or("budget")?;
     let one = PipeNumber::new(1).ok_or("1")?;
     let masked = pipe_for_each_source(one).ok_or("pipe")?;
-    let all = rule(100, Action::SendTo(one)).ok_or("rule")?;
+    let all = rule(100, Action::Pipe(one)).ok_or("rule")?;
     let send = thousand().ok_or("packet")?;
     let other = other_thousand().ok_or("packet")?;
     let train = TrainSpec {

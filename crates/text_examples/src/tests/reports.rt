@@ -150,7 +150,7 @@ fn listings(rt: HostRuntime) -> Result<(), Fail> {
         bytes: 1000,
     };
     let idle = |number| Record::RuleLine {
-        rule: rule(&rt, number, Action::Forbid),
+        rule: rule(&rt, number, Action::Deny),
         packets: 0,
         bytes: 0,
     };
@@ -159,7 +159,7 @@ fn listings(rt: HostRuntime) -> Result<(), Fail> {
         counted(Action::Count, 100),
         counted(Action::SkipTo(second), 100),
         idle(200),
-        counted(Action::SendTo(pipe_number(&rt, 1)), 300),
+        counted(Action::Pipe(pipe_number(&rt, 1)), 300),
         idle(65535),
         done(0, 7),
         plain_pipe(&rt, 50),
@@ -298,7 +298,7 @@ fn each_kind_of_line(rt: HostRuntime) -> Result<(), Fail> {
         )?;
     }
     let ports = PortRange::new(1024, 65535);
-    let mut strange = rule(&rt, 5, Action::Permit);
+    let mut strange = rule(&rt, 5, Action::Allow);
     strange.proto = ProtocolMatch::OnlyTcp;
     strange.src = prefix(&rt, 0x0a0b0c0d, 32);
     strange.sports = PortRange::new(80, 80);
