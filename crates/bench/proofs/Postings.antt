@@ -1,9 +1,8 @@
 -- Lists of commands with one more.
 use Rattle.std.proofs.Common.{◌≡◌, ℕ, Bool, true, false, List, [], ◌∷◌, ◌++◌, ◌||◌, refl}
 use Rattle.emu_model.specs.declared.commands.Timed.{Timed}
-use Rattle.emu_model.specs.Commands.{is_end}
+use Rattle.emu_model.specs.Commands.{is_end, has_end}
 use Rattle.experiment.specs.Kept.{last_moment}
-use Rattle.bench.specs.Commands.{has_end}
 
 -- the last moment is that of the last command
 pub last_moment-push : (m : ℕ) (ts : List Timed) (c : Timed) → last_moment m (ts ++ c ∷ []) ≡ c.moment

@@ -1,14 +1,8 @@
 -- Lists of commands, and which of them an experiment takes.
 use Rattle.std.specs.Prelude.{◌≡◌, Bool, List, length, take}
-use Rattle.std.specs.List.{list_any}
 use Rattle.emu_model.specs.declared.commands.Timed.{Timed}
 use Rattle.emu_model.specs.declared.records.Ending.{Ending}
 use Rattle.emu_model.specs.declared.records.Ending.TheVariants.{Ended, Spent, Halted}
-use Rattle.emu_model.specs.Commands.{is_end}
-
--- an `end` is among the commands
-abbrev pub has_end : List Timed → Bool
-has_end ts = list_any (λ t. is_end t.command) ts
 
 -- the second list is the beginning of the first
 abbrev pub BeginsWith : {A : Type 0} → List A → List A → Type 0

@@ -9,7 +9,8 @@ use Rattle.bench.specs.declared.mail.RingMail.{RingMail}
 use Rattle.bench.specs.declared.tenant.Tenant.{Tenant}
 use Rattle.bench.specs.declared.tenant.PostError.{PostError}
 use Rattle.bench.specs.declared.tenant.PostError.TheVariants.{Closed, TooLate, Early, NoMemory, MailFull}
-use Rattle.bench.specs.Commands.{has_end, BeginsWith, Took}
+use Rattle.emu_model.specs.Commands.{has_end}
+use Rattle.bench.specs.Commands.{BeginsWith, Took}
 
 -- the commands that were posted, and the letters that were read
 abbrev pub posted : Tenant → List Timed

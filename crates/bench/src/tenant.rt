@@ -3,10 +3,10 @@
 ghost use Rattle.std.specs.Prelude.{◌≡◌};
 ghost use Rattle.std.specs.Bool.{Decides};
 ghost use Rattle.experiment.specs.Kept.{last_moment};
-ghost use Rattle.emu_model.specs.Commands.{is_end};
+ghost use Rattle.emu_model.specs.Commands.{is_end, has_end};
 ghost use Rattle.rtrb.specs.Ring.{sent, received, producer_capacity};
 ghost use Rattle.bench.specs.Rings.{commands_of, letters_of};
-ghost use Rattle.bench.specs.Commands.{has_end, BeginsWith, Took};
+ghost use Rattle.bench.specs.Commands.{BeginsWith, Took};
 
 use crate::mail::{Moments, News, Posted, RingMail};
 use crate::outcome::Outcome;

@@ -11,7 +11,8 @@ use Rattle.control_lines.specs.Entries.{Entry, Nothing, Begins, Does}
 use Rattle.control.specs.declared.fault.Cause.{Cause}
 use Rattle.control.specs.declared.fault.Cause.TheVariants.{NoEnd, TooMany, SameName, NoExperiment, AfterEnd, Backwards}
 use Rattle.control.specs.declared.scenario.Experiment.{Experiment}
-use Rattle.control.specs.Scenario.{is_end, has_end, names, commands, IsRunning, FaultsBegin, FaultsDo, FaultsEntry, rank, begun, with_command, with_last, experiments}
+use Rattle.emu_model.specs.Commands.{is_end, has_end}
+use Rattle.control.specs.Scenario.{names, commands, IsRunning, FaultsBegin, FaultsDo, FaultsEntry, rank, begun, with_command, with_last, experiments}
 use Rattle.control.specs.Steps.{Sofar, has_name, begin, add, step}
 
 pub record Names (done : List Experiment) (ns : List (List ℕ)) : Type 0 where

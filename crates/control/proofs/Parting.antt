@@ -11,7 +11,8 @@ use Rattle.control_lines.specs.Laws.{LinesSayOne}
 use Rattle.control.specs.declared.fault.Cause.{Cause}
 use Rattle.control.specs.declared.fault.Cause.TheVariants.{TooBig, Cut, TooLong, BadByte, BadWord, OutOfRange, NoEnd, TooMany, SameName, NoExperiment, AfterEnd, Backwards}
 use Rattle.control.specs.declared.scenario.Experiment.{Experiment}
-use Rattle.control.specs.Scenario.{has_end, names, commands, IsRunning, FaultsEntry, IsFine, experiments, AreSpelled, Spells}
+use Rattle.emu_model.specs.Commands.{has_end}
+use Rattle.control.specs.Scenario.{names, commands, IsRunning, FaultsEntry, IsFine, experiments, AreSpelled, Spells}
 use Rattle.control.proofs.Joining.{none_some, or-left, onto, glue, glue-some, some_line, lines-glue, names-behind, Begun, NotYet, Since, Behind, behind_none, behind-entry}
 
 runs_before : (before d : List Entry) → Begun before d → IsRunning d → IsRunning (d ++ before)

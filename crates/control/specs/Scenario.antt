@@ -3,9 +3,8 @@ use Rattle.std.specs.Prelude.{◌≡◌, ℕ, ◌+◌, ◌<◌, ◌≤◌, Bool,
 use Rattle.std.specs.List.{list_any}
 use Rattle.std.specs.Str.{bytes_eq}
 use Rattle.emu_model.specs.declared.commands.Spec.{Spec}
-use Rattle.emu_model.specs.declared.commands.Command.{Command}
-use Rattle.emu_model.specs.declared.commands.Command.TheVariants as every
 use Rattle.emu_model.specs.declared.commands.Timed.{Timed}
+use Rattle.emu_model.specs.Commands.{has_end}
 use Rattle.control_words.specs.Text.{lines}
 use Rattle.control_lines.specs.Entries.{Entry, Nothing, Begins, Does, Says, StandsAlone}
 use Rattle.control_lines.specs.declared.line.LineFault.TheVariants as alone
@@ -13,13 +12,6 @@ use Rattle.control.specs.declared.fault.Cause.{Cause}
 use Rattle.control.specs.declared.fault.Cause.TheVariants.{TooBig, Cut, TooLong, BadByte, BadWord, OutOfRange, NoEnd, TooMany, SameName, NoExperiment, AfterEnd, Backwards}
 use Rattle.control.specs.declared.fault.Fault.{Fault}
 use Rattle.control.specs.declared.scenario.Experiment.{Experiment}
-
-abbrev pub is_end : Command → Bool
-is_end every.End = true
-is_end _ = false
-
-abbrev pub has_end : List Timed → Bool
-has_end cs = list_any (λ c. is_end c.command) cs
 
 -- Of what the lines before say, the latest first: the names, and the commands of the experiment that began last, the latest first.
 abbrev pub names : List Entry → List (List ℕ)

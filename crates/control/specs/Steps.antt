@@ -7,7 +7,8 @@ use Rattle.emu_model.specs.declared.commands.Timed.{Timed}
 use Rattle.control_lines.specs.Entries.{Entry, Nothing, Begins, Does}
 use Rattle.control_lines.specs.declared.line.LineFault.{LineFault}
 use Rattle.control_lines.specs.declared.line.LineFault.TheVariants as alone
-use Rattle.control.specs.Scenario.{is_end, begun, with_command}
+use Rattle.emu_model.specs.Commands.{is_end}
+use Rattle.control.specs.Scenario.{begun, with_command}
 use Rattle.control.specs.declared.fault.Cause.{Cause}
 use Rattle.control.specs.declared.fault.Cause.TheVariants.{TooLong, BadByte, BadWord, OutOfRange, NoEnd, TooMany, SameName, NoExperiment, AfterEnd, Backwards}
 use Rattle.control.specs.declared.fault.LineError.{LineError}

@@ -3,7 +3,8 @@
 ghost use Rattle.std.specs.Prelude.{◌≡◌, ◌≤◌, List, length, map, sum, IfOk, IfErr};
 ghost use Rattle.control.specs.Ranges.{IsScenario};
 ghost use Rattle.std.specs.List.{list_any};
-ghost use Rattle.control.specs.Scenario.{is_end, Spells, HasFault};
+ghost use Rattle.emu_model.specs.Commands.{is_end};
+ghost use Rattle.control.specs.Scenario.{Spells, HasFault};
 ghost use Rattle.control.specs.Steps.{has_name};
 ghost use Rattle.control.specs.Answer.{IsFaultOf, IsReadAs, IsFaultedAs, IsReading};
 

@@ -32,38 +32,53 @@ ArePorts ws (Some ports) = (w : List ℕ) × (ws ≡ w ∷ []) × (ports_of w �
 
 abbrev pub IsRule : Words → RawRule → Type 0
 IsRule ws rule = (number proto src dst : List ℕ) × (action sports dports : Words)
-    × (ws ≡ number ∷ (action ++ proto ∷ codes "from" ∷ src ∷ (sports ++ codes "to" ∷ dst ∷ dports)))
-    × (number_of number ≡ Some rule.number) × IsAction action rule.action × (match_of proto ≡ Some rule.proto)
-    × (prefix_of src ≡ Some rule.src) × ArePorts sports rule.sports × (prefix_of dst ≡ Some rule.dst) × ArePorts dports rule.dports
+    × (ws ≡ number
+        ∷ (action ++ proto ∷ codes "from" ∷ src ∷ (sports ++ codes "to" ∷ dst ∷ dports)))
+    × (number_of number ≡ Some rule.number) × IsAction action rule.action
+    × (match_of proto ≡ Some rule.proto)
+    × (prefix_of src ≡ Some rule.src) × ArePorts sports rule.sports
+    × (prefix_of dst ≡ Some rule.dst) × ArePorts dports rule.dports
 
 -- ---- lines that send
 -- A PORT A PORT
 abbrev pub IsEnds : Words → RawEnds → Type 0
 IsEnds ws ends = (src sport dst dport : List ℕ) × (ws ≡ src ∷ sport ∷ dst ∷ dport ∷ [])
-    × (address_of src ≡ Some ends.src) × (number_of sport ≡ Some ends.sport) × (address_of dst ≡ Some ends.dst) × (number_of dport ≡ Some ends.dport)
+    × (address_of src ≡ Some ends.src) × (number_of sport ≡ Some ends.sport)
+    × (address_of dst ≡ Some ends.dst) × (number_of dport ≡ Some ends.dport)
 
 abbrev pub IsSend : Words → RawSend → Type 0
 IsSend ws send = (proto size : List ℕ) × (ends : Words) × (ws ≡ proto ∷ (ends ++ size ∷ []))
-    × (protocol_of proto ≡ Some send.proto) × IsEnds ends send.ends × (number_of size ≡ Some send.size)
+    × (protocol_of proto ≡ Some send.proto) × IsEnds ends send.ends
+    × (number_of size ≡ Some send.size)
 
 abbrev pub IsTrain : Words → RawTrain → Type 0
-IsTrain ws train = (number count gap : List ℕ) × (packet : Words) × (ws ≡ number ∷ (packet ++ codes "count" ∷ count ∷ codes "gap" ∷ gap ∷ []))
-    × (number_of number ≡ Some train.number) × IsSend packet train.packet × (number_of count ≡ Some train.count) × (number_of gap ≡ Some train.gap)
+IsTrain ws train = (number count gap : List ℕ) × (packet : Words)
+    × (ws ≡ number ∷ (packet ++ codes "count" ∷ count ∷ codes "gap" ∷ gap ∷ []))
+    × (number_of number ≡ Some train.number) × IsSend packet train.packet
+    × (number_of count ≡ Some train.count) × (number_of gap ≡ Some train.gap)
 
 abbrev pub IsFlow : Words → RawFlow → Type 0
-IsFlow ws flow = (number smss segments : List ℕ) × (ends options : Words) × (ws ≡ number ∷ (ends ++ codes "smss" ∷ smss ∷ codes "segments" ∷ segments ∷ options))
-    × (number_of number ≡ Some flow.number) × IsEnds ends flow.ends × (number_of smss ≡ Some flow.smss) × (number_of segments ≡ Some flow.segments) × AreFlowOptions options flow.options
+IsFlow ws flow = (number smss segments : List ℕ) × (ends options : Words)
+    × (ws ≡ number ∷ (ends ++ codes "smss" ∷ smss ∷ codes "segments" ∷ segments ∷ options))
+    × (number_of number ≡ Some flow.number) × IsEnds ends flow.ends
+    × (number_of smss ≡ Some flow.smss) × (number_of segments ≡ Some flow.segments)
+    × AreFlowOptions options flow.options
 
 -- ---- lines
 abbrev pub IsCommand : Words → RawCommand → Type 0
 IsCommand ws (commands.Add rule) = (rest : Words) × (ws ≡ codes "add" ∷ rest) × IsRule rest rule
 IsCommand ws (commands.Delete n) = IsPair (codes "delete") number_of ws n
-IsCommand ws (commands.Config n config) = (v : List ℕ) × (options : Words) × (ws ≡ codes "pipe" ∷ v ∷ codes "config" ∷ options) × (number_of v ≡ Some n) × AreOptions options config
-IsCommand ws (commands.PipeDelete n) = (v : List ℕ) × (ws ≡ codes "pipe" ∷ codes "delete" ∷ v ∷ []) × (number_of v ≡ Some n)
+IsCommand ws (commands.Config n config) = (v : List ℕ) × (options : Words)
+    × (ws ≡ codes "pipe" ∷ v ∷ codes "config" ∷ options) × (number_of v ≡ Some n)
+    × AreOptions options config
+IsCommand ws (commands.PipeDelete n) = (v : List ℕ) × (ws ≡ codes "pipe" ∷ codes "delete" ∷ v ∷ [])
+    × (number_of v ≡ Some n)
 IsCommand ws commands.PipeShow = ws ≡ codes "pipe" ∷ codes "show" ∷ []
 IsCommand ws commands.Show = ws ≡ codes "show" ∷ []
-IsCommand ws (commands.Inject send) = (rest : Words) × (ws ≡ codes "inject" ∷ rest) × IsSend rest send
-IsCommand ws (commands.Train train) = (rest : Words) × (ws ≡ codes "train" ∷ rest) × IsTrain rest train
+IsCommand ws (commands.Inject send) = (rest : Words) × (ws ≡ codes "inject" ∷ rest)
+    × IsSend rest send
+IsCommand ws (commands.Train train) = (rest : Words) × (ws ≡ codes "train" ∷ rest)
+    × IsTrain rest train
 IsCommand ws (commands.Flow flow) = (rest : Words) × (ws ≡ codes "flow" ∷ rest) × IsFlow rest flow
 IsCommand ws (commands.Stop n) = IsPair (codes "stop") number_of ws n
 IsCommand ws (commands.OnePass n) = IsPair (codes "one_pass") number_of ws n
@@ -86,6 +101,9 @@ pub data Line : Type 0 where
   Command : RawTimed → Line
 
 abbrev pub IsLine : Words → Line → Type 0
-IsLine ws (Experiment h) = (seed budget : List ℕ) × (rest : Words) × (ws ≡ codes "experiment" ∷ h.name ∷ codes "seed" ∷ seed ∷ codes "budget" ∷ budget ∷ rest)
-    × (name_of h.name ≡ Some h.name) × (number_of seed ≡ Some h.seed) × (number_of budget ≡ Some h.budget) × AreSteps rest h.steps
-IsLine ws (Command c) = (v : List ℕ) × (rest : Words) × (ws ≡ (64 ∷ v) ∷ rest) × (number_of v ≡ Some c.moment) × IsCommand rest c.command
+IsLine ws (Experiment h) = (seed budget : List ℕ) × (rest : Words)
+    × (ws ≡ codes "experiment" ∷ h.name ∷ codes "seed" ∷ seed ∷ codes "budget" ∷ budget ∷ rest)
+    × (name_of h.name ≡ Some h.name) × (number_of seed ≡ Some h.seed)
+    × (number_of budget ≡ Some h.budget) × AreSteps rest h.steps
+IsLine ws (Command c) = (v : List ℕ) × (rest : Words) × (ws ≡ (64 ∷ v) ∷ rest)
+    × (number_of v ≡ Some c.moment) × IsCommand rest c.command

@@ -180,9 +180,9 @@ flow_spec_within flow = do
   smss ← within flow.smss 64 1460
   segments ← within flow.segments 1 1000000
   ssthresh ← within (unwrap_or flow.options.ssthresh 65535) 1 1000000000
-  window ← within (unwrap_or flow.options.window 65535) 1 65535
+  rwnd ← within (unwrap_or flow.options.window 65535) 1 65535
   timing ← timing_within flow.options.timing
-  Some (record { src = src; sport = sport; dst = dst; dport = dport; smss = smss; segments = segments; ssthresh = ssthresh; window = window; timing = timing })
+  Some (record { src = src; sport = sport; dst = dst; dport = dport; smss = smss; segments = segments; ssthresh = ssthresh; rwnd = rwnd; timing = timing })
 
 unfoldable pub flow_within : RawFlow → Option Command
 flow_within flow = do

@@ -302,7 +302,7 @@ fn flow_spec(raw: RawFlow) -> Option<FlowSpec>
     let smss = in_u16::<64, 1460>(raw.smss)?;
     let segments = in_u32::<1, 1000000>(raw.segments)?;
     let ssthresh = in_u32::<1, 1000000000>(raw.options.ssthresh.unwrap_or(65_535))?;
-    let window = in_u16::<1, 65535>(raw.options.window.unwrap_or(65_535))?;
+    let rwnd = in_u16::<1, 65535>(raw.options.window.unwrap_or(65_535))?;
     let timing = timing(raw.options.timing)?;
     Some(FlowSpec {
         src,
@@ -312,7 +312,7 @@ fn flow_spec(raw: RawFlow) -> Option<FlowSpec>
         smss,
         segments,
         ssthresh,
-        window,
+        rwnd,
         timing,
     })
 }

@@ -47,7 +47,8 @@ interval_in (Interval n) = Some n
 
 -- each at most once: of each kind there is the one that codel has, or none
 abbrev pub HasTimes : List Time → RawCodel → Type 0
-HasTimes times codel = (filter_map target_in times ≡ option_to_list codel.target) × (filter_map interval_in times ≡ option_to_list codel.interval)
+HasTimes times codel = (filter_map target_in times ≡ option_to_list codel.target)
+    × (filter_map interval_in times ≡ option_to_list codel.interval)
 
 -- ---- mask
 abbrev pub IsField : Words → Field → Type 0
@@ -79,17 +80,23 @@ proto_in _ = None
 
 -- each at most once
 abbrev pub HasFields : List Field → RawFields → Type 0
-HasFields all fields = (filter_map src_ip_in all ≡ option_to_list fields.src_ip) × (filter_map dst_ip_in all ≡ option_to_list fields.dst_ip) × (filter_map src_port_in all ≡ option_to_list fields.src_port) × (filter_map dst_port_in all ≡ option_to_list fields.dst_port) × (filter_map proto_in all ≡ option_to_list fields.proto)
+HasFields all fields = (filter_map src_ip_in all ≡ option_to_list fields.src_ip)
+    × (filter_map dst_ip_in all ≡ option_to_list fields.dst_ip)
+    × (filter_map src_port_in all ≡ option_to_list fields.src_port)
+    × (filter_map dst_port_in all ≡ option_to_list fields.dst_port)
+    × (filter_map proto_in all ≡ option_to_list fields.proto)
 
 -- ---- {OPTION}
 -- `all`, or one field or more
 abbrev pub IsMask : Words → RawMask → Type 0
 IsMask ws Everything = ws ≡ codes "all" ∷ []
-IsMask ws (Fields fields) = (first : Field) × (more : List Field) × Are IsField ws (first ∷ more) × HasFields (first ∷ more) fields
+IsMask ws (Fields fields) = (first : Field) × (more : List Field) × Are IsField ws (first ∷ more)
+    × HasFields (first ∷ more) fields
 
 abbrev pub IsDiscipline : Words → RawDiscipline → Type 0
 IsDiscipline ws TailDrop = ws ≡ codes "droptail" ∷ []
-IsDiscipline ws (ControlledDelay codel) = (rest : Words) × (times : List Time) × (ws ≡ codes "codel" ∷ rest) × Are IsTime rest times × HasTimes times codel
+IsDiscipline ws (ControlledDelay codel) = (rest : Words) × (times : List Time)
+    × (ws ≡ codes "codel" ∷ rest) × Are IsTime rest times × HasTimes times codel
 
 abbrev pub IsSetting : Words → Setting → Type 0
 IsSetting ws (Bw n) = IsPair (codes "bw") rate_of ws n
@@ -125,7 +132,12 @@ discipline_in _ = None
 
 -- each at most once, and of `droptail` and `codel` one at most
 abbrev pub HasSettings : List Setting → RawConfig → Type 0
-HasSettings all config = (filter_map bw_in all ≡ option_to_list config.bw) × (filter_map delay_in all ≡ option_to_list config.delay) × (filter_map queue_in all ≡ option_to_list config.queue) × (filter_map plr_in all ≡ option_to_list config.plr) × (filter_map mask_in all ≡ option_to_list config.mask) × (filter_map discipline_in all ≡ option_to_list config.discipline)
+HasSettings all config = (filter_map bw_in all ≡ option_to_list config.bw)
+    × (filter_map delay_in all ≡ option_to_list config.delay)
+    × (filter_map queue_in all ≡ option_to_list config.queue)
+    × (filter_map plr_in all ≡ option_to_list config.plr)
+    × (filter_map mask_in all ≡ option_to_list config.mask)
+    × (filter_map discipline_in all ≡ option_to_list config.discipline)
 
 -- options in any order
 abbrev pub AreOptions : Words → RawConfig → Type 0
@@ -150,7 +162,10 @@ timing_in (Timing timing) = Some timing
 timing_in _ = None
 
 abbrev pub HasFlowSettings : List FlowSetting → RawFlowOptions → Type 0
-HasFlowSettings all options = (filter_map ssthresh_in all ≡ option_to_list options.ssthresh) × (filter_map window_in all ≡ option_to_list options.window) × (filter_map timing_in all ≡ option_to_list options.timing)
+HasFlowSettings all options = (filter_map ssthresh_in all ≡ option_to_list options.ssthresh)
+    × (filter_map window_in all ≡ option_to_list options.window)
+    × (filter_map timing_in all ≡ option_to_list options.timing)
 
 abbrev pub AreFlowOptions : Words → RawFlowOptions → Type 0
-AreFlowOptions ws options = (all : List FlowSetting) × Are IsFlowSetting ws all × HasFlowSettings all options
+AreFlowOptions ws options = (all : List FlowSetting) × Are IsFlowSetting ws all
+    × HasFlowSettings all options

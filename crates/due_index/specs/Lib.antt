@@ -1,3 +1,4 @@
 pub mod Least
+pub mod Numbers
 pub mod Places
 pub mod Tree

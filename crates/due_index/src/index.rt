@@ -3,8 +3,8 @@
 ghost use Rattle.std.specs.Prelude.{◌≡◌, ◌+◌, ◌-◌, ◌<◌, ◌≤◌, ◌++◌, ◌∷◌, [], length, slice_set, IfOk, OnOk, OnErr, IsOk};
 ghost use Rattle.due_index.specs.Least.{least_of, dues_in};
 
+use crate::number::DueNumber;
 use crate::tree::{is_same, put};
-use emu_model::Due;
 use std::alloc::{AllocError, Global};
 use std::marker::Model;
 
@@ -13,15 +13,17 @@ use std::marker::Model;
 #[derive(Drop)]
 pub struct DueIndex {
     alloc: Global,
-    nodes: Vec<Option<Due>>,
+    nodes: Vec<DueNumber>,
     half: usize,
     places: usize,
+    // The first node.
+    least: DueNumber,
 }
 
 impl Model for DueIndex {
-    ghost use Rattle.std.specs.Prelude.{◌-◌};
     ghost use Rattle.due_index.specs.Places.{Places};
-    ghost use Rattle.due_index.specs.Tree.{leaves_of, IsIndex};
+    ghost use Rattle.std.specs.Prelude.{◌≡◌, ◌-◌};
+    ghost use Rattle.due_index.specs.Tree.{leaves_of, node_at, IsIndex};
 
     ghost Value = { Places };
 
@@ -30,7 +32,8 @@ impl Model for DueIndex {
       spare = d.half - d.places;
     } };
 
-    ghost invariant = { λ d. IsIndex d.nodes.items d.half d.places };
+    ghost invariant = { λ d.
+        IsIndex d.nodes.items d.half d.places × (d.least ≡ node_at d.nodes.items 1) };
 }
 
 impl DueIndex {
@@ -43,6 +46,7 @@ impl DueIndex {
             nodes: Vec::new(alloc),
             half: 0,
             places: 0,
+            least: DueNumber::none(),
         }
     }
 
@@ -54,12 +58,13 @@ impl DueIndex {
             return Err(AllocError);
         };
         let mut nodes = Vec::new(alloc);
-        nodes.resize(both, None)?;
+        nodes.resize(both, DueNumber::none())?;
         Ok(DueIndex {
             alloc,
             nodes,
             half: room,
             places: 0,
+            least: DueNumber::none(),
         })
     }
 
@@ -90,7 +95,8 @@ impl DueIndex {
     }
 
     /// One place more, behind all others, where there is room for it.
-    pub fn push(&mut self, due: Option<Due>)
+    #[inline(always)]
+    pub fn push(&mut self, due: DueNumber)
         requires { 0 < self.old.spare }
         ensures { self.new
             ≡ record { leaves = self.old.leaves ++ due ∷ []; spare = self.old.spare - 1 } }
@@ -102,15 +108,15 @@ impl DueIndex {
 
     /// What is due at a place from now on. Takes no memory.
     #[inline(always)]
-    pub fn set(&mut self, place: usize, due: Option<Due>)
+    pub fn set(&mut self, place: usize, due: DueNumber)
         requires { place < length self.old.leaves }
         ensures { self.new ≡ record self.old { leaves = slice_set self.old.leaves place due } }
     {
         let leaf = self.half + place;
-        if is_same(&self.nodes[leaf], &due) {
+        if is_same(self.nodes[leaf], due) {
             return;
         }
-        put(self.nodes.as_mut_slice(), leaf, due);
+        self.least = put(self.nodes.as_mut_slice(), leaf, due);
     }
 
     /// No places any more; their room stays.
@@ -120,20 +126,18 @@ impl DueIndex {
     {
         let both = self.nodes.len();
         self.nodes.clear();
-        let Ok(()) = self.nodes.resize(both, None) else {
+        let Ok(()) = self.nodes.resize(both, DueNumber::none()) else {
             unreachable!();
         };
         self.places = 0;
+        self.least = DueNumber::none();
     }
 
     /// The least of all dues, by moment, class and number; None where nothing is due.
     #[inline(always)]
-    pub fn least(&self) -> Option<Due>
+    pub fn least(&self) -> DueNumber
         ensures { result ≡ least_of (dues_in self.now.leaves) }
     {
-        if self.half == 0 {
-            return None;
-        }
-        self.nodes[1]
+        self.least
     }
 }

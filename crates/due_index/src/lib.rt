@@ -2,7 +2,8 @@
 #![tactic(auto)]
 
 mod index;
+mod number;
 mod tree;
 
 pub use index::DueIndex;
-pub use tree::lesser;
+pub use number::DueNumber;

@@ -31,10 +31,10 @@ exp_0-commands =
     record { moment = 0; command = Config 4 (record { bw = 1000000; delay = 1; queue = Slots 5; plr = 50000; mask = record { proto = 255; src = 1; dst = 0; sport = 0; dport = 0 }; discipline = ControlledDelay 3000000 100000000 }) } ∷
     record { moment = 0; command = Config 2 (record { bw = 10000000000; delay = 10; queue = KBytes 10; plr = 500000; mask = record { proto = 0; src = 0; dst = 0; sport = 0; dport = 0 }; discipline = TailDrop }) } ∷
     record { moment = 0; command = Add (record { number = 200; action = Pipe 3; proto = AnyProtocol; src = record { address = 0; len = 0 }; sports = None; dst = record { address = 0; len = 0 }; dports = None }) } ∷
-    record { moment = 0; command = Flow 2 (record { src = 167772162; sport = 7; dst = 167772418; dport = 80; smss = 460; segments = 1; ssthresh = 4000; window = 65535; timing = Fixed 60000 }) } ∷
+    record { moment = 0; command = Flow 2 (record { src = 167772162; sport = 7; dst = 167772418; dport = 80; smss = 460; segments = 1; ssthresh = 4000; rwnd = 65535; timing = Fixed 60000 }) } ∷
     record { moment = 0; command = Train 5 (record { packet = record { proto = Tcp; src = 167772162; sport = 1; dst = 167772417; dport = 0; size = 1040 }; count = 2; gap = 0 }) } ∷
     record { moment = 150080000; command = Train 1 (record { packet = record { proto = Udp; src = 167772162; sport = 1000; dst = 167772418; dport = 7; size = 125 }; count = 2; gap = 0 }) } ∷
-    record { moment = 150080000; command = Flow 2 (record { src = 167772162; sport = 80; dst = 167772418; dport = 65535; smss = 1460; segments = 1; ssthresh = 65535; window = 65535; timing = Adaptive }) } ∷
+    record { moment = 150080000; command = Flow 2 (record { src = 167772162; sport = 80; dst = 167772418; dport = 65535; smss = 1460; segments = 1; ssthresh = 65535; rwnd = 65535; timing = Adaptive }) } ∷
     record { moment = 150080000; command = PipeShow } ∷
     record { moment = 150080000; command = Show } ∷
     record { moment = 150080000; command = End } ∷
@@ -98,7 +98,7 @@ exp_1-commands =
     record { moment = 0; command = Add (record { number = 100; action = Pipe 2; proto = AnyProtocol; src = address_span 167772160 24; sports = None; dst = record { address = 0; len = 0 }; dports = None }) } ∷
     record { moment = 0; command = Add (record { number = 200; action = Count; proto = AnyProtocol; src = record { address = 0; len = 0 }; sports = Some (record { first = 1000; last = 1000 }); dst = record { address = 0; len = 0 }; dports = Some (record { first = 65535; last = 65535 }) }) } ∷
     record { moment = 12000000; command = Trace false } ∷
-    record { moment = 13000000; command = Flow 300 (record { src = 167772161; sport = 7; dst = 167772418; dport = 65535; smss = 1095; segments = 5; ssthresh = 1000000000; window = 65535; timing = Adaptive }) } ∷
+    record { moment = 13000000; command = Flow 300 (record { src = 167772161; sport = 7; dst = 167772418; dport = 65535; smss = 1095; segments = 5; ssthresh = 1000000000; rwnd = 65535; timing = Adaptive }) } ∷
     record { moment = 17000000; command = Stop 2 } ∷
     record { moment = 17000000; command = End } ∷
     []
@@ -149,8 +149,8 @@ exp_2-commands =
     record { moment = 0; command = Config 1 (record { bw = 0; delay = 50; queue = KBytes 2; plr = 20000; mask = record { proto = 255; src = 4294967295; dst = 4294967295; sport = 65535; dport = 65535 }; discipline = ControlledDelay 5000000 100000000 }) } ∷
     record { moment = 0; command = Config 3 (record { bw = 10000000000; delay = 0; queue = Slots 3; plr = 0; mask = record { proto = 255; src = 4294967295; dst = 4294967295; sport = 65535; dport = 65535 }; discipline = ControlledDelay 100000 1000 }) } ∷
     record { moment = 0; command = Add (record { number = 100; action = Pipe 1; proto = AnyProtocol; src = address_span 167772160 24; sports = None; dst = record { address = 0; len = 0 }; dports = None }) } ∷
-    record { moment = 3000000000; command = Flow 300 (record { src = 167772161; sport = 1000; dst = 167772418; dport = 7; smss = 1096; segments = 2; ssthresh = 65535; window = 3000; timing = Adaptive }) } ∷
-    record { moment = 3000000000; command = Flow 300 (record { src = 167772162; sport = 1; dst = 167772418; dport = 7; smss = 536; segments = 3; ssthresh = 4000; window = 65535; timing = Adaptive }) } ∷
+    record { moment = 3000000000; command = Flow 300 (record { src = 167772161; sport = 1000; dst = 167772418; dport = 7; smss = 1096; segments = 2; ssthresh = 65535; rwnd = 3000; timing = Adaptive }) } ∷
+    record { moment = 3000000000; command = Flow 300 (record { src = 167772162; sport = 1; dst = 167772418; dport = 7; smss = 536; segments = 3; ssthresh = 4000; rwnd = 65535; timing = Adaptive }) } ∷
     record { moment = 3000000001; command = Delete 1 } ∷
     record { moment = 3000000001; command = Config 4 (record { bw = 1000000; delay = 0; queue = Slots 50; plr = 0; mask = record { proto = 0; src = 0; dst = 3; sport = 0; dport = 15 }; discipline = ControlledDelay 3000000 7000000 }) } ∷
     record { moment = 3000000001; command = Stop 300 } ∷
@@ -218,7 +218,7 @@ exp_3-commands =
     record { moment = 0; command = Config 2 (record { bw = 1000000; delay = 0; queue = Slots 3; plr = 20000; mask = record { proto = 0; src = 255; dst = 0; sport = 0; dport = 0 }; discipline = ControlledDelay 5000000 100000000 }) } ∷
     record { moment = 0; command = OnePass false } ∷
     record { moment = 0; command = Config 4 (record { bw = 0; delay = 0; queue = Slots 50; plr = 0; mask = record { proto = 0; src = 0; dst = 0; sport = 0; dport = 0 }; discipline = ControlledDelay 1000000 2000000 }) } ∷
-    record { moment = 0; command = Flow 300 (record { src = 167772162; sport = 65535; dst = 167772418; dport = 1; smss = 1096; segments = 6; ssthresh = 65535; window = 65535; timing = Fixed 60000 }) } ∷
+    record { moment = 0; command = Flow 300 (record { src = 167772162; sport = 65535; dst = 167772418; dport = 1; smss = 1096; segments = 6; ssthresh = 65535; rwnd = 65535; timing = Fixed 60000 }) } ∷
     record { moment = 100000000000; command = PipeShow } ∷
     record { moment = 100000000000; command = Show } ∷
     record { moment = 100000000000; command = End } ∷
@@ -280,8 +280,8 @@ exp_4-commands =
     record { moment = 0; command = Add (record { number = 200; action = Pipe 1; proto = AnyProtocol; src = record { address = 0; len = 0 }; sports = None; dst = record { address = 0; len = 0 }; dports = None }) } ∷
     record { moment = 0; command = Config 3 (record { bw = 1000000; delay = 5; queue = KBytes 1; plr = 50000; mask = record { proto = 0; src = 0; dst = 0; sport = 0; dport = 0 }; discipline = ControlledDelay 5000000 1000 }) } ∷
     record { moment = 0; command = Train 65535 (record { packet = record { proto = Udp; src = 167772161; sport = 7; dst = 167772418; dport = 80; size = 1499 }; count = 5; gap = 10000000 }) } ∷
-    record { moment = 0; command = Flow 65535 (record { src = 167772162; sport = 0; dst = 167772417; dport = 1; smss = 960; segments = 5; ssthresh = 1000; window = 65535; timing = Adaptive }) } ∷
-    record { moment = 467641172; command = Flow 65535 (record { src = 167772161; sport = 1; dst = 167772418; dport = 2000; smss = 1460; segments = 3; ssthresh = 65535; window = 65535; timing = Adaptive }) } ∷
+    record { moment = 0; command = Flow 65535 (record { src = 167772162; sport = 0; dst = 167772417; dport = 1; smss = 960; segments = 5; ssthresh = 1000; rwnd = 65535; timing = Adaptive }) } ∷
+    record { moment = 467641172; command = Flow 65535 (record { src = 167772161; sport = 1; dst = 167772418; dport = 2000; smss = 1460; segments = 3; ssthresh = 65535; rwnd = 65535; timing = Adaptive }) } ∷
     record { moment = 30000000000; command = End } ∷
     []
 
@@ -330,7 +330,7 @@ exp_5-commands =
     record { moment = 0; command = Add (record { number = 200; action = SkipTo 400; proto = AnyProtocol; src = record { address = 0; len = 0 }; sports = None; dst = address_span 167772160 24; dports = Some (record { first = 1; last = 1000 }) }) } ∷
     record { moment = 0; command = Add (record { number = 65534; action = Allow; proto = OnlyTcp; src = record { address = 0; len = 0 }; sports = Some (record { first = 2000; last = 2000 }); dst = record { address = 0; len = 0 }; dports = None }) } ∷
     record { moment = 7000080000; command = Train 65535 (record { packet = record { proto = Tcp; src = 167772161; sport = 1; dst = 167772418; dport = 1; size = 125 }; count = 5; gap = 10000000 }) } ∷
-    record { moment = 20000000500; command = Flow 3 (record { src = 167772161; sport = 65535; dst = 167772418; dport = 80; smss = 536; segments = 2; ssthresh = 2000; window = 65535; timing = Adaptive }) } ∷
+    record { moment = 20000000500; command = Flow 3 (record { src = 167772161; sport = 65535; dst = 167772418; dport = 80; smss = 536; segments = 2; ssthresh = 2000; rwnd = 65535; timing = Adaptive }) } ∷
     record { moment = 100000000000; command = PipeShow } ∷
     record { moment = 100000000000; command = Show } ∷
     record { moment = 100000000000; command = End } ∷
@@ -412,7 +412,7 @@ exp_6-commands =
     record { moment = 0; command = Config 3 (record { bw = 1000000000; delay = 2; queue = Slots 5; plr = 500000; mask = record { proto = 0; src = 0; dst = 0; sport = 0; dport = 0 }; discipline = ControlledDelay 1000 20000000 }) } ∷
     record { moment = 0; command = Add (record { number = 65534; action = Allow; proto = OnlyTcp; src = address_span 167772161 32; sports = None; dst = address_span 167772493 25; dports = Some (record { first = 2000; last = 2000 }) }) } ∷
     record { moment = 0; command = Config 4 (record { bw = 56000; delay = 2; queue = Slots 1; plr = 0; mask = record { proto = 0; src = 0; dst = 0; sport = 0; dport = 0 }; discipline = ControlledDelay 5000000 100000000 }) } ∷
-    record { moment = 900000000; command = Flow 3 (record { src = 167772162; sport = 0; dst = 167772418; dport = 2000; smss = 1460; segments = 2; ssthresh = 65535; window = 1460; timing = Adaptive }) } ∷
+    record { moment = 900000000; command = Flow 3 (record { src = 167772162; sport = 0; dst = 167772418; dport = 2000; smss = 1460; segments = 2; ssthresh = 65535; rwnd = 1460; timing = Adaptive }) } ∷
     record { moment = 900000000; command = Train 65535 (record { packet = record { proto = Tcp; src = 167772161; sport = 1000; dst = 167772417; dport = 65535; size = 125 }; count = 5; gap = 125000 }) } ∷
     record { moment = 1200000000; command = Config 3 (record { bw = 7777777; delay = 1; queue = KBytes 10; plr = 0; mask = record { proto = 0; src = 0; dst = 0; sport = 0; dport = 0 }; discipline = TailDrop }) } ∷
     record { moment = 1200000000; command = PipeShow } ∷
@@ -464,7 +464,7 @@ exp_7-commands =
     record { moment = 0; command = Config 1 (record { bw = 56000; delay = 0; queue = Slots 50; plr = 1000000; mask = record { proto = 0; src = 0; dst = 0; sport = 0; dport = 0 }; discipline = TailDrop }) } ∷
     record { moment = 0; command = Config 3 (record { bw = 997; delay = 50; queue = Slots 50; plr = 500000; mask = record { proto = 255; src = 4294967295; dst = 4294967295; sport = 65535; dport = 65535 }; discipline = ControlledDelay 5000000 100000000 }) } ∷
     record { moment = 308000000; command = Config 2 (record { bw = 10000000; delay = 0; queue = Slots 50; plr = 500000; mask = record { proto = 255; src = 4294967295; dst = 4294967295; sport = 65535; dport = 65535 }; discipline = ControlledDelay 5000000 100000000 }) } ∷
-    record { moment = 600000000; command = Flow 1 (record { src = 167772162; sport = 65535; dst = 167772417; dport = 0; smss = 1460; segments = 2; ssthresh = 65535; window = 65535; timing = Fixed 200 }) } ∷
+    record { moment = 600000000; command = Flow 1 (record { src = 167772162; sport = 65535; dst = 167772417; dport = 0; smss = 1460; segments = 2; ssthresh = 65535; rwnd = 65535; timing = Fixed 200 }) } ∷
     record { moment = 600000500; command = Delete 65535 } ∷
     record { moment = 600000500; command = Config 1 (record { bw = 1000000; delay = 1; queue = Slots 50; plr = 1000000; mask = record { proto = 0; src = 0; dst = 0; sport = 0; dport = 0 }; discipline = TailDrop }) } ∷
     record { moment = 600000500; command = Add (record { number = 150; action = Allow; proto = AnyProtocol; src = record { address = 0; len = 0 }; sports = None; dst = record { address = 0; len = 0 }; dports = None }) } ∷
@@ -587,8 +587,8 @@ exp_9-commands =
     record { moment = 0; command = Inject (record { proto = Tcp; src = 167772417; sport = 80; dst = 3232237321; dport = 80; size = 1040 }) } ∷
     record { moment = 0; command = Inject (record { proto = Udp; src = 167772162; sport = 2000; dst = 167772418; dport = 1; size = 1460 }) } ∷
     record { moment = 1008000000; command = OnePass false } ∷
-    record { moment = 4000000001; command = Flow 1 (record { src = 167772161; sport = 80; dst = 167772418; dport = 65535; smss = 64; segments = 4; ssthresh = 1000; window = 65535; timing = Fixed 1000 }) } ∷
-    record { moment = 4000000001; command = Flow 65535 (record { src = 167772161; sport = 0; dst = 167772417; dport = 65535; smss = 536; segments = 6; ssthresh = 2000; window = 10000; timing = Fixed 60000 }) } ∷
+    record { moment = 4000000001; command = Flow 1 (record { src = 167772161; sport = 80; dst = 167772418; dport = 65535; smss = 64; segments = 4; ssthresh = 1000; rwnd = 65535; timing = Fixed 1000 }) } ∷
+    record { moment = 4000000001; command = Flow 65535 (record { src = 167772161; sport = 0; dst = 167772417; dport = 65535; smss = 536; segments = 6; ssthresh = 2000; rwnd = 10000; timing = Fixed 60000 }) } ∷
     record { moment = 4000000001; command = PipeDelete 1 } ∷
     record { moment = 10000080000; command = PipeDelete 1 } ∷
     record { moment = 19008000000; command = Delete 50 } ∷

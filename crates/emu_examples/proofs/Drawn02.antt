@@ -32,12 +32,12 @@ exp_0-commands =
     record { moment = 0; command = Add (record { number = 50; action = Allow; proto = OnlyTcp; src = record { address = 0; len = 0 }; sports = Some (record { first = 2000; last = 65535 }); dst = record { address = 0; len = 0 }; dports = None }) } ∷
     record { moment = 0; command = Config 2 (record { bw = 56000; delay = 400; queue = KBytes 3; plr = 0; mask = record { proto = 0; src = 0; dst = 0; sport = 0; dport = 0 }; discipline = ControlledDelay 3000000 1000000000 }) } ∷
     record { moment = 0; command = Inject (record { proto = Udp; src = 167772161; sport = 7; dst = 167772417; dport = 65535; size = 1499 }) } ∷
-    record { moment = 0; command = Flow 2 (record { src = 167772162; sport = 2000; dst = 167772417; dport = 2000; smss = 1095; segments = 5; ssthresh = 65535; window = 1460; timing = Adaptive }) } ∷
+    record { moment = 0; command = Flow 2 (record { src = 167772162; sport = 2000; dst = 167772417; dport = 2000; smss = 1095; segments = 5; ssthresh = 65535; rwnd = 1460; timing = Adaptive }) } ∷
     record { moment = 2000000; command = Train 300 (record { packet = record { proto = Udp; src = 0; sport = 2000; dst = 0; dport = 1000; size = 1000 }; count = 2; gap = 999 }) } ∷
     record { moment = 2000000; command = Add (record { number = 400; action = Pipe 3; proto = OnlyTcp; src = address_span 167772416 24; sports = None; dst = record { address = 0; len = 0 }; dports = None }) } ∷
-    record { moment = 13000000; command = Flow 2 (record { src = 167772162; sport = 80; dst = 167772418; dport = 0; smss = 460; segments = 3; ssthresh = 65535; window = 65535; timing = Adaptive }) } ∷
-    record { moment = 17933666; command = Flow 300 (record { src = 167772162; sport = 2000; dst = 167772418; dport = 80; smss = 1095; segments = 6; ssthresh = 65535; window = 65535; timing = Fixed 1000 }) } ∷
-    record { moment = 19000500; command = Flow 1 (record { src = 167772161; sport = 1000; dst = 167772418; dport = 1; smss = 1095; segments = 2; ssthresh = 65535; window = 65535; timing = Fixed 1000 }) } ∷
+    record { moment = 13000000; command = Flow 2 (record { src = 167772162; sport = 80; dst = 167772418; dport = 0; smss = 460; segments = 3; ssthresh = 65535; rwnd = 65535; timing = Adaptive }) } ∷
+    record { moment = 17933666; command = Flow 300 (record { src = 167772162; sport = 2000; dst = 167772418; dport = 80; smss = 1095; segments = 6; ssthresh = 65535; rwnd = 65535; timing = Fixed 1000 }) } ∷
+    record { moment = 19000500; command = Flow 1 (record { src = 167772161; sport = 1000; dst = 167772418; dport = 1; smss = 1095; segments = 2; ssthresh = 65535; rwnd = 65535; timing = Fixed 1000 }) } ∷
     record { moment = 30000000000; command = End } ∷
     []
 
@@ -86,7 +86,7 @@ exp_1-commands =
     record { moment = 0; command = Config 1 (record { bw = 3000000; delay = 0; queue = KBytes 2; plr = 0; mask = record { proto = 0; src = 0; dst = 0; sport = 0; dport = 0 }; discipline = ControlledDelay 1000 7000000 }) } ∷
     record { moment = 0; command = Add (record { number = 200; action = Pipe 3; proto = AnyProtocol; src = record { address = 0; len = 0 }; sports = None; dst = record { address = 0; len = 0 }; dports = None }) } ∷
     record { moment = 0; command = Config 4 (record { bw = 8000000; delay = 0; queue = Slots 1000; plr = 50000; mask = record { proto = 0; src = 0; dst = 0; sport = 0; dport = 0 }; discipline = TailDrop }) } ∷
-    record { moment = 0; command = Flow 300 (record { src = 167772162; sport = 2000; dst = 167772417; dport = 7; smss = 64; segments = 3; ssthresh = 65535; window = 65535; timing = Adaptive }) } ∷
+    record { moment = 0; command = Flow 300 (record { src = 167772162; sport = 2000; dst = 167772417; dport = 7; smss = 64; segments = 3; ssthresh = 65535; rwnd = 65535; timing = Adaptive }) } ∷
     record { moment = 1000000000; command = Inject (record { proto = Udp; src = 167772162; sport = 1000; dst = 167772417; dport = 2000; size = 41 }) } ∷
     record { moment = 1000000000; command = Train 3 (record { packet = record { proto = Tcp; src = 0; sport = 7; dst = 167772418; dport = 2000; size = 41 }; count = 1; gap = 1000 }) } ∷
     record { moment = 4000000000; command = Train 3 (record { packet = record { proto = Udp; src = 167772161; sport = 2000; dst = 167772417; dport = 65535; size = 1499 }; count = 1; gap = 1000 }) } ∷
@@ -144,7 +144,7 @@ exp_2-commands =
     record { moment = 0; command = Add (record { number = 300; action = Pipe 2; proto = AnyProtocol; src = address_span 167772493 25; sports = None; dst = record { address = 0; len = 0 }; dports = None }) } ∷
     record { moment = 0; command = Add (record { number = 200; action = Pipe 1; proto = OnlyTcp; src = address_span 167772416 24; sports = None; dst = address_span 167772493 25; dports = None }) } ∷
     record { moment = 0; command = Inject (record { proto = Udp; src = 167772161; sport = 80; dst = 167772418; dport = 7; size = 999 }) } ∷
-    record { moment = 0; command = Flow 5 (record { src = 3232237321; sport = 1; dst = 3232237321; dport = 0; smss = 1096; segments = 4; ssthresh = 65535; window = 65535; timing = Adaptive }) } ∷
+    record { moment = 0; command = Flow 5 (record { src = 3232237321; sport = 1; dst = 3232237321; dport = 0; smss = 1096; segments = 4; ssthresh = 65535; rwnd = 65535; timing = Adaptive }) } ∷
     record { moment = 0; command = Inject (record { proto = Udp; src = 167772161; sport = 1000; dst = 167772417; dport = 1; size = 999 }) } ∷
     record { moment = 12000080000; command = Inject (record { proto = Udp; src = 167772161; sport = 2000; dst = 167772418; dport = 80; size = 1000 }) } ∷
     record { moment = 12000080000; command = End } ∷
@@ -228,9 +228,9 @@ exp_3-commands =
     record { moment = 7000000; command = Train 65535 (record { packet = record { proto = Udp; src = 167772162; sport = 65535; dst = 167772417; dport = 65535; size = 40 }; count = 2; gap = 0 }) } ∷
     record { moment = 7000000; command = PipeDelete 3 } ∷
     record { moment = 7080000; command = Inject (record { proto = Tcp; src = 167772417; sport = 80; dst = 4294967295; dport = 7; size = 999 }) } ∷
-    record { moment = 18149902; command = Flow 2 (record { src = 167772162; sport = 0; dst = 167772418; dport = 7; smss = 1460; segments = 1; ssthresh = 4000; window = 10000; timing = Adaptive }) } ∷
+    record { moment = 18149902; command = Flow 2 (record { src = 167772162; sport = 0; dst = 167772418; dport = 7; smss = 1460; segments = 1; ssthresh = 4000; rwnd = 10000; timing = Adaptive }) } ∷
     record { moment = 18149902; command = Train 65535 (record { packet = record { proto = Udp; src = 167772162; sport = 1; dst = 167772417; dport = 1000; size = 125 }; count = 2; gap = 1000 }) } ∷
-    record { moment = 18149902; command = Flow 2 (record { src = 167772161; sport = 80; dst = 167772162; dport = 2000; smss = 1000; segments = 6; ssthresh = 1000; window = 65535; timing = Fixed 1000 }) } ∷
+    record { moment = 18149902; command = Flow 2 (record { src = 167772161; sport = 80; dst = 167772162; dport = 2000; smss = 1000; segments = 6; ssthresh = 1000; rwnd = 65535; timing = Fixed 1000 }) } ∷
     record { moment = 18149902; command = End } ∷
     []
 
@@ -301,8 +301,8 @@ exp_4-commands =
     record { moment = 15000000; command = PipeShow } ∷
     record { moment = 15080000; command = Add (record { number = 400; action = Allow; proto = AnyProtocol; src = address_span 3232235520 16; sports = None; dst = record { address = 0; len = 0 }; dports = None }) } ∷
     record { moment = 15080000; command = Add (record { number = 100; action = Pipe 3; proto = OnlyUdp; src = record { address = 0; len = 0 }; sports = Some (record { first = 65535; last = 65535 }); dst = record { address = 0; len = 0 }; dports = None }) } ∷
-    record { moment = 19000000; command = Flow 4 (record { src = 167772161; sport = 7; dst = 167772417; dport = 1; smss = 64; segments = 2; ssthresh = 8000; window = 65535; timing = Adaptive }) } ∷
-    record { moment = 19000500; command = Flow 300 (record { src = 167772161; sport = 65535; dst = 167772418; dport = 1; smss = 1460; segments = 1; ssthresh = 65535; window = 1; timing = Fixed 60000 }) } ∷
+    record { moment = 19000000; command = Flow 4 (record { src = 167772161; sport = 7; dst = 167772417; dport = 1; smss = 64; segments = 2; ssthresh = 8000; rwnd = 65535; timing = Adaptive }) } ∷
+    record { moment = 19000500; command = Flow 300 (record { src = 167772161; sport = 65535; dst = 167772418; dport = 1; smss = 1460; segments = 1; ssthresh = 65535; rwnd = 1; timing = Fixed 60000 }) } ∷
     record { moment = 19000500; command = PipeShow } ∷
     record { moment = 19000500; command = Show } ∷
     record { moment = 19000500; command = End } ∷
@@ -431,7 +431,7 @@ exp_6-commands =
     record { moment = 0; command = Config 4 (record { bw = 8000000; delay = 5; queue = Slots 1000; plr = 0; mask = record { proto = 0; src = 0; dst = 0; sport = 0; dport = 0 }; discipline = ControlledDelay 5000000 100000000 }) } ∷
     record { moment = 0; command = Add (record { number = 65534; action = Deny; proto = OnlyTcp; src = record { address = 0; len = 0 }; sports = None; dst = address_span 167772493 25; dports = None }) } ∷
     record { moment = 0; command = Config 3 (record { bw = 8000000; delay = 5; queue = Slots 50; plr = 200000; mask = record { proto = 255; src = 4294967295; dst = 4294967295; sport = 65535; dport = 65535 }; discipline = ControlledDelay 5000000 7000000 }) } ∷
-    record { moment = 0; command = Flow 4 (record { src = 167772162; sport = 1000; dst = 167772418; dport = 80; smss = 64; segments = 2; ssthresh = 1000; window = 65535; timing = Adaptive }) } ∷
+    record { moment = 0; command = Flow 4 (record { src = 167772162; sport = 1000; dst = 167772418; dport = 80; smss = 64; segments = 2; ssthresh = 1000; rwnd = 65535; timing = Adaptive }) } ∷
     record { moment = 1200000000; command = Train 1 (record { packet = record { proto = Udp; src = 167772161; sport = 80; dst = 167772418; dport = 7; size = 41 }; count = 2; gap = 999 }) } ∷
     record { moment = 1200000000; command = PipeShow } ∷
     record { moment = 1200000000; command = Show } ∷
@@ -493,9 +493,9 @@ exp_7-commands =
     record { moment = 0; command = Config 4 (record { bw = 56000; delay = 400; queue = Slots 50; plr = 0; mask = record { proto = 255; src = 4294967295; dst = 4294967295; sport = 65535; dport = 65535 }; discipline = TailDrop }) } ∷
     record { moment = 0; command = Add (record { number = 100; action = Pipe 2; proto = AnyProtocol; src = address_span 167772160 24; sports = None; dst = record { address = 0; len = 0 }; dports = None }) } ∷
     record { moment = 0; command = Inject (record { proto = Udp; src = 167772162; sport = 1; dst = 167772417; dport = 1; size = 1499 }) } ∷
-    record { moment = 0; command = Flow 300 (record { src = 167772162; sport = 65535; dst = 167772417; dport = 1; smss = 1460; segments = 2; ssthresh = 8000; window = 1460; timing = Adaptive }) } ∷
-    record { moment = 0; command = Flow 4 (record { src = 167772161; sport = 1; dst = 3232237321; dport = 1; smss = 536; segments = 2; ssthresh = 1000; window = 65535; timing = Adaptive }) } ∷
-    record { moment = 0; command = Flow 300 (record { src = 167772161; sport = 80; dst = 167772417; dport = 65535; smss = 1460; segments = 6; ssthresh = 1000; window = 65535; timing = Adaptive }) } ∷
+    record { moment = 0; command = Flow 300 (record { src = 167772162; sport = 65535; dst = 167772417; dport = 1; smss = 1460; segments = 2; ssthresh = 8000; rwnd = 1460; timing = Adaptive }) } ∷
+    record { moment = 0; command = Flow 4 (record { src = 167772161; sport = 1; dst = 3232237321; dport = 1; smss = 536; segments = 2; ssthresh = 1000; rwnd = 65535; timing = Adaptive }) } ∷
+    record { moment = 0; command = Flow 300 (record { src = 167772161; sport = 80; dst = 167772417; dport = 65535; smss = 1460; segments = 6; ssthresh = 1000; rwnd = 65535; timing = Adaptive }) } ∷
     record { moment = 30000000000; command = End } ∷
     []
 
@@ -558,7 +558,7 @@ exp_8-commands =
     record { moment = 0; command = Config 3 (record { bw = 10000000000; delay = 1; queue = Slots 50; plr = 0; mask = record { proto = 0; src = 0; dst = 0; sport = 0; dport = 0 }; discipline = ControlledDelay 1000000 7000000 }) } ∷
     record { moment = 0; command = Config 2 (record { bw = 8000000; delay = 0; queue = KBytes 3; plr = 0; mask = record { proto = 0; src = 0; dst = 0; sport = 0; dport = 0 }; discipline = TailDrop }) } ∷
     record { moment = 0; command = Add (record { number = 100; action = Pipe 3; proto = AnyProtocol; src = address_span 167772160 24; sports = None; dst = record { address = 0; len = 0 }; dports = None }) } ∷
-    record { moment = 0; command = Flow 3 (record { src = 167772161; sport = 0; dst = 167772418; dport = 7; smss = 1095; segments = 2; ssthresh = 1000; window = 65535; timing = Adaptive }) } ∷
+    record { moment = 0; command = Flow 3 (record { src = 167772161; sport = 0; dst = 167772418; dport = 7; smss = 1095; segments = 2; ssthresh = 1000; rwnd = 65535; timing = Adaptive }) } ∷
     record { moment = 400000000; command = Trace false } ∷
     record { moment = 400000000; command = Add (record { number = 100; action = Pipe 3; proto = AnyProtocol; src = address_span 167772161 32; sports = None; dst = address_span 4294967295 32; dports = Some (record { first = 80; last = 80 }) }) } ∷
     record { moment = 1100000000; command = Show } ∷
@@ -635,7 +635,7 @@ exp_9-commands =
     record { moment = 0; command = Add (record { number = 100; action = Pipe 1; proto = AnyProtocol; src = address_span 167772160 24; sports = None; dst = record { address = 0; len = 0 }; dports = None }) } ∷
     record { moment = 0; command = Config 2 (record { bw = 1000000000; delay = 400; queue = Slots 50; plr = 0; mask = record { proto = 1; src = 0; dst = 0; sport = 0; dport = 0 }; discipline = TailDrop }) } ∷
     record { moment = 0; command = Inject (record { proto = Tcp; src = 167772162; sport = 1000; dst = 167772417; dport = 65535; size = 1500 }) } ∷
-    record { moment = 0; command = Flow 1 (record { src = 167772161; sport = 7; dst = 167772418; dport = 80; smss = 1460; segments = 5; ssthresh = 65535; window = 65535; timing = Adaptive }) } ∷
+    record { moment = 0; command = Flow 1 (record { src = 167772161; sport = 7; dst = 167772418; dport = 80; smss = 1460; segments = 5; ssthresh = 65535; rwnd = 65535; timing = Adaptive }) } ∷
     record { moment = 30000000000; command = PipeShow } ∷
     record { moment = 30000000000; command = Show } ∷
     record { moment = 30000000000; command = End } ∷

@@ -33,10 +33,10 @@ exp_0-commands =
     record { moment = 0; command = Config 4 (record { bw = 10000000000; delay = 0; queue = Slots 2; plr = 200000; mask = record { proto = 0; src = 0; dst = 3; sport = 65535; dport = 255 }; discipline = ControlledDelay 3000000 100000000 }) } ∷
     record { moment = 0; command = Config 1 (record { bw = 8000000; delay = 400; queue = Slots 10; plr = 1; mask = record { proto = 0; src = 0; dst = 0; sport = 0; dport = 0 }; discipline = ControlledDelay 5000000 1000000000 }) } ∷
     record { moment = 0; command = Train 5 (record { packet = record { proto = Udp; src = 167772162; sport = 0; dst = 167772417; dport = 80; size = 125 }; count = 5; gap = 2000000 }) } ∷
-    record { moment = 0; command = Flow 300 (record { src = 167772162; sport = 1; dst = 167772161; dport = 2000; smss = 1096; segments = 1; ssthresh = 1000000000; window = 65535; timing = Adaptive }) } ∷
+    record { moment = 0; command = Flow 300 (record { src = 167772162; sport = 1; dst = 167772161; dport = 2000; smss = 1096; segments = 1; ssthresh = 1000000000; rwnd = 65535; timing = Adaptive }) } ∷
     record { moment = 0; command = Train 65535 (record { packet = record { proto = Udp; src = 167772162; sport = 2000; dst = 167772418; dport = 2000; size = 41 }; count = 1; gap = 1000 }) } ∷
-    record { moment = 60000000; command = Flow 65535 (record { src = 167772162; sport = 65535; dst = 167772417; dport = 7; smss = 1460; segments = 5; ssthresh = 65535; window = 65535; timing = Adaptive }) } ∷
-    record { moment = 158000000; command = Flow 2 (record { src = 167772162; sport = 7; dst = 167772417; dport = 1; smss = 64; segments = 4; ssthresh = 65535; window = 3000; timing = Adaptive }) } ∷
+    record { moment = 60000000; command = Flow 65535 (record { src = 167772162; sport = 65535; dst = 167772417; dport = 7; smss = 1460; segments = 5; ssthresh = 65535; rwnd = 65535; timing = Adaptive }) } ∷
+    record { moment = 158000000; command = Flow 2 (record { src = 167772162; sport = 7; dst = 167772417; dport = 1; smss = 64; segments = 4; ssthresh = 65535; rwnd = 3000; timing = Adaptive }) } ∷
     record { moment = 158000000; command = PipeShow } ∷
     record { moment = 158000000; command = Show } ∷
     record { moment = 158000000; command = End } ∷
@@ -86,7 +86,7 @@ exp_1-commands =
     record { moment = 0; command = Config 3 (record { bw = 997; delay = 50; queue = KBytes 10; plr = 50000; mask = record { proto = 0; src = 0; dst = 0; sport = 0; dport = 0 }; discipline = ControlledDelay 5000000 10000000 }) } ∷
     record { moment = 0; command = Add (record { number = 100; action = Pipe 2; proto = AnyProtocol; src = address_span 167772160 24; sports = None; dst = record { address = 0; len = 0 }; dports = None }) } ∷
     record { moment = 0; command = Config 4 (record { bw = 3000000; delay = 1200; queue = KBytes 10; plr = 0; mask = record { proto = 0; src = 0; dst = 0; sport = 0; dport = 0 }; discipline = TailDrop }) } ∷
-    record { moment = 0; command = Flow 4 (record { src = 167772162; sport = 7; dst = 167772418; dport = 80; smss = 960; segments = 1; ssthresh = 1; window = 3000; timing = Adaptive }) } ∷
+    record { moment = 0; command = Flow 4 (record { src = 167772162; sport = 7; dst = 167772418; dport = 80; smss = 960; segments = 1; ssthresh = 1; rwnd = 3000; timing = Adaptive }) } ∷
     record { moment = 3481146476; command = Trace true } ∷
     record { moment = 10000000000; command = Config 2 (record { bw = 10000000; delay = 50; queue = Slots 50; plr = 0; mask = record { proto = 0; src = 0; dst = 0; sport = 0; dport = 15 }; discipline = TailDrop }) } ∷
     record { moment = 100000000000; command = End } ∷
@@ -137,11 +137,11 @@ exp_2-commands =
     record { moment = 0; command = OnePass false } ∷
     record { moment = 0; command = Add (record { number = 150; action = SkipTo 65535; proto = AnyProtocol; src = record { address = 0; len = 0 }; sports = None; dst = record { address = 0; len = 0 }; dports = None }) } ∷
     record { moment = 0; command = Add (record { number = 100; action = Pipe 3; proto = AnyProtocol; src = address_span 167772160 24; sports = None; dst = record { address = 0; len = 0 }; dports = None }) } ∷
-    record { moment = 2000000000; command = Flow 2 (record { src = 167772161; sport = 65535; dst = 167772418; dport = 1000; smss = 1000; segments = 1; ssthresh = 4000; window = 65535; timing = Fixed 1000 }) } ∷
+    record { moment = 2000000000; command = Flow 2 (record { src = 167772161; sport = 65535; dst = 167772418; dport = 1000; smss = 1000; segments = 1; ssthresh = 4000; rwnd = 65535; timing = Fixed 1000 }) } ∷
     record { moment = 2000000000; command = Inject (record { proto = Tcp; src = 167772162; sport = 1; dst = 167772417; dport = 80; size = 1040 }) } ∷
     record { moment = 3000000000; command = Inject (record { proto = Udp; src = 167772162; sport = 80; dst = 167772418; dport = 2000; size = 1460 }) } ∷
-    record { moment = 15933004637; command = Flow 4 (record { src = 167772161; sport = 1; dst = 167772418; dport = 0; smss = 536; segments = 4; ssthresh = 8000; window = 65535; timing = Fixed 60000 }) } ∷
-    record { moment = 15933004637; command = Flow 3 (record { src = 167772418; sport = 65535; dst = 3232237321; dport = 7; smss = 1095; segments = 2; ssthresh = 4000; window = 65535; timing = Adaptive }) } ∷
+    record { moment = 15933004637; command = Flow 4 (record { src = 167772161; sport = 1; dst = 167772418; dport = 0; smss = 536; segments = 4; ssthresh = 8000; rwnd = 65535; timing = Fixed 60000 }) } ∷
+    record { moment = 15933004637; command = Flow 3 (record { src = 167772418; sport = 65535; dst = 3232237321; dport = 7; smss = 1095; segments = 2; ssthresh = 4000; rwnd = 65535; timing = Adaptive }) } ∷
     record { moment = 15933004637; command = PipeShow } ∷
     record { moment = 15933004637; command = Show } ∷
     record { moment = 15933004637; command = End } ∷
@@ -226,7 +226,7 @@ exp_3-commands =
     record { moment = 0; command = Add (record { number = 200; action = Pipe 1; proto = AnyProtocol; src = record { address = 0; len = 0 }; sports = None; dst = record { address = 0; len = 0 }; dports = None }) } ∷
     record { moment = 0; command = Add (record { number = 100; action = Pipe 3; proto = AnyProtocol; src = address_span 167772160 24; sports = None; dst = record { address = 0; len = 0 }; dports = None }) } ∷
     record { moment = 0; command = Config 4 (record { bw = 8000000; delay = 50; queue = Slots 1000; plr = 200000; mask = record { proto = 0; src = 0; dst = 0; sport = 0; dport = 0 }; discipline = ControlledDelay 1000000 1000000000 }) } ∷
-    record { moment = 4000000; command = Flow 5 (record { src = 167772161; sport = 65535; dst = 167772418; dport = 7; smss = 1000; segments = 2; ssthresh = 65535; window = 10000; timing = Fixed 1000 }) } ∷
+    record { moment = 4000000; command = Flow 5 (record { src = 167772161; sport = 65535; dst = 167772418; dport = 7; smss = 1000; segments = 2; ssthresh = 65535; rwnd = 10000; timing = Fixed 1000 }) } ∷
     record { moment = 12000000; command = Config 3 (record { bw = 10000000; delay = 50; queue = KBytes 1; plr = 0; mask = record { proto = 0; src = 1; dst = 0; sport = 0; dport = 0 }; discipline = TailDrop }) } ∷
     record { moment = 12000000; command = PipeDelete 1 } ∷
     record { moment = 12000500; command = Config 3 (record { bw = 0; delay = 2; queue = Slots 10; plr = 0; mask = record { proto = 0; src = 1; dst = 0; sport = 0; dport = 0 }; discipline = TailDrop }) } ∷
@@ -280,16 +280,16 @@ exp_4-commands =
     record { moment = 0; command = Config 3 (record { bw = 8000000; delay = 0; queue = Slots 2; plr = 0; mask = record { proto = 0; src = 0; dst = 0; sport = 0; dport = 0 }; discipline = ControlledDelay 1000 100000000 }) } ∷
     record { moment = 1000000000; command = Inject (record { proto = Tcp; src = 167772161; sport = 0; dst = 167772417; dport = 2000; size = 125 }) } ∷
     record { moment = 2000000000; command = Delete 200 } ∷
-    record { moment = 2000080000; command = Flow 4 (record { src = 167772417; sport = 7; dst = 0; dport = 0; smss = 1096; segments = 4; ssthresh = 65535; window = 65535; timing = Fixed 60000 }) } ∷
+    record { moment = 2000080000; command = Flow 4 (record { src = 167772417; sport = 7; dst = 0; dport = 0; smss = 1096; segments = 4; ssthresh = 65535; rwnd = 65535; timing = Fixed 60000 }) } ∷
     record { moment = 2000080000; command = Config 2 (record { bw = 1000000; delay = 50; queue = Slots 50; plr = 1000000; mask = record { proto = 0; src = 0; dst = 0; sport = 0; dport = 0 }; discipline = ControlledDelay 5000000 100000000 }) } ∷
-    record { moment = 2000080000; command = Flow 3 (record { src = 167772162; sport = 80; dst = 167772418; dport = 7; smss = 1000; segments = 1; ssthresh = 1000000000; window = 3000; timing = Fixed 60000 }) } ∷
+    record { moment = 2000080000; command = Flow 3 (record { src = 167772162; sport = 80; dst = 167772418; dport = 7; smss = 1000; segments = 1; ssthresh = 1000000000; rwnd = 3000; timing = Fixed 60000 }) } ∷
     record { moment = 15000000000; command = Delete 150 } ∷
     record { moment = 15000000000; command = PipeShow } ∷
-    record { moment = 15000000500; command = Flow 4 (record { src = 167772162; sport = 2000; dst = 167772417; dport = 65535; smss = 1460; segments = 6; ssthresh = 1; window = 65535; timing = Adaptive }) } ∷
+    record { moment = 15000000500; command = Flow 4 (record { src = 167772162; sport = 2000; dst = 167772417; dport = 65535; smss = 1460; segments = 6; ssthresh = 1; rwnd = 65535; timing = Adaptive }) } ∷
     record { moment = 15000000500; command = Inject (record { proto = Udp; src = 167772161; sport = 65535; dst = 167772418; dport = 1000; size = 125 }) } ∷
     record { moment = 15008000000; command = Stop 2 } ∷
     record { moment = 16009135021; command = Delete 50 } ∷
-    record { moment = 16009135021; command = Flow 1 (record { src = 167772162; sport = 0; dst = 167772417; dport = 1; smss = 960; segments = 5; ssthresh = 65535; window = 65535; timing = Fixed 1000 }) } ∷
+    record { moment = 16009135021; command = Flow 1 (record { src = 167772162; sport = 0; dst = 167772417; dport = 1; smss = 960; segments = 5; ssthresh = 65535; rwnd = 65535; timing = Fixed 1000 }) } ∷
     record { moment = 17000000000; command = PipeDelete 1 } ∷
     record { moment = 17000000000; command = PipeShow } ∷
     record { moment = 17000000000; command = Show } ∷
@@ -363,13 +363,13 @@ exp_5-commands =
     record { moment = 10080000; command = Inject (record { proto = Tcp; src = 167772161; sport = 80; dst = 167772417; dport = 80; size = 999 }) } ∷
     record { moment = 10080000; command = PipeDelete 1 } ∷
     record { moment = 43218588; command = Add (record { number = 200; action = Pipe 1; proto = OnlyTcp; src = address_span 4294967295 32; sports = Some (record { first = 1; last = 1 }); dst = address_span 167772160 24; dports = None }) } ∷
-    record { moment = 43218588; command = Flow 300 (record { src = 167772162; sport = 80; dst = 167772417; dport = 0; smss = 536; segments = 1; ssthresh = 1000000000; window = 65535; timing = Adaptive }) } ∷
+    record { moment = 43218588; command = Flow 300 (record { src = 167772162; sport = 80; dst = 167772417; dport = 0; smss = 536; segments = 1; ssthresh = 1000000000; rwnd = 65535; timing = Adaptive }) } ∷
     record { moment = 60000000; command = Train 2 (record { packet = record { proto = Udp; src = 167772161; sport = 80; dst = 167772417; dport = 80; size = 1499 }; count = 3; gap = 10000000 }) } ∷
     record { moment = 60000001; command = PipeShow } ∷
     record { moment = 60000001; command = Delete 300 } ∷
-    record { moment = 130000000; command = Flow 5 (record { src = 167772162; sport = 65535; dst = 167772418; dport = 65535; smss = 64; segments = 3; ssthresh = 1000000000; window = 10000; timing = Adaptive }) } ∷
+    record { moment = 130000000; command = Flow 5 (record { src = 167772162; sport = 65535; dst = 167772418; dport = 65535; smss = 64; segments = 3; ssthresh = 1000000000; rwnd = 10000; timing = Adaptive }) } ∷
     record { moment = 130000000; command = Add (record { number = 100; action = Count; proto = OnlyTcp; src = address_span 0 0; sports = Some (record { first = 7; last = 7 }); dst = address_span 167772161 32; dports = None }) } ∷
-    record { moment = 150000000; command = Flow 300 (record { src = 167772161; sport = 80; dst = 167772418; dport = 80; smss = 1000; segments = 6; ssthresh = 65535; window = 3000; timing = Fixed 1 }) } ∷
+    record { moment = 150000000; command = Flow 300 (record { src = 167772161; sport = 80; dst = 167772418; dport = 80; smss = 1000; segments = 6; ssthresh = 65535; rwnd = 3000; timing = Fixed 1 }) } ∷
     record { moment = 150000000; command = Config 2 (record { bw = 56000; delay = 10; queue = Slots 50; plr = 50000; mask = record { proto = 0; src = 0; dst = 0; sport = 0; dport = 0 }; discipline = ControlledDelay 1000 100000000 }) } ∷
     record { moment = 150000500; command = Add (record { number = 400; action = Pipe 2; proto = AnyProtocol; src = record { address = 0; len = 0 }; sports = None; dst = address_span 0 0; dports = Some (record { first = 0; last = 0 }) }) } ∷
     record { moment = 150000500; command = Trace true } ∷
@@ -429,7 +429,7 @@ exp_6-commands =
     record { moment = 0; command = Config 3 (record { bw = 10000000; delay = 400; queue = KBytes 3; plr = 20000; mask = record { proto = 0; src = 0; dst = 0; sport = 0; dport = 0 }; discipline = TailDrop }) } ∷
     record { moment = 0; command = Add (record { number = 200; action = Pipe 2; proto = AnyProtocol; src = record { address = 0; len = 0 }; sports = None; dst = record { address = 0; len = 0 }; dports = None }) } ∷
     record { moment = 0; command = Add (record { number = 150; action = Pipe 3; proto = AnyProtocol; src = record { address = 0; len = 0 }; sports = Some (record { first = 80; last = 80 }); dst = address_span 167772160 24; dports = None }) } ∷
-    record { moment = 100000001; command = Flow 4 (record { src = 167772162; sport = 80; dst = 167772418; dport = 2000; smss = 536; segments = 1; ssthresh = 65535; window = 65535; timing = Adaptive }) } ∷
+    record { moment = 100000001; command = Flow 4 (record { src = 167772162; sport = 80; dst = 167772418; dport = 2000; smss = 536; segments = 1; ssthresh = 65535; rwnd = 65535; timing = Adaptive }) } ∷
     record { moment = 300000000; command = Inject (record { proto = Tcp; src = 167772161; sport = 7; dst = 167772418; dport = 65535; size = 1000 }) } ∷
     record { moment = 300000000; command = PipeShow } ∷
     record { moment = 300000000; command = Show } ∷
@@ -496,10 +496,10 @@ exp_7-commands =
     record { moment = 0; command = Config 1 (record { bw = 1000000; delay = 10; queue = Slots 10; plr = 0; mask = record { proto = 0; src = 0; dst = 0; sport = 0; dport = 0 }; discipline = ControlledDelay 5000000 100000000 }) } ∷
     record { moment = 0; command = Add (record { number = 100; action = Pipe 2; proto = AnyProtocol; src = address_span 167772160 24; sports = None; dst = record { address = 0; len = 0 }; dports = None }) } ∷
     record { moment = 0; command = Config 4 (record { bw = 10000000; delay = 1; queue = KBytes 3; plr = 500000; mask = record { proto = 0; src = 0; dst = 0; sport = 0; dport = 0 }; discipline = ControlledDelay 5000000 100000000 }) } ∷
-    record { moment = 0; command = Flow 300 (record { src = 167772162; sport = 80; dst = 167772418; dport = 0; smss = 1460; segments = 4; ssthresh = 2000; window = 65535; timing = Fixed 200 }) } ∷
+    record { moment = 0; command = Flow 300 (record { src = 167772162; sport = 80; dst = 167772418; dport = 0; smss = 1460; segments = 4; ssthresh = 2000; rwnd = 65535; timing = Fixed 200 }) } ∷
     record { moment = 29615587; command = Stop 300 } ∷
     record { moment = 29615587; command = Config 3 (record { bw = 3000000; delay = 0; queue = Slots 3; plr = 1000000; mask = record { proto = 0; src = 0; dst = 0; sport = 0; dport = 0 }; discipline = ControlledDelay 5000000 10000000 }) } ∷
-    record { moment = 80000000; command = Flow 5 (record { src = 167772162; sport = 65535; dst = 167772417; dport = 65535; smss = 64; segments = 2; ssthresh = 2000; window = 65535; timing = Adaptive }) } ∷
+    record { moment = 80000000; command = Flow 5 (record { src = 167772162; sport = 65535; dst = 167772417; dport = 65535; smss = 64; segments = 2; ssthresh = 2000; rwnd = 65535; timing = Adaptive }) } ∷
     record { moment = 80000000; command = Stop 5 } ∷
     record { moment = 80080000; command = Inject (record { proto = Tcp; src = 167772161; sport = 1; dst = 167772417; dport = 80; size = 500 }) } ∷
     record { moment = 80080000; command = Config 3 (record { bw = 8000000; delay = 0; queue = KBytes 1; plr = 0; mask = record { proto = 0; src = 0; dst = 0; sport = 0; dport = 0 }; discipline = ControlledDelay 20000000 20000000 }) } ∷
@@ -564,7 +564,7 @@ exp_8-commands =
     record { moment = 0; command = Add (record { number = 100; action = SkipTo 300; proto = OnlyTcp; src = record { address = 0; len = 0 }; sports = None; dst = address_span 167772160 24; dports = None }) } ∷
     record { moment = 0; command = Config 1 (record { bw = 1000000; delay = 0; queue = Slots 50; plr = 500000; mask = record { proto = 255; src = 4294967295; dst = 0; sport = 0; dport = 0 }; discipline = TailDrop }) } ∷
     record { moment = 0; command = Add (record { number = 200; action = Pipe 2; proto = AnyProtocol; src = record { address = 0; len = 0 }; sports = None; dst = record { address = 0; len = 0 }; dports = None }) } ∷
-    record { moment = 0; command = Flow 3 (record { src = 167772161; sport = 7; dst = 3232237321; dport = 2000; smss = 64; segments = 3; ssthresh = 4000; window = 1460; timing = Fixed 25 }) } ∷
+    record { moment = 0; command = Flow 3 (record { src = 167772161; sport = 7; dst = 3232237321; dport = 2000; smss = 64; segments = 3; ssthresh = 4000; rwnd = 1460; timing = Fixed 25 }) } ∷
     record { moment = 0; command = Add (record { number = 200; action = Pipe 1; proto = OnlyUdp; src = address_span 4294967295 32; sports = None; dst = address_span 167772160 24; dports = Some (record { first = 65535; last = 65535 }) }) } ∷
     record { moment = 0; command = Delete 1 } ∷
     record { moment = 97602364; command = Config 1 (record { bw = 8000000; delay = 0; queue = Slots 3; plr = 0; mask = record { proto = 255; src = 4294967295; dst = 0; sport = 0; dport = 0 }; discipline = TailDrop }) } ∷
@@ -628,7 +628,7 @@ exp_9-commands =
     record { moment = 0; command = Config 3 (record { bw = 7777777; delay = 0; queue = KBytes 3; plr = 20000; mask = record { proto = 255; src = 4294967295; dst = 4294967295; sport = 65535; dport = 65535 }; discipline = ControlledDelay 3000000 1000 }) } ∷
     record { moment = 0; command = Config 2 (record { bw = 997; delay = 0; queue = KBytes 2; plr = 0; mask = record { proto = 0; src = 0; dst = 0; sport = 0; dport = 0 }; discipline = ControlledDelay 1000000 5000000 }) } ∷
     record { moment = 0; command = Inject (record { proto = Udp; src = 167772161; sport = 2000; dst = 167772417; dport = 2000; size = 1040 }) } ∷
-    record { moment = 20000000; command = Flow 2 (record { src = 167772162; sport = 65535; dst = 167772418; dport = 7; smss = 64; segments = 3; ssthresh = 1000; window = 65535; timing = Fixed 1000 }) } ∷
+    record { moment = 20000000; command = Flow 2 (record { src = 167772162; sport = 65535; dst = 167772418; dport = 7; smss = 64; segments = 3; ssthresh = 1000; rwnd = 65535; timing = Fixed 1000 }) } ∷
     record { moment = 20000000; command = Config 1 (record { bw = 0; delay = 50; queue = KBytes 1; plr = 0; mask = record { proto = 0; src = 0; dst = 0; sport = 0; dport = 0 }; discipline = TailDrop }) } ∷
     record { moment = 20000000; command = Train 300 (record { packet = record { proto = Udp; src = 167772161; sport = 80; dst = 167772417; dport = 80; size = 41 }; count = 3; gap = 10000000 }) } ∷
     record { moment = 20000000; command = Train 65535 (record { packet = record { proto = Tcp; src = 167772161; sport = 65535; dst = 167772418; dport = 0; size = 41 }; count = 3; gap = 2000000 }) } ∷
@@ -637,12 +637,12 @@ exp_9-commands =
     record { moment = 20000001; command = Stop 300 } ∷
     record { moment = 20000001; command = Delete 300 } ∷
     record { moment = 80000000; command = Inject (record { proto = Tcp; src = 167772418; sport = 1; dst = 167772161; dport = 2000; size = 1500 }) } ∷
-    record { moment = 80000000; command = Flow 65535 (record { src = 167772162; sport = 2000; dst = 167772417; dport = 65535; smss = 460; segments = 1; ssthresh = 1000; window = 65535; timing = Fixed 1000 }) } ∷
+    record { moment = 80000000; command = Flow 65535 (record { src = 167772162; sport = 2000; dst = 167772417; dport = 65535; smss = 460; segments = 1; ssthresh = 1000; rwnd = 65535; timing = Fixed 1000 }) } ∷
     record { moment = 80000000; command = Inject (record { proto = Udp; src = 167772161; sport = 2000; dst = 167772418; dport = 0; size = 125 }) } ∷
     record { moment = 80080000; command = Config 3 (record { bw = 997; delay = 1; queue = Slots 3; plr = 500000; mask = record { proto = 255; src = 4294967295; dst = 4294967295; sport = 65535; dport = 65535 }; discipline = ControlledDelay 5000000 7000000 }) } ∷
     record { moment = 160000000; command = Train 4 (record { packet = record { proto = Udp; src = 167772162; sport = 80; dst = 167772417; dport = 2000; size = 41 }; count = 3; gap = 10000000 }) } ∷
     record { moment = 160000000; command = Inject (record { proto = Udp; src = 167772161; sport = 1; dst = 167772418; dport = 2000; size = 125 }) } ∷
-    record { moment = 160000000; command = Flow 4 (record { src = 167772162; sport = 7; dst = 167772418; dport = 1; smss = 1095; segments = 3; ssthresh = 65535; window = 1; timing = Adaptive }) } ∷
+    record { moment = 160000000; command = Flow 4 (record { src = 167772162; sport = 7; dst = 167772418; dport = 1; smss = 1095; segments = 3; ssthresh = 65535; rwnd = 1; timing = Adaptive }) } ∷
     record { moment = 160000000; command = End } ∷
     []
 

@@ -30,7 +30,7 @@ exp_0-commands =
     record { moment = 0; command = Config 4 (record { bw = 7777777; delay = 0; queue = KBytes 3; plr = 0; mask = record { proto = 255; src = 4294967295; dst = 4294967295; sport = 65535; dport = 65535 }; discipline = ControlledDelay 1000 1000 }) } ∷
     record { moment = 0; command = Config 2 (record { bw = 1000000000; delay = 5; queue = Slots 3; plr = 0; mask = record { proto = 0; src = 0; dst = 3; sport = 1; dport = 255 }; discipline = TailDrop }) } ∷
     record { moment = 0; command = Train 3 (record { packet = record { proto = Udp; src = 167772161; sport = 65535; dst = 167772418; dport = 1; size = 125 }; count = 1; gap = 1000000 }) } ∷
-    record { moment = 0; command = Flow 4 (record { src = 167772161; sport = 65535; dst = 167772418; dport = 65535; smss = 1096; segments = 5; ssthresh = 4000; window = 65535; timing = Fixed 60000 }) } ∷
+    record { moment = 0; command = Flow 4 (record { src = 167772161; sport = 65535; dst = 167772418; dport = 65535; smss = 1096; segments = 5; ssthresh = 4000; rwnd = 65535; timing = Fixed 60000 }) } ∷
     record { moment = 30000000; command = Train 5 (record { packet = record { proto = Tcp; src = 167772417; sport = 65535; dst = 167772162; dport = 1000; size = 1500 }; count = 3; gap = 3333333 }) } ∷
     record { moment = 50000000; command = Show } ∷
     record { moment = 170000000; command = Inject (record { proto = Tcp; src = 3232237321; sport = 2000; dst = 0; dport = 80; size = 1460 }) } ∷
@@ -106,7 +106,7 @@ exp_1-commands =
     record { moment = 0; command = Config 3 (record { bw = 8000000; delay = 50; queue = Slots 3; plr = 0; mask = record { proto = 255; src = 0; dst = 0; sport = 0; dport = 15 }; discipline = TailDrop }) } ∷
     record { moment = 0; command = Config 1 (record { bw = 3000000; delay = 5; queue = Slots 50; plr = 0; mask = record { proto = 0; src = 0; dst = 0; sport = 0; dport = 0 }; discipline = TailDrop }) } ∷
     record { moment = 0; command = Add (record { number = 400; action = Pipe 2; proto = OnlyUdp; src = record { address = 0; len = 0 }; sports = None; dst = address_span 167772162 31; dports = None }) } ∷
-    record { moment = 0; command = Flow 3 (record { src = 167772162; sport = 2000; dst = 167772417; dport = 80; smss = 64; segments = 1; ssthresh = 1000000000; window = 10000; timing = Fixed 1000 }) } ∷
+    record { moment = 0; command = Flow 3 (record { src = 167772162; sport = 2000; dst = 167772417; dport = 80; smss = 64; segments = 1; ssthresh = 1000000000; rwnd = 10000; timing = Fixed 1000 }) } ∷
     record { moment = 0; command = Train 300 (record { packet = record { proto = Tcp; src = 167772161; sport = 80; dst = 167772417; dport = 2000; size = 41 }; count = 3; gap = 1 }) } ∷
     record { moment = 6000000; command = Add (record { number = 200; action = SkipTo 300; proto = AnyProtocol; src = record { address = 0; len = 0 }; sports = Some (record { first = 2000; last = 2000 }); dst = record { address = 0; len = 0 }; dports = None }) } ∷
     record { moment = 8000000; command = Config 4 (record { bw = 10000000; delay = 10; queue = Slots 1; plr = 20000; mask = record { proto = 0; src = 0; dst = 0; sport = 1; dport = 0 }; discipline = TailDrop }) } ∷
@@ -186,11 +186,11 @@ exp_2-commands =
     record { moment = 300000001; command = Config 2 (record { bw = 1000000000; delay = 2; queue = KBytes 3; plr = 0; mask = record { proto = 0; src = 0; dst = 0; sport = 0; dport = 0 }; discipline = ControlledDelay 5000000 1000000000 }) } ∷
     record { moment = 600080000; command = Inject (record { proto = Tcp; src = 167772161; sport = 1000; dst = 167772417; dport = 0; size = 1000 }) } ∷
     record { moment = 600080000; command = Config 1 (record { bw = 3000000; delay = 400; queue = Slots 1; plr = 0; mask = record { proto = 255; src = 4294967295; dst = 0; sport = 0; dport = 255 }; discipline = TailDrop }) } ∷
-    record { moment = 1008000000; command = Flow 5 (record { src = 167772161; sport = 0; dst = 167772417; dport = 80; smss = 1000; segments = 2; ssthresh = 8000; window = 65535; timing = Fixed 200 }) } ∷
+    record { moment = 1008000000; command = Flow 5 (record { src = 167772161; sport = 0; dst = 167772417; dport = 80; smss = 1000; segments = 2; ssthresh = 8000; rwnd = 65535; timing = Fixed 200 }) } ∷
     record { moment = 1605095432; command = PipeDelete 1 } ∷
     record { moment = 1605095432; command = Config 3 (record { bw = 0; delay = 1200; queue = Slots 3; plr = 0; mask = record { proto = 0; src = 0; dst = 0; sport = 0; dport = 0 }; discipline = TailDrop }) } ∷
     record { moment = 1900000000; command = PipeShow } ∷
-    record { moment = 1900000500; command = Flow 65535 (record { src = 167772161; sport = 65535; dst = 167772418; dport = 2000; smss = 1095; segments = 6; ssthresh = 65535; window = 65535; timing = Adaptive }) } ∷
+    record { moment = 1900000500; command = Flow 65535 (record { src = 167772161; sport = 65535; dst = 167772418; dport = 2000; smss = 1095; segments = 6; ssthresh = 65535; rwnd = 65535; timing = Adaptive }) } ∷
     record { moment = 1900000500; command = End } ∷
     []
 
@@ -256,7 +256,7 @@ exp_3-commands =
     record { moment = 0; command = Add (record { number = 200; action = Pipe 3; proto = AnyProtocol; src = record { address = 0; len = 0 }; sports = None; dst = record { address = 0; len = 0 }; dports = None }) } ∷
     record { moment = 0; command = Add (record { number = 100; action = Pipe 1; proto = AnyProtocol; src = address_span 167772160 24; sports = None; dst = record { address = 0; len = 0 }; dports = None }) } ∷
     record { moment = 0; command = Config 1 (record { bw = 8000000; delay = 0; queue = KBytes 10; plr = 0; mask = record { proto = 0; src = 0; dst = 0; sport = 0; dport = 0 }; discipline = ControlledDelay 5000000 100000000 }) } ∷
-    record { moment = 50000000; command = Flow 5 (record { src = 167772161; sport = 7; dst = 167772418; dport = 0; smss = 1095; segments = 1; ssthresh = 1; window = 65535; timing = Adaptive }) } ∷
+    record { moment = 50000000; command = Flow 5 (record { src = 167772161; sport = 7; dst = 167772418; dport = 0; smss = 1095; segments = 1; ssthresh = 1; rwnd = 65535; timing = Adaptive }) } ∷
     record { moment = 50000000; command = Inject (record { proto = Tcp; src = 167772161; sport = 80; dst = 167772417; dport = 1000; size = 1499 }) } ∷
     record { moment = 50000000; command = Config 1 (record { bw = 0; delay = 400; queue = Slots 1000; plr = 0; mask = record { proto = 0; src = 0; dst = 0; sport = 0; dport = 0 }; discipline = TailDrop }) } ∷
     record { moment = 60000000; command = Show } ∷
@@ -321,9 +321,9 @@ exp_4-commands =
     record { moment = 0; command = Config 1 (record { bw = 1000000000; delay = 0; queue = Slots 10; plr = 20000; mask = record { proto = 0; src = 0; dst = 0; sport = 0; dport = 0 }; discipline = TailDrop }) } ∷
     record { moment = 0; command = Add (record { number = 200; action = Allow; proto = OnlyTcp; src = record { address = 0; len = 0 }; sports = Some (record { first = 2000; last = 2000 }); dst = record { address = 0; len = 0 }; dports = Some (record { first = 1; last = 1000 }) }) } ∷
     record { moment = 0; command = Inject (record { proto = Udp; src = 167772162; sport = 65535; dst = 167772418; dport = 1000; size = 999 }) } ∷
-    record { moment = 0; command = Flow 2 (record { src = 167772162; sport = 0; dst = 167772417; dport = 1; smss = 1000; segments = 6; ssthresh = 65535; window = 65535; timing = Adaptive }) } ∷
+    record { moment = 0; command = Flow 2 (record { src = 167772162; sport = 0; dst = 167772417; dport = 1; smss = 1000; segments = 6; ssthresh = 65535; rwnd = 65535; timing = Adaptive }) } ∷
     record { moment = 0; command = Inject (record { proto = Tcp; src = 167772161; sport = 2000; dst = 167772417; dport = 1; size = 1460 }) } ∷
-    record { moment = 10000000; command = Flow 1 (record { src = 167772162; sport = 80; dst = 167772417; dport = 1000; smss = 536; segments = 2; ssthresh = 65535; window = 1; timing = Fixed 200 }) } ∷
+    record { moment = 10000000; command = Flow 1 (record { src = 167772162; sport = 80; dst = 167772417; dport = 1000; smss = 536; segments = 2; ssthresh = 65535; rwnd = 1; timing = Fixed 200 }) } ∷
     record { moment = 10000000; command = Inject (record { proto = Udp; src = 167772161; sport = 7; dst = 167772417; dport = 65535; size = 1500 }) } ∷
     record { moment = 10000000; command = Config 2 (record { bw = 8000000; delay = 5; queue = KBytes 1; plr = 0; mask = record { proto = 255; src = 4294967295; dst = 4294967295; sport = 65535; dport = 65535 }; discipline = ControlledDelay 5000000 100000000 }) } ∷
     record { moment = 10000000; command = PipeDelete 4 } ∷
@@ -334,7 +334,7 @@ exp_4-commands =
     record { moment = 68071011; command = OnePass false } ∷
     record { moment = 130000000; command = Train 300 (record { packet = record { proto = Udp; src = 167772162; sport = 2000; dst = 167772418; dport = 65535; size = 1460 }; count = 1; gap = 2000000 }) } ∷
     record { moment = 130000000; command = PipeShow } ∷
-    record { moment = 130000000; command = Flow 1 (record { src = 167772161; sport = 7; dst = 167772417; dport = 1000; smss = 1000; segments = 6; ssthresh = 1; window = 65535; timing = Adaptive }) } ∷
+    record { moment = 130000000; command = Flow 1 (record { src = 167772161; sport = 7; dst = 167772417; dport = 1000; smss = 1000; segments = 6; ssthresh = 1; rwnd = 65535; timing = Adaptive }) } ∷
     record { moment = 130000000; command = Config 1 (record { bw = 3000000; delay = 400; queue = KBytes 3; plr = 0; mask = record { proto = 0; src = 0; dst = 0; sport = 0; dport = 0 }; discipline = TailDrop }) } ∷
     record { moment = 130000000; command = Train 5 (record { packet = record { proto = Udp; src = 4294967295; sport = 0; dst = 167772161; dport = 1; size = 1500 }; count = 5; gap = 125000 }) } ∷
     record { moment = 130000000; command = End } ∷
@@ -398,7 +398,7 @@ exp_5-commands =
     record { moment = 0; command = Add (record { number = 200; action = Pipe 2; proto = AnyProtocol; src = record { address = 0; len = 0 }; sports = None; dst = record { address = 0; len = 0 }; dports = None }) } ∷
     record { moment = 0; command = Config 3 (record { bw = 997; delay = 1200; queue = KBytes 2; plr = 0; mask = record { proto = 255; src = 4294967295; dst = 4294967295; sport = 65535; dport = 65535 }; discipline = TailDrop }) } ∷
     record { moment = 0; command = Inject (record { proto = Udp; src = 167772162; sport = 1; dst = 167772418; dport = 65535; size = 1499 }) } ∷
-    record { moment = 0; command = Flow 300 (record { src = 167772161; sport = 80; dst = 167772418; dport = 1000; smss = 960; segments = 3; ssthresh = 1000000000; window = 1; timing = Fixed 1000 }) } ∷
+    record { moment = 0; command = Flow 300 (record { src = 167772161; sport = 80; dst = 167772418; dport = 1000; smss = 960; segments = 3; ssthresh = 1000000000; rwnd = 1; timing = Fixed 1000 }) } ∷
     record { moment = 800000000; command = Train 3 (record { packet = record { proto = Udp; src = 4294967295; sport = 1; dst = 4294967295; dport = 0; size = 1500 }; count = 3; gap = 125000 }) } ∷
     record { moment = 800000000; command = Train 2 (record { packet = record { proto = Udp; src = 167772417; sport = 7; dst = 167772161; dport = 80; size = 1000 }; count = 2; gap = 1 }) } ∷
     record { moment = 800000000; command = Train 3 (record { packet = record { proto = Tcp; src = 167772162; sport = 65535; dst = 167772418; dport = 1; size = 1000 }; count = 3; gap = 1 }) } ∷
@@ -462,12 +462,12 @@ exp_6-commands =
     record { moment = 0; command = Add (record { number = 100; action = Pipe 3; proto = AnyProtocol; src = record { address = 0; len = 0 }; sports = Some (record { first = 65535; last = 65535 }); dst = address_span 167772416 24; dports = None }) } ∷
     record { moment = 0; command = Add (record { number = 100; action = Pipe 3; proto = AnyProtocol; src = address_span 167772160 24; sports = None; dst = record { address = 0; len = 0 }; dports = None }) } ∷
     record { moment = 0; command = Config 2 (record { bw = 1000000; delay = 0; queue = KBytes 10; plr = 0; mask = record { proto = 0; src = 0; dst = 0; sport = 0; dport = 0 }; discipline = TailDrop }) } ∷
-    record { moment = 0; command = Flow 5 (record { src = 167772161; sport = 2000; dst = 167772417; dport = 0; smss = 1000; segments = 5; ssthresh = 1000; window = 1; timing = Fixed 1000 }) } ∷
+    record { moment = 0; command = Flow 5 (record { src = 167772161; sport = 2000; dst = 167772417; dport = 0; smss = 1000; segments = 5; ssthresh = 1000; rwnd = 1; timing = Fixed 1000 }) } ∷
     record { moment = 5771411093; command = Inject (record { proto = Udp; src = 167772161; sport = 80; dst = 167772417; dport = 0; size = 1460 }) } ∷
     record { moment = 5771411093; command = Inject (record { proto = Tcp; src = 167772161; sport = 0; dst = 167772418; dport = 65535; size = 1040 }) } ∷
-    record { moment = 8000000000; command = Flow 4 (record { src = 167772162; sport = 2000; dst = 0; dport = 1; smss = 536; segments = 6; ssthresh = 4000; window = 1460; timing = Fixed 1000 }) } ∷
+    record { moment = 8000000000; command = Flow 4 (record { src = 167772162; sport = 2000; dst = 0; dport = 1; smss = 536; segments = 6; ssthresh = 4000; rwnd = 1460; timing = Fixed 1000 }) } ∷
     record { moment = 8000000000; command = Delete 65535 } ∷
-    record { moment = 12000000000; command = Flow 5 (record { src = 167772161; sport = 80; dst = 167772417; dport = 0; smss = 1000; segments = 1; ssthresh = 65535; window = 1460; timing = Adaptive }) } ∷
+    record { moment = 12000000000; command = Flow 5 (record { src = 167772161; sport = 80; dst = 167772417; dport = 0; smss = 1000; segments = 1; ssthresh = 65535; rwnd = 1460; timing = Adaptive }) } ∷
     record { moment = 12000080000; command = Inject (record { proto = Udp; src = 167772161; sport = 2000; dst = 167772417; dport = 7; size = 1499 }) } ∷
     record { moment = 12000080000; command = PipeShow } ∷
     record { moment = 12000080000; command = Show } ∷
@@ -583,10 +583,10 @@ exp_8-commands =
     record { moment = 0; command = Add (record { number = 100; action = Pipe 2; proto = AnyProtocol; src = address_span 167772161 32; sports = None; dst = record { address = 0; len = 0 }; dports = None }) } ∷
     record { moment = 0; command = Train 2 (record { packet = record { proto = Tcp; src = 167772161; sport = 1; dst = 167772417; dport = 1; size = 1499 }; count = 1; gap = 10000000 }) } ∷
     record { moment = 0; command = Inject (record { proto = Tcp; src = 167772161; sport = 1000; dst = 167772418; dport = 2000; size = 125 }) } ∷
-    record { moment = 10000000000; command = Flow 300 (record { src = 167772161; sport = 2000; dst = 167772418; dport = 0; smss = 64; segments = 1; ssthresh = 1; window = 10000; timing = Adaptive }) } ∷
+    record { moment = 10000000000; command = Flow 300 (record { src = 167772161; sport = 2000; dst = 167772418; dport = 0; smss = 64; segments = 1; ssthresh = 1; rwnd = 10000; timing = Adaptive }) } ∷
     record { moment = 10000000000; command = Config 1 (record { bw = 1000000000; delay = 400; queue = KBytes 3; plr = 0; mask = record { proto = 0; src = 0; dst = 0; sport = 0; dport = 0 }; discipline = TailDrop }) } ∷
     record { moment = 10000000000; command = PipeDelete 3 } ∷
-    record { moment = 10000000000; command = Flow 2 (record { src = 167772161; sport = 1; dst = 167772417; dport = 65535; smss = 536; segments = 1; ssthresh = 65535; window = 65535; timing = Adaptive }) } ∷
+    record { moment = 10000000000; command = Flow 2 (record { src = 167772161; sport = 1; dst = 167772417; dport = 65535; smss = 536; segments = 1; ssthresh = 65535; rwnd = 65535; timing = Adaptive }) } ∷
     record { moment = 10000000500; command = Stop 5 } ∷
     record { moment = 10000000500; command = Add (record { number = 50; action = Pipe 2; proto = AnyProtocol; src = record { address = 0; len = 0 }; sports = None; dst = address_span 4294967295 32; dports = None }) } ∷
     record { moment = 10000000500; command = PipeShow } ∷
@@ -653,13 +653,13 @@ exp_9-commands =
     record { moment = 0; command = Train 300 (record { packet = record { proto = Tcp; src = 167772162; sport = 7; dst = 167772418; dport = 7; size = 125 }; count = 3; gap = 2000000 }) } ∷
     record { moment = 500; command = Config 1 (record { bw = 3000000; delay = 10; queue = Slots 50; plr = 1; mask = record { proto = 0; src = 0; dst = 0; sport = 0; dport = 0 }; discipline = ControlledDelay 1000000 5000000 }) } ∷
     record { moment = 9000000000; command = Add (record { number = 65534; action = Pipe 1; proto = AnyProtocol; src = record { address = 0; len = 0 }; sports = None; dst = address_span 167772160 8; dports = None }) } ∷
-    record { moment = 9000000000; command = Flow 5 (record { src = 167772162; sport = 65535; dst = 167772417; dport = 0; smss = 1096; segments = 1; ssthresh = 65535; window = 65535; timing = Adaptive }) } ∷
+    record { moment = 9000000000; command = Flow 5 (record { src = 167772162; sport = 65535; dst = 167772417; dport = 0; smss = 1096; segments = 1; ssthresh = 65535; rwnd = 65535; timing = Adaptive }) } ∷
     record { moment = 9000000500; command = Inject (record { proto = Udp; src = 167772161; sport = 0; dst = 167772418; dport = 0; size = 1460 }) } ∷
     record { moment = 11000000000; command = Config 3 (record { bw = 8000000; delay = 50; queue = Slots 2; plr = 50000; mask = record { proto = 0; src = 0; dst = 255; sport = 1; dport = 0 }; discipline = TailDrop }) } ∷
     record { moment = 11008000000; command = Stop 1 } ∷
     record { moment = 11008000000; command = Stop 4 } ∷
     record { moment = 16399744426; command = Inject (record { proto = Tcp; src = 167772162; sport = 2000; dst = 167772417; dport = 7; size = 125 }) } ∷
-    record { moment = 16399744426; command = Flow 65535 (record { src = 167772161; sport = 1; dst = 167772418; dport = 1000; smss = 960; segments = 1; ssthresh = 65535; window = 1460; timing = Fixed 1 }) } ∷
+    record { moment = 16399744426; command = Flow 65535 (record { src = 167772161; sport = 1; dst = 167772418; dport = 1000; smss = 960; segments = 1; ssthresh = 65535; rwnd = 1460; timing = Fixed 1 }) } ∷
     record { moment = 19000000000; command = Config 2 (record { bw = 0; delay = 400; queue = KBytes 10; plr = 500000; mask = record { proto = 0; src = 0; dst = 0; sport = 0; dport = 0 }; discipline = TailDrop }) } ∷
     record { moment = 19000000001; command = Config 3 (record { bw = 3000000; delay = 0; queue = KBytes 2; plr = 50000; mask = record { proto = 0; src = 0; dst = 255; sport = 1; dport = 0 }; discipline = TailDrop }) } ∷
     record { moment = 19000000001; command = OnePass false } ∷

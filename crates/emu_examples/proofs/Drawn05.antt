@@ -32,10 +32,10 @@ exp_0-commands =
     record { moment = 0; command = Config 3 (record { bw = 10000000000; delay = 400; queue = Slots 5; plr = 1000000; mask = record { proto = 0; src = 0; dst = 0; sport = 0; dport = 0 }; discipline = TailDrop }) } ∷
     record { moment = 0; command = Add (record { number = 2; action = SkipTo 65535; proto = OnlyTcp; src = record { address = 0; len = 0 }; sports = None; dst = record { address = 0; len = 0 }; dports = None }) } ∷
     record { moment = 0; command = Config 4 (record { bw = 0; delay = 5; queue = Slots 50; plr = 0; mask = record { proto = 255; src = 4294967295; dst = 4294967295; sport = 65535; dport = 65535 }; discipline = ControlledDelay 1000 1000 }) } ∷
-    record { moment = 0; command = Flow 3 (record { src = 167772418; sport = 1; dst = 167772162; dport = 7; smss = 1000; segments = 2; ssthresh = 8000; window = 65535; timing = Fixed 1000 }) } ∷
+    record { moment = 0; command = Flow 3 (record { src = 167772418; sport = 1; dst = 167772162; dport = 7; smss = 1000; segments = 2; ssthresh = 8000; rwnd = 65535; timing = Fixed 1000 }) } ∷
     record { moment = 8000000; command = Inject (record { proto = Tcp; src = 167772162; sport = 1000; dst = 167772417; dport = 65535; size = 1460 }) } ∷
     record { moment = 17547360; command = Inject (record { proto = Udp; src = 167772162; sport = 1; dst = 167772417; dport = 7; size = 999 }) } ∷
-    record { moment = 17547360; command = Flow 65535 (record { src = 167772161; sport = 80; dst = 167772417; dport = 80; smss = 536; segments = 5; ssthresh = 4000; window = 65535; timing = Adaptive }) } ∷
+    record { moment = 17547360; command = Flow 65535 (record { src = 167772161; sport = 80; dst = 167772417; dport = 80; smss = 536; segments = 5; ssthresh = 4000; rwnd = 65535; timing = Adaptive }) } ∷
     record { moment = 17547360; command = Config 1 (record { bw = 7777777; delay = 10; queue = KBytes 2; plr = 0; mask = record { proto = 0; src = 0; dst = 0; sport = 0; dport = 0 }; discipline = ControlledDelay 5000000 20000000 }) } ∷
     record { moment = 17547360; command = Show } ∷
     record { moment = 17547360; command = PipeDelete 2 } ∷
@@ -130,11 +130,11 @@ exp_1-commands =
     record { moment = 0; command = Add (record { number = 65534; action = Pipe 2; proto = AnyProtocol; src = address_span 167772493 25; sports = None; dst = address_span 167772161 32; dports = None }) } ∷
     record { moment = 0; command = Config 4 (record { bw = 7777777; delay = 1; queue = KBytes 1; plr = 0; mask = record { proto = 0; src = 0; dst = 0; sport = 0; dport = 0 }; discipline = TailDrop }) } ∷
     record { moment = 0; command = Config 1 (record { bw = 56000; delay = 1200; queue = Slots 50; plr = 500000; mask = record { proto = 0; src = 0; dst = 0; sport = 65535; dport = 255 }; discipline = TailDrop }) } ∷
-    record { moment = 0; command = Flow 5 (record { src = 167772161; sport = 1; dst = 167772418; dport = 1; smss = 1095; segments = 2; ssthresh = 8000; window = 65535; timing = Adaptive }) } ∷
+    record { moment = 0; command = Flow 5 (record { src = 167772161; sport = 1; dst = 167772418; dport = 1; smss = 1095; segments = 2; ssthresh = 8000; rwnd = 65535; timing = Adaptive }) } ∷
     record { moment = 0; command = Inject (record { proto = Tcp; src = 167772161; sport = 80; dst = 167772418; dport = 2000; size = 41 }) } ∷
     record { moment = 10080000; command = Inject (record { proto = Tcp; src = 167772161; sport = 1; dst = 167772418; dport = 7; size = 1000 }) } ∷
     record { moment = 52651868; command = PipeShow } ∷
-    record { moment = 68000000; command = Flow 5 (record { src = 167772161; sport = 80; dst = 167772417; dport = 65535; smss = 536; segments = 1; ssthresh = 65535; window = 1460; timing = Fixed 1000 }) } ∷
+    record { moment = 68000000; command = Flow 5 (record { src = 167772161; sport = 80; dst = 167772417; dport = 65535; smss = 536; segments = 1; ssthresh = 65535; rwnd = 1460; timing = Fixed 1000 }) } ∷
     record { moment = 140000000; command = Inject (record { proto = Tcp; src = 167772162; sport = 1; dst = 167772418; dport = 7; size = 41 }) } ∷
     record { moment = 140000000; command = End } ∷
     []
@@ -203,14 +203,14 @@ exp_2-commands =
     record { moment = 1000000000; command = Trace true } ∷
     record { moment = 1000000000; command = Add (record { number = 200; action = Pipe 1; proto = AnyProtocol; src = record { address = 0; len = 0 }; sports = Some (record { first = 7; last = 7 }); dst = record { address = 0; len = 0 }; dports = None }) } ∷
     record { moment = 1000000000; command = Add (record { number = 50; action = Count; proto = AnyProtocol; src = address_span 4294967295 32; sports = None; dst = record { address = 0; len = 0 }; dports = Some (record { first = 7; last = 7 }) }) } ∷
-    record { moment = 1000000500; command = Flow 1 (record { src = 167772162; sport = 2000; dst = 167772417; dport = 7; smss = 64; segments = 1; ssthresh = 2000; window = 65535; timing = Fixed 60000 }) } ∷
+    record { moment = 1000000500; command = Flow 1 (record { src = 167772162; sport = 2000; dst = 167772417; dport = 7; smss = 64; segments = 1; ssthresh = 2000; rwnd = 65535; timing = Fixed 60000 }) } ∷
     record { moment = 1000000500; command = Config 4 (record { bw = 997; delay = 50; queue = KBytes 3; plr = 0; mask = record { proto = 255; src = 4294967295; dst = 4294967295; sport = 65535; dport = 65535 }; discipline = TailDrop }) } ∷
-    record { moment = 8000000000; command = Flow 3 (record { src = 167772161; sport = 1; dst = 167772418; dport = 7; smss = 960; segments = 3; ssthresh = 1000000000; window = 65535; timing = Fixed 200 }) } ∷
-    record { moment = 8000000000; command = Flow 4 (record { src = 3232237321; sport = 1000; dst = 167772418; dport = 7; smss = 1095; segments = 2; ssthresh = 65535; window = 65535; timing = Adaptive }) } ∷
+    record { moment = 8000000000; command = Flow 3 (record { src = 167772161; sport = 1; dst = 167772418; dport = 7; smss = 960; segments = 3; ssthresh = 1000000000; rwnd = 65535; timing = Fixed 200 }) } ∷
+    record { moment = 8000000000; command = Flow 4 (record { src = 3232237321; sport = 1000; dst = 167772418; dport = 7; smss = 1095; segments = 2; ssthresh = 65535; rwnd = 65535; timing = Adaptive }) } ∷
     record { moment = 8000000000; command = Stop 3 } ∷
     record { moment = 8000000000; command = PipeShow } ∷
     record { moment = 15000000500; command = OnePass false } ∷
-    record { moment = 16000000000; command = Flow 2 (record { src = 167772417; sport = 7; dst = 0; dport = 7; smss = 1460; segments = 1; ssthresh = 65535; window = 65535; timing = Adaptive }) } ∷
+    record { moment = 16000000000; command = Flow 2 (record { src = 167772417; sport = 7; dst = 0; dport = 7; smss = 1460; segments = 1; ssthresh = 65535; rwnd = 65535; timing = Adaptive }) } ∷
     record { moment = 16000000001; command = Inject (record { proto = Udp; src = 167772161; sport = 1000; dst = 167772418; dport = 7; size = 1040 }) } ∷
     record { moment = 16000000001; command = End } ∷
     []
@@ -297,10 +297,10 @@ exp_3-commands =
     record { moment = 0; command = Add (record { number = 100; action = Pipe 3; proto = OnlyTcp; src = address_span 167772416 24; sports = None; dst = record { address = 0; len = 0 }; dports = None }) } ∷
     record { moment = 0; command = Train 1 (record { packet = record { proto = Tcp; src = 167772161; sport = 7; dst = 167772418; dport = 80; size = 125 }; count = 5; gap = 1000000 }) } ∷
     record { moment = 1008000000; command = Config 3 (record { bw = 10000000; delay = 2; queue = KBytes 10; plr = 0; mask = record { proto = 0; src = 0; dst = 0; sport = 0; dport = 0 }; discipline = ControlledDelay 100000 20000000 }) } ∷
-    record { moment = 3000000000; command = Flow 300 (record { src = 167772161; sport = 7; dst = 167772417; dport = 7; smss = 1095; segments = 4; ssthresh = 65535; window = 65535; timing = Adaptive }) } ∷
-    record { moment = 10000000000; command = Flow 2 (record { src = 167772162; sport = 2000; dst = 167772417; dport = 1000; smss = 1000; segments = 5; ssthresh = 65535; window = 65535; timing = Fixed 1000 }) } ∷
+    record { moment = 3000000000; command = Flow 300 (record { src = 167772161; sport = 7; dst = 167772417; dport = 7; smss = 1095; segments = 4; ssthresh = 65535; rwnd = 65535; timing = Adaptive }) } ∷
+    record { moment = 10000000000; command = Flow 2 (record { src = 167772162; sport = 2000; dst = 167772417; dport = 1000; smss = 1000; segments = 5; ssthresh = 65535; rwnd = 65535; timing = Fixed 1000 }) } ∷
     record { moment = 10392437810; command = Inject (record { proto = Udp; src = 167772418; sport = 65535; dst = 0; dport = 1; size = 1460 }) } ∷
-    record { moment = 16000000500; command = Flow 5 (record { src = 0; sport = 1000; dst = 4294967295; dport = 1; smss = 1095; segments = 3; ssthresh = 65535; window = 65535; timing = Fixed 1 }) } ∷
+    record { moment = 16000000500; command = Flow 5 (record { src = 0; sport = 1000; dst = 4294967295; dport = 1; smss = 1095; segments = 3; ssthresh = 65535; rwnd = 65535; timing = Fixed 1 }) } ∷
     record { moment = 100000000000; command = PipeShow } ∷
     record { moment = 100000000000; command = Show } ∷
     record { moment = 100000000000; command = End } ∷
@@ -358,7 +358,7 @@ exp_4-commands =
     record { moment = 120000000; command = PipeDelete 3 } ∷
     record { moment = 120000000; command = Inject (record { proto = Udp; src = 167772161; sport = 2000; dst = 167772418; dport = 1000; size = 1000 }) } ∷
     record { moment = 120000001; command = Train 3 (record { packet = record { proto = Tcp; src = 167772161; sport = 80; dst = 167772417; dport = 80; size = 1460 }; count = 2; gap = 999 }) } ∷
-    record { moment = 120000001; command = Flow 5 (record { src = 167772161; sport = 2000; dst = 167772418; dport = 65535; smss = 64; segments = 6; ssthresh = 65535; window = 10000; timing = Fixed 1000 }) } ∷
+    record { moment = 120000001; command = Flow 5 (record { src = 167772161; sport = 2000; dst = 167772418; dport = 65535; smss = 64; segments = 6; ssthresh = 65535; rwnd = 10000; timing = Fixed 1000 }) } ∷
     record { moment = 189577472; command = Train 5 (record { packet = record { proto = Udp; src = 167772161; sport = 80; dst = 167772418; dport = 1000; size = 1040 }; count = 5; gap = 10000000 }) } ∷
     record { moment = 189577472; command = PipeShow } ∷
     record { moment = 189577472; command = Show } ∷
@@ -465,10 +465,10 @@ exp_6-commands =
     record { moment = 0; command = Config 3 (record { bw = 997; delay = 50; queue = Slots 3; plr = 0; mask = record { proto = 0; src = 0; dst = 0; sport = 0; dport = 0 }; discipline = ControlledDelay 5000000 100000000 }) } ∷
     record { moment = 0; command = Add (record { number = 100; action = Deny; proto = AnyProtocol; src = address_span 167772161 32; sports = None; dst = record { address = 0; len = 0 }; dports = Some (record { first = 2000; last = 65535 }) }) } ∷
     record { moment = 1523000333; command = Stop 4 } ∷
-    record { moment = 1600000000; command = Flow 2 (record { src = 167772162; sport = 0; dst = 167772418; dport = 2000; smss = 536; segments = 1; ssthresh = 65535; window = 65535; timing = Fixed 60000 }) } ∷
+    record { moment = 1600000000; command = Flow 2 (record { src = 167772162; sport = 0; dst = 167772418; dport = 2000; smss = 536; segments = 1; ssthresh = 65535; rwnd = 65535; timing = Fixed 60000 }) } ∷
     record { moment = 1600000000; command = Train 2 (record { packet = record { proto = Udp; src = 167772162; sport = 1; dst = 167772418; dport = 65535; size = 1460 }; count = 1; gap = 1000 }) } ∷
-    record { moment = 2000080000; command = Flow 1 (record { src = 167772162; sport = 1; dst = 167772417; dport = 1; smss = 460; segments = 3; ssthresh = 8000; window = 65535; timing = Adaptive }) } ∷
-    record { moment = 2000080000; command = Flow 65535 (record { src = 167772162; sport = 1000; dst = 167772417; dport = 0; smss = 1095; segments = 1; ssthresh = 65535; window = 3000; timing = Adaptive }) } ∷
+    record { moment = 2000080000; command = Flow 1 (record { src = 167772162; sport = 1; dst = 167772417; dport = 1; smss = 460; segments = 3; ssthresh = 8000; rwnd = 65535; timing = Adaptive }) } ∷
+    record { moment = 2000080000; command = Flow 65535 (record { src = 167772162; sport = 1000; dst = 167772417; dport = 0; smss = 1095; segments = 1; ssthresh = 65535; rwnd = 3000; timing = Adaptive }) } ∷
     record { moment = 2000080000; command = OnePass false } ∷
     record { moment = 5000000000; command = PipeShow } ∷
     record { moment = 5000000000; command = Show } ∷
@@ -527,9 +527,9 @@ exp_7-commands =
     record { moment = 0; command = Config 1 (record { bw = 7777777; delay = 0; queue = Slots 2; plr = 200000; mask = record { proto = 0; src = 0; dst = 0; sport = 0; dport = 0 }; discipline = TailDrop }) } ∷
     record { moment = 0; command = Config 2 (record { bw = 1000000000; delay = 0; queue = Slots 5; plr = 1; mask = record { proto = 0; src = 0; dst = 0; sport = 0; dport = 0 }; discipline = ControlledDelay 1000000 1000000000 }) } ∷
     record { moment = 0; command = Add (record { number = 200; action = Pipe 3; proto = AnyProtocol; src = record { address = 0; len = 0 }; sports = None; dst = record { address = 0; len = 0 }; dports = None }) } ∷
-    record { moment = 0; command = Flow 3 (record { src = 167772161; sport = 2000; dst = 167772417; dport = 2000; smss = 536; segments = 6; ssthresh = 1000; window = 65535; timing = Fixed 25 }) } ∷
+    record { moment = 0; command = Flow 3 (record { src = 167772161; sport = 2000; dst = 167772417; dport = 2000; smss = 536; segments = 6; ssthresh = 1000; rwnd = 65535; timing = Fixed 25 }) } ∷
     record { moment = 0; command = Inject (record { proto = Tcp; src = 167772161; sport = 80; dst = 167772418; dport = 2000; size = 500 }) } ∷
-    record { moment = 10000000; command = Flow 4 (record { src = 167772161; sport = 0; dst = 167772418; dport = 0; smss = 1095; segments = 6; ssthresh = 8000; window = 1460; timing = Adaptive }) } ∷
+    record { moment = 10000000; command = Flow 4 (record { src = 167772161; sport = 0; dst = 167772418; dport = 0; smss = 1095; segments = 6; ssthresh = 8000; rwnd = 1460; timing = Adaptive }) } ∷
     record { moment = 10000000; command = Config 2 (record { bw = 3000000; delay = 5; queue = KBytes 1; plr = 1; mask = record { proto = 0; src = 0; dst = 0; sport = 0; dport = 0 }; discipline = TailDrop }) } ∷
     record { moment = 144923926; command = Inject (record { proto = Tcp; src = 167772162; sport = 0; dst = 167772417; dport = 1000; size = 1040 }) } ∷
     record { moment = 144923926; command = Stop 2 } ∷
@@ -594,7 +594,7 @@ exp_8-commands =
     record { moment = 15080000; command = Config 3 (record { bw = 10000000000; delay = 0; queue = Slots 50; plr = 0; mask = record { proto = 0; src = 4294967295; dst = 0; sport = 0; dport = 15 }; discipline = ControlledDelay 1000000 1000 }) } ∷
     record { moment = 15080000; command = Delete 1 } ∷
     record { moment = 20080000; command = Add (record { number = 100; action = Pipe 1; proto = AnyProtocol; src = address_span 167772162 31; sports = None; dst = record { address = 0; len = 0 }; dports = None }) } ∷
-    record { moment = 23000000; command = Flow 65535 (record { src = 167772161; sport = 0; dst = 167772418; dport = 0; smss = 536; segments = 3; ssthresh = 65535; window = 3000; timing = Fixed 60000 }) } ∷
+    record { moment = 23000000; command = Flow 65535 (record { src = 167772161; sport = 0; dst = 167772418; dport = 0; smss = 536; segments = 3; ssthresh = 65535; rwnd = 3000; timing = Fixed 60000 }) } ∷
     record { moment = 23000000; command = End } ∷
     []
 
@@ -652,7 +652,7 @@ exp_9-commands =
     record { moment = 0; command = Config 3 (record { bw = 7777777; delay = 400; queue = Slots 50; plr = 0; mask = record { proto = 0; src = 0; dst = 0; sport = 0; dport = 0 }; discipline = TailDrop }) } ∷
     record { moment = 0; command = Config 4 (record { bw = 1000000; delay = 1200; queue = Slots 10; plr = 0; mask = record { proto = 0; src = 0; dst = 0; sport = 0; dport = 0 }; discipline = ControlledDelay 20000000 20000000 }) } ∷
     record { moment = 0; command = Config 1 (record { bw = 997; delay = 1200; queue = KBytes 2; plr = 1000000; mask = record { proto = 0; src = 0; dst = 0; sport = 0; dport = 0 }; discipline = TailDrop }) } ∷
-    record { moment = 0; command = Flow 5 (record { src = 167772161; sport = 7; dst = 167772417; dport = 7; smss = 460; segments = 4; ssthresh = 1; window = 65535; timing = Adaptive }) } ∷
+    record { moment = 0; command = Flow 5 (record { src = 167772161; sport = 7; dst = 167772417; dport = 7; smss = 460; segments = 4; ssthresh = 1; rwnd = 65535; timing = Adaptive }) } ∷
     record { moment = 0; command = Config 2 (record { bw = 7777777; delay = 400; queue = Slots 3; plr = 20000; mask = record { proto = 0; src = 0; dst = 0; sport = 0; dport = 0 }; discipline = ControlledDelay 100000 2000000 }) } ∷
     record { moment = 500; command = Inject (record { proto = Tcp; src = 167772161; sport = 2000; dst = 167772417; dport = 0; size = 1500 }) } ∷
     record { moment = 500; command = Config 4 (record { bw = 1000000; delay = 0; queue = Slots 10; plr = 0; mask = record { proto = 0; src = 0; dst = 0; sport = 0; dport = 0 }; discipline = TailDrop }) } ∷
@@ -663,7 +663,7 @@ exp_9-commands =
     record { moment = 120000000; command = Stop 5 } ∷
     record { moment = 120000000; command = Config 3 (record { bw = 3000000; delay = 2; queue = KBytes 1; plr = 1000000; mask = record { proto = 0; src = 0; dst = 0; sport = 0; dport = 15 }; discipline = ControlledDelay 5000000 100000000 }) } ∷
     record { moment = 140000000; command = Config 4 (record { bw = 0; delay = 1200; queue = Slots 1000; plr = 0; mask = record { proto = 0; src = 0; dst = 0; sport = 0; dport = 0 }; discipline = TailDrop }) } ∷
-    record { moment = 148000000; command = Flow 4 (record { src = 167772162; sport = 80; dst = 167772417; dport = 1000; smss = 536; segments = 4; ssthresh = 65535; window = 65535; timing = Fixed 1000 }) } ∷
+    record { moment = 148000000; command = Flow 4 (record { src = 167772162; sport = 80; dst = 167772417; dport = 1000; smss = 536; segments = 4; ssthresh = 65535; rwnd = 65535; timing = Fixed 1000 }) } ∷
     record { moment = 148000000; command = Config 2 (record { bw = 1000000; delay = 1200; queue = Slots 3; plr = 50000; mask = record { proto = 0; src = 0; dst = 0; sport = 0; dport = 0 }; discipline = TailDrop }) } ∷
     record { moment = 148000000; command = PipeShow } ∷
     record { moment = 148000000; command = Show } ∷

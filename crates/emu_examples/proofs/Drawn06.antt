@@ -35,7 +35,7 @@ exp_0-commands =
     record { moment = 0; command = Add (record { number = 300; action = SkipTo 65534; proto = OnlyUdp; src = record { address = 0; len = 0 }; sports = None; dst = address_span 167772160 8; dports = Some (record { first = 0; last = 0 }) }) } ∷
     record { moment = 0; command = Add (record { number = 200; action = Pipe 2; proto = AnyProtocol; src = address_span 167772160 24; sports = Some (record { first = 0; last = 0 }); dst = record { address = 0; len = 0 }; dports = None }) } ∷
     record { moment = 0; command = Add (record { number = 100; action = SkipTo 65535; proto = AnyProtocol; src = record { address = 0; len = 0 }; sports = None; dst = record { address = 0; len = 0 }; dports = Some (record { first = 1; last = 1000 }) }) } ∷
-    record { moment = 10059785; command = Flow 4 (record { src = 3232237321; sport = 65535; dst = 3232237321; dport = 7; smss = 536; segments = 3; ssthresh = 65535; window = 65535; timing = Fixed 1000 }) } ∷
+    record { moment = 10059785; command = Flow 4 (record { src = 3232237321; sport = 65535; dst = 3232237321; dport = 7; smss = 536; segments = 3; ssthresh = 65535; rwnd = 65535; timing = Fixed 1000 }) } ∷
     record { moment = 10059785; command = Train 2 (record { packet = record { proto = Tcp; src = 167772162; sport = 80; dst = 167772417; dport = 65535; size = 1000 }; count = 3; gap = 125000 }) } ∷
     record { moment = 19000000; command = OnePass false } ∷
     record { moment = 19000000; command = PipeDelete 2 } ∷
@@ -105,10 +105,10 @@ exp_1-commands =
     record { moment = 0; command = Add (record { number = 100; action = Pipe 3; proto = AnyProtocol; src = address_span 167772160 24; sports = None; dst = record { address = 0; len = 0 }; dports = None }) } ∷
     record { moment = 0; command = Config 3 (record { bw = 3000000; delay = 400; queue = Slots 10; plr = 50000; mask = record { proto = 0; src = 0; dst = 0; sport = 0; dport = 0 }; discipline = TailDrop }) } ∷
     record { moment = 0; command = Inject (record { proto = Tcp; src = 167772161; sport = 1000; dst = 167772417; dport = 65535; size = 1499 }) } ∷
-    record { moment = 0; command = Flow 2 (record { src = 167772162; sport = 1000; dst = 167772417; dport = 1; smss = 1095; segments = 5; ssthresh = 1000; window = 65535; timing = Adaptive }) } ∷
-    record { moment = 0; command = Flow 1 (record { src = 167772161; sport = 7; dst = 167772417; dport = 1000; smss = 1095; segments = 2; ssthresh = 65535; window = 65535; timing = Fixed 1000 }) } ∷
+    record { moment = 0; command = Flow 2 (record { src = 167772162; sport = 1000; dst = 167772417; dport = 1; smss = 1095; segments = 5; ssthresh = 1000; rwnd = 65535; timing = Adaptive }) } ∷
+    record { moment = 0; command = Flow 1 (record { src = 167772161; sport = 7; dst = 167772417; dport = 1000; smss = 1095; segments = 2; ssthresh = 65535; rwnd = 65535; timing = Fixed 1000 }) } ∷
     record { moment = 0; command = Inject (record { proto = Udp; src = 167772162; sport = 65535; dst = 167772418; dport = 65535; size = 41 }) } ∷
-    record { moment = 10000000; command = Flow 2 (record { src = 167772161; sport = 0; dst = 167772418; dport = 80; smss = 536; segments = 3; ssthresh = 1000; window = 65535; timing = Fixed 1000 }) } ∷
+    record { moment = 10000000; command = Flow 2 (record { src = 167772161; sport = 0; dst = 167772418; dport = 80; smss = 536; segments = 3; ssthresh = 1000; rwnd = 65535; timing = Fixed 1000 }) } ∷
     record { moment = 200000000; command = PipeShow } ∷
     record { moment = 200000000; command = Show } ∷
     record { moment = 200000000; command = End } ∷
@@ -182,7 +182,7 @@ exp_2-commands =
     record { moment = 0; command = Config 4 (record { bw = 0; delay = 0; queue = Slots 1; plr = 0; mask = record { proto = 0; src = 0; dst = 0; sport = 0; dport = 0 }; discipline = TailDrop }) } ∷
     record { moment = 0; command = Config 3 (record { bw = 56000; delay = 0; queue = Slots 1000; plr = 0; mask = record { proto = 0; src = 0; dst = 0; sport = 0; dport = 0 }; discipline = ControlledDelay 3000000 10000000 }) } ∷
     record { moment = 0; command = Add (record { number = 100; action = Count; proto = OnlyUdp; src = record { address = 0; len = 0 }; sports = None; dst = address_span 3232235520 16; dports = None }) } ∷
-    record { moment = 1000000; command = Flow 4 (record { src = 167772161; sport = 80; dst = 167772418; dport = 1000; smss = 1460; segments = 3; ssthresh = 65535; window = 65535; timing = Fixed 25 }) } ∷
+    record { moment = 1000000; command = Flow 4 (record { src = 167772161; sport = 80; dst = 167772418; dport = 1000; smss = 1460; segments = 3; ssthresh = 65535; rwnd = 65535; timing = Fixed 25 }) } ∷
     record { moment = 100000000000; command = PipeShow } ∷
     record { moment = 100000000000; command = Show } ∷
     record { moment = 100000000000; command = End } ∷
@@ -251,7 +251,7 @@ exp_3-commands =
     record { moment = 0; command = Inject (record { proto = Tcp; src = 167772161; sport = 0; dst = 167772417; dport = 2000; size = 500 }) } ∷
     record { moment = 3000000000; command = OnePass false } ∷
     record { moment = 3008000000; command = Add (record { number = 65535; action = SkipTo 65535; proto = OnlyUdp; src = address_span 0 0; sports = Some (record { first = 2000; last = 2000 }); dst = address_span 167772160 24; dports = None }) } ∷
-    record { moment = 3008000000; command = Flow 1 (record { src = 167772162; sport = 2000; dst = 167772417; dport = 1000; smss = 536; segments = 5; ssthresh = 65535; window = 65535; timing = Fixed 60000 }) } ∷
+    record { moment = 3008000000; command = Flow 1 (record { src = 167772162; sport = 2000; dst = 167772417; dport = 1000; smss = 536; segments = 5; ssthresh = 65535; rwnd = 65535; timing = Fixed 60000 }) } ∷
     record { moment = 3008000000; command = Delete 7 } ∷
     record { moment = 18895550319; command = Train 1 (record { packet = record { proto = Tcp; src = 167772161; sport = 7; dst = 167772418; dport = 1; size = 125 }; count = 2; gap = 999 }) } ∷
     record { moment = 18895550319; command = End } ∷
@@ -298,7 +298,7 @@ exp_4-commands =
     record { moment = 0; command = Add (record { number = 200; action = Pipe 2; proto = AnyProtocol; src = record { address = 0; len = 0 }; sports = None; dst = record { address = 0; len = 0 }; dports = None }) } ∷
     record { moment = 0; command = Add (record { number = 100; action = Pipe 3; proto = AnyProtocol; src = address_span 167772160 24; sports = None; dst = record { address = 0; len = 0 }; dports = None }) } ∷
     record { moment = 0; command = Config 1 (record { bw = 3000000; delay = 400; queue = Slots 3; plr = 0; mask = record { proto = 255; src = 4294967295; dst = 4294967295; sport = 65535; dport = 65535 }; discipline = TailDrop }) } ∷
-    record { moment = 0; command = Flow 1 (record { src = 167772418; sport = 2000; dst = 167772161; dport = 1; smss = 1096; segments = 3; ssthresh = 8000; window = 10000; timing = Fixed 1000 }) } ∷
+    record { moment = 0; command = Flow 1 (record { src = 167772418; sport = 2000; dst = 167772161; dport = 1; smss = 1096; segments = 3; ssthresh = 8000; rwnd = 10000; timing = Fixed 1000 }) } ∷
     record { moment = 1080000; command = Inject (record { proto = Udp; src = 0; sport = 7; dst = 4294967295; dport = 7; size = 1499 }) } ∷
     record { moment = 10080000; command = Trace false } ∷
     record { moment = 17080000; command = Inject (record { proto = Udp; src = 167772162; sport = 2000; dst = 167772418; dport = 7; size = 1460 }) } ∷
@@ -363,7 +363,7 @@ exp_5-commands =
     record { moment = 0; command = Add (record { number = 200; action = Pipe 1; proto = AnyProtocol; src = record { address = 0; len = 0 }; sports = None; dst = record { address = 0; len = 0 }; dports = None }) } ∷
     record { moment = 0; command = Train 5 (record { packet = record { proto = Tcp; src = 167772161; sport = 1; dst = 167772418; dport = 0; size = 500 }; count = 3; gap = 0 }) } ∷
     record { moment = 6291458; command = Inject (record { proto = Udp; src = 167772162; sport = 2000; dst = 167772417; dport = 1000; size = 40 }) } ∷
-    record { moment = 6291458; command = Flow 65535 (record { src = 4294967295; sport = 1000; dst = 167772418; dport = 2000; smss = 1096; segments = 3; ssthresh = 1000000000; window = 1; timing = Adaptive }) } ∷
+    record { moment = 6291458; command = Flow 65535 (record { src = 4294967295; sport = 1000; dst = 167772418; dport = 2000; smss = 1096; segments = 3; ssthresh = 1000000000; rwnd = 1; timing = Adaptive }) } ∷
     record { moment = 6291458; command = PipeDelete 2 } ∷
     record { moment = 6291458; command = Show } ∷
     record { moment = 7000000; command = Train 4 (record { packet = record { proto = Udp; src = 167772162; sport = 65535; dst = 167772417; dport = 1; size = 125 }; count = 5; gap = 10000000 }) } ∷
@@ -454,10 +454,10 @@ exp_6-commands =
     record { moment = 0; command = Train 3 (record { packet = record { proto = Tcp; src = 167772161; sport = 7; dst = 167772418; dport = 2000; size = 1499 }; count = 3; gap = 125000 }) } ∷
     record { moment = 0; command = Train 65535 (record { packet = record { proto = Tcp; src = 167772161; sport = 2000; dst = 167772418; dport = 2000; size = 125 }; count = 1; gap = 1 }) } ∷
     record { moment = 3000000; command = Inject (record { proto = Udp; src = 167772161; sport = 65535; dst = 167772417; dport = 65535; size = 1040 }) } ∷
-    record { moment = 8000000; command = Flow 2 (record { src = 167772161; sport = 1; dst = 167772417; dport = 2000; smss = 460; segments = 3; ssthresh = 65535; window = 10000; timing = Adaptive }) } ∷
-    record { moment = 8000500; command = Flow 65535 (record { src = 167772162; sport = 0; dst = 167772417; dport = 80; smss = 1000; segments = 6; ssthresh = 65535; window = 10000; timing = Adaptive }) } ∷
+    record { moment = 8000000; command = Flow 2 (record { src = 167772161; sport = 1; dst = 167772417; dport = 2000; smss = 460; segments = 3; ssthresh = 65535; rwnd = 10000; timing = Adaptive }) } ∷
+    record { moment = 8000500; command = Flow 65535 (record { src = 167772162; sport = 0; dst = 167772417; dport = 80; smss = 1000; segments = 6; ssthresh = 65535; rwnd = 10000; timing = Adaptive }) } ∷
     record { moment = 19923142; command = Train 2 (record { packet = record { proto = Udp; src = 167772162; sport = 1000; dst = 167772418; dport = 65535; size = 1040 }; count = 5; gap = 10000000 }) } ∷
-    record { moment = 19923142; command = Flow 300 (record { src = 167772162; sport = 7; dst = 167772417; dport = 1; smss = 1460; segments = 1; ssthresh = 65535; window = 65535; timing = Adaptive }) } ∷
+    record { moment = 19923142; command = Flow 300 (record { src = 167772162; sport = 7; dst = 167772417; dport = 1; smss = 1460; segments = 1; ssthresh = 65535; rwnd = 65535; timing = Adaptive }) } ∷
     record { moment = 19923142; command = Add (record { number = 100; action = Deny; proto = AnyProtocol; src = record { address = 0; len = 0 }; sports = None; dst = address_span 167772160 8; dports = None }) } ∷
     record { moment = 27000000; command = Add (record { number = 400; action = Pipe 1; proto = OnlyUdp; src = record { address = 0; len = 0 }; sports = None; dst = record { address = 0; len = 0 }; dports = None }) } ∷
     record { moment = 27000000; command = Delete 65535 } ∷
@@ -530,10 +530,10 @@ exp_7-commands =
     record { moment = 0; command = OnePass false } ∷
     record { moment = 0; command = Add (record { number = 200; action = Pipe 3; proto = AnyProtocol; src = record { address = 0; len = 0 }; sports = None; dst = record { address = 0; len = 0 }; dports = None }) } ∷
     record { moment = 0; command = Config 4 (record { bw = 8000000; delay = 0; queue = KBytes 1; plr = 0; mask = record { proto = 0; src = 0; dst = 0; sport = 0; dport = 0 }; discipline = TailDrop }) } ∷
-    record { moment = 6000000001; command = Flow 65535 (record { src = 167772162; sport = 65535; dst = 167772417; dport = 1000; smss = 1000; segments = 4; ssthresh = 8000; window = 65535; timing = Adaptive }) } ∷
+    record { moment = 6000000001; command = Flow 65535 (record { src = 167772162; sport = 65535; dst = 167772417; dport = 1000; smss = 1000; segments = 4; ssthresh = 8000; rwnd = 65535; timing = Adaptive }) } ∷
     record { moment = 6000000001; command = Train 2 (record { packet = record { proto = Udp; src = 167772161; sport = 7; dst = 167772417; dport = 1; size = 40 }; count = 2; gap = 10000000 }) } ∷
     record { moment = 12175991325; command = Trace true } ∷
-    record { moment = 13008000000; command = Flow 1 (record { src = 167772162; sport = 65535; dst = 167772417; dport = 1000; smss = 1096; segments = 2; ssthresh = 65535; window = 65535; timing = Fixed 25 }) } ∷
+    record { moment = 13008000000; command = Flow 1 (record { src = 167772162; sport = 65535; dst = 167772417; dport = 1000; smss = 1096; segments = 2; ssthresh = 65535; rwnd = 65535; timing = Fixed 25 }) } ∷
     record { moment = 13008000000; command = PipeShow } ∷
     record { moment = 13008000000; command = Show } ∷
     record { moment = 13008000000; command = End } ∷
@@ -599,11 +599,11 @@ exp_8-commands =
     record { moment = 0; command = Config 4 (record { bw = 0; delay = 400; queue = Slots 5; plr = 0; mask = record { proto = 0; src = 0; dst = 0; sport = 0; dport = 0 }; discipline = TailDrop }) } ∷
     record { moment = 0; command = Add (record { number = 300; action = Count; proto = OnlyUdp; src = record { address = 0; len = 0 }; sports = None; dst = record { address = 0; len = 0 }; dports = Some (record { first = 2000; last = 65535 }) }) } ∷
     record { moment = 0; command = Add (record { number = 100; action = Pipe 1; proto = AnyProtocol; src = address_span 167772160 24; sports = None; dst = record { address = 0; len = 0 }; dports = None }) } ∷
-    record { moment = 0; command = Flow 300 (record { src = 167772161; sport = 1; dst = 167772418; dport = 7; smss = 1095; segments = 2; ssthresh = 65535; window = 65535; timing = Fixed 1000 }) } ∷
+    record { moment = 0; command = Flow 300 (record { src = 167772161; sport = 1; dst = 167772418; dport = 7; smss = 1095; segments = 2; ssthresh = 65535; rwnd = 65535; timing = Fixed 1000 }) } ∷
     record { moment = 5944054; command = Stop 300 } ∷
-    record { moment = 9000000; command = Flow 4 (record { src = 167772162; sport = 2000; dst = 167772418; dport = 0; smss = 64; segments = 2; ssthresh = 65535; window = 65535; timing = Adaptive }) } ∷
-    record { moment = 9000500; command = Flow 2 (record { src = 167772161; sport = 7; dst = 167772417; dport = 2000; smss = 960; segments = 5; ssthresh = 65535; window = 3000; timing = Adaptive }) } ∷
-    record { moment = 9000500; command = Flow 4 (record { src = 167772161; sport = 80; dst = 167772417; dport = 1000; smss = 1095; segments = 6; ssthresh = 8000; window = 65535; timing = Adaptive }) } ∷
+    record { moment = 9000000; command = Flow 4 (record { src = 167772162; sport = 2000; dst = 167772418; dport = 0; smss = 64; segments = 2; ssthresh = 65535; rwnd = 65535; timing = Adaptive }) } ∷
+    record { moment = 9000500; command = Flow 2 (record { src = 167772161; sport = 7; dst = 167772417; dport = 2000; smss = 960; segments = 5; ssthresh = 65535; rwnd = 3000; timing = Adaptive }) } ∷
+    record { moment = 9000500; command = Flow 4 (record { src = 167772161; sport = 80; dst = 167772417; dport = 1000; smss = 1095; segments = 6; ssthresh = 8000; rwnd = 65535; timing = Adaptive }) } ∷
     record { moment = 19000000; command = PipeShow } ∷
     record { moment = 19000000; command = PipeShow } ∷
     record { moment = 19000000; command = Show } ∷
@@ -675,11 +675,11 @@ exp_9-commands =
     record { moment = 0; command = Config 4 (record { bw = 56000; delay = 50; queue = Slots 5; plr = 0; mask = record { proto = 255; src = 4294967295; dst = 4294967295; sport = 65535; dport = 65535 }; discipline = TailDrop }) } ∷
     record { moment = 0; command = Add (record { number = 100; action = Pipe 1; proto = AnyProtocol; src = address_span 167772160 24; sports = None; dst = record { address = 0; len = 0 }; dports = None }) } ∷
     record { moment = 0; command = Add (record { number = 200; action = Pipe 1; proto = AnyProtocol; src = record { address = 0; len = 0 }; sports = None; dst = record { address = 0; len = 0 }; dports = None }) } ∷
-    record { moment = 13473692; command = Flow 3 (record { src = 167772161; sport = 65535; dst = 167772417; dport = 2000; smss = 960; segments = 1; ssthresh = 4000; window = 65535; timing = Adaptive }) } ∷
+    record { moment = 13473692; command = Flow 3 (record { src = 167772161; sport = 65535; dst = 167772417; dport = 2000; smss = 960; segments = 1; ssthresh = 4000; rwnd = 65535; timing = Adaptive }) } ∷
     record { moment = 13473692; command = Delete 100 } ∷
     record { moment = 13473692; command = Config 3 (record { bw = 10000000; delay = 0; queue = Slots 50; plr = 500000; mask = record { proto = 0; src = 0; dst = 0; sport = 0; dport = 0 }; discipline = ControlledDelay 5000000 20000000 }) } ∷
     record { moment = 13473692; command = Train 3 (record { packet = record { proto = Udp; src = 167772161; sport = 0; dst = 167772418; dport = 0; size = 1460 }; count = 5; gap = 999 }) } ∷
-    record { moment = 160000000; command = Flow 2 (record { src = 167772161; sport = 65535; dst = 167772418; dport = 7; smss = 1095; segments = 6; ssthresh = 65535; window = 65535; timing = Fixed 200 }) } ∷
+    record { moment = 160000000; command = Flow 2 (record { src = 167772161; sport = 65535; dst = 167772418; dport = 7; smss = 1095; segments = 6; ssthresh = 65535; rwnd = 65535; timing = Fixed 200 }) } ∷
     record { moment = 160000000; command = Stop 3 } ∷
     record { moment = 168000000; command = OnePass true } ∷
     record { moment = 168000000; command = Trace true } ∷

@@ -30,8 +30,8 @@ exp_0-commands =
     record { moment = 0; command = Config 2 (record { bw = 0; delay = 50; queue = Slots 10; plr = 0; mask = record { proto = 0; src = 0; dst = 0; sport = 1; dport = 255 }; discipline = TailDrop }) } ∷
     record { moment = 0; command = Add (record { number = 100; action = Pipe 3; proto = OnlyUdp; src = record { address = 0; len = 0 }; sports = None; dst = record { address = 0; len = 0 }; dports = Some (record { first = 0; last = 80 }) }) } ∷
     record { moment = 0; command = Train 300 (record { packet = record { proto = Udp; src = 167772162; sport = 2000; dst = 167772417; dport = 1000; size = 999 }; count = 5; gap = 1000000 }) } ∷
-    record { moment = 0; command = Flow 2 (record { src = 167772418; sport = 65535; dst = 4294967295; dport = 0; smss = 1096; segments = 4; ssthresh = 1000; window = 65535; timing = Adaptive }) } ∷
-    record { moment = 120000000; command = Flow 4 (record { src = 167772162; sport = 80; dst = 167772417; dport = 80; smss = 1095; segments = 5; ssthresh = 65535; window = 10000; timing = Fixed 1000 }) } ∷
+    record { moment = 0; command = Flow 2 (record { src = 167772418; sport = 65535; dst = 4294967295; dport = 0; smss = 1096; segments = 4; ssthresh = 1000; rwnd = 65535; timing = Adaptive }) } ∷
+    record { moment = 120000000; command = Flow 4 (record { src = 167772162; sport = 80; dst = 167772417; dport = 80; smss = 1095; segments = 5; ssthresh = 65535; rwnd = 10000; timing = Fixed 1000 }) } ∷
     record { moment = 120000000; command = Train 300 (record { packet = record { proto = Udp; src = 167772161; sport = 2000; dst = 167772418; dport = 2000; size = 1040 }; count = 1; gap = 1000 }) } ∷
     record { moment = 120000000; command = Train 3 (record { packet = record { proto = Tcp; src = 4294967295; sport = 1; dst = 0; dport = 1; size = 1500 }; count = 5; gap = 10000000 }) } ∷
     record { moment = 120000000; command = PipeShow } ∷
@@ -91,7 +91,7 @@ exp_1-commands =
     record { moment = 0; command = Config 1 (record { bw = 7777777; delay = 2; queue = Slots 1; plr = 0; mask = record { proto = 0; src = 0; dst = 255; sport = 0; dport = 0 }; discipline = ControlledDelay 1000 100000000 }) } ∷
     record { moment = 0; command = Config 4 (record { bw = 0; delay = 10; queue = Slots 10; plr = 0; mask = record { proto = 0; src = 0; dst = 0; sport = 0; dport = 0 }; discipline = TailDrop }) } ∷
     record { moment = 0; command = Add (record { number = 200; action = Pipe 3; proto = AnyProtocol; src = record { address = 0; len = 0 }; sports = None; dst = record { address = 0; len = 0 }; dports = None }) } ∷
-    record { moment = 0; command = Flow 300 (record { src = 167772161; sport = 65535; dst = 167772417; dport = 65535; smss = 960; segments = 3; ssthresh = 4000; window = 65535; timing = Adaptive }) } ∷
+    record { moment = 0; command = Flow 300 (record { src = 167772161; sport = 65535; dst = 167772417; dport = 65535; smss = 960; segments = 3; ssthresh = 4000; rwnd = 65535; timing = Adaptive }) } ∷
     record { moment = 20000000000; command = Train 2 (record { packet = record { proto = Udp; src = 167772162; sport = 0; dst = 167772417; dport = 65535; size = 41 }; count = 1; gap = 2000000 }) } ∷
     record { moment = 100000000000; command = PipeShow } ∷
     record { moment = 100000000000; command = Show } ∷
@@ -212,7 +212,7 @@ exp_3-commands =
     record { moment = 0; command = Config 3 (record { bw = 56000; delay = 1200; queue = Slots 50; plr = 50000; mask = record { proto = 0; src = 0; dst = 0; sport = 0; dport = 0 }; discipline = TailDrop }) } ∷
     record { moment = 0; command = Add (record { number = 200; action = Deny; proto = AnyProtocol; src = address_span 4294967295 32; sports = None; dst = record { address = 0; len = 0 }; dports = None }) } ∷
     record { moment = 0; command = Add (record { number = 200; action = Pipe 3; proto = AnyProtocol; src = record { address = 0; len = 0 }; sports = None; dst = record { address = 0; len = 0 }; dports = None }) } ∷
-    record { moment = 0; command = Flow 4 (record { src = 167772162; sport = 0; dst = 167772417; dport = 1; smss = 1460; segments = 1; ssthresh = 65535; window = 65535; timing = Adaptive }) } ∷
+    record { moment = 0; command = Flow 4 (record { src = 167772162; sport = 0; dst = 167772417; dport = 1; smss = 1460; segments = 1; ssthresh = 65535; rwnd = 65535; timing = Adaptive }) } ∷
     record { moment = 0; command = Inject (record { proto = Tcp; src = 167772161; sport = 2000; dst = 167772417; dport = 65535; size = 1499 }) } ∷
     record { moment = 0; command = Inject (record { proto = Udp; src = 167772418; sport = 0; dst = 167772162; dport = 65535; size = 40 }) } ∷
     record { moment = 10000000; command = Train 5 (record { packet = record { proto = Tcp; src = 167772161; sport = 1000; dst = 167772417; dport = 0; size = 1040 }; count = 2; gap = 2000000 }) } ∷
@@ -273,14 +273,14 @@ exp_4-commands =
     record { moment = 0; command = Inject (record { proto = Tcp; src = 167772162; sport = 0; dst = 167772417; dport = 1000; size = 1499 }) } ∷
     record { moment = 1000000; command = Config 2 (record { bw = 0; delay = 0; queue = Slots 50; plr = 0; mask = record { proto = 0; src = 0; dst = 0; sport = 0; dport = 0 }; discipline = TailDrop }) } ∷
     record { moment = 9000000; command = PipeShow } ∷
-    record { moment = 9000000; command = Flow 65535 (record { src = 167772162; sport = 2000; dst = 167772418; dport = 65535; smss = 1000; segments = 1; ssthresh = 65535; window = 65535; timing = Fixed 1000 }) } ∷
+    record { moment = 9000000; command = Flow 65535 (record { src = 167772162; sport = 2000; dst = 167772418; dport = 65535; smss = 1000; segments = 1; ssthresh = 65535; rwnd = 65535; timing = Fixed 1000 }) } ∷
     record { moment = 9000000; command = Config 4 (record { bw = 56000; delay = 10; queue = Slots 50; plr = 0; mask = record { proto = 0; src = 0; dst = 0; sport = 0; dport = 0 }; discipline = ControlledDelay 5000000 2000000 }) } ∷
     record { moment = 9000000; command = Inject (record { proto = Tcp; src = 167772161; sport = 0; dst = 4294967295; dport = 1000; size = 125 }) } ∷
     record { moment = 9000000; command = PipeDelete 2 } ∷
     record { moment = 12163425; command = Config 4 (record { bw = 997; delay = 1; queue = Slots 50; plr = 0; mask = record { proto = 0; src = 0; dst = 0; sport = 0; dport = 0 }; discipline = TailDrop }) } ∷
     record { moment = 13000000; command = Config 1 (record { bw = 0; delay = 5; queue = Slots 50; plr = 20000; mask = record { proto = 0; src = 0; dst = 0; sport = 0; dport = 0 }; discipline = TailDrop }) } ∷
     record { moment = 13000000; command = Config 1 (record { bw = 0; delay = 400; queue = KBytes 1; plr = 200000; mask = record { proto = 0; src = 0; dst = 0; sport = 0; dport = 0 }; discipline = TailDrop }) } ∷
-    record { moment = 21000000; command = Flow 3 (record { src = 167772162; sport = 1000; dst = 167772417; dport = 0; smss = 536; segments = 5; ssthresh = 1; window = 65535; timing = Adaptive }) } ∷
+    record { moment = 21000000; command = Flow 3 (record { src = 167772162; sport = 1000; dst = 167772417; dport = 0; smss = 536; segments = 5; ssthresh = 1; rwnd = 65535; timing = Adaptive }) } ∷
     record { moment = 21000000; command = Add (record { number = 2; action = Pipe 3; proto = OnlyUdp; src = address_span 0 0; sports = None; dst = record { address = 0; len = 0 }; dports = Some (record { first = 7; last = 7 }) }) } ∷
     record { moment = 21000000; command = Add (record { number = 200; action = Pipe 3; proto = AnyProtocol; src = record { address = 0; len = 0 }; sports = None; dst = record { address = 0; len = 0 }; dports = None }) } ∷
     record { moment = 21000000; command = PipeDelete 2 } ∷
@@ -363,7 +363,7 @@ exp_5-commands =
     record { moment = 1900000000; command = Show } ∷
     record { moment = 1900000001; command = Config 1 (record { bw = 1000000000; delay = 5; queue = KBytes 1; plr = 1000000; mask = record { proto = 0; src = 0; dst = 0; sport = 0; dport = 0 }; discipline = TailDrop }) } ∷
     record { moment = 2000000000; command = PipeDelete 4 } ∷
-    record { moment = 2000000000; command = Flow 4 (record { src = 167772161; sport = 7; dst = 167772418; dport = 7; smss = 960; segments = 1; ssthresh = 65535; window = 65535; timing = Adaptive }) } ∷
+    record { moment = 2000000000; command = Flow 4 (record { src = 167772161; sport = 7; dst = 167772418; dport = 7; smss = 960; segments = 1; ssthresh = 65535; rwnd = 65535; timing = Adaptive }) } ∷
     record { moment = 2000000000; command = PipeShow } ∷
     record { moment = 2000000000; command = Show } ∷
     record { moment = 2000000000; command = End } ∷
@@ -445,7 +445,7 @@ exp_6-commands =
     record { moment = 0; command = Add (record { number = 0; action = Pipe 3; proto = OnlyTcp; src = record { address = 0; len = 0 }; sports = None; dst = address_span 167772160 8; dports = None }) } ∷
     record { moment = 0; command = Config 1 (record { bw = 0; delay = 10; queue = Slots 2; plr = 20000; mask = record { proto = 0; src = 0; dst = 0; sport = 1; dport = 0 }; discipline = TailDrop }) } ∷
     record { moment = 0; command = Add (record { number = 300; action = Pipe 3; proto = AnyProtocol; src = address_span 3232235520 16; sports = None; dst = record { address = 0; len = 0 }; dports = None }) } ∷
-    record { moment = 0; command = Flow 5 (record { src = 167772161; sport = 80; dst = 167772418; dport = 7; smss = 1000; segments = 5; ssthresh = 65535; window = 65535; timing = Fixed 1000 }) } ∷
+    record { moment = 0; command = Flow 5 (record { src = 167772161; sport = 80; dst = 167772418; dport = 7; smss = 1000; segments = 5; ssthresh = 65535; rwnd = 65535; timing = Fixed 1000 }) } ∷
     record { moment = 21938499; command = Train 1 (record { packet = record { proto = Tcp; src = 167772162; sport = 1; dst = 167772418; dport = 7; size = 1500 }; count = 5; gap = 1 }) } ∷
     record { moment = 30000000; command = Inject (record { proto = Udp; src = 167772162; sport = 80; dst = 167772418; dport = 7; size = 500 }) } ∷
     record { moment = 30000000; command = Config 1 (record { bw = 1000000; delay = 50; queue = Slots 3; plr = 0; mask = record { proto = 0; src = 0; dst = 0; sport = 1; dport = 0 }; discipline = ControlledDelay 1000 10000000 }) } ∷
@@ -520,13 +520,13 @@ exp_7-commands =
     record { moment = 0; command = Config 4 (record { bw = 1000000; delay = 0; queue = Slots 3; plr = 500000; mask = record { proto = 0; src = 0; dst = 0; sport = 0; dport = 0 }; discipline = TailDrop }) } ∷
     record { moment = 0; command = Add (record { number = 100; action = Pipe 2; proto = AnyProtocol; src = address_span 167772160 24; sports = None; dst = record { address = 0; len = 0 }; dports = None }) } ∷
     record { moment = 0; command = Config 3 (record { bw = 1000000; delay = 400; queue = Slots 50; plr = 500000; mask = record { proto = 255; src = 255; dst = 255; sport = 0; dport = 0 }; discipline = TailDrop }) } ∷
-    record { moment = 0; command = Flow 1 (record { src = 3232237321; sport = 1; dst = 167772417; dport = 7; smss = 64; segments = 2; ssthresh = 2000; window = 65535; timing = Adaptive }) } ∷
+    record { moment = 0; command = Flow 1 (record { src = 3232237321; sport = 1; dst = 167772417; dport = 7; smss = 64; segments = 2; ssthresh = 2000; rwnd = 65535; timing = Adaptive }) } ∷
     record { moment = 727577649; command = Inject (record { proto = Tcp; src = 167772161; sport = 7; dst = 167772418; dport = 1000; size = 1460 }) } ∷
     record { moment = 1300000000; command = Train 300 (record { packet = record { proto = Tcp; src = 167772161; sport = 0; dst = 167772417; dport = 1000; size = 500 }; count = 1; gap = 1 }) } ∷
     record { moment = 1700000000; command = Inject (record { proto = Udp; src = 167772161; sport = 1; dst = 0; dport = 0; size = 1040 }) } ∷
     record { moment = 1700000000; command = Show } ∷
     record { moment = 1700000500; command = Train 1 (record { packet = record { proto = Tcp; src = 3232237321; sport = 1; dst = 167772161; dport = 1; size = 1040 }; count = 5; gap = 10000000 }) } ∷
-    record { moment = 1700000500; command = Flow 65535 (record { src = 167772161; sport = 1000; dst = 167772418; dport = 0; smss = 64; segments = 4; ssthresh = 1000000000; window = 65535; timing = Fixed 1000 }) } ∷
+    record { moment = 1700000500; command = Flow 65535 (record { src = 167772161; sport = 1000; dst = 167772418; dport = 0; smss = 64; segments = 4; ssthresh = 1000000000; rwnd = 65535; timing = Fixed 1000 }) } ∷
     record { moment = 1700000500; command = End } ∷
     []
 
@@ -586,7 +586,7 @@ exp_8-commands =
     record { moment = 10000000000; command = Delete 400 } ∷
     record { moment = 10000000000; command = Stop 1 } ∷
     record { moment = 10000000001; command = Add (record { number = 100; action = Count; proto = AnyProtocol; src = record { address = 0; len = 0 }; sports = None; dst = record { address = 0; len = 0 }; dports = None }) } ∷
-    record { moment = 10000000001; command = Flow 65535 (record { src = 167772162; sport = 1; dst = 167772418; dport = 2000; smss = 1096; segments = 1; ssthresh = 1000000000; window = 65535; timing = Adaptive }) } ∷
+    record { moment = 10000000001; command = Flow 65535 (record { src = 167772162; sport = 1; dst = 167772418; dport = 2000; smss = 1096; segments = 1; ssthresh = 1000000000; rwnd = 65535; timing = Adaptive }) } ∷
     record { moment = 13008000000; command = Trace true } ∷
     record { moment = 13008000000; command = PipeShow } ∷
     record { moment = 13008000000; command = Show } ∷
@@ -662,7 +662,7 @@ exp_9-commands =
     record { moment = 0; command = Add (record { number = 200; action = Pipe 1; proto = AnyProtocol; src = record { address = 0; len = 0 }; sports = None; dst = record { address = 0; len = 0 }; dports = None }) } ∷
     record { moment = 0; command = Inject (record { proto = Tcp; src = 167772162; sport = 1; dst = 167772417; dport = 65535; size = 1499 }) } ∷
     record { moment = 0; command = Inject (record { proto = Udp; src = 167772161; sport = 1; dst = 167772417; dport = 1; size = 41 }) } ∷
-    record { moment = 0; command = Flow 2 (record { src = 167772162; sport = 2000; dst = 167772418; dport = 1000; smss = 1096; segments = 2; ssthresh = 1; window = 65535; timing = Fixed 25 }) } ∷
+    record { moment = 0; command = Flow 2 (record { src = 167772162; sport = 2000; dst = 167772418; dport = 1000; smss = 1096; segments = 2; ssthresh = 1; rwnd = 65535; timing = Fixed 25 }) } ∷
     record { moment = 12296220; command = Config 4 (record { bw = 56000; delay = 50; queue = Slots 10; plr = 0; mask = record { proto = 0; src = 0; dst = 0; sport = 0; dport = 0 }; discipline = TailDrop }) } ∷
     record { moment = 16000001; command = Add (record { number = 2; action = SkipTo 400; proto = AnyProtocol; src = record { address = 0; len = 0 }; sports = None; dst = record { address = 0; len = 0 }; dports = None }) } ∷
     record { moment = 20000000; command = Config 1 (record { bw = 0; delay = 2; queue = KBytes 1; plr = 20000; mask = record { proto = 255; src = 4294967295; dst = 4294967295; sport = 65535; dport = 65535 }; discipline = ControlledDelay 1000000 5000000 }) } ∷

@@ -32,13 +32,13 @@ exp_0-commands =
     record { moment = 0; command = Add (record { number = 2; action = Pipe 2; proto = AnyProtocol; src = record { address = 0; len = 0 }; sports = None; dst = record { address = 0; len = 0 }; dports = Some (record { first = 80; last = 2000 }) }) } ∷
     record { moment = 0; command = Config 1 (record { bw = 7777777; delay = 5; queue = Slots 50; plr = 500000; mask = record { proto = 0; src = 0; dst = 0; sport = 0; dport = 0 }; discipline = TailDrop }) } ∷
     record { moment = 0; command = Config 4 (record { bw = 1000000000; delay = 5; queue = KBytes 3; plr = 500000; mask = record { proto = 0; src = 0; dst = 0; sport = 0; dport = 0 }; discipline = TailDrop }) } ∷
-    record { moment = 0; command = Flow 3 (record { src = 167772161; sport = 2000; dst = 167772418; dport = 7; smss = 64; segments = 2; ssthresh = 65535; window = 65535; timing = Adaptive }) } ∷
+    record { moment = 0; command = Flow 3 (record { src = 167772161; sport = 2000; dst = 167772418; dport = 7; smss = 64; segments = 2; ssthresh = 65535; rwnd = 65535; timing = Adaptive }) } ∷
     record { moment = 0; command = Inject (record { proto = Tcp; src = 167772418; sport = 65535; dst = 167772418; dport = 7; size = 125 }) } ∷
     record { moment = 0; command = Train 300 (record { packet = record { proto = Udp; src = 167772161; sport = 80; dst = 167772418; dport = 7; size = 500 }; count = 1; gap = 0 }) } ∷
-    record { moment = 1000000000; command = Flow 2 (record { src = 167772161; sport = 0; dst = 167772418; dport = 2000; smss = 1460; segments = 3; ssthresh = 1000000000; window = 1; timing = Fixed 1000 }) } ∷
+    record { moment = 1000000000; command = Flow 2 (record { src = 167772161; sport = 0; dst = 167772418; dport = 2000; smss = 1460; segments = 3; ssthresh = 1000000000; rwnd = 1; timing = Fixed 1000 }) } ∷
     record { moment = 1000000000; command = Config 2 (record { bw = 8000000; delay = 2; queue = KBytes 1; plr = 0; mask = record { proto = 0; src = 0; dst = 0; sport = 0; dport = 0 }; discipline = ControlledDelay 1000 1000000000 }) } ∷
     record { moment = 10000000000; command = Config 2 (record { bw = 1000000; delay = 5; queue = Slots 10; plr = 200000; mask = record { proto = 0; src = 0; dst = 0; sport = 0; dport = 0 }; discipline = ControlledDelay 1000000 7000000 }) } ∷
-    record { moment = 10000080000; command = Flow 300 (record { src = 167772161; sport = 0; dst = 167772418; dport = 2000; smss = 1000; segments = 2; ssthresh = 1000; window = 65535; timing = Fixed 60000 }) } ∷
+    record { moment = 10000080000; command = Flow 300 (record { src = 167772161; sport = 0; dst = 167772418; dport = 2000; smss = 1000; segments = 2; ssthresh = 1000; rwnd = 65535; timing = Fixed 60000 }) } ∷
     record { moment = 10000080000; command = PipeShow } ∷
     record { moment = 10000080000; command = Show } ∷
     record { moment = 10000080000; command = End } ∷
@@ -93,12 +93,12 @@ exp_1-commands =
     record { moment = 0; command = Config 4 (record { bw = 7777777; delay = 1200; queue = Slots 2; plr = 0; mask = record { proto = 255; src = 4294967295; dst = 4294967295; sport = 65535; dport = 65535 }; discipline = TailDrop }) } ∷
     record { moment = 0; command = Add (record { number = 50; action = Deny; proto = AnyProtocol; src = record { address = 0; len = 0 }; sports = None; dst = record { address = 0; len = 0 }; dports = None }) } ∷
     record { moment = 0; command = Config 3 (record { bw = 0; delay = 10; queue = KBytes 3; plr = 1000000; mask = record { proto = 0; src = 0; dst = 0; sport = 0; dport = 0 }; discipline = ControlledDelay 1000 5000000 }) } ∷
-    record { moment = 0; command = Flow 1 (record { src = 167772161; sport = 0; dst = 167772418; dport = 7; smss = 1095; segments = 4; ssthresh = 8000; window = 65535; timing = Adaptive }) } ∷
+    record { moment = 0; command = Flow 1 (record { src = 167772161; sport = 0; dst = 167772418; dport = 7; smss = 1095; segments = 4; ssthresh = 8000; rwnd = 65535; timing = Adaptive }) } ∷
     record { moment = 8000000000; command = Train 1 (record { packet = record { proto = Udp; src = 167772162; sport = 65535; dst = 167772418; dport = 80; size = 1499 }; count = 3; gap = 999 }) } ∷
     record { moment = 14008000000; command = Inject (record { proto = Udp; src = 167772162; sport = 80; dst = 167772417; dport = 80; size = 1499 }) } ∷
     record { moment = 18248937795; command = Delete 65535 } ∷
-    record { moment = 19000000000; command = Flow 300 (record { src = 167772162; sport = 1; dst = 167772418; dport = 7; smss = 1096; segments = 6; ssthresh = 1000; window = 65535; timing = Adaptive }) } ∷
-    record { moment = 19000000000; command = Flow 2 (record { src = 167772162; sport = 80; dst = 167772417; dport = 1; smss = 1096; segments = 2; ssthresh = 1; window = 65535; timing = Adaptive }) } ∷
+    record { moment = 19000000000; command = Flow 300 (record { src = 167772162; sport = 1; dst = 167772418; dport = 7; smss = 1096; segments = 6; ssthresh = 1000; rwnd = 65535; timing = Adaptive }) } ∷
+    record { moment = 19000000000; command = Flow 2 (record { src = 167772162; sport = 80; dst = 167772417; dport = 1; smss = 1096; segments = 2; ssthresh = 1; rwnd = 65535; timing = Adaptive }) } ∷
     record { moment = 19000000000; command = Train 2 (record { packet = record { proto = Tcp; src = 167772418; sport = 1; dst = 3232237321; dport = 80; size = 1040 }; count = 5; gap = 2000000 }) } ∷
     record { moment = 19000000000; command = End } ∷
     []
@@ -164,7 +164,7 @@ exp_2-commands =
     record { moment = 0; command = Inject (record { proto = Udp; src = 4294967295; sport = 80; dst = 4294967295; dport = 80; size = 125 }) } ∷
     record { moment = 9000000; command = Train 4 (record { packet = record { proto = Tcp; src = 167772162; sport = 1000; dst = 167772418; dport = 0; size = 1499 }; count = 2; gap = 999 }) } ∷
     record { moment = 11080000; command = Train 5 (record { packet = record { proto = Tcp; src = 167772161; sport = 1; dst = 167772418; dport = 1000; size = 41 }; count = 3; gap = 1000 }) } ∷
-    record { moment = 16000500; command = Flow 2 (record { src = 167772161; sport = 2000; dst = 167772418; dport = 0; smss = 64; segments = 3; ssthresh = 65535; window = 65535; timing = Adaptive }) } ∷
+    record { moment = 16000500; command = Flow 2 (record { src = 167772161; sport = 2000; dst = 167772418; dport = 0; smss = 64; segments = 3; ssthresh = 65535; rwnd = 65535; timing = Adaptive }) } ∷
     record { moment = 16000500; command = PipeShow } ∷
     record { moment = 16000500; command = Show } ∷
     record { moment = 16000500; command = End } ∷
@@ -223,8 +223,8 @@ exp_3-commands =
     record { moment = 0; command = Add (record { number = 150; action = Pipe 3; proto = AnyProtocol; src = address_span 3232235520 16; sports = None; dst = record { address = 0; len = 0 }; dports = Some (record { first = 65535; last = 65535 }) }) } ∷
     record { moment = 0; command = Config 4 (record { bw = 0; delay = 10; queue = Slots 1; plr = 50000; mask = record { proto = 0; src = 0; dst = 0; sport = 0; dport = 0 }; discipline = TailDrop }) } ∷
     record { moment = 0; command = Train 2 (record { packet = record { proto = Udp; src = 167772418; sport = 7; dst = 4294967295; dport = 1000; size = 41 }; count = 2; gap = 1 }) } ∷
-    record { moment = 0; command = Flow 3 (record { src = 167772162; sport = 2000; dst = 167772417; dport = 1000; smss = 1460; segments = 4; ssthresh = 65535; window = 1; timing = Adaptive }) } ∷
-    record { moment = 6000500; command = Flow 1 (record { src = 167772162; sport = 2000; dst = 167772417; dport = 0; smss = 960; segments = 1; ssthresh = 1000000000; window = 65535; timing = Adaptive }) } ∷
+    record { moment = 0; command = Flow 3 (record { src = 167772162; sport = 2000; dst = 167772417; dport = 1000; smss = 1460; segments = 4; ssthresh = 65535; rwnd = 1; timing = Adaptive }) } ∷
+    record { moment = 6000500; command = Flow 1 (record { src = 167772162; sport = 2000; dst = 167772417; dport = 0; smss = 960; segments = 1; ssthresh = 1000000000; rwnd = 65535; timing = Adaptive }) } ∷
     record { moment = 6000500; command = Add (record { number = 100; action = Count; proto = OnlyUdp; src = record { address = 0; len = 0 }; sports = Some (record { first = 1000; last = 2000 }); dst = address_span 167772416 24; dports = None }) } ∷
     record { moment = 9000000; command = Stop 5 } ∷
     record { moment = 9000000; command = Config 4 (record { bw = 7777777; delay = 0; queue = KBytes 10; plr = 500000; mask = record { proto = 0; src = 0; dst = 0; sport = 0; dport = 0 }; discipline = ControlledDelay 5000000 100000000 }) } ∷
@@ -312,7 +312,7 @@ exp_4-commands =
     record { moment = 0; command = Config 1 (record { bw = 7777777; delay = 5; queue = Slots 5; plr = 200000; mask = record { proto = 0; src = 0; dst = 0; sport = 0; dport = 0 }; discipline = ControlledDelay 5000000 100000000 }) } ∷
     record { moment = 0; command = Inject (record { proto = Tcp; src = 167772161; sport = 1000; dst = 167772418; dport = 65535; size = 1499 }) } ∷
     record { moment = 10000000; command = Train 1 (record { packet = record { proto = Udp; src = 167772161; sport = 7; dst = 167772417; dport = 2000; size = 125 }; count = 3; gap = 1 }) } ∷
-    record { moment = 148239615; command = Flow 1 (record { src = 167772161; sport = 80; dst = 4294967295; dport = 80; smss = 1000; segments = 1; ssthresh = 1000000000; window = 10000; timing = Adaptive }) } ∷
+    record { moment = 148239615; command = Flow 1 (record { src = 167772161; sport = 80; dst = 4294967295; dport = 80; smss = 1000; segments = 1; ssthresh = 1000000000; rwnd = 10000; timing = Adaptive }) } ∷
     record { moment = 200000000; command = PipeShow } ∷
     record { moment = 200000000; command = Show } ∷
     record { moment = 200000000; command = End } ∷
@@ -372,7 +372,7 @@ exp_5-commands =
     record { moment = 0; command = Config 2 (record { bw = 7777777; delay = 50; queue = Slots 1; plr = 0; mask = record { proto = 0; src = 0; dst = 0; sport = 0; dport = 0 }; discipline = ControlledDelay 20000000 2000000 }) } ∷
     record { moment = 0; command = Add (record { number = 200; action = Pipe 3; proto = AnyProtocol; src = record { address = 0; len = 0 }; sports = None; dst = record { address = 0; len = 0 }; dports = None }) } ∷
     record { moment = 0; command = Train 1 (record { packet = record { proto = Tcp; src = 167772161; sport = 0; dst = 167772418; dport = 7; size = 1460 }; count = 5; gap = 1 }) } ∷
-    record { moment = 0; command = Flow 300 (record { src = 167772162; sport = 1000; dst = 167772417; dport = 65535; smss = 1095; segments = 3; ssthresh = 1; window = 65535; timing = Fixed 1000 }) } ∷
+    record { moment = 0; command = Flow 300 (record { src = 167772162; sport = 1000; dst = 167772417; dport = 65535; smss = 1095; segments = 3; ssthresh = 1; rwnd = 65535; timing = Fixed 1000 }) } ∷
     record { moment = 0; command = Inject (record { proto = Tcp; src = 3232237321; sport = 1000; dst = 167772162; dport = 80; size = 1460 }) } ∷
     record { moment = 48000000; command = Config 4 (record { bw = 1000000000; delay = 5; queue = Slots 5; plr = 1000000; mask = record { proto = 0; src = 0; dst = 0; sport = 0; dport = 0 }; discipline = TailDrop }) } ∷
     record { moment = 150000000; command = Delete 1 } ∷
@@ -442,9 +442,9 @@ exp_6-commands =
     record { moment = 0; command = Add (record { number = 200; action = Pipe 2; proto = AnyProtocol; src = record { address = 0; len = 0 }; sports = None; dst = record { address = 0; len = 0 }; dports = None }) } ∷
     record { moment = 0; command = OnePass false } ∷
     record { moment = 0; command = Inject (record { proto = Tcp; src = 167772161; sport = 0; dst = 167772418; dport = 1; size = 500 }) } ∷
-    record { moment = 0; command = Flow 1 (record { src = 167772161; sport = 80; dst = 167772418; dport = 80; smss = 536; segments = 2; ssthresh = 65535; window = 65535; timing = Adaptive }) } ∷
+    record { moment = 0; command = Flow 1 (record { src = 167772161; sport = 80; dst = 167772418; dport = 80; smss = 536; segments = 2; ssthresh = 65535; rwnd = 65535; timing = Adaptive }) } ∷
     record { moment = 4000000; command = Config 2 (record { bw = 1000000000; delay = 1; queue = KBytes 3; plr = 0; mask = record { proto = 0; src = 0; dst = 0; sport = 0; dport = 0 }; discipline = TailDrop }) } ∷
-    record { moment = 4000500; command = Flow 300 (record { src = 167772161; sport = 2000; dst = 167772417; dport = 1000; smss = 960; segments = 4; ssthresh = 65535; window = 3000; timing = Adaptive }) } ∷
+    record { moment = 4000500; command = Flow 300 (record { src = 167772161; sport = 2000; dst = 167772417; dport = 1000; smss = 960; segments = 4; ssthresh = 65535; rwnd = 3000; timing = Adaptive }) } ∷
     record { moment = 15202465; command = Inject (record { proto = Udp; src = 167772162; sport = 2000; dst = 167772418; dport = 1000; size = 999 }) } ∷
     record { moment = 15202465; command = Config 3 (record { bw = 10000000000; delay = 10; queue = Slots 1000; plr = 0; mask = record { proto = 0; src = 0; dst = 0; sport = 0; dport = 0 }; discipline = ControlledDelay 1000000 100000000 }) } ∷
     record { moment = 15202465; command = PipeShow } ∷
@@ -516,7 +516,7 @@ exp_7-commands =
     record { moment = 0; command = Config 3 (record { bw = 0; delay = 0; queue = Slots 1000; plr = 0; mask = record { proto = 0; src = 0; dst = 0; sport = 0; dport = 0 }; discipline = TailDrop }) } ∷
     record { moment = 0; command = Config 2 (record { bw = 8000000; delay = 1200; queue = KBytes 1; plr = 1; mask = record { proto = 0; src = 4294967295; dst = 0; sport = 0; dport = 255 }; discipline = TailDrop }) } ∷
     record { moment = 0; command = Add (record { number = 200; action = Pipe 3; proto = AnyProtocol; src = record { address = 0; len = 0 }; sports = None; dst = record { address = 0; len = 0 }; dports = None }) } ∷
-    record { moment = 8000000; command = Flow 5 (record { src = 167772162; sport = 1000; dst = 167772418; dport = 65535; smss = 460; segments = 3; ssthresh = 65535; window = 3000; timing = Adaptive }) } ∷
+    record { moment = 8000000; command = Flow 5 (record { src = 167772162; sport = 1000; dst = 167772418; dport = 65535; smss = 460; segments = 3; ssthresh = 65535; rwnd = 3000; timing = Adaptive }) } ∷
     record { moment = 10000000; command = Config 1 (record { bw = 7777777; delay = 5; queue = Slots 10; plr = 0; mask = record { proto = 255; src = 4294967295; dst = 4294967295; sport = 65535; dport = 65535 }; discipline = TailDrop }) } ∷
     record { moment = 10080000; command = PipeShow } ∷
     record { moment = 100000000000; command = PipeShow } ∷
@@ -597,12 +597,12 @@ exp_8-commands =
     record { moment = 0; command = Add (record { number = 2; action = Pipe 3; proto = OnlyTcp; src = address_span 167772160 8; sports = None; dst = address_span 3232235520 16; dports = None }) } ∷
     record { moment = 0; command = Config 3 (record { bw = 7777777; delay = 10; queue = KBytes 1; plr = 0; mask = record { proto = 0; src = 255; dst = 4294901760; sport = 1; dport = 0 }; discipline = ControlledDelay 5000000 100000000 }) } ∷
     record { moment = 0; command = Add (record { number = 150; action = Count; proto = OnlyUdp; src = address_span 167772162 31; sports = None; dst = record { address = 0; len = 0 }; dports = None }) } ∷
-    record { moment = 0; command = Flow 3 (record { src = 3232237321; sport = 1000; dst = 4294967295; dport = 7; smss = 460; segments = 5; ssthresh = 65535; window = 65535; timing = Fixed 1000 }) } ∷
+    record { moment = 0; command = Flow 3 (record { src = 3232237321; sport = 1000; dst = 4294967295; dport = 7; smss = 460; segments = 5; ssthresh = 65535; rwnd = 65535; timing = Fixed 1000 }) } ∷
     record { moment = 1000000; command = Add (record { number = 1; action = Pipe 2; proto = AnyProtocol; src = record { address = 0; len = 0 }; sports = Some (record { first = 1000; last = 1000 }); dst = address_span 167772160 8; dports = None }) } ∷
     record { moment = 1000001; command = Train 5 (record { packet = record { proto = Udp; src = 167772161; sport = 2000; dst = 167772417; dport = 1000; size = 999 }; count = 3; gap = 10000000 }) } ∷
     record { moment = 1000001; command = PipeDelete 2 } ∷
-    record { moment = 2080000; command = Flow 3 (record { src = 167772162; sport = 80; dst = 167772417; dport = 7; smss = 960; segments = 2; ssthresh = 65535; window = 65535; timing = Adaptive }) } ∷
-    record { moment = 3000000; command = Flow 5 (record { src = 167772161; sport = 7; dst = 167772417; dport = 80; smss = 1000; segments = 5; ssthresh = 65535; window = 1460; timing = Adaptive }) } ∷
+    record { moment = 2080000; command = Flow 3 (record { src = 167772162; sport = 80; dst = 167772417; dport = 7; smss = 960; segments = 2; ssthresh = 65535; rwnd = 65535; timing = Adaptive }) } ∷
+    record { moment = 3000000; command = Flow 5 (record { src = 167772161; sport = 7; dst = 167772417; dport = 80; smss = 1000; segments = 5; ssthresh = 65535; rwnd = 1460; timing = Adaptive }) } ∷
     record { moment = 3000000; command = Show } ∷
     record { moment = 16764822; command = Config 4 (record { bw = 8000000; delay = 0; queue = Slots 5; plr = 0; mask = record { proto = 0; src = 0; dst = 0; sport = 0; dport = 0 }; discipline = TailDrop }) } ∷
     record { moment = 200000000; command = PipeShow } ∷
@@ -687,10 +687,10 @@ exp_9-commands =
     record { moment = 0; command = Config 4 (record { bw = 997; delay = 0; queue = Slots 5; plr = 0; mask = record { proto = 0; src = 0; dst = 0; sport = 0; dport = 0 }; discipline = ControlledDelay 5000000 100000000 }) } ∷
     record { moment = 0; command = Config 2 (record { bw = 1000000; delay = 10; queue = Slots 50; plr = 0; mask = record { proto = 0; src = 0; dst = 0; sport = 0; dport = 0 }; discipline = ControlledDelay 5000000 10000000 }) } ∷
     record { moment = 0; command = Inject (record { proto = Udp; src = 167772162; sport = 1; dst = 167772417; dport = 80; size = 1500 }) } ∷
-    record { moment = 300000000; command = Flow 3 (record { src = 167772162; sport = 7; dst = 167772417; dport = 0; smss = 1460; segments = 1; ssthresh = 8000; window = 65535; timing = Fixed 1000 }) } ∷
+    record { moment = 300000000; command = Flow 3 (record { src = 167772162; sport = 7; dst = 167772417; dport = 0; smss = 1460; segments = 1; ssthresh = 8000; rwnd = 65535; timing = Fixed 1000 }) } ∷
     record { moment = 1300000000; command = Train 2 (record { packet = record { proto = Udp; src = 167772162; sport = 0; dst = 167772418; dport = 7; size = 1500 }; count = 3; gap = 1000000 }) } ∷
     record { moment = 1300080000; command = Inject (record { proto = Tcp; src = 167772162; sport = 2000; dst = 167772417; dport = 80; size = 41 }) } ∷
-    record { moment = 1400000500; command = Flow 65535 (record { src = 167772161; sport = 80; dst = 167772418; dport = 0; smss = 1095; segments = 5; ssthresh = 8000; window = 65535; timing = Adaptive }) } ∷
+    record { moment = 1400000500; command = Flow 65535 (record { src = 167772161; sport = 80; dst = 167772418; dport = 0; smss = 1095; segments = 5; ssthresh = 8000; rwnd = 65535; timing = Adaptive }) } ∷
     record { moment = 5000000000; command = PipeShow } ∷
     record { moment = 5000000000; command = Show } ∷
     record { moment = 5000000000; command = End } ∷

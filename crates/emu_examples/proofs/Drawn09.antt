@@ -30,9 +30,9 @@ exp_0-commands =
     record { moment = 0; command = Add (record { number = 100; action = Pipe 3; proto = AnyProtocol; src = address_span 167772160 24; sports = None; dst = record { address = 0; len = 0 }; dports = None }) } ∷
     record { moment = 0; command = Config 3 (record { bw = 0; delay = 5; queue = Slots 1000; plr = 0; mask = record { proto = 0; src = 0; dst = 0; sport = 0; dport = 0 }; discipline = TailDrop }) } ∷
     record { moment = 0; command = Config 1 (record { bw = 0; delay = 1200; queue = Slots 50; plr = 0; mask = record { proto = 0; src = 0; dst = 255; sport = 0; dport = 0 }; discipline = TailDrop }) } ∷
-    record { moment = 0; command = Flow 300 (record { src = 167772162; sport = 7; dst = 167772417; dport = 2000; smss = 1095; segments = 3; ssthresh = 65535; window = 1; timing = Fixed 1000 }) } ∷
+    record { moment = 0; command = Flow 300 (record { src = 167772162; sport = 7; dst = 167772417; dport = 2000; smss = 1095; segments = 3; ssthresh = 65535; rwnd = 1; timing = Fixed 1000 }) } ∷
     record { moment = 500000500; command = Add (record { number = 1; action = Pipe 3; proto = OnlyUdp; src = address_span 4294967295 32; sports = Some (record { first = 80; last = 80 }); dst = address_span 167772493 25; dports = None }) } ∷
-    record { moment = 1400000000; command = Flow 2 (record { src = 167772162; sport = 0; dst = 167772417; dport = 80; smss = 960; segments = 1; ssthresh = 1; window = 65535; timing = Adaptive }) } ∷
+    record { moment = 1400000000; command = Flow 2 (record { src = 167772162; sport = 0; dst = 167772417; dport = 80; smss = 960; segments = 1; ssthresh = 1; rwnd = 65535; timing = Adaptive }) } ∷
     record { moment = 1400000000; command = Delete 150 } ∷
     record { moment = 1400000000; command = Config 1 (record { bw = 0; delay = 0; queue = Slots 50; plr = 0; mask = record { proto = 0; src = 0; dst = 0; sport = 0; dport = 0 }; discipline = ControlledDelay 1000000 5000000 }) } ∷
     record { moment = 1408000000; command = Train 300 (record { packet = record { proto = Tcp; src = 167772161; sport = 7; dst = 167772418; dport = 1; size = 1000 }; count = 3; gap = 0 }) } ∷
@@ -98,8 +98,8 @@ exp_1-commands =
     record { moment = 0; command = Config 1 (record { bw = 7777777; delay = 10; queue = KBytes 1; plr = 200000; mask = record { proto = 0; src = 0; dst = 0; sport = 0; dport = 0 }; discipline = TailDrop }) } ∷
     record { moment = 0; command = Add (record { number = 200; action = Pipe 2; proto = AnyProtocol; src = record { address = 0; len = 0 }; sports = None; dst = record { address = 0; len = 0 }; dports = None }) } ∷
     record { moment = 0; command = OnePass false } ∷
-    record { moment = 0; command = Flow 300 (record { src = 167772162; sport = 0; dst = 167772417; dport = 0; smss = 1096; segments = 6; ssthresh = 65535; window = 65535; timing = Adaptive }) } ∷
-    record { moment = 0; command = Flow 2 (record { src = 167772162; sport = 80; dst = 167772417; dport = 2000; smss = 1000; segments = 2; ssthresh = 65535; window = 3000; timing = Adaptive }) } ∷
+    record { moment = 0; command = Flow 300 (record { src = 167772162; sport = 0; dst = 167772417; dport = 0; smss = 1096; segments = 6; ssthresh = 65535; rwnd = 65535; timing = Adaptive }) } ∷
+    record { moment = 0; command = Flow 2 (record { src = 167772162; sport = 80; dst = 167772417; dport = 2000; smss = 1000; segments = 2; ssthresh = 65535; rwnd = 3000; timing = Adaptive }) } ∷
     record { moment = 30000000; command = Inject (record { proto = Udp; src = 167772161; sport = 0; dst = 167772417; dport = 7; size = 40 }) } ∷
     record { moment = 30000000; command = PipeShow } ∷
     record { moment = 144239647; command = Config 2 (record { bw = 3000000; delay = 0; queue = KBytes 3; plr = 0; mask = record { proto = 0; src = 0; dst = 0; sport = 0; dport = 0 }; discipline = TailDrop }) } ∷
@@ -217,20 +217,20 @@ exp_3-commands =
     record { moment = 0; command = Config 1 (record { bw = 10000000; delay = 50; queue = Slots 1; plr = 0; mask = record { proto = 0; src = 0; dst = 0; sport = 0; dport = 0 }; discipline = TailDrop }) } ∷
     record { moment = 0; command = Config 4 (record { bw = 0; delay = 10; queue = Slots 1; plr = 0; mask = record { proto = 0; src = 0; dst = 0; sport = 0; dport = 0 }; discipline = ControlledDelay 5000000 100000000 }) } ∷
     record { moment = 0; command = Train 65535 (record { packet = record { proto = Udp; src = 167772161; sport = 1000; dst = 167772418; dport = 7; size = 1000 }; count = 3; gap = 3333333 }) } ∷
-    record { moment = 0; command = Flow 65535 (record { src = 167772162; sport = 2000; dst = 167772418; dport = 0; smss = 960; segments = 3; ssthresh = 65535; window = 10000; timing = Adaptive }) } ∷
-    record { moment = 0; command = Flow 4 (record { src = 167772161; sport = 2000; dst = 167772418; dport = 7; smss = 1000; segments = 5; ssthresh = 2000; window = 65535; timing = Adaptive }) } ∷
+    record { moment = 0; command = Flow 65535 (record { src = 167772162; sport = 2000; dst = 167772418; dport = 0; smss = 960; segments = 3; ssthresh = 65535; rwnd = 10000; timing = Adaptive }) } ∷
+    record { moment = 0; command = Flow 4 (record { src = 167772161; sport = 2000; dst = 167772418; dport = 7; smss = 1000; segments = 5; ssthresh = 2000; rwnd = 65535; timing = Adaptive }) } ∷
     record { moment = 3000000; command = PipeDelete 2 } ∷
     record { moment = 3000000; command = Stop 5 } ∷
     record { moment = 3000000; command = Show } ∷
     record { moment = 3000000; command = PipeDelete 2 } ∷
     record { moment = 11000000; command = Config 2 (record { bw = 0; delay = 400; queue = KBytes 10; plr = 200000; mask = record { proto = 255; src = 4294967295; dst = 4294967295; sport = 65535; dport = 65535 }; discipline = TailDrop }) } ∷
     record { moment = 11000000; command = Inject (record { proto = Tcp; src = 4294967295; sport = 80; dst = 0; dport = 7; size = 1040 }) } ∷
-    record { moment = 18420585; command = Flow 1 (record { src = 167772161; sport = 80; dst = 167772417; dport = 0; smss = 1095; segments = 1; ssthresh = 65535; window = 65535; timing = Fixed 1000 }) } ∷
+    record { moment = 18420585; command = Flow 1 (record { src = 167772161; sport = 80; dst = 167772417; dport = 0; smss = 1095; segments = 1; ssthresh = 65535; rwnd = 65535; timing = Fixed 1000 }) } ∷
     record { moment = 18420585; command = Add (record { number = 2; action = Pipe 3; proto = AnyProtocol; src = record { address = 0; len = 0 }; sports = None; dst = address_span 167772416 24; dports = None }) } ∷
     record { moment = 18420585; command = Add (record { number = 2; action = Pipe 1; proto = OnlyUdp; src = address_span 167772160 8; sports = None; dst = address_span 3232235520 16; dports = None }) } ∷
     record { moment = 18420585; command = Stop 1 } ∷
     record { moment = 18420585; command = Inject (record { proto = Udp; src = 167772161; sport = 1; dst = 167772417; dport = 65535; size = 1460 }) } ∷
-    record { moment = 18420585; command = Flow 65535 (record { src = 167772162; sport = 1; dst = 167772418; dport = 0; smss = 536; segments = 2; ssthresh = 2000; window = 65535; timing = Adaptive }) } ∷
+    record { moment = 18420585; command = Flow 65535 (record { src = 167772162; sport = 1; dst = 167772418; dport = 0; smss = 536; segments = 2; ssthresh = 2000; rwnd = 65535; timing = Adaptive }) } ∷
     record { moment = 18420585; command = Show } ∷
     record { moment = 18420585; command = End } ∷
     []
@@ -297,8 +297,8 @@ exp_4-commands =
     record { moment = 0; command = Config 2 (record { bw = 997; delay = 10; queue = Slots 2; plr = 500000; mask = record { proto = 0; src = 1; dst = 3; sport = 0; dport = 255 }; discipline = TailDrop }) } ∷
     record { moment = 0; command = Add (record { number = 100; action = Pipe 3; proto = AnyProtocol; src = address_span 167772160 24; sports = None; dst = record { address = 0; len = 0 }; dports = None }) } ∷
     record { moment = 0; command = Config 3 (record { bw = 7777777; delay = 10; queue = Slots 3; plr = 0; mask = record { proto = 1; src = 0; dst = 0; sport = 0; dport = 15 }; discipline = ControlledDelay 5000000 100000000 }) } ∷
-    record { moment = 300000000; command = Flow 2 (record { src = 167772161; sport = 2000; dst = 167772418; dport = 2000; smss = 1000; segments = 1; ssthresh = 65535; window = 65535; timing = Fixed 1000 }) } ∷
-    record { moment = 300000000; command = Flow 300 (record { src = 167772161; sport = 65535; dst = 167772418; dport = 1000; smss = 64; segments = 1; ssthresh = 1000000000; window = 65535; timing = Fixed 1000 }) } ∷
+    record { moment = 300000000; command = Flow 2 (record { src = 167772161; sport = 2000; dst = 167772418; dport = 2000; smss = 1000; segments = 1; ssthresh = 65535; rwnd = 65535; timing = Fixed 1000 }) } ∷
+    record { moment = 300000000; command = Flow 300 (record { src = 167772161; sport = 65535; dst = 167772418; dport = 1000; smss = 64; segments = 1; ssthresh = 1000000000; rwnd = 65535; timing = Fixed 1000 }) } ∷
     record { moment = 1500000000; command = Config 4 (record { bw = 10000000000; delay = 1; queue = Slots 50; plr = 1000000; mask = record { proto = 0; src = 0; dst = 0; sport = 0; dport = 0 }; discipline = ControlledDelay 1000 2000000 }) } ∷
     record { moment = 1500080000; command = Inject (record { proto = Udp; src = 167772161; sport = 0; dst = 167772417; dport = 80; size = 1499 }) } ∷
     record { moment = 1600000000; command = Inject (record { proto = Udp; src = 167772161; sport = 1000; dst = 167772417; dport = 7; size = 40 }) } ∷
@@ -365,11 +365,11 @@ exp_5-commands =
     record { moment = 0; command = Add (record { number = 100; action = Pipe 3; proto = AnyProtocol; src = address_span 167772160 24; sports = None; dst = record { address = 0; len = 0 }; dports = None }) } ∷
     record { moment = 0; command = OnePass false } ∷
     record { moment = 0; command = Add (record { number = 400; action = SkipTo 65535; proto = OnlyUdp; src = record { address = 0; len = 0 }; sports = None; dst = address_span 167772162 31; dports = Some (record { first = 2000; last = 65535 }) }) } ∷
-    record { moment = 0; command = Flow 65535 (record { src = 167772162; sport = 2000; dst = 167772418; dport = 1; smss = 536; segments = 4; ssthresh = 1000000000; window = 65535; timing = Fixed 1000 }) } ∷
+    record { moment = 0; command = Flow 65535 (record { src = 167772162; sport = 2000; dst = 167772418; dport = 1; smss = 536; segments = 4; ssthresh = 1000000000; rwnd = 65535; timing = Fixed 1000 }) } ∷
     record { moment = 300000000; command = PipeDelete 2 } ∷
     record { moment = 1000000000; command = Config 4 (record { bw = 1000000; delay = 400; queue = Slots 50; plr = 50000; mask = record { proto = 0; src = 0; dst = 0; sport = 0; dport = 0 }; discipline = TailDrop }) } ∷
     record { moment = 1700000000; command = Config 3 (record { bw = 997; delay = 0; queue = Slots 3; plr = 0; mask = record { proto = 255; src = 4294967295; dst = 4294967295; sport = 65535; dport = 65535 }; discipline = ControlledDelay 20000000 7000000 }) } ∷
-    record { moment = 2000000500; command = Flow 3 (record { src = 167772161; sport = 7; dst = 167772418; dport = 7; smss = 1460; segments = 4; ssthresh = 1000000000; window = 10000; timing = Adaptive }) } ∷
+    record { moment = 2000000500; command = Flow 3 (record { src = 167772161; sport = 7; dst = 167772418; dport = 7; smss = 1460; segments = 4; ssthresh = 1000000000; rwnd = 10000; timing = Adaptive }) } ∷
     record { moment = 2000000500; command = Stop 3 } ∷
     record { moment = 2000000500; command = End } ∷
     []
@@ -529,10 +529,10 @@ exp_8-commands =
     record { moment = 0; command = Add (record { number = 100; action = Pipe 3; proto = AnyProtocol; src = address_span 167772160 24; sports = None; dst = record { address = 0; len = 0 }; dports = None }) } ∷
     record { moment = 0; command = Config 2 (record { bw = 997; delay = 0; queue = KBytes 1; plr = 0; mask = record { proto = 0; src = 0; dst = 0; sport = 0; dport = 0 }; discipline = ControlledDelay 1000000 100000000 }) } ∷
     record { moment = 0; command = Config 4 (record { bw = 1000000; delay = 1200; queue = Slots 10; plr = 0; mask = record { proto = 255; src = 0; dst = 0; sport = 65535; dport = 15 }; discipline = ControlledDelay 3000000 100000000 }) } ∷
-    record { moment = 0; command = Flow 300 (record { src = 167772161; sport = 80; dst = 167772418; dport = 1000; smss = 1096; segments = 6; ssthresh = 65535; window = 65535; timing = Fixed 200 }) } ∷
-    record { moment = 0; command = Flow 5 (record { src = 167772161; sport = 7; dst = 167772418; dport = 2000; smss = 1095; segments = 1; ssthresh = 4000; window = 65535; timing = Adaptive }) } ∷
+    record { moment = 0; command = Flow 300 (record { src = 167772161; sport = 80; dst = 167772418; dport = 1000; smss = 1096; segments = 6; ssthresh = 65535; rwnd = 65535; timing = Fixed 200 }) } ∷
+    record { moment = 0; command = Flow 5 (record { src = 167772161; sport = 7; dst = 167772418; dport = 2000; smss = 1095; segments = 1; ssthresh = 4000; rwnd = 65535; timing = Adaptive }) } ∷
     record { moment = 10000000; command = Train 65535 (record { packet = record { proto = Tcp; src = 167772162; sport = 1; dst = 167772418; dport = 7; size = 1460 }; count = 2; gap = 3333333 }) } ∷
-    record { moment = 10000000; command = Flow 3 (record { src = 167772417; sport = 1; dst = 3232237321; dport = 65535; smss = 1096; segments = 4; ssthresh = 4000; window = 65535; timing = Fixed 1000 }) } ∷
+    record { moment = 10000000; command = Flow 3 (record { src = 167772417; sport = 1; dst = 3232237321; dport = 65535; smss = 1096; segments = 4; ssthresh = 4000; rwnd = 65535; timing = Fixed 1000 }) } ∷
     record { moment = 10000000; command = Train 65535 (record { packet = record { proto = Tcp; src = 167772161; sport = 1000; dst = 167772418; dport = 7; size = 1040 }; count = 1; gap = 10000000 }) } ∷
     record { moment = 10000000; command = PipeShow } ∷
     record { moment = 10000000; command = Show } ∷
@@ -613,7 +613,7 @@ exp_9-commands =
     record { moment = 0; command = Config 1 (record { bw = 3000000; delay = 1200; queue = Slots 2; plr = 500000; mask = record { proto = 0; src = 0; dst = 0; sport = 0; dport = 0 }; discipline = TailDrop }) } ∷
     record { moment = 0; command = Config 2 (record { bw = 10000000000; delay = 0; queue = KBytes 10; plr = 0; mask = record { proto = 255; src = 4294967295; dst = 4294967295; sport = 65535; dport = 65535 }; discipline = ControlledDelay 5000000 20000000 }) } ∷
     record { moment = 0; command = Train 5 (record { packet = record { proto = Tcp; src = 167772162; sport = 80; dst = 167772418; dport = 0; size = 500 }; count = 3; gap = 999 }) } ∷
-    record { moment = 0; command = Flow 2 (record { src = 167772161; sport = 0; dst = 167772417; dport = 80; smss = 1000; segments = 1; ssthresh = 1; window = 65535; timing = Fixed 1000 }) } ∷
+    record { moment = 0; command = Flow 2 (record { src = 167772161; sport = 0; dst = 167772417; dport = 80; smss = 1000; segments = 1; ssthresh = 1; rwnd = 65535; timing = Fixed 1000 }) } ∷
     record { moment = 10000000; command = End } ∷
     []
 

@@ -30,7 +30,7 @@ exp_0-commands =
     record { moment = 0; command = Config 4 (record { bw = 1000000; delay = 1; queue = Slots 50; plr = 0; mask = record { proto = 255; src = 4294967295; dst = 4294967295; sport = 65535; dport = 65535 }; discipline = ControlledDelay 20000000 100000000 }) } ∷
     record { moment = 0; command = OnePass false } ∷
     record { moment = 0; command = Config 1 (record { bw = 3000000; delay = 400; queue = Slots 3; plr = 0; mask = record { proto = 0; src = 0; dst = 0; sport = 0; dport = 0 }; discipline = ControlledDelay 20000000 1000000000 }) } ∷
-    record { moment = 0; command = Flow 2 (record { src = 3232237321; sport = 1; dst = 167772161; dport = 65535; smss = 536; segments = 1; ssthresh = 65535; window = 10000; timing = Fixed 1000 }) } ∷
+    record { moment = 0; command = Flow 2 (record { src = 3232237321; sport = 1; dst = 167772161; dport = 65535; smss = 536; segments = 1; ssthresh = 65535; rwnd = 10000; timing = Fixed 1000 }) } ∷
     record { moment = 40195388; command = PipeDelete 1 } ∷
     record { moment = 40195388; command = Trace true } ∷
     record { moment = 40195388; command = Delete 65535 } ∷
@@ -110,7 +110,7 @@ exp_1-commands =
     record { moment = 0; command = Config 1 (record { bw = 10000000; delay = 0; queue = Slots 50; plr = 50000; mask = record { proto = 0; src = 0; dst = 0; sport = 0; dport = 0 }; discipline = ControlledDelay 1000000 20000000 }) } ∷
     record { moment = 0; command = Config 2 (record { bw = 8000000; delay = 1; queue = Slots 10; plr = 1; mask = record { proto = 0; src = 0; dst = 0; sport = 0; dport = 0 }; discipline = TailDrop }) } ∷
     record { moment = 400000000; command = Train 3 (record { packet = record { proto = Tcp; src = 167772161; sport = 0; dst = 167772418; dport = 1000; size = 999 }; count = 2; gap = 1000000 }) } ∷
-    record { moment = 400000000; command = Flow 2 (record { src = 167772162; sport = 2000; dst = 167772417; dport = 65535; smss = 1095; segments = 2; ssthresh = 8000; window = 65535; timing = Adaptive }) } ∷
+    record { moment = 400000000; command = Flow 2 (record { src = 167772162; sport = 2000; dst = 167772417; dport = 65535; smss = 1095; segments = 2; ssthresh = 8000; rwnd = 65535; timing = Adaptive }) } ∷
     record { moment = 400000000; command = Stop 2 } ∷
     record { moment = 1000000000; command = Config 4 (record { bw = 0; delay = 5; queue = KBytes 2; plr = 0; mask = record { proto = 0; src = 0; dst = 0; sport = 0; dport = 0 }; discipline = TailDrop }) } ∷
     record { moment = 2000000000; command = Train 4 (record { packet = record { proto = Tcp; src = 167772162; sport = 1000; dst = 167772418; dport = 7; size = 500 }; count = 5; gap = 1000000 }) } ∷
@@ -173,7 +173,7 @@ exp_2-commands =
     record { moment = 0; command = Add (record { number = 300; action = Pipe 3; proto = AnyProtocol; src = address_span 167772160 24; sports = None; dst = address_span 3232235520 16; dports = Some (record { first = 0; last = 80 }) }) } ∷
     record { moment = 0; command = Add (record { number = 100; action = Pipe 1; proto = AnyProtocol; src = address_span 167772160 24; sports = None; dst = record { address = 0; len = 0 }; dports = None }) } ∷
     record { moment = 0; command = Config 3 (record { bw = 3000000; delay = 1200; queue = Slots 3; plr = 0; mask = record { proto = 0; src = 0; dst = 0; sport = 0; dport = 0 }; discipline = ControlledDelay 100000 1000 }) } ∷
-    record { moment = 0; command = Flow 5 (record { src = 167772161; sport = 1; dst = 167772418; dport = 1000; smss = 536; segments = 4; ssthresh = 4000; window = 65535; timing = Adaptive }) } ∷
+    record { moment = 0; command = Flow 5 (record { src = 167772161; sport = 1; dst = 167772418; dport = 1000; smss = 536; segments = 4; ssthresh = 4000; rwnd = 65535; timing = Adaptive }) } ∷
     record { moment = 5000000000; command = PipeShow } ∷
     record { moment = 5000000000; command = Show } ∷
     record { moment = 5000000000; command = End } ∷
@@ -232,15 +232,15 @@ exp_3-commands =
     record { moment = 0; command = Add (record { number = 200; action = Pipe 1; proto = AnyProtocol; src = record { address = 0; len = 0 }; sports = None; dst = record { address = 0; len = 0 }; dports = None }) } ∷
     record { moment = 0; command = Config 4 (record { bw = 10000000; delay = 5; queue = KBytes 2; plr = 1000000; mask = record { proto = 0; src = 0; dst = 0; sport = 0; dport = 0 }; discipline = TailDrop }) } ∷
     record { moment = 0; command = Config 1 (record { bw = 0; delay = 50; queue = Slots 50; plr = 500000; mask = record { proto = 0; src = 0; dst = 0; sport = 0; dport = 0 }; discipline = TailDrop }) } ∷
-    record { moment = 0; command = Flow 2 (record { src = 167772161; sport = 1; dst = 167772418; dport = 7; smss = 1095; segments = 1; ssthresh = 65535; window = 65535; timing = Fixed 60000 }) } ∷
+    record { moment = 0; command = Flow 2 (record { src = 167772161; sport = 1; dst = 167772418; dport = 7; smss = 1095; segments = 1; ssthresh = 65535; rwnd = 65535; timing = Fixed 60000 }) } ∷
     record { moment = 0; command = Inject (record { proto = Udp; src = 167772162; sport = 80; dst = 167772417; dport = 7; size = 1500 }) } ∷
     record { moment = 108000000; command = Inject (record { proto = Tcp; src = 167772161; sport = 0; dst = 167772418; dport = 80; size = 999 }) } ∷
     record { moment = 108000000; command = Config 3 (record { bw = 0; delay = 2; queue = Slots 50; plr = 0; mask = record { proto = 0; src = 0; dst = 0; sport = 0; dport = 0 }; discipline = ControlledDelay 5000000 10000000 }) } ∷
     record { moment = 1000000000; command = Config 3 (record { bw = 0; delay = 1; queue = Slots 50; plr = 50000; mask = record { proto = 0; src = 0; dst = 0; sport = 0; dport = 0 }; discipline = ControlledDelay 5000000 100000000 }) } ∷
     record { moment = 1000000000; command = PipeDelete 2 } ∷
     record { moment = 1008000000; command = Train 4 (record { packet = record { proto = Tcp; src = 167772162; sport = 7; dst = 167772418; dport = 2000; size = 1460 }; count = 1; gap = 0 }) } ∷
-    record { moment = 1008000000; command = Flow 300 (record { src = 167772418; sport = 1; dst = 167772161; dport = 2000; smss = 1095; segments = 2; ssthresh = 65535; window = 65535; timing = Fixed 200 }) } ∷
-    record { moment = 1115996566; command = Flow 2 (record { src = 167772418; sport = 7; dst = 167772161; dport = 0; smss = 1460; segments = 3; ssthresh = 4000; window = 65535; timing = Fixed 1000 }) } ∷
+    record { moment = 1008000000; command = Flow 300 (record { src = 167772418; sport = 1; dst = 167772161; dport = 2000; smss = 1095; segments = 2; ssthresh = 65535; rwnd = 65535; timing = Fixed 200 }) } ∷
+    record { moment = 1115996566; command = Flow 2 (record { src = 167772418; sport = 7; dst = 167772161; dport = 0; smss = 1460; segments = 3; ssthresh = 4000; rwnd = 65535; timing = Fixed 1000 }) } ∷
     record { moment = 1115996566; command = Config 4 (record { bw = 3000000; delay = 10; queue = Slots 5; plr = 0; mask = record { proto = 0; src = 0; dst = 0; sport = 0; dport = 0 }; discipline = TailDrop }) } ∷
     record { moment = 30000000000; command = PipeShow } ∷
     record { moment = 30000000000; command = Show } ∷
@@ -346,7 +346,7 @@ exp_5-commands =
     record { moment = 0; command = Add (record { number = 200; action = Pipe 2; proto = AnyProtocol; src = record { address = 0; len = 0 }; sports = None; dst = record { address = 0; len = 0 }; dports = None }) } ∷
     record { moment = 0; command = Add (record { number = 100; action = Pipe 1; proto = AnyProtocol; src = address_span 167772160 24; sports = None; dst = record { address = 0; len = 0 }; dports = None }) } ∷
     record { moment = 0; command = OnePass false } ∷
-    record { moment = 0; command = Flow 300 (record { src = 167772162; sport = 65535; dst = 167772417; dport = 80; smss = 1096; segments = 4; ssthresh = 65535; window = 65535; timing = Adaptive }) } ∷
+    record { moment = 0; command = Flow 300 (record { src = 167772162; sport = 65535; dst = 167772417; dport = 80; smss = 1096; segments = 4; ssthresh = 65535; rwnd = 65535; timing = Adaptive }) } ∷
     record { moment = 0; command = Train 1 (record { packet = record { proto = Udp; src = 167772162; sport = 65535; dst = 167772417; dport = 1; size = 41 }; count = 2; gap = 2000000 }) } ∷
     record { moment = 120000000; command = Add (record { number = 200; action = Count; proto = AnyProtocol; src = record { address = 0; len = 0 }; sports = None; dst = record { address = 0; len = 0 }; dports = None }) } ∷
     record { moment = 120000500; command = Train 4 (record { packet = record { proto = Udp; src = 167772162; sport = 1000; dst = 167772417; dport = 1000; size = 1460 }; count = 2; gap = 1000000 }) } ∷
@@ -418,7 +418,7 @@ exp_6-commands =
     record { moment = 4000000000; command = Delete 1 } ∷
     record { moment = 13000000000; command = Inject (record { proto = Tcp; src = 167772162; sport = 80; dst = 167772417; dport = 7; size = 1000 }) } ∷
     record { moment = 13000000000; command = Add (record { number = 100; action = SkipTo 65535; proto = OnlyUdp; src = record { address = 0; len = 0 }; sports = None; dst = record { address = 0; len = 0 }; dports = None }) } ∷
-    record { moment = 14000000001; command = Flow 65535 (record { src = 3232237321; sport = 0; dst = 167772161; dport = 65535; smss = 460; segments = 6; ssthresh = 1000; window = 3000; timing = Fixed 25 }) } ∷
+    record { moment = 14000000001; command = Flow 65535 (record { src = 3232237321; sport = 0; dst = 167772161; dport = 65535; smss = 460; segments = 6; ssthresh = 1000; rwnd = 3000; timing = Fixed 25 }) } ∷
     record { moment = 100000000000; command = PipeShow } ∷
     record { moment = 100000000000; command = Show } ∷
     record { moment = 100000000000; command = End } ∷
@@ -500,10 +500,10 @@ exp_7-commands =
     record { moment = 0; command = Config 1 (record { bw = 10000000000; delay = 0; queue = Slots 50; plr = 0; mask = record { proto = 0; src = 0; dst = 0; sport = 0; dport = 0 }; discipline = TailDrop }) } ∷
     record { moment = 0; command = Config 4 (record { bw = 8000000; delay = 10; queue = Slots 3; plr = 200000; mask = record { proto = 0; src = 0; dst = 0; sport = 0; dport = 0 }; discipline = ControlledDelay 1000000 1000 }) } ∷
     record { moment = 0; command = Config 3 (record { bw = 0; delay = 10; queue = Slots 5; plr = 0; mask = record { proto = 0; src = 0; dst = 0; sport = 0; dport = 0 }; discipline = ControlledDelay 3000000 100000000 }) } ∷
-    record { moment = 0; command = Flow 4 (record { src = 4294967295; sport = 80; dst = 0; dport = 80; smss = 1000; segments = 5; ssthresh = 65535; window = 65535; timing = Adaptive }) } ∷
+    record { moment = 0; command = Flow 4 (record { src = 4294967295; sport = 80; dst = 0; dport = 80; smss = 1000; segments = 5; ssthresh = 65535; rwnd = 65535; timing = Adaptive }) } ∷
     record { moment = 0; command = Inject (record { proto = Udp; src = 167772161; sport = 2000; dst = 167772417; dport = 7; size = 41 }) } ∷
     record { moment = 0; command = Add (record { number = 1; action = Pipe 3; proto = OnlyTcp; src = record { address = 0; len = 0 }; sports = Some (record { first = 2000; last = 2000 }); dst = address_span 3232235520 16; dports = None }) } ∷
-    record { moment = 80000; command = Flow 1 (record { src = 167772161; sport = 0; dst = 167772418; dport = 1000; smss = 1096; segments = 1; ssthresh = 65535; window = 65535; timing = Fixed 1000 }) } ∷
+    record { moment = 80000; command = Flow 1 (record { src = 167772161; sport = 0; dst = 167772418; dport = 1000; smss = 1096; segments = 1; ssthresh = 65535; rwnd = 65535; timing = Fixed 1000 }) } ∷
     record { moment = 13057781992; command = Train 4 (record { packet = record { proto = Tcp; src = 0; sport = 1; dst = 167772417; dport = 1000; size = 1499 }; count = 3; gap = 125000 }) } ∷
     record { moment = 13057781992; command = End } ∷
     []
@@ -570,7 +570,7 @@ exp_8-commands =
     record { moment = 0; command = Add (record { number = 400; action = Count; proto = OnlyUdp; src = address_span 167772162 31; sports = Some (record { first = 65535; last = 65535 }); dst = address_span 167772416 24; dports = None }) } ∷
     record { moment = 57345230; command = Inject (record { proto = Udp; src = 167772162; sport = 65535; dst = 167772417; dport = 7; size = 40 }) } ∷
     record { moment = 110000000; command = Inject (record { proto = Udp; src = 167772162; sport = 65535; dst = 167772418; dport = 1; size = 1499 }) } ∷
-    record { moment = 110000000; command = Flow 3 (record { src = 167772161; sport = 65535; dst = 167772417; dport = 1000; smss = 1000; segments = 1; ssthresh = 2000; window = 65535; timing = Fixed 200 }) } ∷
+    record { moment = 110000000; command = Flow 3 (record { src = 167772161; sport = 65535; dst = 167772417; dport = 1000; smss = 1000; segments = 1; ssthresh = 2000; rwnd = 65535; timing = Fixed 200 }) } ∷
     record { moment = 110000000; command = Stop 5 } ∷
     record { moment = 110080000; command = Train 5 (record { packet = record { proto = Udp; src = 167772417; sport = 65535; dst = 167772162; dport = 7; size = 1460 }; count = 3; gap = 2000000 }) } ∷
     record { moment = 200080000; command = Inject (record { proto = Tcp; src = 167772161; sport = 1; dst = 167772162; dport = 1000; size = 40 }) } ∷
@@ -648,7 +648,7 @@ exp_9-commands =
     record { moment = 0; command = Add (record { number = 1; action = Pipe 2; proto = OnlyTcp; src = record { address = 0; len = 0 }; sports = Some (record { first = 1000; last = 2000 }); dst = address_span 167772162 31; dports = None }) } ∷
     record { moment = 0; command = Inject (record { proto = Udp; src = 167772161; sport = 1000; dst = 167772417; dport = 2000; size = 1000 }) } ∷
     record { moment = 0; command = Train 2 (record { packet = record { proto = Tcp; src = 167772161; sport = 65535; dst = 167772418; dport = 65535; size = 125 }; count = 2; gap = 1 }) } ∷
-    record { moment = 0; command = Flow 1 (record { src = 167772162; sport = 1000; dst = 167772418; dport = 1; smss = 1460; segments = 2; ssthresh = 65535; window = 65535; timing = Fixed 1000 }) } ∷
+    record { moment = 0; command = Flow 1 (record { src = 167772162; sport = 1000; dst = 167772418; dport = 1; smss = 1460; segments = 2; ssthresh = 65535; rwnd = 65535; timing = Fixed 1000 }) } ∷
     record { moment = 285184030; command = Train 1 (record { packet = record { proto = Udp; src = 167772162; sport = 80; dst = 167772418; dport = 1; size = 999 }; count = 2; gap = 2000000 }) } ∷
     record { moment = 1600000001; command = Inject (record { proto = Tcp; src = 167772161; sport = 2000; dst = 167772418; dport = 2000; size = 41 }) } ∷
     record { moment = 1600000001; command = End } ∷

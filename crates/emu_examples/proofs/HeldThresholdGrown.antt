@@ -23,7 +23,7 @@ exp_0-commands =
     record { moment = 0; command = Config 2 (record { bw = 320000; delay = 10; queue = Slots 50; plr = 0; mask = record { proto = 0; src = 0; dst = 0; sport = 0; dport = 0 }; discipline = TailDrop }) } ∷
     record { moment = 0; command = Add (record { number = 100; action = Pipe 1; proto = OnlyTcp; src = address_span 167772161 32; sports = None; dst = address_span 167772162 32; dports = None }) } ∷
     record { moment = 0; command = Add (record { number = 200; action = Pipe 2; proto = OnlyTcp; src = address_span 167772162 32; sports = None; dst = address_span 167772161 32; dports = None }) } ∷
-    record { moment = 0; command = Flow 1 (record { src = 167772161; sport = 1000; dst = 167772162; dport = 80; smss = 1000; segments = 20; ssthresh = 65535; window = 65535; timing = Fixed 1000 }) } ∷
+    record { moment = 0; command = Flow 1 (record { src = 167772161; sport = 1000; dst = 167772162; dport = 80; smss = 1000; segments = 20; ssthresh = 65535; rwnd = 65535; timing = Fixed 1000 }) } ∷
     record { moment = 15000000; command = Config 1 (record { bw = 0; delay = 1010; queue = Slots 50; plr = 0; mask = record { proto = 0; src = 0; dst = 0; sport = 0; dport = 0 }; discipline = TailDrop }) } ∷
     record { moment = 20500000; command = Add (record { number = 50; action = Deny; proto = OnlyTcp; src = address_span 167772161 32; sports = None; dst = record { address = 0; len = 0 }; dports = None }) } ∷
     record { moment = 21500000; command = Delete 50 } ∷

@@ -141,7 +141,7 @@ flow = record {
   smss = 1000;
   segments = 20;
   ssthresh = 6000;
-  window = 65535;
+  rwnd = 65535;
   timing = Fixed 40000;
 }
 

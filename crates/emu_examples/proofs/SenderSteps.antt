@@ -15,7 +15,7 @@ flow = record {
   smss = 1000;
   segments = 20;
   ssthresh = 6000;
-  window = 65535;
+  rwnd = 65535;
   timing = Fixed 40000;
 }
 
@@ -103,10 +103,10 @@ just_room = refl
 no_room : may_emit flow (at_top 6999) ≡ false
 no_room = refl
 
-just_the_receivers_window : may_emit (record flow { window = 7000 }) (at_top 8000) ≡ true
+just_the_receivers_window : may_emit (record flow { rwnd = 7000 }) (at_top 8000) ≡ true
 just_the_receivers_window = refl
 
-past_the_receivers_window : may_emit (record flow { window = 6999 }) (at_top 8000) ≡ false
+past_the_receivers_window : may_emit (record flow { rwnd = 6999 }) (at_top 8000) ≡ false
 past_the_receivers_window = refl
 
 last_segment : may_emit flow (record (at_top 30000) { snd_nxt = 19000 }) ≡ true

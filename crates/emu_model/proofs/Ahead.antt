@@ -5,11 +5,12 @@ use Rattle.std.specs.List.{AllByRecursion}
 use Rattle.std.proofs.Math.Nat.{div-eq_of_lt, div-mul-le_self}
 use Rattle.std.proofs.lemmas.Nat.{le-div}
 use Rattle.std.proofs.lemmas.Bool.{ltb-true, lt-ltb}
+use Rattle.emu_model.specs.Moments.{milliseconds}
 use Rattle.emu_model.specs.Types.{Spec, Timed, Packet, Class, NextCommand, Exit, Finish, Expiry, Emission, PipeConfig, FlowSpec, Lost, Full, Command, Add, Delete, Config, PipeDelete, PipeShow, Show, Inject, Train, Flow, Stop, OnePass, Trace, End}
 use Rattle.emu_model.specs.declared.sources.Due.{Due}
 use Rattle.emu_model.specs.Lists.{tail}
 use Rattle.emu_model.specs.Rate.{div_ceil, finish_at, Period, follow, begin, cut_period}
-use Rattle.emu_model.specs.Delay.{exit_after, Leaving, Line, enter, leave, delay_ns}
+use Rattle.emu_model.specs.Delay.{exit_after, Leaving, Line, enter, leave}
 use Rattle.emu_model.specs.Reno.{Sender, ack, ack_new, ack_duplicate, is_new, is_duplicate, enter_recovery, emit, started_timer, round_trip, timeout_after, bounded}
 use Rattle.emu_model.specs.DropTail.{Waiting, accepts}
 use Rattle.emu_model.specs.Codel.{Dequeued}
@@ -175,7 +176,7 @@ pipe_arrive-ahead seed now packet p h =
 send_off-ahead : (config : PipeConfig) (now : ℕ) (o : Option (InService Packet)) (l : Line Packet) → LineAhead now l →
     LineAhead now (send_off config now o l)
 send_off-ahead config now None l h = h
-send_off-ahead config now (Some s) l h = entered-ahead now (delay_ns config.delay) s.item l h
+send_off-ahead config now (Some s) l h = entered-ahead now (milliseconds config.delay) s.item l h
 
 pipe_finish-ahead : (now k : ℕ) (p : PipeState) → PipeAhead now p → PipeAhead now (pipe_finish now k p).state
 pipe_finish-ahead now k p h =

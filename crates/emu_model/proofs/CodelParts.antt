@@ -1,9 +1,9 @@
 -- A dequeue by parts: its head apart from what is behind it, as code and proofs go along the list. `by_parts` says
 -- that they are the definition's.
-use Rattle.std.proofs.Common.{◌≡◌, ℕ, zero, suc, ◌+◌, ◌-◌, ◌*◌, ◌<◌, refl, sym, ap, ◌∙◌, subst, Bool, true, false, Option, Some, None, List, [], ◌∷◌, length, arith}
+use Rattle.std.proofs.Common.{◌≡◌, ℕ, zero, suc, ◌+◌, ◌-◌, ◌<◌, refl, ap, ◌∙◌, Bool, true, false, Some, None, List, [], ◌∷◌, length, arith}
 use Rattle.std.specs.Prelude.{◌||◌, not, ◌==◌, nat_lt, nat_le, if◌then◌else◌}
 use Rattle.emu_model.specs.DropTail.{Waiting, bytes_of}
-use Rattle.emu_model.specs.Codel.{Times, CodelState, DodequeueResult, Dequeued, maxpacket, with_above, answer, dodequeue, give, after_drop, count_up, leave_drop_state, set_drop_next, schedule_next, while_dropping, enter_drop_state, drop_first, codel_dequeue, control_law}
+use Rattle.emu_model.specs.Codel.{Times, CodelState, DodequeueResult, Dequeued, maxpacket, with_above, answer, dodequeue, give, after_drop, count_up, leave_drop_state, schedule_next, while_dropping, enter_drop_state, drop_first, codel_dequeue, control_law}
 
 -- the head's stay is short, or what is left behind it is no more than one greatest packet
 abbrev pub is_short : {A : Type 0} → Times → ℕ → Waiting A → List (Waiting A) → Bool

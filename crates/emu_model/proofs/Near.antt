@@ -4,10 +4,11 @@ use Rattle.std.specs.Prelude.{if◌then◌else◌, is_some, slice_get, option_ma
 use Rattle.std.specs.List.{AllByRecursion}
 use Rattle.std.proofs.Math.Nat.{add-mul-div_right}
 use Rattle.std.proofs.lemmas.Nat.{mul-le}
+use Rattle.emu_model.specs.Moments.{milliseconds}
 use Rattle.emu_model.specs.Types.{Packet, Discipline, TailDrop, ControlledDelay, PipeConfig, Lost, Full}
 use Rattle.emu_model.specs.Lists.{tail}
 use Rattle.emu_model.specs.Rate.{finish_at, Period, follow, cut_period}
-use Rattle.emu_model.specs.Delay.{exit_after, Leaving, Line, enter, leave, first_item, delay_ns}
+use Rattle.emu_model.specs.Delay.{exit_after, Leaving, Line, enter, leave, first_item}
 use Rattle.emu_model.specs.DropTail.{Waiting, accepts}
 use Rattle.emu_model.specs.Codel.{CodelState, Dequeued}
 use Rattle.emu_model.specs.Pipes.{InService, Instance, PipeState, After, dequeue, period_with, serve_next, no_drop, drop_one, enqueue, accept, drawn_one, instance_arrive, pipe_arrive, send_off, instance_finish, pipe_finish, pipe_exit, instance_configure, pipe_configure, cut_service}
@@ -205,7 +206,7 @@ send_off-near : (config : PipeConfig) (now bw : ℕ) (o : Option (InService Pack
     ServiceNear now bw o → LineNear now l → LineNear now (send_off config now o l)
 send_off-near config now bw None l d s h = h
 send_off-near config now bw (Some x) l d s h =
-    entered-near now (delay_ns config.delay) x.item l (omega (arith, d)) s.packet h
+    entered-near now (milliseconds config.delay) x.item l (omega (arith, d)) s.packet h
 
 -- where what instance k serves has finished by now
 pub pipe_finish-near : (now k : ℕ) (p : PipeState) →

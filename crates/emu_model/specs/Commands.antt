@@ -3,7 +3,7 @@ use Rattle.std.specs.Prelude.{ℕ, ◌+◌, ◌-◌, ◌^◌, min, Bool, true, f
 use Rattle.std.specs.List.{list_any}
 use Rattle.std.specs.Option.{option_map_or}
 use Rattle.emu_model.specs.Lists.{remove_first}
-use Rattle.emu_model.specs.Types.{Plain, PipeConfig, Command, Add, Delete, Config, PipeDelete, PipeShow, Show, Inject, Train, Flow, Stop, OnePass, Trace, End, TrainSpec, FlowSpec, Deleted, Refusal, NoSuchPipe, MaskFixed, FlowThere, NoFlow, TooManyPipes, TooManyFlows, Record, CommandDone, CommandRefused, RuleLine, PipeLine, InstanceLine}
+use Rattle.emu_model.specs.Types.{Plain, PipeConfig, Timed, Command, Add, Delete, Config, PipeDelete, PipeShow, Show, Inject, Train, Flow, Stop, OnePass, Trace, End, TrainSpec, FlowSpec, Deleted, Refusal, NoSuchPipe, MaskFixed, FlowThere, NoFlow, TooManyPipes, TooManyFlows, Record, CommandDone, CommandRefused, RuleLine, PipeLine, InstanceLine}
 use Rattle.emu_model.specs.Rules.{add_refusal, delete_refusal, book_with, book_without}
 use Rattle.emu_model.specs.DropTail.{bytes_of}
 use Rattle.emu_model.specs.Reno.{initial_sender}
@@ -126,3 +126,7 @@ obey at k c n =
 abbrev pub is_end : Command → Bool
 is_end End = true
 is_end _ = false
+
+-- an `end` is among the commands
+abbrev pub has_end : List Timed → Bool
+has_end cs = list_any (λ c. is_end c.command) cs

@@ -1,6 +1,7 @@
 -- Laws on when dues can be (our choice), over the definitions alone.
-use Rattle.std.specs.Prelude.{ℕ, ◌*◌, ◌^◌, ◌≤◌, ◌<◌, List, [], ◌∷◌}
+use Rattle.std.specs.Prelude.{ℕ, ◌^◌, ◌≤◌, List, [], ◌∷◌}
 use Rattle.std.specs.List.{AllByRecursion}
+use Rattle.emu_model.specs.Moments.{IsMoment}
 use Rattle.emu_model.specs.Types.{Spec, Timed, Timing, Fixed, Adaptive, Command, Config, Inject, Train, Flow}
 use Rattle.emu_model.specs.Dues.{dues_of}
 use Rattle.emu_model.specs.Step.{State}
@@ -41,7 +42,7 @@ IsEarly c = (c.moment ≤ 10 ^ 15) × IsInRange c.command
 -- the last event is no later than commands can be, and no due is as late as twice that
 abbrev pub IsBelow : State → Type 0
 IsBelow s =
-    (s.clock ≤ 10 ^ 15) × AllByRecursion (λ d. d.moment < 2 * 10 ^ 15) (dues_of s.clock s.net)
+    (s.clock ≤ 10 ^ 15) × AllByRecursion (λ d. IsMoment d.moment) (dues_of s.clock s.net)
 
 -- where commands are in range and early, and their moments don't fall, all dues are below 2 * 10^15 ns
 abbrev pub DuesStayBelow : Type 0

@@ -1,5 +1,6 @@
 pub mod Spans
 pub mod Types
+pub mod Moments
 pub mod Lists
 pub mod Rules
 pub mod FlowIds

@@ -2,6 +2,7 @@
 
 ghost use Rattle.std.specs.Prelude.{◌≡◌, ◌*◌, ◌^◌, ◌<◌, ◌≤◌, ◌++◌, [], is_some, option_to_list, IfOk, IfSome, OnOk, OnErr};
 ghost use Rattle.std.specs.List.{AllByRecursion};
+ghost use Rattle.emu_model.specs.Moments.{IsMoment};
 ghost use Rattle.emu_model.specs.declared.sources.Class.TheVariants.{NextCommand};
 ghost use Rattle.emu_model.specs.Net.{counters_of};
 ghost use Rattle.emu_model.specs.Dues.{dues_of};
@@ -119,7 +120,7 @@ impl Experiment {
     /// What is due lies not before the moment of the last event, and before 2 * 10^15 ns.
     pub fn dues_in_time(&self)
         ensures { (p : Pocket) → IsAlone p self.now →
-            AllByRecursion (λ d. (self.now.clock ≤ d.moment) × (d.moment < 2 * 10 ^ 15))
+            AllByRecursion (λ d. (self.now.clock ≤ d.moment) × (IsMoment d.moment))
             (dues_in (view p self.now)) }
     {
         let _ = &self.spec;

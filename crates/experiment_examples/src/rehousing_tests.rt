@@ -161,7 +161,7 @@ fn four_segments() -> Option<Command> {
             smss: SegmentSize::new(1460)?,
             segments: Amount::new(4)?,
             ssthresh: Threshold::new(65535)?,
-            window: Window::new(65535)?,
+            rwnd: Window::new(65535)?,
             timing: Timing::Adaptive,
         },
     })

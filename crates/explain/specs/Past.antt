@@ -2,7 +2,7 @@
 use Rattle.std.specs.Prelude.{◌≡◌, ℕ, ◌<◌, false, if◌then◌else◌, List, Option, Some, None}
 use Rattle.std.specs.Str.{bytes_eq}
 use Rattle.emu_model.specs.declared.commands.Command.{Command}
-use Rattle.control.specs.Scenario.{is_end}
+use Rattle.emu_model.specs.Commands.{is_end}
 use Rattle.explain.specs.Lines.{nth_line}
 use Rattle.explain.specs.declared.past.Earlier.{Earlier}
 use Rattle.explain.specs.declared.past.Past.{Past}

@@ -1,7 +1,7 @@
 //! What stood before a line.
 
 ghost use Rattle.std.specs.Prelude.{◌≡◌};
-ghost use Rattle.control.specs.Scenario.{is_end};
+ghost use Rattle.emu_model.specs.Commands.{is_end};
 ghost use Rattle.control_words.specs.Text.{lines};
 ghost use Rattle.explain.specs.Past.{IsPastOf};
 

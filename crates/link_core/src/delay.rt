@@ -1,7 +1,8 @@
 //! A delay line (our choice): what has finished leaves after its delay, in order.
 
 ghost use Rattle.std.specs.Prelude.{◌≡◌, ◌+◌, ◌*◌, ◌^◌, ◌<◌, ◌≤◌, length, map, slice_get, IsOk, OnOk, OnErr};
-ghost use Rattle.emu_model.specs.Delay.{enter as entered, leave as left, empty_line, first_exit, first_item, delay_ns};
+ghost use Rattle.emu_model.specs.Moments.{IsMoment, milliseconds};
+ghost use Rattle.emu_model.specs.Delay.{enter as entered, leave as left, empty_line, first_exit, first_item};
 ghost use Rattle.link_core.specs.Flight.{with_item};
 
 use emu_model::Delay;
@@ -56,9 +57,9 @@ impl<A: Drop> DelayLine<A> {
     /// least 1 ns later, and not before what entered earlier. Where memory is refused the line
     /// stays.
     pub fn enter(&mut self, item: A, finish: u64, delay: Delay) -> Result<(), AllocError>
-        requires { finish < 2 * 10 ^ 15 }
+        requires { IsMoment finish }
         ensures ok { OnOk result
-            (self.new.line ≡ entered item finish (delay_ns delay) self.old.line) }
+            (self.new.line ≡ entered item finish (milliseconds delay) self.old.line) }
         ensures err { OnErr result (self.new.line ≡ self.old.line) }
         ensures succeeds { 0 < self.old.spare → IsOk result }
         ensures room { self.old.spare ≤ self.new.spare + 1 }

@@ -2,6 +2,7 @@
 
 ghost use Rattle.std.specs.Prelude.{◌≡◌, ℕ, ◌*◌, ◌^◌, ◌<◌, Some, None, option_map};
 ghost use Rattle.std.specs.Option.{ForSome};
+ghost use Rattle.emu_model.specs.Moments.{IsMoment};
 ghost use Rattle.emu_model.specs.Rate.{begin as begun, follow as followed, cut_period};
 ghost use Rattle.link_core.specs.Server.{period_at};
 ghost use Rattle.link_core.specs.Served.{period_of, Tells};
@@ -47,7 +48,7 @@ impl Busy {
     /// The period with one packet more: what is left over is served with it.
     fn followed(self, bw: Bandwidth, size: Size) -> Self
         requires tells { Tells bw self }
-        requires early { (period_of self).finish < 2 * 10 ^ 15 }
+        requires early { IsMoment (period_of self).finish }
         ensures period { period_of result ≡ followed bw size (period_of self) }
         ensures tells { Tells bw result }
     {
@@ -97,7 +98,7 @@ impl RateServer {
 
     /// Begins a busy period at `now` (ns) with a packet.
     pub fn start(&mut self, now: u64, size: Size)
-        requires { now < 2 * 10 ^ 15 }
+        requires early { IsMoment now }
         ensures { self.new ≡ record self.old { busy = Some (begun self.old.bw now size) } }
     {
         self.busy = Some(Busy::at(now).followed(self.bw, size));
@@ -105,7 +106,7 @@ impl RateServer {
 
     /// Takes the next packet into service at the finish of the one before. At rest it does nothing.
     pub fn follow(&mut self, size: Size)
-        requires { ForSome self.old.busy (λ p. p.finish < 2 * 10 ^ 15) }
+        requires { ForSome self.old.busy (λ p. IsMoment p.finish) }
         ensures { self.new
             ≡ record self.old { busy = option_map (followed self.old.bw size) self.old.busy } }
     {

@@ -3,6 +3,7 @@ use Rattle.std.proofs.Common.{◌≡◌, ℕ, zero, suc, ◌+◌, ◌<◌, ◌�
 use Rattle.std.specs.Prelude.{if◌then◌else◌, sum_by, option_and_then, slice_get}
 use Rattle.std.specs.List.{last_or}
 use Rattle.std.specs.Option.{option_map_or}
+use Rattle.emu_model.specs.Moments.{milliseconds}
 use Rattle.emu_model.specs.declared.records.Record.{Record}
 use Rattle.std.proofs.lemmas.Bool.{lt-ltb, le-ltb}
 use Rattle.std.proofs.lemmas.List.{length-append, length-map}
@@ -18,7 +19,7 @@ use Rattle.emu_model.specs.declared.rules.Verdict.TheVariants.{OverTheLink, Drop
 use Rattle.emu_model.specs.declared.rules.Rule.{Rule}
 use Rattle.emu_model.specs.declared.sources.SendSpec.{SendSpec}
 use Rattle.emu_model.specs.Rules.{Counted, verdict, verdict_of_match, matches_from, next_match, the_rules, least_match}
-use Rattle.emu_model.specs.Delay.{Line, Leaving, enter, delay_ns}
+use Rattle.emu_model.specs.Delay.{Line, Leaving, enter}
 use Rattle.emu_model.specs.Pipes.{PipeState, pipe_packets}
 use Rattle.emu_model.specs.declared.commands.Setting.{Setting}
 use Rattle.emu_model.specs.Net.{Net, held, note_all, note_drops, note_traced, note_arrival, arrivals, find_pipe, make_record, drop_record, to_direct, enter_pipe, to_pipe, packet_of, make, pass_rules}
@@ -55,10 +56,10 @@ enters-at agree p q n key now packet l h none put line =
     }
 
 pub enters : (agree : ViewsAgree) (p q : Pocket) (n : KeptNet) (key now delay : ℕ) (packet : Packet) (l : Lane ℕ) →
-    IsHoused p n → p.find key ≡ None → q ≡ with_packet p key packet → delay ≡ 0 → l.line ≡ enter key now (delay_ns delay) n.direct.line →
+    IsHoused p n → p.find key ≡ None → q ≡ with_packet p key packet → delay ≡ 0 → l.line ≡ enter key now (milliseconds delay) n.direct.line →
     Becomes 0 (to_direct now packet (net_of p n)) p q n (record n { direct = l })
 enters agree p q n key now delay packet l h none put nought line =
-    enters-at agree p q n key now packet l h none put (line ∙ ap (λ d. enter key now (delay_ns d) n.direct.line) nought)
+    enters-at agree p q n key now packet l h none put (line ∙ ap (λ d. enter key now (milliseconds d) n.direct.line) nought)
 
 -- a packet comes to a pipe, and is taken in, or dropped
 module _ (at : Setting) (p q : Pocket) (n : KeptNet) (t : Table) (k now : ℕ) (packet : Packet) (h : IsHoused p n)

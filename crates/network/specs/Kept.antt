@@ -1,5 +1,6 @@
 -- What is kept of an experiment's rules, pipes and sources, and the net that it shows.
 use Rattle.std.specs.Prelude.{◌≡◌, ℕ, ◌*◌, ◌^◌, ◌<◌, ◌≤◌, Bool, List, ◌++◌, map, length}
+use Rattle.emu_model.specs.Moments.{IsMoment}
 use Rattle.emu_model.specs.Rules.{RuleBook}
 use Rattle.emu_model.specs.Delay.{Line}
 use Rattle.emu_model.specs.declared.commands.Setting.{Setting}
@@ -55,7 +56,7 @@ pub record IsHoused (p : Pocket) (n : KeptNet) : Type 0 where
 
 -- a net at a moment at which an event may come
 pub record Stands (at : Setting) (p : Pocket) (n : KeptNet) : Type 0 where
-  pub early : at.now < 2 * 10 ^ 15
+  pub early : IsMoment at.now
   pub seed : at.seed ≡ n.table.seed
   pub room : at.packet_budget ≤ p.budget
   pub housed : IsHoused p n

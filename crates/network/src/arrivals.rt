@@ -2,6 +2,7 @@
 
 ghost use Rattle.std.specs.Prelude.{◌≡◌, ℕ, ◌+◌, ◌*◌, ◌^◌, ◌<◌, ◌≤◌, ◌∷◌, ◌++◌, [], if◌then◌else◌, OnOk};
 ghost use Rattle.std.specs.Option.{option_map_or};
+ghost use Rattle.emu_model.specs.Moments.{IsMoment};
 ghost use Rattle.packet_store.specs.Pocket.{Pocket, OthersStay, AllStay};
 ghost use Rattle.emu_model.specs.Net.{arrivals, by_verdict, drop_record, enter_pipe as enters_pipe, find_pipe, go_on as goes_on, make as made_of, make_record, packet_of, pass_rules as passes_rules, to_direct as comes_to_direct, to_pipe as comes_to_pipe};
 ghost use Rattle.network.specs.Kept.{net_of, IsHoused, Stands};
@@ -151,7 +152,7 @@ impl Network {
 
     // A packet enters the link of `allow`.
     fn to_direct<S: Shelf>(&mut self, shelf: &mut S, owner: Owner, now: u64, packet: &Packet)
-        requires early { now < 2 * 10 ^ 15 }
+        requires early { IsMoment now }
         requires housed { IsHoused (S.pocket shelf.old owner) self.old }
         requires budget { (S.pocket shelf.old owner).count < (S.pocket shelf.old owner).budget }
         requires room { 0 < S.room shelf.old owner }

@@ -1,6 +1,7 @@
 //! What commands do.
 
 ghost use Rattle.std.specs.Prelude.{◌≡◌, ℕ, ◌+◌, ◌*◌, ◌^◌, ◌<◌, ◌≤◌, ◌++◌, ◌∷◌, [], Some, None, IsOk, IsSome, OnOk, OnErr, map, length};
+ghost use Rattle.emu_model.specs.Moments.{IsMoment};
 ghost use Rattle.emu_model.specs.declared.commands.Command.TheVariants.{Add, Delete, Config, PipeDelete, PipeShow, Show, Inject, Train, Flow, Stop, OnePass, Trace, End};
 ghost use Rattle.emu_model.specs.declared.records.Record.TheVariants.{CommandDone, CommandRefused, RuleLine};
 ghost use Rattle.emu_model.specs.Commands.{obey as obeyed, config_refusal, refusal_of as obey_refusal, source_refusal};
@@ -278,7 +279,7 @@ impl Network {
         source: FlowNumber,
         train: &TrainSpec,
     ) -> Result<(), AllocError>
-        requires early { at.now < 2 * 10 ^ 15 }
+        requires early { IsMoment at.now }
         requires log { 1 < self.old.log.spare }
         ensures ok { OnOk result (Obeys at number (Train source train.now) self.old self.new) }
         ensures room { OnOk result (0 < self.new.log.spare) }

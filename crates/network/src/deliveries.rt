@@ -2,6 +2,7 @@
 
 ghost use Rattle.std.specs.Prelude.{◌≡◌, ℕ, ◌+◌, ◌*◌, ◌^◌, ◌<◌, ◌≤◌, ◌∷◌, [], IsOk, OnOk};
 ghost use Rattle.std.specs.Option.{option_map_or};
+ghost use Rattle.emu_model.specs.Moments.{IsMoment};
 ghost use Rattle.emu_model.specs.declared.packets.Load.TheVariants.{Plain, Seg, Ack};
 ghost use Rattle.emu_model.specs.Net.{deliver as delivered, find_flow, take_ack as acknowledged, take_load};
 ghost use Rattle.packet_store.specs.Pocket.{OthersStay, AllStay};
@@ -160,7 +161,7 @@ impl Network {
 
     // A flow's sender takes an acknowledgement.
     fn take_ack(&mut self, now: u64, flow: FlowNumber, upto: u64)
-        requires early { now < 2 * 10 ^ 15 }
+        requires early { IsMoment now }
         requires log { 0 < self.old.log.spare }
         ensures turns { Turns (λ n. option_map_or (acknowledged now upto n)
             (find_flow flow n) n) self.old self.new }

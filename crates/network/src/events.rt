@@ -2,6 +2,7 @@
 
 ghost use Rattle.std.specs.Prelude.{◌≡◌, ◌+◌, ◌*◌, ◌/◌, ◌%◌, ◌^◌, ◌<◌, ◌≤◌, ◌∷◌, [], Some, None, true, IsOk, OnOk, OnErr, IfSome, OnSome, option_and_then, map, length};
 ghost use Rattle.std.specs.Option.{option_map_or};
+ghost use Rattle.emu_model.specs.Moments.{IsMoment};
 ghost use Rattle.emu_model.specs.declared.sources.Class.TheVariants.{Expiry};
 ghost use Rattle.emu_model.specs.declared.packets.Load.TheVariants.{Plain};
 ghost use Rattle.emu_model.specs.Delay.{first_item, leave};
@@ -380,7 +381,7 @@ impl Network {
 
     // A flow's timer came due.
     fn expire(&mut self, at: Setting, flow: FlowNumber)
-        requires early { at.now < 2 * 10 ^ 15 }
+        requires early { IsMoment at.now }
         requires log { 0 < self.old.log.spare }
         ensures turns { Turns (λ n. option_map_or (expire_flow at n)
             (find_flow flow n) n) self.old self.new }

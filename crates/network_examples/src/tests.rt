@@ -1,6 +1,7 @@
 //! Worked examples: what a net records of a few commands, also where memory is refused once.
 
 ghost use Rattle.std.specs.Prelude.{IsTrue, IfSome, [], ◌≡◌, ◌+◌, ◌*◌, ◌^◌, ◌<◌, ◌≤◌, length};
+ghost use Rattle.emu_model.specs.Moments.{IsMoment};
 ghost use Rattle.emu_model.specs.Dues.{due};
 ghost use Rattle.network.specs.Kept.{net_keys, IsHoused, Stands};
 ghost use Rattle.network.specs.Due.{IsDue};
@@ -91,7 +92,7 @@ fn obeys(
     number: u64,
     command: &Command,
 ) -> bool
-    requires now { now < 2 * 10 ^ 15 }
+    requires early { IsMoment now }
     requires seed { net.old.table.seed ≡ 0 }
     requires room { room ≤ (own_pocket shelf.old).budget }
     requires housed { IsHoused (own_pocket shelf.old) net.old }
@@ -141,7 +142,7 @@ fn goes_on(
     clock: u64,
     end: u64,
 ) -> bool
-    requires end { end < 2 * 10 ^ 15 }
+    requires end { IsMoment end }
     requires seed { net.old.table.seed ≡ 0 }
     requires room { room ≤ (own_pocket shelf.old).budget }
     requires housed { IsHoused (own_pocket shelf.old) net.old }
@@ -288,7 +289,7 @@ fn four_segments() -> Option<FlowSpec> {
         smss: SegmentSize::new(1460)?,
         segments: Amount::new(4)?,
         ssthresh: Threshold::new(65535)?,
-        window: Window::new(65535)?,
+        rwnd: Window::new(65535)?,
         timing: Timing::Adaptive,
     })
 }

@@ -2,6 +2,7 @@
 
 ghost use Rattle.std.specs.Prelude.{◌≡◌, ℕ, ◌+◌, ◌-◌, ◌*◌, ◌^◌, ◌<◌, ◌≤◌, false, [], map, length, slice_get, Some, None, option_map, option_and_then, IfSome, OnSome, IfNone, IfOk, OnOk, OnErr, IsOk, vec_capacity};
 ghost use Rattle.std.specs.List.{list_any, All};
+ghost use Rattle.emu_model.specs.Moments.{IsMoment};
 ghost use Rattle.emu_model.specs.FlowIds.{same_flow, flow_id, instance_of};
 ghost use Rattle.emu_model.specs.Delay.{first_exit};
 ghost use Rattle.emu_model.specs.Pipes.{instance_for, pipe_arrive, pipe_finish, pipe_exit, pipe_configure, pipe_packets, with_instance};
@@ -18,8 +19,8 @@ ghost use Rattle.pipe_core.specs.Steps.{drops_of, drops_by_codel, IsGrown, HasRo
 use crate::rehouse::rehouse_all;
 use crate::slot::Slot;
 use crate::takes::take_all;
-use due_index::DueIndex;
-use emu_model::{DropCause, Due, Mask, Packet, PipeConfig, PipeNumber, Refusal, Size};
+use due_index::{DueIndex, DueNumber};
+use emu_model::{DropCause, Mask, Packet, PipeConfig, PipeNumber, Refusal, Size};
 use flow_mask::{ApplyMask, FlowId, InstanceError, Instances};
 use packet_store::{Owner, Shelf};
 use pipe_instance::{Instance, InstanceDues, Shown};
@@ -121,7 +122,7 @@ impl Pipe {
 
     /// What it has due first of all exits and finishes; None where nothing is due. Tells the ranges of
     /// its number and of how many instances it has.
-    pub fn least(&self) -> Option<Due>
+    pub fn least(&self) -> DueNumber
         ensures due { (f : ℕ → Packet) → result ≡ pipe_due f self.now }
         ensures number { (1 ≤ self.now.number) × (self.now.number ≤ 65535) }
         ensures few { length self.now.slots ≤ 256 }
@@ -247,7 +248,7 @@ impl Pipe {
         };
         let instance = Instance::new(self.alloc, &self.config, self.seed, self.number, index);
         self.slots.push_reserved(Slot { id, instance });
-        self.dues.push(None);
+        self.dues.push(DueNumber::none());
         Some(index as usize)
     }
 
@@ -261,7 +262,7 @@ impl Pipe {
         packet: &Packet,
     ) -> Option<DropCause>
         requires inside { index < length self.old.slots }
-        requires early { now < 2 * 10 ^ 15 }
+        requires early { IsMoment now }
         requires budget { (S.pocket shelf.old owner).count < (S.pocket shelf.old owner).budget }
         requires room { 0 < S.room shelf.old owner }
         requires ready { HasRoomAtSlot packet.now.size index self.old }
@@ -285,7 +286,7 @@ impl Pipe {
         now: u64,
         packet: &Packet,
     ) -> Option<DropCause>
-        requires early { now < 2 * 10 ^ 15 }
+        requires early { IsMoment now }
         requires named { AreNamed (S.pocket shelf.old owner) (keys_of self.old.slots) }
         requires budget { (S.pocket shelf.old owner).count < (S.pocket shelf.old owner).budget }
         requires room { 0 < S.room shelf.old owner }
@@ -322,7 +323,7 @@ impl Pipe {
         now: u64,
         drops: &mut Vec<Packet>,
     ) -> Result<Packet, AllocError>
-        requires early { now < 2 * 10 ^ 15 }
+        requires early { IsMoment now }
         requires due { option_map (λ s. s.period.finish)
             (served_in index (view (S.pocket shelf.old owner) self.old)) ≡ Some now }
         requires named { AreNamed (S.pocket shelf.old owner) (keys_of self.old.slots) }

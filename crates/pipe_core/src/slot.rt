@@ -1,32 +1,22 @@
 //! One instance of a pipe beside its flow identifier, and what a packet does there.
 
 ghost use Rattle.std.specs.Prelude.{◌≡◌, ◌+◌, ◌-◌, ◌*◌, ◌^◌, ◌<◌, ◌≤◌, Some, None, length, option_map, IfSome, OnSome, IfOk, OnErr, IsOk, vec_capacity};
+ghost use Rattle.emu_model.specs.Moments.{IsMoment};
 ghost use Rattle.pipe_instance.specs.Keyed.{IsTuned, keys_in};
 ghost use Rattle.pipe_core.specs.Steps.{Arrives, Exits, Finishes, HasRoom, IsFree, most_dropped};
 ghost use Rattle.emu_model.specs.Delay.{first_item};
-ghost use Rattle.emu_model.specs.Dues.{due as due_of};
 ghost use Rattle.packet_store.specs.Pocket.{OthersStay};
 ghost use Rattle.pipe_core.specs.Keyed.{seen_slot};
 ghost use Rattle.pipe_core.specs.Leaves.{instance_number, slot_due};
 ghost use Rattle.pipe_core.specs.Moves.{packet_at, AreNamed};
 
 use crate::takes::take_dropped;
-use due_index::lesser;
-use emu_model::{Discipline, DropCause, Due, Packet, PipeConfig, PipeNumber, Source};
+use due_index::DueNumber;
+use emu_model::{Discipline, DropCause, Packet, PipeConfig, PipeNumber, Source};
 use flow_mask::FlowId;
 use packet_store::{Owner, Shelf};
 use pipe_instance::Instance;
 use std::alloc::AllocError;
-
-// What a source has due, where there is a moment.
-fn due_at(source: Source, moment: Option<u64>) -> Option<Due>
-    ensures { result ≡ option_map (due_of source.class source.number) moment }
-{
-    match moment {
-        Some(moment) => Some(Due { moment, source }),
-        None => None,
-    }
-}
 
 #[derive(Drop)]
 pub(crate) struct Slot {
@@ -36,13 +26,13 @@ pub(crate) struct Slot {
 
 impl Slot {
     /// What it has due first, by its pipe and its place there.
-    pub(crate) fn due(&self, pipe: PipeNumber, place: u8) -> Option<Due>
+    pub(crate) fn due(&self, pipe: PipeNumber, place: u8) -> DueNumber
         requires { pipe * 256 + place ≡ instance_number self.now }
         ensures { result ≡ slot_due self.now }
     {
         let dues = self.instance.dues();
-        let exit = due_at(Source::exit(pipe, place), dues.exit);
-        lesser(exit, due_at(Source::finish(pipe, place), dues.finish))
+        let exit = DueNumber::at_some(dues.exit, Source::exit(pipe, place));
+        exit.or_earlier(DueNumber::at_some(dues.finish, Source::finish(pipe, place)))
     }
 
     /// A packet comes: its loss word is drawn, and then the limit decides.
@@ -54,7 +44,7 @@ impl Slot {
         packet: &Packet,
         config: &PipeConfig,
     ) -> Option<DropCause>
-        requires early { now < 2 * 10 ^ 15 }
+        requires early { IsMoment now }
         requires tuned { IsTuned config.now self.old.instance }
         requires budget { (S.pocket shelf.old owner).count < (S.pocket shelf.old owner).budget }
         requires room { 0 < S.room shelf.old owner }
@@ -89,7 +79,7 @@ impl Slot {
         config: &PipeConfig,
         drops: &mut Vec<Packet>,
     ) -> Result<Packet, AllocError>
-        requires early { now < 2 * 10 ^ 15 }
+        requires early { IsMoment now }
         requires tuned { IsTuned config.now self.old.instance }
         requires due { option_map (λ s. s.period.finish) self.old.instance.service.busy ≡ Some now }
         requires named { AreNamed (S.pocket shelf.old owner) (keys_in self.old.instance) }

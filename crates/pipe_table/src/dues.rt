@@ -82,7 +82,7 @@ impl PipeTable {
         ensures finishing { IsFinishDue best self.now.pipes → IsFinishDue result self.now.pipes }
         ensures piped { IsPiped best → IsPiped result }
     {
-        best.or_earlier(self.dues.least())
+        best.or_earlier(self.dues.least().due())
     }
 
     /// Appends the dues of all pipes, pipe by pipe and instance by instance, or leaves `dues` as it

@@ -3,6 +3,7 @@
 ghost use Rattle.std.specs.Prelude.{◌≡◌, ℕ, ◌+◌, ◌*◌, ◌^◌, ◌<◌, ◌≤◌, [], None, option_map, option_and_then, position, is_some, IsSome, OnSome, OnOk, OnErr, IsOk, IfOk, MatchResult, Err, length, vec_capacity};
 ghost use Rattle.std.specs.List.{position_or_len};
 ghost use Rattle.std.specs.Option.{option_map_or};
+ghost use Rattle.emu_model.specs.Moments.{IsMoment};
 ghost use Rattle.emu_model.specs.declared.commands.Setting.{Setting};
 ghost use Rattle.emu_model.specs.Net.{Net, find_pipe, note, note_drops, enter_pipe};
 ghost use Rattle.emu_model.specs.declared.records.Record.TheVariants.{PacketFinished};
@@ -120,7 +121,7 @@ impl PipeTable {
         number: PipeNumber,
         packet: &Packet,
     ) -> Option<DropCause>
-        requires early { now < 2 * 10 ^ 15 }
+        requires early { IsMoment now }
         requires named { AreNamed (S.pocket shelf.old owner) (pipe_keys self.old.pipes) }
         requires budget { (S.pocket shelf.old owner).count < (S.pocket shelf.old owner).budget }
         requires room { IsSome (pipe_of number self.old.pipes) → 0 < S.room shelf.old owner }
@@ -220,7 +221,7 @@ impl PipeTable {
         instance: u8,
         drops: &mut Vec<Packet>,
     ) -> Result<Packet, AllocError>
-        requires early { now < 2 * 10 ^ 15 }
+        requires early { IsMoment now }
         requires due { IsFinishing number instance now self.old.pipes }
         requires named { AreNamed (S.pocket shelf.old owner) (pipe_keys self.old.pipes) }
         ensures seed { self.new.seed ≡ self.old.seed }

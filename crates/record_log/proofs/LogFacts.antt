@@ -19,34 +19,34 @@ other-count p rs r missed = omega (arith, count-push p rs r, ap {B = ℕ} (λ b.
 pub delivered-push : (rs : List Record) (r : Record) → is_delivery r ≡ true → delivered_of (rs ++ r ∷ []) ≡ delivered_of rs + 1
 delivered-push rs r hit = omega (arith, count-push is_delivery rs r, ap {B = ℕ} (λ b. cond b 1 0) hit)
 
-pub no-drop : (rs : List Record) (r : Record) → ((k : ℕ) → is_drop_of k r ≡ false) → all_drops_of (rs ++ r ∷ []) ≡ all_drops_of rs
+pub no-drop : (rs : List Record) (r : Record) → ((c : DropCause) → is_drop_of c r ≡ false) → all_drops_of (rs ++ r ∷ []) ≡ all_drops_of rs
 no-drop rs r missed = λ i.
-    same 1 i ∷ same 2 i ∷ same 3 i ∷ same 4 i ∷ same 5 i ∷ same 6 i ∷ same 7 i ∷ same 8 i ∷ []
+    same Denied i ∷ same NoPipe i ∷ same NoInstance i ∷ same Lost i ∷ same Full i ∷ same Codel i ∷ same Deleted i ∷ same Budget i ∷ []
   where
-    same : (k : ℕ) → drops_of (rs ++ r ∷ []) k ≡ drops_of rs k
-    same k = other-count (is_drop_of k) rs r (missed k)
+    same : (c : DropCause) → drops_of (rs ++ r ∷ []) c ≡ drops_of rs c
+    same c = other-count (is_drop_of c) rs r (missed c)
 
 module _ (rs : List Record) (moment packet : ℕ) (load : Load) where
-  more : (cause : DropCause) (k : ℕ) →
-      drops_of (rs ++ PacketDropped moment packet load cause ∷ []) k ≡ cond (cause_number cause == k) (drops_of rs k + 1) (drops_of rs k)
-  more cause k = count-push (is_drop_of k) rs (PacketDropped moment packet load cause) ∙ go (cause_number cause == k) (drops_of rs k)
+  more : (cause c : DropCause) →
+      drops_of (rs ++ PacketDropped moment packet load cause ∷ []) c ≡ cond (cause_number cause == cause_number c) (drops_of rs c + 1) (drops_of rs c)
+  more cause c = count-push (is_drop_of c) rs (PacketDropped moment packet load cause) ∙ go (cause_number cause == cause_number c) (drops_of rs c)
     where
       go : (b : Bool) (n : ℕ) → n + cond b 1 0 ≡ cond b (n + 1) n
       go true n = refl
       go false n = omega arith
 
   all : (cause : DropCause) → all_drops_of (rs ++ PacketDropped moment packet load cause ∷ [])
-      ≡ cond (cause_number cause == 1) (drops_of rs 1 + 1) (drops_of rs 1)
-      ∷ cond (cause_number cause == 2) (drops_of rs 2 + 1) (drops_of rs 2)
-      ∷ cond (cause_number cause == 3) (drops_of rs 3 + 1) (drops_of rs 3)
-      ∷ cond (cause_number cause == 4) (drops_of rs 4 + 1) (drops_of rs 4)
-      ∷ cond (cause_number cause == 5) (drops_of rs 5 + 1) (drops_of rs 5)
-      ∷ cond (cause_number cause == 6) (drops_of rs 6 + 1) (drops_of rs 6)
-      ∷ cond (cause_number cause == 7) (drops_of rs 7 + 1) (drops_of rs 7)
-      ∷ cond (cause_number cause == 8) (drops_of rs 8 + 1) (drops_of rs 8) ∷ []
+      ≡ cond (cause_number cause == 1) (drops_of rs Denied + 1) (drops_of rs Denied)
+      ∷ cond (cause_number cause == 2) (drops_of rs NoPipe + 1) (drops_of rs NoPipe)
+      ∷ cond (cause_number cause == 3) (drops_of rs NoInstance + 1) (drops_of rs NoInstance)
+      ∷ cond (cause_number cause == 4) (drops_of rs Lost + 1) (drops_of rs Lost)
+      ∷ cond (cause_number cause == 5) (drops_of rs Full + 1) (drops_of rs Full)
+      ∷ cond (cause_number cause == 6) (drops_of rs Codel + 1) (drops_of rs Codel)
+      ∷ cond (cause_number cause == 7) (drops_of rs Deleted + 1) (drops_of rs Deleted)
+      ∷ cond (cause_number cause == 8) (drops_of rs Budget + 1) (drops_of rs Budget) ∷ []
   all cause = λ i.
-      more cause 1 i ∷ more cause 2 i ∷ more cause 3 i ∷ more cause 4 i
-      ∷ more cause 5 i ∷ more cause 6 i ∷ more cause 7 i ∷ more cause 8 i ∷ []
+      more cause Denied i ∷ more cause NoPipe i ∷ more cause NoInstance i ∷ more cause Lost i
+      ∷ more cause Full i ∷ more cause Codel i ∷ more cause Deleted i ∷ more cause Budget i ∷ []
 
   pub drop-push : (cause : DropCause) → all_drops_of (rs ++ PacketDropped moment packet load cause ∷ []) ≡ with_drop (all_drops_of rs) cause
   drop-push Denied = all Denied
@@ -75,7 +75,7 @@ no-delivery (RuleLine a b c) h = refl
 no-delivery (PipeLine a b) h = refl
 no-delivery (InstanceLine a b c d e f g) h = refl
 
-pub no-drop_of : (r : Record) (k : ℕ) → ((a b : ℕ) (l : Load) (d : DropCause) → r ≢ PacketDropped a b l d) → is_drop_of k r ≡ false
+pub no-drop_of : (r : Record) (k : DropCause) → ((a b : ℕ) (l : Load) (d : DropCause) → r ≢ PacketDropped a b l d) → is_drop_of k r ≡ false
 no-drop_of (PacketDropped a b l d) k h = absurd (h a b l d refl)
 no-drop_of (PacketDelivered a b l) k h = refl
 no-drop_of (CommandDone a b) k h = refl

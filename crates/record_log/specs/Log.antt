@@ -2,7 +2,7 @@
 use Rattle.std.specs.Prelude.{ℕ, List, [], ◌∷◌, map, count_by, ◌+◌, ◌-◌, slice_set, slice_index_or}
 use Rattle.emu_model.specs.declared.records.Record.{Record}
 use Rattle.emu_model.specs.declared.records.DropCause.{DropCause}
-use Rattle.emu_model.specs.Net.{is_delivery, drops_of, cause_number}
+use Rattle.emu_model.specs.Net.{is_delivery, drops_of, cause_number, all_causes}
 
 -- the records, and how many more need no memory
 pub record Log : Type 0 where
@@ -15,7 +15,7 @@ delivered_of rs = count_by is_delivery rs
 
 -- how many are drops, by cause
 abbrev pub all_drops_of : List Record → List ℕ
-all_drops_of rs = map (drops_of rs) (1 ∷ 2 ∷ 3 ∷ 4 ∷ 5 ∷ 6 ∷ 7 ∷ 8 ∷ [])
+all_drops_of rs = map (drops_of rs) all_causes
 
 -- the counts with one more for a cause
 abbrev pub with_drop : List ℕ → DropCause → List ℕ

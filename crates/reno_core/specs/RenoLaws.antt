@@ -1,6 +1,7 @@
 -- Laws of Reno in its own words, over the definitions alone: what holds of a sender after any
 -- history, and of a receiver whatever comes.
 use Rattle.std.specs.Prelude.{◌≡◌, ℕ, ◌+◌, ◌*◌, ◌^◌, ◌<◌, ◌≤◌, ⊤, true, false, Some, List, [], ◌∷◌, ◌==◌, if◌then◌else◌, count_by}
+use Rattle.emu_model.specs.Moments.{IsMoment}
 use Rattle.emu_model.specs.declared.sources.FlowSpec.{FlowSpec}
 use Rattle.emu_model.specs.declared.sources.Timing.TheVariants.{Adaptive}
 use Rattle.emu_model.specs.Reno.{Sender, Sample, total_bytes, most_rto, initial_sender, ack, expire, emit, emitted, may_emit, is_new, is_duplicate, with_segment, missing}
@@ -21,7 +22,7 @@ moment_of (allowed now) = now
 -- the latest event stands first
 abbrev pub IsHistory : List Event → Type 0
 IsHistory [] = ⊤
-IsHistory (e ∷ es) = (moment_of e < 2 * 10 ^ 15) × IsHistory es
+IsHistory (e ∷ es) = (moment_of IsMoment e) × IsHistory es
 
 -- a sender that is allowed to sends a segment
 abbrev pub sender_with : FlowSpec → Event → Sender → Sender

@@ -1,5 +1,6 @@
 -- What holds of every sender.
 use Rattle.std.specs.Prelude.{◌≡◌, ℕ, ◌*◌, ◌%◌, ◌^◌, ◌<◌, ◌≤◌, ⊤, Option, Some, None, true}
+use Rattle.emu_model.specs.Moments.{IsMoment}
 use Rattle.emu_model.specs.declared.sources.FlowSpec.{FlowSpec}
 use Rattle.emu_model.specs.Reno.{Sender, Sample, Estimate, total_bytes, initial_rto, most_rto, greatest_word}
 
@@ -16,7 +17,7 @@ pub record IsFlow (f : FlowSpec) : Type 0 where
 -- round trips are below 2 * 10^15 ns, as all moments are
 abbrev pub IsEstimate : Option Estimate → Type 0
 IsEstimate None = ⊤
-IsEstimate (Some e) = (e.srtt < 2 * 10 ^ 15) × (e.rttvar < 2 * 10 ^ 15)
+IsEstimate (Some e) = (IsMoment e.srtt) × (IsMoment e.rttvar)
 
 -- what is timed was sent
 abbrev pub IsSent : ℕ → Option Sample → Type 0

@@ -1,6 +1,7 @@
 //! A Reno sender.
 
 ghost use Rattle.std.specs.Prelude.{◌≡◌, ◌+◌, ◌*◌, ◌%◌, ◌^◌, ◌<◌, ◌≤◌, true};
+ghost use Rattle.emu_model.specs.Moments.{IsMoment};
 ghost use Rattle.emu_model.specs.Reno.{total_bytes, initial_sender, ack as acknowledged, expire as expired, emit as sent, emitted, may_emit};
 ghost use Rattle.reno_core.specs.Sound.{IsSound};
 
@@ -48,7 +49,7 @@ impl Sender {
 
     /// Takes an acknowledgement of all bytes below `upto` at the moment `now`.
     pub fn ack(&mut self, now: u64, upto: u64)
-        requires { now < 2 * 10 ^ 15 }
+        requires early { IsMoment now }
         ensures { self.new
             ≡ record self.old { sender = acknowledged self.old.flow now upto self.old.sender } }
     {
@@ -57,7 +58,7 @@ impl Sender {
 
     /// Its timer came due at the moment `now`.
     pub fn expire(&mut self, now: u64)
-        requires { now < 2 * 10 ^ 15 }
+        requires early { IsMoment now }
         ensures { self.new
             ≡ record self.old { sender = expired self.old.flow now self.old.sender } }
     {
@@ -66,7 +67,7 @@ impl Sender {
 
     /// Sends one segment at the moment `now`, and answers its first byte.
     pub fn emit(&mut self, now: u64) -> u64
-        requires now { now < 2 * 10 ^ 15 }
+        requires early { IsMoment now }
         requires may { may_emit self.old.flow self.old.sender ≡ true }
         ensures sender { self.new
             ≡ record self.old { sender = sent self.old.flow now self.old.sender } }

@@ -1,6 +1,7 @@
 //! What a sender knows, and how each event changes it: one function for each rule.
 
 ghost use Rattle.std.specs.Prelude.{◌≡◌, ℕ, ◌+◌, ◌-◌, ◌*◌, ◌^◌, ◌<◌, ◌≤◌, true, false, Some, None, option_map, min, max, if◌then◌else◌};
+ghost use Rattle.emu_model.specs.Moments.{IsMoment};
 ghost use Rattle.emu_model.specs.Reno.{initial_sender, most_rto, greatest_word, initial_rto, total_bytes, has_room, started_timer, started_sample, halved_ssthresh, bounded, window_after, round_trip, timeout_after, sample_after, estimate_after, ack_new, ack_duplicate, enter_recovery, is_new, is_duplicate, ack, expire, emit, emitted, may_emit};
 ghost use Rattle.reno_core.specs.States.{sender_of, sample_of, estimate_of};
 ghost use Rattle.reno_core.specs.Sound.{IsSound, IsFlow, IsEstimate};
@@ -89,7 +90,7 @@ impl State {
         requires { IsSound flow.now (sender_of self.now) }
         ensures { result ≡ has_room flow.now (sender_of self.now) }
     {
-        let window = self.cwnd.min(u64::from(flow.window.get()));
+        let window = self.cwnd.min(u64::from(flow.rwnd.get()));
         self.snd_nxt < total_bytes(flow)
             && self.snd_nxt + segment_bytes(flow) - self.snd_una <= window
     }
@@ -131,7 +132,7 @@ impl State {
     /// Completes a sample, and takes the time that holds after new data was acknowledged: restored
     /// where it is fixed, else estimated anew.
     fn take_round_trip(&mut self, flow: &FlowSpec, now: u64, upto: u64)
-        requires now { now < 2 * 10 ^ 15 }
+        requires early { IsMoment now }
         requires estimate { IsEstimate (sender_of self.old).estimate }
         ensures { let r = round_trip now upto (sender_of self.old).sample in
             sender_of self.new ≡ record (sender_of self.old) {
@@ -153,7 +154,7 @@ impl State {
 
     /// An acknowledgement of new data (RFC 5681, sections 3.1 and 3.2; RFC 6298, 5.2 and 5.3).
     fn ack_new(&mut self, flow: &FlowSpec, now: u64, upto: u64)
-        requires now { now < 2 * 10 ^ 15 }
+        requires early { IsMoment now }
         requires sound { IsSound flow.now (sender_of self.old) }
         requires new { is_new flow.now upto (sender_of self.old) ≡ true }
         ensures { sender_of self.new ≡ ack_new flow.now now upto (sender_of self.old) }
@@ -213,7 +214,7 @@ impl State {
     /// An acknowledgement of all bytes below `upto`. One that is neither of new data nor a duplicate
     /// changes nothing.
     pub(crate) fn ack(&mut self, flow: &FlowSpec, now: u64, upto: u64)
-        requires now { now < 2 * 10 ^ 15 }
+        requires early { IsMoment now }
         requires sound { IsSound flow.now (sender_of self.old) }
         ensures { sender_of self.new ≡ ack flow.now now upto (sender_of self.old) }
     {
@@ -226,7 +227,7 @@ impl State {
 
     /// The timer came due (RFC 5681, section 3.1; doubling: RFC 6298, section 5.5).
     pub(crate) fn expire(&mut self, flow: &FlowSpec, now: u64)
-        requires now { now < 2 * 10 ^ 15 }
+        requires early { IsMoment now }
         requires sound { IsSound flow.now (sender_of self.old) }
         ensures { sender_of self.new ≡ expire flow.now now (sender_of self.old) }
     {
@@ -246,7 +247,7 @@ impl State {
 
     /// Sends one segment, and answers its first byte.
     pub(crate) fn emit(&mut self, flow: &FlowSpec, now: u64) -> u64
-        requires now { now < 2 * 10 ^ 15 }
+        requires early { IsMoment now }
         requires sound { IsSound flow.now (sender_of self.old) }
         ensures sender { sender_of self.new ≡ emit flow.now now (sender_of self.old) }
         ensures first { result ≡ emitted (sender_of self.old) }

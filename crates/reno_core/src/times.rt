@@ -1,6 +1,7 @@
 //! Retransmission times: fixed, or from round trips (RFC 6298).
 
 ghost use Rattle.std.specs.Prelude.{◌≡◌, ◌*◌, ◌^◌, ◌<◌, ◌≤◌, option_map};
+ghost use Rattle.emu_model.specs.Moments.{IsMoment};
 ghost use Rattle.emu_model.specs.Reno.{most_rto, new_estimate, estimated_timeout, initial_rto, timeout_at};
 ghost use Rattle.reno_core.specs.States.{estimate_of};
 ghost use Rattle.reno_core.specs.Sound.{IsEstimate};
@@ -35,7 +36,7 @@ pub(crate) struct Estimate {
 impl Estimate {
     /// After a round trip; quotients are rounded down (sections 2.2 and 2.3).
     pub(crate) fn after(round_trip: u64, before: Option<Estimate>) -> Self
-        requires trip { round_trip < 2 * 10 ^ 15 }
+        requires trip { IsMoment round_trip }
         requires before { IsEstimate (option_map estimate_of before) }
         ensures { estimate_of result ≡ new_estimate round_trip (option_map estimate_of before) }
     {
@@ -53,8 +54,8 @@ impl Estimate {
 
     /// The time (ns), with a granularity of 1 ns.
     pub(crate) fn timeout(self) -> u64
-        requires srtt { self.srtt < 2 * 10 ^ 15 }
-        requires rttvar { self.rttvar < 2 * 10 ^ 15 }
+        requires srtt { IsMoment self.srtt }
+        requires rttvar { IsMoment self.rttvar }
         ensures { result ≡ estimated_timeout (estimate_of self) }
     {
         let time = self.srtt + (4 * self.rttvar).max(1);

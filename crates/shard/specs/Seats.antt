@@ -1,5 +1,6 @@
 -- The residents of a shard, and their seats.
 use Rattle.std.specs.Prelude.{◌≡◌, ◌≢◌, ℕ, ◌+◌, ◌*◌, ◌^◌, ◌<◌, ◌≤◌, List, length, map, Option, Some, None, IsSome, IfSome, slice_index_or}
+use Rattle.emu_model.specs.Moments.{end_of_time}
 use Rattle.emu_model.specs.declared.sources.Source.{Source}
 use Rattle.emu_model.specs.Net.{counters_of}
 use Rattle.packet_store.specs.Pocket.{Pocket}
@@ -53,7 +54,7 @@ module _ {M : Type 0} where
     pub entries : (s : Source) → row s ≡ entries_of r.offset (next_kept r.experiment) s
     pub ready : IsSome r.offset → IsSome r.experiment.next
     pub late : IfSome r.offset (λ o. o ≤ clock)
-    pub below : (s : Source) (d : ℕ) → row s ≡ Some d → IfSome r.offset (λ o. d < o + 2 * 10 ^ 15)
+    pub below : (s : Source) (d : ℕ) → row s ≡ Some d → IfSome r.offset (λ o. d < o + end_of_time)
 
   abbrev pub Fits : (M → Seen) → (ℕ → Pocket) → Row → ℕ → Option (Resident M) → Type 0
   Fits seen pockets row clock None = (s : Source) → row s ≡ None
@@ -69,4 +70,4 @@ module _ {M : Type 0} where
     pub each : (k : ℕ) → Fits seen pockets (rows k) clock (resident_at slots k)
     pub apart : (i j : ℕ) → i ≢ j → AreApart (resident_at slots i) (resident_at slots j)
     pub long : length slots ≡ 256
-    pub early : clock < 2 ^ 62 + 2 * 10 ^ 15
+    pub early : clock < 2 ^ 62 + end_of_time

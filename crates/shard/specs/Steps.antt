@@ -1,5 +1,6 @@
 -- What a step does to a resident.
 use Rattle.std.specs.Prelude.{◌≡◌, ℕ, ◌+◌, ◌*◌, ◌^◌, ◌<◌, ◌≤◌, Bool, Some, IsSome, IfSome}
+use Rattle.emu_model.specs.Moments.{end_of_time}
 use Rattle.emu_model.specs.declared.records.Ending.{Ending}
 use Rattle.emu_model.specs.declared.sources.Source.{Source}
 use Rattle.packet_store.specs.Pocket.{Pocket}
@@ -22,7 +23,7 @@ module _ {M : Type 0} where
     pub entries : (s : Source) → row s ≡ entries_of r.offset (next_kept r.experiment) s
     pub ready : IsSome r.offset
     pub late : IfSome r.offset (λ o. o ≤ clock)
-    pub early : clock < 2 ^ 62 + 2 * 10 ^ 15
+    pub early : clock < 2 ^ 62 + end_of_time
 
   -- a resident that has made a step, and whose entry is still that from before it
   pub record IsStale (seen : M → Seen) (p : Pocket) (row : Row) (clock : ℕ) (r : Resident M) : Type 0 where
@@ -31,7 +32,7 @@ module _ {M : Type 0} where
     pub entries : (s : Source) → row s ≡ row_at was s
     pub ready : IsSome r.offset
     pub late : IfSome r.offset (λ o. o ≤ clock)
-    pub early : clock < 2 ^ 62 + 2 * 10 ^ 15
+    pub early : clock < 2 ^ 62 + end_of_time
 
   -- a resident whose experiment has ended
   pub record IsLeaving (seen : M → Seen) (p q : Pocket) (ending : Ending) (old new : Resident M) : Type 0 where

@@ -1,6 +1,7 @@
 //! One resident's part in a shard's calls.
 
 ghost use Rattle.std.specs.Prelude.{◌≡◌, ◌≤◌, length, take};
+ghost use Rattle.emu_model.specs.Moments.{end_of_time};
 ghost use Rattle.shard.specs.Seen.{IsToldMore, IsPublished};
 
 use crate::dossier::Dossier;
@@ -67,7 +68,7 @@ impl<M: Mail> Resident<M> {
     // refused.
     pub(crate) fn enter<A: Agenda>(&mut self, agenda: &mut A, slot: usize)
         requires alone { (p : Pocket) × IsAlone p self.old.experiment }
-        requires early { A.time agenda.old < 2 ^ 62 + 2 * 10 ^ 15 }
+        requires early { A.time agenda.old < 2 ^ 62 + end_of_time }
         ensures seated { (p : Pocket) →
             IsGoing M.seen p self.old.experiment self.old.published self.old.mail
             → IsSeated M.seen p (A.entries agenda.new slot) (A.time agenda.old) self.new }
@@ -170,7 +171,7 @@ impl<M: Mail> Resident<M> {
     pub(crate) fn poll<A: Agenda>(&mut self, agenda: &mut A, slot: usize) -> Polled
         requires seated { (p : Pocket)
             × IsSeated M.seen p (A.entries agenda.old slot) (A.time agenda.old) self.old }
-        requires early { A.time agenda.old < 2 ^ 62 + 2 * 10 ^ 15 }
+        requires early { A.time agenda.old < 2 ^ 62 + end_of_time }
         ensures seated { (p : Pocket) →
             IsSeated M.seen p (A.entries agenda.old slot) (A.time agenda.old) self.old
             → IsSeated M.seen p (A.entries agenda.new slot) (A.time agenda.old) self.new }

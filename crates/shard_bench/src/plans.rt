@@ -93,7 +93,7 @@ fn segments() -> Option<Command> {
             smss: SegmentSize::new(1000)?,
             segments: Amount::new(400)?,
             ssthresh: Threshold::new(65535)?,
-            window: Window::new(65535)?,
+            rwnd: Window::new(65535)?,
             timing: Timing::Adaptive,
         },
     })

@@ -1,6 +1,7 @@
 -- What is kept of the flows and trains of an experiment, and a net that stands with them.
 use Rattle.std.specs.Prelude.{◌≡◌, ◌≢◌, ℕ, ◌+◌, ◌*◌, ◌^◌, ◌<◌, ◌≤◌, true, false, ◌==◌, nat_lt, None, List, [], map, length, find, All, AllPairs}
 use Rattle.std.specs.Option.{option_map_or}
+use Rattle.emu_model.specs.Moments.{IsMoment}
 use Rattle.emu_model.specs.declared.sources.FlowSpec.{FlowSpec}
 use Rattle.emu_model.specs.Reno.{initial_sender}
 use Rattle.emu_model.specs.Net.{Net, FlowState, TrainState}
@@ -62,5 +63,5 @@ IsSound fs ts = AreNumbers (map (λ f. f.state.number) fs) (map (λ t. t.number)
 
 -- a train began below 2 * 10^15 ns, and sent no more than all its packets
 pub record IsTrain (t : TrainState) : Type 0 where
-  pub began : t.start < 2 * 10 ^ 15
+  pub began : IsMoment t.start
   pub sent : t.sent ≤ t.train.count

@@ -1,6 +1,7 @@
 //! A flow: its sender and its receiver.
 
 ghost use Rattle.std.specs.Prelude.{◌≡◌, ℕ, ◌+◌, ◌*◌, ◌^◌, ◌<◌, ◌≤◌, ◌++◌, option_to_list, true, OnOk, IfSome, IfNone, OnErr};
+ghost use Rattle.emu_model.specs.Moments.{IsMoment};
 ghost use Rattle.emu_model.specs.Dues.{flow_dues};
 ghost use Rattle.emu_model.specs.declared.commands.Setting.{Setting};
 ghost use Rattle.emu_model.specs.Net.{Net, put_flow, note, data_send, ack_send, take_ack as acknowledged};
@@ -112,7 +113,7 @@ impl Flow {
 
     /// Sends one segment at the moment `now`.
     pub(crate) fn emit(&mut self, now: u64) -> Sending
-        requires now { now < 2 * 10 ^ 15 }
+        requires early { IsMoment now }
         requires may { may_send self.old.state ≡ true }
         ensures flow { let f = self.old.state in
             self.new ≡ record self.old { state = record f { sender = sent f.flow now f.sender } } }
@@ -169,7 +170,7 @@ impl Flow {
 
     /// Its sender takes an acknowledgement of all bytes below `upto`, unless it is stopped.
     pub(crate) fn take_ack(&mut self, now: u64, upto: u64) -> Option<Window>
-        requires { now < 2 * 10 ^ 15 }
+        requires early { IsMoment now }
         ensures taken { IfSome result (λ w. (n : Net) → acknowledged now upto n self.old.state
             ≡ note (AckTaken now self.old.state.number w.cwnd w.ssthresh)
             (put_flow self.new.state n)) }
@@ -186,7 +187,7 @@ impl Flow {
 
     /// Its timer came due.
     pub(crate) fn expire(&mut self, now: u64) -> Window
-        requires { now < 2 * 10 ^ 15 }
+        requires early { IsMoment now }
         ensures flow { let f = self.old.state in
             self.new
             ≡ record self.old { state = record f { sender = expired f.flow now f.sender } } }

@@ -3,6 +3,7 @@
 ghost use Rattle.std.specs.Prelude.{◌≡◌, ℕ, ◌+◌, ◌*◌, ◌^◌, ◌<◌, ◌≤◌, ◌++◌, [], is_some, option_map, position, ◌==◌, length, vec_len, vec_capacity, IfNone, IsOk, OnOk, OnErr};
 ghost use Rattle.std.specs.Option.{option_map_or};
 ghost use Rattle.std.specs.List.{best_of};
+ghost use Rattle.emu_model.specs.Moments.{IsMoment};
 ghost use Rattle.emu_model.specs.declared.records.Record.TheVariants.{AckTaken, TimerExpired};
 ghost use Rattle.emu_model.specs.declared.commands.Setting.{Setting};
 ghost use Rattle.emu_model.specs.Net.{Net, find_flow, make, note, take_segment, take_ack as acknowledged};
@@ -115,7 +116,7 @@ impl Traffic {
         number: FlowNumber,
         train: &TrainSpec,
     ) -> Result<(), AllocError>
-        requires now { now < 2 * 10 ^ 15 }
+        requires early { IsMoment now }
         requires free { IsFree number self.old }
         ensures ok { OnOk result
             ((n : Net) →
@@ -162,7 +163,7 @@ impl Traffic {
 
     /// Sends a packet of a train or a segment of a flow, which may: the packet that is to be made.
     pub fn emit(&mut self, now: u64, number: FlowNumber) -> Option<Sending>
-        requires now { now < 2 * 10 ^ 15 }
+        requires early { IsMoment now }
         requires may { IsEmitting number self.old }
         ensures emission { (at : Setting) (n : Net) → at.now ≡ now →
             emission at number (with_traffic self.old n)
@@ -232,7 +233,7 @@ impl Traffic {
     /// A flow's sender takes an acknowledgement of all bytes below `upto`: its windows after it; None
     /// where there is no such flow, or it is stopped.
     pub fn take_ack(&mut self, now: u64, number: FlowNumber, upto: u64) -> Option<Window>
-        requires { now < 2 * 10 ^ 15 }
+        requires early { IsMoment now }
         ensures { (n : Net) → let m = with_traffic self.old n in
             option_map_or (acknowledged now upto m) (find_flow number m) m
             ≡ option_map_or
@@ -250,7 +251,7 @@ impl Traffic {
 
     /// A flow's timer came due: its sender's windows after it; None where there is no such flow.
     pub fn expire(&mut self, now: u64, number: FlowNumber) -> Option<Window>
-        requires { now < 2 * 10 ^ 15 }
+        requires early { IsMoment now }
         ensures { (at : Setting) (n : Net) → at.now ≡ now → let m = with_traffic self.old n in
             option_map_or (expire_flow at m) (find_flow number m) m
             ≡ option_map_or

@@ -1,6 +1,7 @@
 //! A train.
 
 ghost use Rattle.std.specs.Prelude.{◌≡◌, ◌+◌, ◌*◌, ◌^◌, ◌<◌, ◌≤◌, option_to_list, true};
+ghost use Rattle.emu_model.specs.Moments.{IsMoment};
 ghost use Rattle.emu_model.specs.Dues.{train_dues};
 ghost use Rattle.traffic.specs.Leaves.{packet_due};
 ghost use Rattle.traffic.specs.Sends.{has_left};
@@ -37,7 +38,7 @@ impl Model for Train {
 
 impl Train {
     pub(crate) fn new(number: FlowNumber, train: &TrainSpec, now: u64) -> Self
-        requires { now < 2 * 10 ^ 15 }
+        requires early { IsMoment now }
         ensures { result ≡ record { number = number; train = train.now; start = now; sent = 0 } }
     {
         Train {

@@ -1,4 +1,4 @@
-use due_index::DueIndex;
+use due_index::{DueIndex, DueNumber};
 use emu_model::{Class, Due, Source};
 use std::test::Fail;
 
@@ -13,14 +13,14 @@ fn due(moment: u64, class: Class, number: u32) -> Option<Due> {
 fn pushes(index: &mut DueIndex, due: Option<Due>) -> Result<(), Fail> {
     let before = index.len();
     if index.push_ready().is_ok() {
-        index.push(due);
+        index.push(DueNumber::of(due));
         return Ok(());
     }
     if index.len() != before {
         return Err(Fail::from("it has changed"));
     }
     index.push_ready()?;
-    index.push(due);
+    index.push(DueNumber::of(due));
     Ok(())
 }
 
@@ -29,7 +29,7 @@ fn changes(index: &mut DueIndex, place: usize, due: Option<Due>) -> Result<(), F
     if index.len() <= place {
         return Err(Fail::from("no such place"));
     }
-    index.set(place, due);
+    index.set(place, DueNumber::of(due));
     Ok(())
 }
 
@@ -37,7 +37,7 @@ fn changes(index: &mut DueIndex, place: usize, due: Option<Due>) -> Result<(), F
 #[test]
 fn least_follows_each_change(rt: HostRuntime) -> Result<(), Fail> {
     let mut index = DueIndex::new(rt.alloc());
-    assert!(rt; index.least().is_none(), "no places");
+    assert!(rt; index.least().due().is_none(), "no places");
     for moment in [60, 40, 50, 20, 30, 10] {
         pushes(&mut index, due(moment, Class::Expiry, 7))?;
     }
@@ -54,7 +54,7 @@ fn least_follows_each_change(rt: HostRuntime) -> Result<(), Fail> {
         (2, 99, 55),
     ] {
         changes(&mut index, place, due(moment, Class::Expiry, 7))?;
-        let first = index.least();
+        let first = index.least().due();
         assert!(rt; first == due(least, Class::Expiry, 7), "place {place}");
     }
     Ok(())
@@ -81,14 +81,14 @@ fn ties_go_by_class_and_number(rt: HostRuntime) -> Result<(), Fail> {
         (Class::Expiry, 9, 1),
         (Class::Emission, 1, 0),
     ] {
-        let first = index.least();
+        let first = index.least().due();
         assert!(rt; first == due(5, class, number), "place {place}");
         changes(&mut index, place, None)?;
     }
-    let last = index.least();
+    let last = index.least().due();
     assert!(rt; last == due(6, Class::Exit, 0), "a later one");
     changes(&mut index, 5, None)?;
-    assert!(rt; index.least().is_none(), "nothing is due");
+    assert!(rt; index.least().due().is_none(), "nothing is due");
     Ok(())
 }
 
@@ -99,13 +99,13 @@ fn places_may_be_empty(rt: HostRuntime) -> Result<(), Fail> {
     pushes(&mut index, None)?;
     pushes(&mut index, due(3, Class::Exit, 256))?;
     pushes(&mut index, None)?;
-    assert!(rt; index.least() == due(3, Class::Exit, 256), "the only one");
+    assert!(rt; index.least().due() == due(3, Class::Exit, 256), "the only one");
     index.clear();
     assert_eq!(rt; index.len(), 0);
-    assert!(rt; index.least().is_none(), "none is left");
+    assert!(rt; index.least().due().is_none(), "none is left");
     pushes(&mut index, due(8, Class::Exit, 512))?;
     pushes(&mut index, None)?;
-    assert!(rt; index.least() == due(8, Class::Exit, 512), "a new one");
+    assert!(rt; index.least().due() == due(8, Class::Exit, 512), "a new one");
     Ok(())
 }
 
@@ -118,7 +118,7 @@ fn growth_may_be_refused_memory(rt: HostRuntime) -> Result<(), Fail> {
             &mut index,
             due(1000 - u64::from(number), Class::Expiry, number),
         )?;
-        let first = index.least();
+        let first = index.least().due();
         assert!(rt;
             first == due(1000 - u64::from(number), Class::Expiry, number),
             "{number}"

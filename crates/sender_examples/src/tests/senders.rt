@@ -1,4 +1,5 @@
 ghost use Rattle.std.specs.Prelude.{◌*◌, ◌^◌, ◌<◌};
+ghost use Rattle.emu_model.specs.Moments.{IsMoment};
 
 use emu_model::{Amount, FlowSpec, SegmentSize, Threshold, Timeout, Timing, Window};
 use reno_core::{Receiver, Sender};
@@ -22,14 +23,14 @@ fn sender(smss: u16, segments: u32, ssthresh: u32, timing: Timing) -> Result<Sen
         smss: segment_size(smss)?,
         segments: Amount::new(segments).ok_or("no count")?,
         ssthresh: Threshold::new(ssthresh).ok_or("no threshold")?,
-        window: Window::new(65535).ok_or("no window")?,
+        rwnd: Window::new(65535).ok_or("no window")?,
         timing,
     }))
 }
 
 /// Sends just the segments that begin at these bytes.
 fn sends(rt: &impl Abort, sender: &mut Sender, now: u64, firsts: &[u64])
-    requires { now < 2 * 10 ^ 15 }
+    requires early { IsMoment now }
 {
     for first in firsts {
         assert!(rt; sender.may_emit(), "at {first}");
@@ -41,7 +42,7 @@ fn sends(rt: &impl Abort, sender: &mut Sender, now: u64, firsts: &[u64])
 
 /// What an acknowledgement leaves as cwnd and ssthresh.
 fn acked(rt: &impl Abort, sender: &mut Sender, now: u64, upto: u64, wanted: (u64, u64))
-    requires { now < 2 * 10 ^ 15 }
+    requires early { IsMoment now }
 {
     sender.ack(now, upto);
     assert_eq!(rt; (sender.cwnd(), sender.ssthresh()), wanted, "after {upto}");
@@ -49,7 +50,7 @@ fn acked(rt: &impl Abort, sender: &mut Sender, now: u64, upto: u64, wanted: (u64
 
 /// What an expiry leaves as cwnd and ssthresh.
 fn expired(rt: &impl Abort, sender: &mut Sender, now: u64, wanted: (u64, u64))
-    requires { now < 2 * 10 ^ 15 }
+    requires early { IsMoment now }
 {
     sender.expire(now);
     assert_eq!(rt; (sender.cwnd(), sender.ssthresh()), wanted, "at {now}");

@@ -1,4 +1,5 @@
 ghost use Rattle.std.specs.Prelude.{◌≡◌, ◌*◌, ◌^◌, ◌<◌};
+ghost use Rattle.emu_model.specs.Moments.{IsMoment};
 ghost use Rattle.emu_model.specs.Dues.{due};
 
 use emu_model::{
@@ -26,7 +27,7 @@ fn four_segments() -> Option<FlowSpec> {
         smss: SegmentSize::new(1460)?,
         segments: Amount::new(4)?,
         ssthresh: Threshold::new(65535)?,
-        window: Offered::new(65535)?,
+        rwnd: Offered::new(65535)?,
         timing: Timing::Adaptive,
     })
 }
@@ -66,7 +67,7 @@ fn begins_flow(traffic: &mut Traffic, n: u16) -> bool {
 
 /// Begins a train likewise.
 fn begins_train(traffic: &mut Traffic, now: u64, n: u16) -> bool
-    requires { now < 2 * 10 ^ 15 }
+    requires early { IsMoment now }
 {
     let (Some(number), Some(train)) = (FlowNumber::new(n), three_packets()) else {
         return false;
@@ -105,7 +106,7 @@ fn due_of(class: Class, number: u32, moment: u64) -> Due {
 
 /// What is sent next, if that is before another moment.
 fn sends(traffic: &mut Traffic, now: u64, end: u64) -> Option<Sending>
-    requires { now < 2 * 10 ^ 15 }
+    requires early { IsMoment now }
 {
     let due = traffic.earliest(now, command(end));
     let Class::Emission = due.source.class else {
@@ -117,7 +118,7 @@ fn sends(traffic: &mut Traffic, now: u64, end: u64) -> Option<Sending>
 
 /// Just the segments that begin at these bytes are sent.
 fn sends_segments(rt: &impl Abort, traffic: &mut Traffic, now: u64, firsts: &[u64])
-    requires { now < 2 * 10 ^ 15 }
+    requires early { IsMoment now }
 {
     for first in firsts {
         let Some(Sending { load, send }) = sends(traffic, now, now.saturating_add(1)) else {
@@ -238,7 +239,7 @@ fn timer_expires(rt: HostRuntime) -> Result<(), Fail> {
 
 /// Which flow sends a segment now, if any does.
 fn sender(traffic: &mut Traffic, now: u64) -> Option<u16>
-    requires { now < 2 * 10 ^ 15 }
+    requires early { IsMoment now }
 {
     let Sending { load, .. } = sends(traffic, now, now + 1)?;
     match load {

@@ -207,7 +207,7 @@ fn has_codel(rt: &impl Abort, discipline: &Discipline) {
 
 fn has_flow(rt: &impl Abort, flow: &FlowSpec) {
     assert_eq!(rt; flow.src, 16_909_060);
-    assert_eq!(rt; flow.window.get(), 7);
+    assert_eq!(rt; flow.rwnd.get(), 7);
     assert_eq!(rt; flow.ssthresh.get(), 65_535);
     match flow.timing {
         Timing::Adaptive => {}

@@ -1,5 +1,5 @@
 use Rattle.std.proofs.Common.{◌≡◌, false, sym, ap, ◌∙◌}
-use Rattle.bench.specs.Commands.{has_end}
+use Rattle.emu_model.specs.Commands.{has_end}
 use Rattle.bench.proofs.Postings.{last_moment-push, has_end-push}
 use Rattle.bench.proofs.tenant.Tenant.post.Goals as goal
 

@@ -15,8 +15,8 @@ returns c =
     let room : s.places < s.half = omega (arith, spare, c.requires) in
     let less : s.half - (s.places + 1) ≡ c.args.self.now.spare - 1 = omega (arith, spare) in
     c.set.ensures ∙ (λ t. record {
-      leaves = (ap (λ l. set l s.places due) (more_leaves xs s.half s.places c.self.invariant room)
-          ∙ set_at (leaves_of xs s.half s.places) None [] due s.places (leaves_long xs s.half s.places c.self.invariant)
+      leaves = (ap (λ l. set l s.places due) (more_leaves xs s.half s.places c.self.invariant.0 room)
+          ∙ set_at (leaves_of xs s.half s.places) None [] due s.places (leaves_long xs s.half s.places c.self.invariant.0)
           ∙ ap (λ (p : Places). p.leaves ++ due ∷ []) c.self.view_is) t;
       spare = less t;
     })

@@ -1,0 +1,139 @@
+//! A due as one number, so that two are compared at once.
+
+ghost use Rattle.std.specs.Prelude.{◌≡◌, ◌<◌, ◌*◌, ◌^◌, ◌+◌, ℕ, Option, Some, None, option_map};
+ghost use Rattle.emu_model.specs.Dues.{due as due_of, rank};
+ghost use Rattle.due_index.specs.Least.{lesser};
+ghost use Rattle.due_index.specs.Numbers.{class_at, due_at, due_in, none_bits};
+
+use emu_model::{Class, Due, Source};
+use std::marker::Model;
+
+/// How far apart the moments stand: past each class and number.
+const MOMENT: u128 = 18_446_744_073_709_551_616;
+
+/// How far apart the classes stand: past each number.
+const CLASS: u128 = 4_294_967_296;
+
+/// No due: past every one.
+const NO_DUE: u128 = 340_282_366_920_938_463_463_374_607_431_768_211_455;
+
+/// A due by moment, class and number as one number, or none, which is past every due. A contract sees
+/// the due, where there is one.
+#[derive(Clone, Copy, PartialEq)]
+pub struct DueNumber {
+    bits: u128,
+}
+
+impl Model for DueNumber {
+    ghost use Rattle.std.specs.Prelude.{◌≡◌, Option};
+    ghost use Rattle.std.proofs.Common.{ap};
+    ghost use Rattle.emu_model.specs.declared.sources.Due.{Due};
+    ghost use Rattle.due_index.specs.Numbers.{due_in, bits_of};
+
+    ghost Value = { Option Due };
+
+    ghost view = { λ d. due_in d.bits };
+
+    ghost invariant = { λ d. bits_of (due_in d.bits) ≡ d.bits };
+
+    ghost inverse = { λ d. record { bits = bits_of d } };
+
+    ghost inverse_ok = { λ d h i. record { bits = h i } };
+}
+
+fn place_of(class: Class) -> u64
+    ensures { result ≡ rank class }
+{
+    match class {
+        Class::NextCommand => 0,
+        Class::Exit => 1,
+        Class::Finish => 2,
+        Class::Expiry => 3,
+        Class::Emission => 4,
+    }
+}
+
+fn class_at(place: u64) -> Class
+    ensures { result ≡ class_at place }
+{
+    match place {
+        0 => Class::NextCommand,
+        1 => Class::Exit,
+        2 => Class::Finish,
+        3 => Class::Expiry,
+        _ => Class::Emission,
+    }
+}
+
+fn due_at(bits: u128) -> Due
+    ensures { result ≡ due_at bits }
+{
+    let number = (bits % CLASS) as u32;
+    let class = class_at((bits / CLASS % CLASS) as u64);
+    let moment = (bits / MOMENT) as u64;
+    Due {
+        moment,
+        source: Source { class, number },
+    }
+}
+
+impl DueNumber {
+    /// Nothing is due.
+    #[inline(always)]
+    pub fn none() -> Self
+        ensures { result ≡ None }
+    {
+        DueNumber { bits: NO_DUE }
+    }
+
+    /// A source is due at a moment (ns).
+    #[inline(always)]
+    pub fn at(moment: u64, source: Source) -> Self
+        ensures { result ≡ Some (due_of source.class source.number moment) }
+    {
+        let class = u128::from(place_of(source.class)) * CLASS;
+        let bits = u128::from(moment) * MOMENT + (class + u128::from(source.number));
+        DueNumber { bits }
+    }
+
+    /// A source is due at a moment (ns), where there is one.
+    #[inline(always)]
+    pub fn at_some(moment: Option<u64>, source: Source) -> Self
+        ensures { result ≡ option_map (due_of source.class source.number) moment }
+    {
+        match moment {
+            Some(moment) => DueNumber::at(moment, source),
+            None => DueNumber::none(),
+        }
+    }
+
+    /// This due, or none.
+    #[inline(always)]
+    pub fn of(due: Option<Due>) -> Self
+        ensures { result ≡ due }
+    {
+        match due {
+            Some(due) => DueNumber::at(due.moment, due.source),
+            None => DueNumber::none(),
+        }
+    }
+
+    /// The due, where there is one.
+    #[inline(always)]
+    pub fn due(self) -> Option<Due>
+        ensures { result ≡ self }
+    {
+        if self.bits == NO_DUE {
+            return None;
+        }
+        Some(due_at(self.bits))
+    }
+
+    /// The lesser of two that may be there, by moment, class and number.
+    #[inline(always)]
+    pub fn or_earlier(self, other: DueNumber) -> DueNumber
+        ensures { result ≡ lesser self other }
+    {
+        if other.bits < self.bits { other } else { self }
+    }
+}
