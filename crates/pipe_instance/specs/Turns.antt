@@ -1,5 +1,5 @@
 -- What an instance does, over keys.
-use Rattle.std.specs.Prelude.{◌≡◌, ℕ, ◌+◌, Some, option_map, List, [], ◌∷◌, ◌++◌, map}
+use Rattle.std.specs.Prelude.{◌≡◌, ℕ, ◌+◌, Some, option_map, List, map}
 use Rattle.emu_model.specs.declared.packets.Packet.{Packet}
 use Rattle.emu_model.specs.declared.pipes.PipeConfig.{PipeConfig}
 use Rattle.emu_model.specs.FlowIds.{FlowId}

@@ -1,10 +1,10 @@
 -- The queues as their callers see them.
-use Rattle.std.specs.Prelude.{◌≡◌, ℕ, zero, suc, ◌≤◌, Bool, true, List, [], ◌∷◌, ◌++◌, All}
+use Rattle.std.specs.Prelude.{◌≡◌, ℕ, zero, suc, ◌≤◌, Bool, true, Option, List, [], ◌∷◌, ◌++◌, All}
 use Rattle.emu_model.specs.declared.pipes.QueueLimit.{QueueLimit}
 use Rattle.emu_model.specs.declared.pipes.Discipline.{Discipline}
 use Rattle.emu_model.specs.declared.pipes.Discipline.TheVariants.{TailDrop, ControlledDelay}
 use Rattle.emu_model.specs.DropTail.{Waiting, bytes_of}
-use Rattle.emu_model.specs.Codel.{Times, CodelState}
+use Rattle.emu_model.specs.Codel.{Times, CodelState, Dequeued}
 use Rattle.emu_model.specs.Pipes.{dequeue}
 use Rattle.emu_model.proofs.CodelParts.{is_short}
 
@@ -56,6 +56,12 @@ put_last now item size q = record q {
 -- the discipline has seen one item go through the queue, which was empty
 abbrev pub passed : {A : Type 0} → ℕ → DisciplinedQueue A → DisciplinedQueue A
 passed {A} now q = record q { control = (dequeue {A = A} q.discipline now q.control []).control }
+
+-- the discipline's dequeue at `now`: these were dropped, this one given, and the rest waits
+abbrev pub IsDequeue : {A : Type 0} → ℕ → List (Waiting A) → Option (Waiting A) → DisciplinedQueue A → DisciplinedQueue A → Type 0
+IsDequeue {A} now dropped given old new =
+    let d : Dequeued A = record { dropped = dropped; given = given; rest = new.waiting; control = new.control } in
+    d ≡ dequeue old.discipline now old.control old.waiting
 
 -- nothing waits, or the head's stay is short
 abbrev pub stays_short : {A : Type 0} → Times → ℕ → List (Waiting A) → Bool

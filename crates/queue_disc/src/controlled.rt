@@ -16,7 +16,7 @@ use std::marker::Model;
 /// A queue with a limit, whose head is dropped while what waits has waited for long.
 #[derive(Drop)]
 pub struct Codel<A> {
-    queue: Queue<A>,
+    pub(crate) queue: Queue<A>,
 }
 
 impl<A> Model for Codel<A> {
@@ -38,21 +38,9 @@ impl<A> Codel<A> {
         ensures control { result.control ≡ initial_control }
         ensures empty { result.waiting ≡ [] }
     {
-        Codel::over(DropTail::new(alloc, limit), target, interval)
-    }
-
-    /// A queue that stood under its limit alone.
-    pub(crate) fn over(queue: DropTail<A>, target: CodelTime, interval: CodelTime) -> Self
-        ensures { result ≡ record {
-          times = record { target = target; interval = interval };
-          limit = queue.limit;
-          control = initial_control;
-          waiting = queue.waiting;
-          capacity = queue.capacity;
-        } }
-    {
+        let discipline = Discipline::ControlledDelay { target, interval };
         Codel {
-            queue: Queue::over(queue, Discipline::ControlledDelay { target, interval }),
+            queue: Queue::new(alloc, limit, discipline),
         }
     }
 

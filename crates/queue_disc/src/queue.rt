@@ -1,10 +1,10 @@
 //! A queue under a discipline: its limit alone, or CoDel (RFC 8289, section 5) as well.
 
-ghost use Rattle.std.specs.Prelude.{◌≡◌, ◌+◌, ◌*◌, ◌^◌, ◌<◌, ◌≤◌, true, [], ◌∷◌, ◌++◌, length, map, drop, IfOk, OnOk, OnErr, IsOk, IsTrue, MatchOption, slice_get};
+ghost use Rattle.std.specs.Prelude.{◌≡◌, ◌*◌, ◌^◌, ◌<◌, ◌≤◌, true, [], ◌∷◌, length, map, drop, IfOk, OnOk, OnErr, IsOk, IsTrue, MatchOption, slice_get};
 ghost use Rattle.emu_model.specs.DropTail.{bytes_of, accepts};
 ghost use Rattle.emu_model.specs.Codel.{initial_control};
-ghost use Rattle.emu_model.specs.Pipes.{dequeue, same_discipline, configured_control};
-ghost use Rattle.queue_disc.specs.Queues.{with_item, put_last, passed, is_plain};
+ghost use Rattle.emu_model.specs.Pipes.{dequeue, configured_control};
+ghost use Rattle.queue_disc.specs.Queues.{with_item, put_last, passed, is_plain, IsDequeue};
 
 use crate::entries::Waiting;
 use crate::state::{CodelState, Times};
@@ -54,24 +54,10 @@ impl<A> Queue<A> {
           capacity = result.capacity;
         } }
     {
-        Queue::over(DropTail::new(alloc, limit), discipline)
-    }
-
-    /// A queue that stood under its limit alone.
-    pub(crate) fn over(tail: DropTail<A>, discipline: Discipline) -> Self
-        ensures { result ≡ record {
-          limit = tail.limit;
-          discipline = discipline;
-          control = initial_control;
-          waiting = tail.waiting;
-          capacity = tail.capacity;
-        } }
-    {
-        let control = CodelState::initial();
         Queue {
-            tail,
+            tail: DropTail::new(alloc, limit),
             discipline,
-            control,
+            control: CodelState::initial(),
         }
     }
 
@@ -116,13 +102,7 @@ impl<A> Queue<A> {
     pub fn dequeue(&mut self, now: u64) -> Result<Dequeued<A>, AllocError>
         requires { now < 2 * 10 ^ 15 }
         ensures ok { IfOk result
-            (λ d. record {
-              dropped = d.dropped.items;
-              given = d.given;
-              rest = self.new.waiting;
-              control = self.new.control;
-            }
-            ≡ dequeue self.old.discipline now self.old.control self.old.waiting) }
+            (λ d. IsDequeue now d.dropped.items d.given self.old self.new) }
         ensures same { self.new
             ≡ record self.old { control = self.new.control; waiting = self.new.waiting } }
         ensures unchanged { OnErr result (self.new ≡ self.old) }
@@ -158,13 +138,7 @@ impl<A> Queue<A> {
     #[inline(always)]
     pub fn dequeue_plainly(&mut self, now: u64) -> Option<Waiting<A>>
         requires { is_plain self.old.discipline now self.old.waiting ≡ true }
-        ensures given { record {
-          dropped = [];
-          given = result;
-          rest = self.new.waiting;
-          control = self.new.control;
-        }
-            ≡ dequeue self.old.discipline now self.old.control self.old.waiting }
+        ensures given { IsDequeue now [] result self.old self.new }
         ensures same { self.new
             ≡ record self.old { control = self.new.control; waiting = self.new.waiting } }
     {
@@ -182,13 +156,7 @@ impl<A> Queue<A> {
     fn dequeue_long(&mut self, now: u64) -> Result<Dequeued<A>, AllocError>
         requires { now < 2 * 10 ^ 15 }
         ensures ok { IfOk result
-            (λ d. record {
-              dropped = d.dropped.items;
-              given = d.given;
-              rest = self.new.waiting;
-              control = self.new.control;
-            }
-            ≡ dequeue self.old.discipline now self.old.control self.old.waiting) }
+            (λ d. IsDequeue now d.dropped.items d.given self.old self.new) }
         ensures same { self.new
             ≡ record self.old { control = self.new.control; waiting = self.new.waiting } }
         ensures unchanged { OnErr result (self.new ≡ self.old) }

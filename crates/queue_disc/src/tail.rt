@@ -7,7 +7,9 @@ ghost use Rattle.queue_disc.specs.Queues.{with_item};
 
 use crate::controlled::Codel;
 use crate::entries::{EnqueueError, Refused, Waiting};
-use emu_model::{CodelTime, QueueLimit, Size};
+use crate::queue::Queue;
+use crate::state::CodelState;
+use emu_model::{CodelTime, Discipline, QueueLimit, Size};
 use std::alloc::{AllocError, Global};
 use std::collections::VecDeque;
 use std::marker::Model;
@@ -190,7 +192,12 @@ impl<A> DropTail<A> {
           capacity = self.capacity;
         } }
     {
-        Codel::over(self, target, interval)
+        let queue = Queue {
+            tail: self,
+            discipline: Discipline::ControlledDelay { target, interval },
+            control: CodelState::initial(),
+        };
+        Codel { queue }
     }
 
     /// What waits at a place, the head at 0.
