@@ -1,6 +1,6 @@
 -- A dequeue reads sizes and moments alone: it does to keys what it does to the packets that they name.
-use Rattle.std.proofs.Common.{◌≡◌, ℕ, ◌-◌, ◌∙◌, ap, sym, refl, Bool, true, false, Option, Some, None, List, [], ◌∷◌, map}
-use Rattle.std.specs.Prelude.{nat_lt, nat_le, not, ◌||◌, if◌then◌else◌, option_map, sum, MatchOption, drop}
+use Rattle.std.proofs.Common.{◌≡◌, ℕ, ◌-◌, ◌∙◌, ap, sym, refl, Bool, true, false, List, [], ◌∷◌, map}
+use Rattle.std.specs.Prelude.{nat_lt, nat_le, not, ◌||◌, if◌then◌else◌, option_map, sum}
 use Rattle.emu_model.specs.declared.packets.Packet.{Packet}
 use Rattle.emu_model.specs.declared.pipes.Discipline.{Discipline}
 use Rattle.emu_model.specs.declared.pipes.Discipline.TheVariants.{TailDrop, ControlledDelay}
@@ -172,11 +172,3 @@ pub lone_dequeue : (d : Discipline) (now : ℕ) (c : CodelState) (w : Waiting Pa
     dequeue d now c (w ∷ []) ≡ give_head (dequeue {A = ℕ} d now c []).control w []
 lone_dequeue TailDrop now c w = refl
 lone_dequeue (ControlledDelay target interval) now c w = lone_codel _ now c w
-
--- the head of a drop-tail queue, taken
-pub tail_taken : {A : Type 0} (now : ℕ) (c : CodelState) (given : Option (Waiting A)) (ws rest : List (Waiting A)) →
-    MatchOption given (ws ≡ []) (λ w. ws ≡ w ∷ rest) → rest ≡ drop 1 ws →
-    (let r : Dequeued A = record { dropped = []; given = given; rest = rest; control = c } in r) ≡ dequeue TailDrop now c ws
-tail_taken now c None ws rest given left =
-    rw given (λ i. record { dropped = []; given = None; rest = (left ∙ ap (λ vs. drop 1 vs) given) i; control = c })
-tail_taken now c (Some w) ws rest given left = rw given refl

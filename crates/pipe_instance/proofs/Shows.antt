@@ -11,9 +11,10 @@ use Rattle.emu_model.proofs.CodelParts.{give_head}
 use Rattle.emu_model.specs.Rate.{begin}
 use Rattle.emu_model.specs.Delay.{Line, Leaving, enter, exit_after, delay_ns}
 use Rattle.emu_model.specs.Pipes.{InService, Instance, After, dequeue, period_with, codel_drops, no_drop, accept, send_off, instance_finish, cut_service, instance_configure}
+use Rattle.queue_disc.specs.Queues.{put_last, passed}
 use Rattle.pipe_instance.specs.Keyed.{KeyedQueue, KeyedInstance, seen_waiting, seen_leaving, seen_line, seen_service, seen_instance, keys_in, IsTuned, IsSameSetting}
 use Rattle.pipe_instance.specs.Serving.{next_service, after_service}
-use Rattle.pipe_instance.specs.Turns.{put_last, passed, configured, IsAccept, IsFinish}
+use Rattle.pipe_instance.specs.Turns.{configured, IsAccept, IsFinish}
 use Rattle.pipe_instance.specs.Uses.{total, uses, one_at}
 use Rattle.pipe_instance.proofs.UseCounts.{total-nil, total-append, total-one, total-three, one_at-same, map-agree}
 use Rattle.emu_model.proofs.CallerLemmas.{IsCut, dequeue-cut}

@@ -3,23 +3,16 @@
 use Rattle.std.specs.Prelude.{◌≡◌, ℕ, Option, option_map, List, map}
 use Rattle.emu_model.specs.declared.packets.Packet.{Packet}
 use Rattle.emu_model.specs.declared.pipes.PipeConfig.{PipeConfig}
-use Rattle.emu_model.specs.declared.pipes.QueueLimit.{QueueLimit}
-use Rattle.emu_model.specs.declared.pipes.Discipline.{Discipline}
 use Rattle.emu_model.specs.FlowIds.{FlowId}
 use Rattle.emu_model.specs.DropTail.{Waiting}
-use Rattle.emu_model.specs.Codel.{CodelState}
 use Rattle.emu_model.specs.Delay.{Leaving, Line}
 use Rattle.emu_model.specs.Pipes.{InService, InstanceOf, Instance, held_in}
+use Rattle.queue_disc.specs.Queues.{DisciplinedQueue}
 use Rattle.link_core.specs.Lane.{Lane}
 use Rattle.loss_stream.specs.Draws.{Draws}
 
--- the queue; up to `capacity` may wait before it has to grow
-pub record KeyedQueue : Type 0 where
-  pub limit : QueueLimit
-  pub discipline : Discipline
-  pub control : CodelState
-  pub waiting : List (Waiting ℕ)
-  pub capacity : ℕ
+abbrev pub KeyedQueue : Type 0
+KeyedQueue = DisciplinedQueue ℕ
 
 -- the rate, and what is in service
 pub record KeyedService : Type 0 where

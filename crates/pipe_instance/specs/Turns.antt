@@ -1,22 +1,12 @@
 -- What an instance does, over keys.
-use Rattle.std.specs.Prelude.{◌≡◌, ℕ, ◌+◌, Some, option_map, List, [], ◌∷◌, ◌++◌, map}
+use Rattle.std.specs.Prelude.{◌≡◌, ℕ, ◌+◌, Some, option_map, List, map}
 use Rattle.emu_model.specs.declared.packets.Packet.{Packet}
 use Rattle.emu_model.specs.declared.pipes.PipeConfig.{PipeConfig}
 use Rattle.emu_model.specs.FlowIds.{FlowId}
 use Rattle.emu_model.specs.DropTail.{Waiting}
 use Rattle.emu_model.specs.Pipes.{dequeue, cut_service, accept, no_drop, instance_finish, codel_drops, configured_control}
-use Rattle.pipe_instance.specs.Keyed.{KeyedInstance, KeyedQueue, seen_instance, seen_waiting, keys_in, IsTuned, IsSameSetting}
+use Rattle.pipe_instance.specs.Keyed.{KeyedInstance, seen_instance, seen_waiting, keys_in, IsTuned, IsSameSetting}
 use Rattle.pipe_instance.specs.Uses.{total}
-
--- a key that waits last
-abbrev pub put_last : ℕ → ℕ → ℕ → KeyedQueue → KeyedQueue
-put_last now key size q = record q {
-  waiting = q.waiting ++ record { item = key; size = size; stamp = now } ∷ [];
-}
-
--- the discipline has seen one packet go through the queue, which was empty
-abbrev pub passed : ℕ → KeyedQueue → KeyedQueue
-passed now q = record q { control = (dequeue {A = ℕ} q.discipline now q.control []).control }
 
 -- a key came in that the limit let in: it waits, or is served at once
 pub record IsAccept (now key size : ℕ) (old new : KeyedInstance) : Type 0 where

@@ -1,7 +1,7 @@
 //! One instance of a pipe, over the keys of its packets. Its arrival, finish and exit do to the keys
 //! what the definitions do to the packets, however the keys are named.
 
-ghost use Rattle.std.specs.Prelude.{min, ◌≡◌, ℕ, ◌+◌, ◌-◌, ◌*◌, ◌^◌, ◌<◌, ◌≤◌, true, [], Some, None, option_map, is_some, IsSome, length, slice_get, slice_set, IfOk, OnOk, OnErr, IsOk, map};
+ghost use Rattle.std.specs.Prelude.{min, ◌≡◌, ℕ, ◌+◌, ◌-◌, ◌*◌, ◌^◌, ◌<◌, ◌≤◌, true, [], Some, None, option_map, is_some, IsSome, IsTrue, length, slice_get, slice_set, IfOk, OnOk, OnErr, IsOk, map};
 ghost use Rattle.emu_model.specs.declared.packets.Packet.{Packet};
 ghost use Rattle.emu_model.specs.FlowIds.{FlowId};
 ghost use Rattle.emu_model.specs.Loss.{is_lost};
@@ -9,27 +9,25 @@ ghost use Rattle.emu_model.specs.DropTail.{bytes_of, accepts};
 ghost use Rattle.emu_model.specs.Delay.{leave, first_item, first_exit};
 ghost use Rattle.emu_model.specs.Pipes.{dequeue, initial_instance, instance_configure};
 ghost use Rattle.emu_model.specs.Commands.{shown_words};
+ghost use Rattle.queue_disc.specs.Queues.{is_plain};
 ghost use Rattle.pipe_instance.specs.Keyed.{seen_instance, keys_in, IsTuned};
 ghost use Rattle.pipe_instance.specs.Blanks.{blank};
 ghost use Rattle.pipe_instance.specs.Turns.{configured, IsAccept, IsFinish};
 
 use crate::leftovers::Leftovers;
-use crate::queue::Queue;
 use crate::service::Service;
 use emu_model::{Delay, LossRate, PipeConfig, PipeNumber, Size};
 use link_core::DelayLine;
 use loss_stream::LossStream;
 use packet_store::Key;
-use queue_disc::Waiting;
+use queue_disc::{Queue, Waiting};
 use std::alloc::{AllocError, Global};
 use std::marker::Model;
-use std::mem;
 
 /// An instance of a pipe. Where nothing is in service, nothing waits.
 #[derive(Drop)]
 pub struct Instance {
-    alloc: Global,
-    queue: Queue,
+    queue: Queue<Key>,
     service: Service,
     line: DelayLine<Key>,
     stream: LossStream,
@@ -87,7 +85,6 @@ impl Instance {
             ≡ record { seed = seed; pipe = pipe; instance = number; drawn = 0 } }
     {
         Instance {
-            alloc,
             queue: Queue::new(alloc, config.queue, config.discipline),
             service: Service::new(config.bw),
             line: DelayLine::new(alloc),
@@ -97,6 +94,7 @@ impl Instance {
 
     /// Draws the loss word of the packet that comes, at every rate: whether it is lost. The count of
     /// words stays at 2^128 - 1.
+    #[inline(always)]
     pub fn lose(&mut self, plr: LossRate) -> bool
         ensures answer { let d = self.old.draws in
             result ≡ is_lost d.seed d.pipe d.instance d.drawn plr }
@@ -108,6 +106,7 @@ impl Instance {
     }
 
     /// Whether the limit lets a packet of `size` bytes come in.
+    #[inline(always)]
     pub fn accepts(&self, size: Size) -> bool
         ensures { result ≡ accepts self.now.queue.limit self.now.queue.waiting size }
     {
@@ -115,6 +114,7 @@ impl Instance {
     }
 
     /// Makes the growth that `accept` of these can need: none where nothing is in service.
+    #[inline(always)]
     pub fn accept_ready(&mut self, size: Size, now: u64) -> Result<(), AllocError>
         ensures ready { OnOk result
             (accepts self.old.queue.limit self.old.queue.waiting size ≡ true →
@@ -140,6 +140,7 @@ impl Instance {
 
     /// A packet of `size` bytes comes in at the moment `now` (ns) that the limit lets in: it waits, or
     /// is served at once.
+    #[inline(always)]
     pub fn accept(&mut self, key: Key, size: Size, now: u64)
         requires early { now < 2 * 10 ^ 15 }
         requires accepted { accepts self.old.queue.limit self.old.queue.waiting size ≡ true }
@@ -148,7 +149,7 @@ impl Instance {
         ensures { IsAccept now key size self.old self.new }
     {
         if self.service.is_busy() {
-            self.queue.enqueue(key, size, now);
+            self.queue.enqueue_reserved(key, size, now);
         } else {
             self.queue.pass(now);
             self.service.start(key, size, now);
@@ -158,6 +159,7 @@ impl Instance {
     /// The packet in service finishes at the moment `now` (ns), at which it is due: it goes on its way
     /// with this delay (ms), and the next is served. All growths come first; refused, the instance is
     /// as before.
+    #[inline(always)]
     pub fn finish(&mut self, now: u64, delay: Delay) -> Result<Finished, AllocError>
         requires early { now < 2 * 10 ^ 15 }
         requires due { option_map (λ s. s.period.finish) self.old.service.busy ≡ Some now }
@@ -184,7 +186,59 @@ impl Instance {
         })
     }
 
+    /// A finish at the moment `now` (ns) drops nothing for sure.
+    #[inline(always)]
+    pub fn drops_none(&self, now: u64) -> bool
+        ensures plain { result ≡ is_plain self.now.queue.discipline now self.now.queue.waiting }
+        ensures none { let q = self.now.queue in
+            IsTrue result → (dequeue q.discipline now q.control q.waiting).dropped ≡ [] }
+    {
+        self.queue.drops_none(now)
+    }
+
+    /// The finish at a moment at which `drops_none` is true: the key whose packet finished. It takes
+    /// memory only where the line has no room.
+    #[inline(always)]
+    pub fn finish_plainly(&mut self, now: u64, delay: Delay) -> Result<Key, AllocError>
+        requires early { now < 2 * 10 ^ 15 }
+        requires due { option_map (λ s. s.period.finish) self.old.service.busy ≡ Some now }
+        requires plain { is_plain self.old.queue.discipline now self.old.queue.waiting ≡ true }
+        ensures ok { IfOk result (λ key. IsFinish now delay key [] self.old self.new) }
+        ensures unchanged { OnErr result
+            (self.new
+            ≡ record self.old { lane = record self.old.lane { spare = self.new.lane.spare } }) }
+        ensures succeeds { 0 < self.old.lane.spare → IsOk result }
+    {
+        let Some(key) = self.service.key() else {
+            unreachable!();
+        };
+        self.line.enter_ready(now, delay)?;
+        let given = self.queue.dequeue_plainly(now);
+        let Ok(()) = self.line.enter(key, now, delay) else {
+            unreachable!();
+        };
+        self.service.follow(given);
+        Ok(key)
+    }
+
+    /// Whether a packet is in service.
+    #[inline(always)]
+    pub fn is_busy(&self) -> bool
+        ensures { result ≡ is_some self.now.service.busy }
+    {
+        self.service.is_busy()
+    }
+
+    /// How many packets wait.
+    #[inline(always)]
+    pub fn waiting(&self) -> usize
+        ensures { result ≡ length self.now.queue.waiting }
+    {
+        self.queue.waiting()
+    }
+
     /// What leaves first, which stays; None where nothing is on its way.
+    #[inline(always)]
     pub fn front(&self) -> Option<Key>
         ensures { result ≡ first_item self.now.lane.line.flight }
     {
@@ -192,6 +246,7 @@ impl Instance {
     }
 
     /// Takes out what leaves first; None where nothing is on its way.
+    #[inline(always)]
     pub fn exit(&mut self) -> Option<Key>
         ensures item { result ≡ first_item self.old.lane.line.flight }
         ensures rest { self.new
@@ -217,9 +272,7 @@ impl Instance {
             ≡ instance_configure old.now new.now (seen_instance f id self.old) }
         ensures keys { keys_in self.new ≡ keys_in self.old }
     {
-        let vacant = Queue::new(self.alloc, new.queue, new.discipline);
-        let queue = mem::replace(&mut self.queue, vacant);
-        self.queue = queue.configured(old.discipline, new.queue, new.discipline);
+        self.queue.configure(new.queue, new.discipline);
         self.service.configure(new.bw);
     }
 
@@ -279,7 +332,6 @@ impl Instance {
         ensures { result ≡ keys_in self }
     {
         let Instance {
-            alloc: _,
             queue,
             service,
             line,
@@ -289,6 +341,7 @@ impl Instance {
     }
 
     /// When it has something to do (ns).
+    #[inline(always)]
     pub fn dues(&self) -> InstanceDues
         ensures exit { result.exit ≡ first_exit self.now.lane.line.flight }
         ensures finish { result.finish ≡ option_map (λ s. s.period.finish) self.now.service.busy }

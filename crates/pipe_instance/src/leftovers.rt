@@ -2,9 +2,9 @@
 
 ghost use Rattle.std.specs.Prelude.{◌≡◌, [], ◌∷◌, ◌++◌, map, option_to_list, MatchOption};
 
-use crate::queue::Queue;
 use link_core::DelayLine;
 use packet_store::Key;
+use queue_disc::Queue;
 use std::marker::Model;
 
 /// The keys that an instance held: those on their way, the one in service, those that waited. A
@@ -13,7 +13,7 @@ use std::marker::Model;
 pub struct Leftovers {
     line: DelayLine<Key>,
     served: Option<Key>,
-    queue: Queue,
+    queue: Queue<Key>,
 }
 
 impl Model for Leftovers {
@@ -26,7 +26,7 @@ impl Model for Leftovers {
 }
 
 impl Leftovers {
-    pub(crate) fn new(line: DelayLine<Key>, served: Option<Key>, queue: Queue) -> Self
+    pub(crate) fn new(line: DelayLine<Key>, served: Option<Key>, queue: Queue<Key>) -> Self
         ensures { result ≡ map (λ x. x.item) line.line.flight ++ option_to_list served
             ++ map (λ w. w.item) queue.waiting }
     {
@@ -49,6 +49,7 @@ impl Leftovers {
             self.served = None;
             return Some(key);
         }
-        self.queue.take()
+        let first = self.queue.take()?;
+        Some(first.item)
     }
 }

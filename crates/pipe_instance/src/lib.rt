@@ -4,7 +4,6 @@
 
 mod instance;
 mod leftovers;
-mod queue;
 mod service;
 
 pub use instance::{Finished, Instance, InstanceDues, Shown};

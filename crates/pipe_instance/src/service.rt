@@ -44,6 +44,7 @@ impl Service {
     }
 
     /// The key of the packet in service.
+    #[inline(always)]
     pub(crate) fn key(&self) -> Option<Key>
         ensures { result ≡ option_map (λ s. s.item) self.now.busy }
     {
@@ -51,6 +52,7 @@ impl Service {
     }
 
     /// Whether a packet is in service.
+    #[inline(always)]
     pub(crate) fn is_busy(&self) -> bool
         ensures { result ≡ is_some self.now.busy }
     {
@@ -58,6 +60,7 @@ impl Service {
     }
 
     /// The finish (ns) of the packet in service.
+    #[inline(always)]
     pub(crate) fn due(&self) -> Option<u64>
         ensures { result ≡ option_map (λ s. s.period.finish) self.now.busy }
     {
@@ -65,6 +68,7 @@ impl Service {
     }
 
     /// Begins a busy period at `now` (ns).
+    #[inline(always)]
     pub(crate) fn start(&mut self, key: Key, size: Size, now: u64)
         requires { now < 2 * 10 ^ 15 }
         ensures { self.new
@@ -78,6 +82,7 @@ impl Service {
     }
 
     /// At a finish: what was given is served next, or the period ends.
+    #[inline(always)]
     pub(crate) fn follow(&mut self, given: Option<Waiting<Key>>)
         requires busy { IsSome self.old.busy }
         requires early { ForSome self.old.busy (λ s. s.period.finish < 2 * 10 ^ 15) }

@@ -1,10 +1,22 @@
 -- The queues as their callers see them.
-use Rattle.std.specs.Prelude.{◌≡◌, ℕ, zero, suc, ◌≤◌, List, [], ◌∷◌, All}
+use Rattle.std.specs.Prelude.{◌≡◌, ℕ, zero, suc, ◌≤◌, Bool, true, Option, List, [], ◌∷◌, ◌++◌, All}
 use Rattle.emu_model.specs.declared.pipes.QueueLimit.{QueueLimit}
+use Rattle.emu_model.specs.declared.pipes.Discipline.{Discipline}
+use Rattle.emu_model.specs.declared.pipes.Discipline.TheVariants.{TailDrop, ControlledDelay}
 use Rattle.emu_model.specs.DropTail.{Waiting, bytes_of}
-use Rattle.emu_model.specs.Codel.{Times, CodelState}
+use Rattle.emu_model.specs.Codel.{Times, CodelState, Dequeued}
+use Rattle.emu_model.specs.Pipes.{dequeue}
+use Rattle.emu_model.proofs.CodelParts.{is_short}
 
--- a drop-tail queue; up to `capacity` may wait before it has to grow
+-- a queue under a discipline; up to `capacity` may wait before it has to grow
+pub record DisciplinedQueue (A : Type 0) : Type 0 where
+  pub limit : QueueLimit
+  pub discipline : Discipline
+  pub control : CodelState
+  pub waiting : List (Waiting A)
+  pub capacity : ℕ
+
+-- a drop-tail queue
 pub record TailQueue (A : Type 0) : Type 0 where
   pub limit : QueueLimit
   pub waiting : List (Waiting A)
@@ -17,6 +29,50 @@ pub record CodelQueue (A : Type 0) : Type 0 where
   pub control : CodelState
   pub waiting : List (Waiting A)
   pub capacity : ℕ
+
+-- the times of a discipline that is CoDel
+abbrev pub times_of : Discipline → Times
+times_of TailDrop = record { target = 0; interval = 0 }
+times_of (ControlledDelay target interval) = record { target = target; interval = interval }
+
+abbrev pub IsControlled : Discipline → Type 0
+IsControlled d = d ≡ ControlledDelay (times_of d).target (times_of d).interval
+
+abbrev pub codel_queue : {A : Type 0} → DisciplinedQueue A → CodelQueue A
+codel_queue q = record {
+  times = times_of q.discipline;
+  limit = q.limit;
+  control = q.control;
+  waiting = q.waiting;
+  capacity = q.capacity;
+}
+
+-- an item that waits last
+abbrev pub put_last : {A : Type 0} → ℕ → A → ℕ → DisciplinedQueue A → DisciplinedQueue A
+put_last now item size q = record q {
+  waiting = q.waiting ++ record { item = item; size = size; stamp = now } ∷ [];
+}
+
+-- the discipline has seen one item go through the queue, which was empty
+abbrev pub passed : {A : Type 0} → ℕ → DisciplinedQueue A → DisciplinedQueue A
+passed {A} now q = record q { control = (dequeue {A = A} q.discipline now q.control []).control }
+
+-- the discipline's dequeue at `now`: these were dropped, this one given, and the rest waits
+abbrev pub IsDequeue : {A : Type 0} → ℕ → List (Waiting A) → Option (Waiting A) → DisciplinedQueue A → DisciplinedQueue A → Type 0
+IsDequeue {A} now dropped given old new =
+    let d : Dequeued A = record { dropped = dropped; given = given; rest = new.waiting; control = new.control } in
+    d ≡ dequeue old.discipline now old.control old.waiting
+
+-- nothing waits, or the head's stay is short
+abbrev pub stays_short : {A : Type 0} → Times → ℕ → List (Waiting A) → Bool
+stays_short times now [] = true
+stays_short times now (w ∷ ws) = is_short times now w ws
+
+-- a dequeue drops nothing for sure
+abbrev pub is_plain : {A : Type 0} → Discipline → ℕ → List (Waiting A) → Bool
+is_plain TailDrop now ws = true
+is_plain (ControlledDelay target interval) now ws =
+    stays_short (record { target = target; interval = interval }) now ws
 
 -- the sum that is kept beside what waits. Each limit lets at most 1,500,000 bytes wait, and a change
 -- of limit drops nothing

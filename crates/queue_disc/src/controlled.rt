@@ -1,4 +1,4 @@
-//! A queue under CoDel (RFC 8289, section 5).
+//! A queue under CoDel (RFC 8289, section 5) and nothing else.
 
 ghost use Rattle.std.specs.Prelude.{◌≡◌, ◌≢◌, ◌+◌, ◌*◌, ◌^◌, ◌<◌, ◌≤◌, true, false, [], ◌∷◌, ◌++◌, length, map, drop, IfErr, IfOk, OnOk, OnErr, IsOk, MatchOption, slice_get};
 ghost use Rattle.emu_model.specs.DropTail.{bytes_of, accepts};
@@ -6,40 +6,27 @@ ghost use Rattle.emu_model.specs.Codel.{codel_dequeue, initial_control};
 ghost use Rattle.queue_disc.specs.Queues.{with_item};
 
 use crate::entries::{EnqueueError, Refused, Waiting};
-use crate::state::{CodelState, Times};
+use crate::queue::{Dequeued, Queue};
+use crate::state::CodelState;
 use crate::tail::DropTail;
-use crate::verdict::{Verdict, judge};
-use emu_model::{CodelTime, QueueLimit, Size};
+use emu_model::{CodelTime, Discipline, QueueLimit, Size};
 use std::alloc::{AllocError, Global};
 use std::marker::Model;
 
 /// A queue with a limit, whose head is dropped while what waits has waited for long.
 #[derive(Drop)]
 pub struct Codel<A> {
-    queue: DropTail<A>,
-    times: Times,
-    control: CodelState,
+    pub(crate) queue: Queue<A>,
 }
 
 impl<A> Model for Codel<A> {
-    ghost use Rattle.queue_disc.specs.Queues.{CodelQueue};
+    ghost use Rattle.queue_disc.specs.Queues.{CodelQueue, codel_queue, IsControlled};
 
     ghost Value = { CodelQueue A };
 
-    ghost view = { λ q. record {
-      times = q.times;
-      limit = q.queue.limit;
-      control = q.control;
-      waiting = q.queue.waiting;
-      capacity = q.queue.capacity;
-    } };
-}
+    ghost view = { λ q. codel_queue q.queue };
 
-/// What a dequeue dropped, in order, and what it gave to the server.
-#[derive(Drop)]
-pub struct Dequeued<A> {
-    pub dropped: Vec<Waiting<A>>,
-    pub given: Option<Waiting<A>>,
+    ghost invariant = { λ q. IsControlled q.queue.discipline };
 }
 
 impl<A> Codel<A> {
@@ -51,23 +38,9 @@ impl<A> Codel<A> {
         ensures control { result.control ≡ initial_control }
         ensures empty { result.waiting ≡ [] }
     {
-        Codel::over(DropTail::new(alloc, limit), target, interval)
-    }
-
-    /// A queue that stood under its limit alone.
-    pub(crate) fn over(queue: DropTail<A>, target: CodelTime, interval: CodelTime) -> Self
-        ensures { result ≡ record {
-          times = record { target = target; interval = interval };
-          limit = queue.limit;
-          control = initial_control;
-          waiting = queue.waiting;
-          capacity = queue.capacity;
-        } }
-    {
+        let discipline = Discipline::ControlledDelay { target, interval };
         Codel {
-            queue,
-            times: Times { target, interval },
-            control: CodelState::initial(),
+            queue: Queue::new(alloc, limit, discipline),
         }
     }
 
@@ -79,12 +52,9 @@ impl<A> Codel<A> {
           capacity = self.capacity;
         } }
     {
-        let Codel {
-            queue,
-            times: _,
-            control: _,
-        } = self;
-        queue
+        let Codel { queue } = self;
+        let Queue { tail, .. } = queue;
+        tail
     }
 
     /// Puts an item of `size` bytes last, stamped with `now`. Refused, the queue is as before and the
@@ -107,7 +77,7 @@ impl<A> Codel<A> {
             (accepts self.old.limit self.old.waiting size ≡ true)
             × (self.old.capacity ≤ length self.old.waiting)) }
     {
-        self.queue.enqueue(item, size, now)
+        self.queue.tail.enqueue(item, size, now)
     }
 
     /// The same where the limit lets it in and there is room. Takes no memory.
@@ -138,8 +108,8 @@ impl<A> Codel<A> {
         self.queue.enqueue_ready(size, now)
     }
 
-    /// `dequeue` of RFC 8289 at the moment `now`, in nanoseconds. It takes memory only where it drops.
-    /// Refused, the queue is as before.
+    /// `dequeue` of RFC 8289 (section 5.5) at the moment `now`, in nanoseconds. It takes memory only
+    /// where it drops. Refused, the queue is as before.
     #[inline(always)]
     pub fn dequeue(&mut self, now: u64) -> Result<Dequeued<A>, AllocError>
         requires { now < 2 * 10 ^ 15 }
@@ -158,12 +128,7 @@ impl<A> Codel<A> {
             (codel_dequeue q.times now q.control q.waiting).dropped ≡ [] → IsOk result }
         ensures lone { length self.old.waiting ≤ 1 → IsOk result }
     {
-        let Verdict { drops, control } = judge(&self.queue, self.times, self.control, now);
-        let mut dropped = Vec::with_capacity(self.queue.allocator(), drops)?;
-        self.queue.take_into(drops, &mut dropped);
-        let given = self.queue.dequeue();
-        self.control = control;
-        Ok(Dequeued { dropped, given })
+        self.queue.dequeue(now)
     }
 
     /// Takes the head as it is, past CoDel's law. Takes no memory.
@@ -172,7 +137,7 @@ impl<A> Codel<A> {
             (λ w. self.old.waiting ≡ w ∷ self.new.waiting) }
         ensures rest { self.new ≡ record self.old { waiting = drop 1 self.old.waiting } }
     {
-        self.queue.dequeue()
+        self.queue.take()
     }
 
     /// How many wait.
@@ -202,7 +167,7 @@ impl<A> Codel<A> {
     pub fn set_limit(&mut self, limit: QueueLimit)
         ensures { self.new ≡ record self.old { limit = limit } }
     {
-        self.queue.set_limit(limit);
+        self.queue.tail.set_limit(limit);
     }
 
     /// Changes the times, in nanoseconds. CoDel's state stays.
@@ -210,14 +175,14 @@ impl<A> Codel<A> {
         ensures { self.new
             ≡ record self.old { times = record { target = target; interval = interval } } }
     {
-        self.times = Times { target, interval };
+        self.queue.discipline = Discipline::ControlledDelay { target, interval };
     }
 
     /// Puts CoDel back to its opening state. What waits stays.
     pub fn reset_control(&mut self)
         ensures { self.new ≡ record self.old { control = initial_control } }
     {
-        self.control = CodelState::initial();
+        self.queue.control = CodelState::initial();
     }
 }
 

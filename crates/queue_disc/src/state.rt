@@ -1,4 +1,5 @@
-//! CoDel's state, one small function for each step of RFC 8289's `dodequeue` and `dequeue`.
+//! CoDel's state, one small function for each step of RFC 8289's `dequeue` (section 5.5) and of its
+//! helpers (5.6).
 
 ghost use Rattle.std.specs.Prelude.{◌≡◌, ◌+◌, ◌-◌, ◌*◌, ◌^◌, ◌<◌, ◌≤◌, ◌==◌, ◌&&◌, ◌||◌, not, nat_lt, nat_le, if◌then◌else◌};
 ghost use Rattle.emu_model.specs.Codel.{initial_control, count_up, enter_drop_state};
@@ -32,6 +33,7 @@ impl Model for Times {
 
 impl Times {
     /// Whether a stay since `stamp` is short, or no more than one greatest packet is left behind.
+    #[inline(always)]
     pub(crate) fn is_short(self, now: u64, stamp: u64, left: u64) -> bool
         ensures { result ≡ (nat_lt (now - stamp) self.target || nat_le left 1500) }
     {
@@ -173,6 +175,15 @@ impl CodelState {
             first_above_time: 0,
             ..self
         }
+    }
+
+    /// After a head whose stay is short, or none.
+    #[inline(always)]
+    pub(crate) fn rest(&mut self)
+        ensures { self.new ≡ stop_dropping (look_empty self.old) }
+    {
+        self.first_above_time = 0;
+        self.dropping = false;
     }
 
     pub(crate) fn stop_dropping(self) -> Self

@@ -1,4 +1,4 @@
-//! Drop-tail (ipfw(8), queue).
+//! Drop-tail (ipfw(8), queue): a limit, what waits, and the sum of its bytes.
 
 ghost use Rattle.std.specs.Prelude.{◌≡◌, ◌+◌, ◌-◌, ◌*◌, ◌^◌, ◌<◌, ◌≤◌, true, false, [], ◌∷◌, ◌++◌, length, map, drop, IfErr, OnOk, OnErr, IsTrue, MatchOption, slice_get, take, vec_len, vec_capacity};
 ghost use Rattle.emu_model.specs.DropTail.{bytes_of, accepts};
@@ -7,7 +7,9 @@ ghost use Rattle.queue_disc.specs.Queues.{with_item};
 
 use crate::controlled::Codel;
 use crate::entries::{EnqueueError, Refused, Waiting};
-use emu_model::{CodelTime, QueueLimit, Size};
+use crate::queue::Queue;
+use crate::state::CodelState;
+use emu_model::{CodelTime, Discipline, QueueLimit, Size};
 use std::alloc::{AllocError, Global};
 use std::collections::VecDeque;
 use std::marker::Model;
@@ -89,6 +91,7 @@ impl<A> DropTail<A> {
     }
 
     /// The same where the limit lets it in and there is room. Takes no memory.
+    #[inline(always)]
     pub fn enqueue_reserved(&mut self, item: A, size: Size, now: u64)
         requires accepted { accepts self.old.limit self.old.waiting size ≡ true }
         requires room { length self.old.waiting < self.old.capacity }
@@ -109,6 +112,7 @@ impl<A> DropTail<A> {
     }
 
     /// Makes the growth that `enqueue` of these can need.
+    #[inline(always)]
     pub fn enqueue_ready(&mut self, size: Size, _now: u64) -> Result<(), AllocError>
         ensures ok { OnOk result (self.new ≡ record self.old { capacity = self.new.capacity }) }
         ensures room { OnOk result
@@ -128,6 +132,7 @@ impl<A> DropTail<A> {
     }
 
     /// Takes the head. Takes no memory.
+    #[inline(always)]
     pub fn dequeue(&mut self) -> Option<Waiting<A>>
         ensures given { MatchOption result (self.old.waiting ≡ [])
             (λ w. self.old.waiting ≡ w ∷ self.new.waiting) }
@@ -139,6 +144,7 @@ impl<A> DropTail<A> {
     }
 
     /// How many wait.
+    #[inline(always)]
     pub fn waiting(&self) -> usize
         ensures waiting { result ≡ length self.now.waiting }
         ensures fits { result < 2 ^ 63 }
@@ -147,6 +153,7 @@ impl<A> DropTail<A> {
     }
 
     /// The bytes of what waits.
+    #[inline(always)]
     pub fn bytes(&self) -> u64
         ensures bytes { result ≡ bytes_of self.now.waiting }
         ensures few { result ≤ 1500000 }
@@ -155,6 +162,7 @@ impl<A> DropTail<A> {
     }
 
     /// Whether the limit lets an item of `size` bytes wait as well.
+    #[inline(always)]
     pub fn accepts(&self, size: Size) -> bool
         ensures value { result ≡ accepts self.now.limit self.now.waiting size }
         ensures few { IsTrue result → bytes_of self.now.waiting + size ≤ 1500000 }
@@ -184,10 +192,16 @@ impl<A> DropTail<A> {
           capacity = self.capacity;
         } }
     {
-        Codel::over(self, target, interval)
+        let queue = Queue {
+            tail: self,
+            discipline: Discipline::ControlledDelay { target, interval },
+            control: CodelState::initial(),
+        };
+        Codel { queue }
     }
 
     /// What waits at a place, the head at 0.
+    #[inline(always)]
     pub(crate) fn get(&self, index: usize) -> Option<&Waiting<A>>
         ensures item { MatchOption result (drop index self.now.waiting ≡ [])
             (λ w. drop index self.now.waiting ≡ w.now ∷ drop (index + 1) self.now.waiting) }
@@ -215,6 +229,7 @@ impl<A> DropTail<A> {
     }
 
     /// Makes room for one more: twice as many places where none is free.
+    #[inline(always)]
     fn reserve(&mut self) -> Result<(), AllocError>
         ensures ok { OnOk result (self.new ≡ record self.old { capacity = self.new.capacity }) }
         ensures room { OnOk result (length self.new.waiting < self.new.capacity) }
@@ -223,11 +238,24 @@ impl<A> DropTail<A> {
         ensures unchanged { OnErr result (self.new ≡ self.old) }
         ensures full { OnErr result (self.old.capacity ≤ length self.old.waiting) }
     {
-        let waiting = self.waiting.len();
-        if waiting < self.waiting.capacity() {
+        if self.waiting.len() < self.waiting.capacity() {
             return Ok(());
         }
-        match self.waiting.reserve_exact(waiting.max(LEAST_GROWTH)) {
+        self.grow()
+    }
+
+    /// Twice as many places.
+    #[inline(never)]
+    fn grow(&mut self) -> Result<(), AllocError>
+        ensures ok { OnOk result (self.new ≡ record self.old { capacity = self.new.capacity }) }
+        ensures room { OnOk result (length self.new.waiting < self.new.capacity) }
+        ensures grows { self.old.capacity ≤ self.new.capacity }
+        ensures unchanged { OnErr result (self.new ≡ self.old) }
+    {
+        match self
+            .waiting
+            .reserve_exact(self.waiting.len().max(LEAST_GROWTH))
+        {
             Ok(()) => Ok(()),
             Err(_) => Err(AllocError),
         }

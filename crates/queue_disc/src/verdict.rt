@@ -1,12 +1,15 @@
-//! What CoDel's dequeue will drop, told before anything is taken.
+//! What a dequeue will drop, told before anything is taken.
 
 ghost use Rattle.std.specs.Prelude.{◌≡◌, ◌+◌, ◌*◌, ◌^◌, ◌<◌, ◌≤◌, length, drop};
 ghost use Rattle.emu_model.specs.DropTail.{bytes_of};
 ghost use Rattle.emu_model.specs.Codel.{codel_dequeue};
+ghost use Rattle.emu_model.specs.Pipes.{dequeue};
+ghost use Rattle.queue_disc.specs.Queues.{stays_short};
 ghost use Rattle.queue_disc.specs.Judged.{verdict_of, drops_first, drops_on};
 
 use crate::state::{CodelState, Times};
 use crate::tail::DropTail;
+use emu_model::Discipline;
 
 /// How many are dropped from the head, and the state after the dequeue.
 pub(crate) struct Verdict {
@@ -14,7 +17,35 @@ pub(crate) struct Verdict {
     pub(crate) control: CodelState,
 }
 
-pub(crate) fn judge<A>(queue: &DropTail<A>, times: Times, control: CodelState, now: u64) -> Verdict
+/// Whether nothing waits, or the head's stay is short.
+#[inline(always)]
+pub(crate) fn stays_short<A>(queue: &DropTail<A>, times: Times, now: u64) -> bool
+    ensures { result ≡ stays_short times now queue.now.waiting }
+{
+    let Some(head) = queue.get(0) else {
+        return true;
+    };
+    times.is_short(now, head.stamp, queue.bytes() - u64::from(head.size.get()))
+}
+
+pub(crate) fn judge<A>(
+    queue: &DropTail<A>,
+    discipline: Discipline,
+    control: CodelState,
+    now: u64,
+) -> Verdict
+    requires { now < 2 * 10 ^ 15 }
+    ensures { result ≡ verdict_of (dequeue discipline now control queue.now.waiting) }
+{
+    match discipline {
+        Discipline::TailDrop => Verdict { drops: 0, control },
+        Discipline::ControlledDelay { target, interval } => {
+            judge_head(queue, Times { target, interval }, control, now)
+        }
+    }
+}
+
+fn judge_head<A>(queue: &DropTail<A>, times: Times, control: CodelState, now: u64) -> Verdict
     requires { now < 2 * 10 ^ 15 }
     ensures { result ≡ verdict_of (codel_dequeue times now control queue.now.waiting) }
 {

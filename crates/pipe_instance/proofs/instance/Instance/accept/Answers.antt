@@ -9,7 +9,7 @@ returns-then-is_busy c =
     let old : KeyedInstance = record { queue = s.queue; service = s.service; lane = s.line; draws = s.stream } in
     rw (← c.self.view_is) (accept-waits c.args.now c.args.key c.args.size old _ c.self.invariant
     (sym c.is_busy.ensures ∙ c.if-is_busy.true)
-    (λ i. record { queue = c.enqueue.ensures i; service = s.service; lane = s.line; draws = s.stream }))
+    (λ i. record { queue = c.enqueue_reserved.ensures i; service = s.service; lane = s.line; draws = s.stream }))
 
 pub returns-else-is_busy : goal.returns-else-is_busy
 returns-else-is_busy c =

@@ -3,7 +3,7 @@ use Rattle.std.specs.Prelude.{◌||◌, nat_lt, nat_le}
 use Rattle.emu_model.specs.DropTail.{bytes_of}
 use Rattle.queue_disc.proofs.Counted.{bytes_of-cons}
 use Rattle.queue_disc.proofs.Judging.{judged_dropping}
-use Rattle.queue_disc.proofs.verdict.judge.Goals as goal
+use Rattle.queue_disc.proofs.verdict.judge_head.Goals as goal
 
 pub returns-then-is_dropping : goal.returns-then-is_dropping
 returns-then-is_dropping g c =

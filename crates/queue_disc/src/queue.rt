@@ -1,0 +1,243 @@
+//! A queue under a discipline: its limit alone, or CoDel (RFC 8289, section 5) as well.
+
+ghost use Rattle.std.specs.Prelude.{◌≡◌, ◌*◌, ◌^◌, ◌<◌, ◌≤◌, true, [], ◌∷◌, length, map, drop, IfOk, OnOk, OnErr, IsOk, IsTrue, MatchOption, slice_get};
+ghost use Rattle.emu_model.specs.DropTail.{bytes_of, accepts};
+ghost use Rattle.emu_model.specs.Codel.{initial_control};
+ghost use Rattle.emu_model.specs.Pipes.{dequeue, configured_control};
+ghost use Rattle.queue_disc.specs.Queues.{with_item, put_last, passed, is_plain, IsDequeue};
+
+use crate::entries::Waiting;
+use crate::state::{CodelState, Times};
+use crate::tail::DropTail;
+use crate::verdict::{Verdict, judge, stays_short};
+use emu_model::{Discipline, QueueLimit, Size};
+use std::alloc::{AllocError, Global};
+use std::marker::Model;
+
+/// A queue with a limit and a discipline. Under its limit alone CoDel's state stays as it is.
+#[derive(Drop)]
+pub struct Queue<A> {
+    pub(crate) tail: DropTail<A>,
+    pub(crate) discipline: Discipline,
+    pub(crate) control: CodelState,
+}
+
+impl<A> Model for Queue<A> {
+    ghost use Rattle.queue_disc.specs.Queues.{DisciplinedQueue};
+
+    ghost Value = { DisciplinedQueue A };
+
+    ghost view = { λ q. record {
+      limit = q.tail.limit;
+      discipline = q.discipline;
+      control = q.control;
+      waiting = q.tail.waiting;
+      capacity = q.tail.capacity;
+    } };
+}
+
+/// What a dequeue dropped, in order, and what it gave to the server.
+#[derive(Drop)]
+pub struct Dequeued<A> {
+    pub dropped: Vec<Waiting<A>>,
+    pub given: Option<Waiting<A>>,
+}
+
+impl<A> Queue<A> {
+    /// An empty queue, with CoDel's opening state. Takes no memory.
+    pub fn new(alloc: Global, limit: QueueLimit, discipline: Discipline) -> Self
+        ensures { result ≡ record {
+          limit = limit;
+          discipline = discipline;
+          control = initial_control;
+          waiting = [];
+          capacity = result.capacity;
+        } }
+    {
+        Queue {
+            tail: DropTail::new(alloc, limit),
+            discipline,
+            control: CodelState::initial(),
+        }
+    }
+
+    /// Whether the limit lets an item of `size` bytes wait as well.
+    #[inline(always)]
+    pub fn accepts(&self, size: Size) -> bool
+        ensures { result ≡ accepts self.now.limit self.now.waiting size }
+    {
+        self.tail.accepts(size)
+    }
+
+    /// Makes the growth that `enqueue_reserved` of these can need.
+    #[inline(always)]
+    pub fn enqueue_ready(&mut self, size: Size, now: u64) -> Result<(), AllocError>
+        ensures same { self.new ≡ record self.old { capacity = self.new.capacity } }
+        ensures room { OnOk result
+            (accepts self.old.limit self.old.waiting size ≡ true →
+            length self.new.waiting < self.new.capacity) }
+        ensures grows { self.old.capacity ≤ self.new.capacity }
+        ensures unchanged { OnErr result (self.new ≡ self.old) }
+        ensures full { OnErr result
+            ((accepts self.old.limit self.old.waiting size ≡ true)
+            × (self.old.capacity ≤ length self.old.waiting)) }
+    {
+        self.tail.enqueue_ready(size, now)
+    }
+
+    /// Puts an item of `size` bytes last, stamped with `now`, where the limit lets it in and there is
+    /// room. Takes no memory.
+    #[inline(always)]
+    pub fn enqueue_reserved(&mut self, item: A, size: Size, now: u64)
+        requires accepted { accepts self.old.limit self.old.waiting size ≡ true }
+        requires room { length self.old.waiting < self.old.capacity }
+        ensures { self.new ≡ put_last now item size self.old }
+    {
+        self.tail.enqueue_reserved(item, size, now);
+    }
+
+    /// The discipline's dequeue at the moment `now` (ns), of RFC 8289, section 5.5, under CoDel. It
+    /// takes memory only where it drops; refused, the queue is as before.
+    #[inline(always)]
+    pub fn dequeue(&mut self, now: u64) -> Result<Dequeued<A>, AllocError>
+        requires { now < 2 * 10 ^ 15 }
+        ensures ok { IfOk result
+            (λ d. IsDequeue now d.dropped.items d.given self.old self.new) }
+        ensures same { self.new
+            ≡ record self.old { control = self.new.control; waiting = self.new.waiting } }
+        ensures unchanged { OnErr result (self.new ≡ self.old) }
+        ensures no_drop { let q = self.old in
+            (dequeue q.discipline now q.control q.waiting).dropped ≡ [] → IsOk result }
+        ensures lone { length self.old.waiting ≤ 1 → IsOk result }
+    {
+        if self.drops_none(now) {
+            let given = self.dequeue_plainly(now);
+            let dropped = Vec::new(self.tail.allocator());
+            return Ok(Dequeued { dropped, given });
+        }
+        self.dequeue_long(now)
+    }
+
+    /// A dequeue at the moment `now` (ns) drops nothing for sure: nothing waits, or its head's stay is
+    /// short.
+    #[inline(always)]
+    pub fn drops_none(&self, now: u64) -> bool
+        ensures plain { result ≡ is_plain self.now.discipline now self.now.waiting }
+        ensures none { let q = self.now in
+            IsTrue result → (dequeue q.discipline now q.control q.waiting).dropped ≡ [] }
+    {
+        match self.discipline {
+            Discipline::TailDrop => true,
+            Discipline::ControlledDelay { target, interval } => {
+                stays_short(&self.tail, Times { target, interval }, now)
+            }
+        }
+    }
+
+    /// The dequeue at a moment (ns) at which `drops_none` is true. Takes no memory.
+    #[inline(always)]
+    pub fn dequeue_plainly(&mut self, now: u64) -> Option<Waiting<A>>
+        requires { is_plain self.old.discipline now self.old.waiting ≡ true }
+        ensures given { IsDequeue now [] result self.old self.new }
+        ensures same { self.new
+            ≡ record self.old { control = self.new.control; waiting = self.new.waiting } }
+    {
+        match self.discipline {
+            Discipline::TailDrop => self.tail.dequeue(),
+            Discipline::ControlledDelay { .. } => {
+                self.control.rest();
+                self.tail.dequeue()
+            }
+        }
+    }
+
+    /// The same where the head is judged, and those behind it.
+    #[inline(never)]
+    fn dequeue_long(&mut self, now: u64) -> Result<Dequeued<A>, AllocError>
+        requires { now < 2 * 10 ^ 15 }
+        ensures ok { IfOk result
+            (λ d. IsDequeue now d.dropped.items d.given self.old self.new) }
+        ensures same { self.new
+            ≡ record self.old { control = self.new.control; waiting = self.new.waiting } }
+        ensures unchanged { OnErr result (self.new ≡ self.old) }
+        ensures no_drop { let q = self.old in
+            (dequeue q.discipline now q.control q.waiting).dropped ≡ [] → IsOk result }
+    {
+        let Verdict { drops, control } = judge(&self.tail, self.discipline, self.control, now);
+        let mut dropped = Vec::with_capacity(self.tail.allocator(), drops)?;
+        self.tail.take_into(drops, &mut dropped);
+        let given = self.tail.dequeue();
+        self.control = control;
+        Ok(Dequeued { dropped, given })
+    }
+
+    /// What an item leaves behind that comes at the moment `now` (ns) while nothing waits, and is
+    /// served at once.
+    #[inline(always)]
+    pub fn pass(&mut self, now: u64)
+        ensures { self.new ≡ passed now self.old }
+    {
+        if let Discipline::ControlledDelay { .. } = self.discipline {
+            self.control.rest();
+        }
+    }
+
+    /// Takes the head as it is, past the discipline. Takes no memory.
+    pub fn take(&mut self) -> Option<Waiting<A>>
+        ensures given { MatchOption result (self.old.waiting ≡ [])
+            (λ w. self.old.waiting ≡ w ∷ self.new.waiting) }
+        ensures rest { self.new ≡ record self.old { waiting = drop 1 self.old.waiting } }
+    {
+        self.tail.dequeue()
+    }
+
+    /// How many wait.
+    #[inline(always)]
+    pub fn waiting(&self) -> usize
+        ensures waiting { result ≡ length self.now.waiting }
+        ensures fits { result < 2 ^ 63 }
+    {
+        self.tail.waiting()
+    }
+
+    /// The bytes of what waits.
+    pub fn bytes(&self) -> u64
+        ensures bytes { result ≡ bytes_of self.now.waiting }
+        ensures few { result ≤ 1500000 }
+    {
+        self.tail.bytes()
+    }
+
+    /// Changes limit and discipline. What waits stays; CoDel's state stays where its times do.
+    pub fn configure(&mut self, limit: QueueLimit, discipline: Discipline)
+        ensures { self.new ≡ record self.old {
+          limit = limit;
+          discipline = discipline;
+          control = configured_control self.old.discipline discipline self.old.control;
+        } }
+    {
+        let is_same = self.discipline == discipline;
+        self.tail.set_limit(limit);
+        self.discipline = discipline;
+        if !is_same {
+            self.control = CodelState::initial();
+        }
+    }
+}
+
+impl<A: Copy> Queue<A> {
+    /// The item that waits at a place, the head at 0.
+    pub fn at(&self, place: usize) -> Option<A>
+        ensures { result ≡ slice_get (map (λ w. w.item) self.now.waiting) place }
+    {
+        self.tail.at(place)
+    }
+
+    /// Puts another item at a place, the head at 0. Nothing else changes. Takes no memory.
+    pub fn replace(&mut self, place: usize, item: A)
+        requires { place < length self.old.waiting }
+        ensures { self.new ≡ record self.old { waiting = with_item self.old.waiting place item } }
+    {
+        self.tail.replace(place, item);
+    }
+}
