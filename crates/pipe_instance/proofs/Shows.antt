@@ -2,6 +2,7 @@
 use Rattle.std.proofs.Common.{◌≡◌, ℕ, ◌+◌, ◌<◌, ◌∙◌, ap, sym, refl, Option, Some, None, List, [], ◌∷◌, ◌++◌, map, subst, arith}
 use Rattle.std.specs.Prelude.{true, false, is_some, option_map, option_to_list}
 use Rattle.std.proofs.lemmas.List.{map-append}
+use Rattle.emu_model.specs.Moments.{milliseconds}
 use Rattle.emu_model.specs.declared.packets.Packet.{Packet}
 use Rattle.emu_model.specs.declared.pipes.PipeConfig.{PipeConfig}
 use Rattle.emu_model.specs.FlowIds.{FlowId}
@@ -9,7 +10,7 @@ use Rattle.emu_model.specs.DropTail.{Waiting}
 use Rattle.emu_model.specs.Codel.{Dequeued}
 use Rattle.emu_model.proofs.CodelParts.{give_head}
 use Rattle.emu_model.specs.Rate.{begin}
-use Rattle.emu_model.specs.Delay.{Line, Leaving, enter, exit_after, delay_ns}
+use Rattle.emu_model.specs.Delay.{Line, Leaving, enter, exit_after}
 use Rattle.emu_model.specs.Pipes.{InService, Instance, After, dequeue, period_with, codel_drops, no_drop, accept, send_off, instance_finish, cut_service, instance_configure}
 use Rattle.queue_disc.specs.Queues.{put_last, passed}
 use Rattle.pipe_instance.specs.Keyed.{KeyedQueue, KeyedInstance, seen_waiting, seen_leaving, seen_line, seen_service, seen_instance, keys_in, IsTuned, IsSameSetting}
@@ -169,7 +170,7 @@ abbrev pub finished : ℕ → ℕ → ℕ → Dequeued ℕ → ℕ → KeyedInst
 finished now delay key d spare i = record i {
   queue = record i.queue { waiting = d.rest; control = d.control };
   service = record i.service { busy = after_service i.service.bw i.service.busy d.given };
-  lane = record { line = enter key now (delay_ns delay) i.lane.line; spare = spare };
+  lane = record { line = enter key now (milliseconds delay) i.lane.line; spare = spare };
 }
 
 enter-seen : (f : ℕ → Packet) (key now delay : ℕ) (l : Line ℕ) → enter (f key) now delay (seen_line f l) ≡ seen_line f (enter key now delay l)
@@ -189,14 +190,14 @@ finish-shown : (f : ℕ → Packet) (id : FlowId) (config : PipeConfig) (now del
     ≡ record { state = seen_instance f id (finished now delay s.item d spare i); dropped = codel_drops (map (seen_waiting f) d.dropped) }
 finish-shown f id config now delay spare i s d busy is tuned late =
     let shown : Instance = seen_instance f id i in
-    let line : Line ℕ = enter s.item now (delay_ns delay) i.lane.line in
+    let line : Line ℕ = enter s.item now (milliseconds delay) i.lane.line in
     let q : dequeue config.discipline now i.queue.control (map (seen_waiting f) i.queue.waiting) ≡ seen_dequeued f d =
     (λ j. dequeue (sym tuned.discipline j) now i.queue.control (map (seen_waiting f) i.queue.waiting))
     ∙ dequeue-seen f i.queue.discipline now i.queue.control i.queue.waiting ∙ ap (seen_dequeued f) (sym is) in
     (λ j. after_dequeue (sym tuned.bw j) now shown (option_map (seen_service f) (busy j))
     (send_off config now (option_map (seen_service f) (busy j)) shown.line) (q j))
-    ∙ (λ j. after_dequeue i.service.bw now shown (Some (seen_service f s)) (enter (f s.item) now (delay_ns (sym late j)) shown.line) (seen_dequeued f d))
-    ∙ (λ j. after_dequeue i.service.bw now shown (Some (seen_service f s)) (enter-seen f s.item now (delay_ns delay) i.lane.line j) (seen_dequeued f d))
+    ∙ (λ j. after_dequeue i.service.bw now shown (Some (seen_service f s)) (enter (f s.item) now (milliseconds (sym late j)) shown.line) (seen_dequeued f d))
+    ∙ (λ j. after_dequeue i.service.bw now shown (Some (seen_service f s)) (enter-seen f s.item now (milliseconds delay) i.lane.line j) (seen_dequeued f d))
     ∙ (λ j. record {
       state = record shown {
         waiting = map (seen_waiting f) d.rest;
@@ -241,7 +242,7 @@ finish-keys : (g : ℕ → ℕ) (now delay spare : ℕ) (i : KeyedInstance) (s :
 finish-keys g now delay spare i s d busy is =
     let line : List ℕ = map (λ x. x.item) i.lane.line.flight in
     let ws : List ℕ = map (λ w. w.item) i.queue.waiting in
-    let entered : Leaving ℕ = record { item = s.item; exit = exit_after i.lane.line.last now (delay_ns delay) } in
+    let entered : Leaving ℕ = record { item = s.item; exit = exit_after i.lane.line.last now (milliseconds delay) } in
     let cut : IsCut i.queue.waiting d = subst (IsCut i.queue.waiting) (sym is) (dequeue-cut i.queue.discipline now i.queue.control i.queue.waiting) in
     omega (
       arith,

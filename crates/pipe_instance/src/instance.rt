@@ -2,6 +2,7 @@
 //! what the definitions do to the packets, however the keys are named.
 
 ghost use Rattle.std.specs.Prelude.{min, ◌≡◌, ℕ, ◌+◌, ◌-◌, ◌*◌, ◌^◌, ◌<◌, ◌≤◌, true, [], Some, None, option_map, is_some, IsSome, IsTrue, length, slice_get, slice_set, IfOk, OnOk, OnErr, IsOk, map};
+ghost use Rattle.emu_model.specs.Moments.{IsMoment};
 ghost use Rattle.emu_model.specs.declared.packets.Packet.{Packet};
 ghost use Rattle.emu_model.specs.FlowIds.{FlowId};
 ghost use Rattle.emu_model.specs.Loss.{is_lost};
@@ -142,7 +143,7 @@ impl Instance {
     /// is served at once.
     #[inline(always)]
     pub fn accept(&mut self, key: Key, size: Size, now: u64)
-        requires early { now < 2 * 10 ^ 15 }
+        requires early { IsMoment now }
         requires accepted { accepts self.old.queue.limit self.old.queue.waiting size ≡ true }
         requires ready { IsSome self.old.service.busy →
             length self.old.queue.waiting < self.old.queue.capacity }
@@ -161,7 +162,7 @@ impl Instance {
     /// as before.
     #[inline(always)]
     pub fn finish(&mut self, now: u64, delay: Delay) -> Result<Finished, AllocError>
-        requires early { now < 2 * 10 ^ 15 }
+        requires early { IsMoment now }
         requires due { option_map (λ s. s.period.finish) self.old.service.busy ≡ Some now }
         ensures ok { IfOk result (λ r. IsFinish now delay r.key r.dropped.items self.old self.new) }
         ensures unchanged { OnErr result
@@ -200,7 +201,7 @@ impl Instance {
     /// memory only where the line has no room.
     #[inline(always)]
     pub fn finish_plainly(&mut self, now: u64, delay: Delay) -> Result<Key, AllocError>
-        requires early { now < 2 * 10 ^ 15 }
+        requires early { IsMoment now }
         requires due { option_map (λ s. s.period.finish) self.old.service.busy ≡ Some now }
         requires plain { is_plain self.old.queue.discipline now self.old.queue.waiting ≡ true }
         ensures ok { IfOk result (λ key. IsFinish now delay key [] self.old self.new) }

@@ -2,6 +2,7 @@
 
 ghost use Rattle.std.specs.Prelude.{◌≡◌, ℕ, ◌*◌, ◌^◌, ◌<◌, Some, None, option_map, is_some, IsSome};
 ghost use Rattle.std.specs.Option.{ForSome};
+ghost use Rattle.emu_model.specs.Moments.{IsMoment};
 ghost use Rattle.emu_model.specs.Rate.{begin};
 ghost use Rattle.emu_model.specs.Pipes.{cut_service};
 ghost use Rattle.pipe_instance.specs.Serving.{after_service, with_key};
@@ -70,7 +71,7 @@ impl Service {
     /// Begins a busy period at `now` (ns).
     #[inline(always)]
     pub(crate) fn start(&mut self, key: Key, size: Size, now: u64)
-        requires { now < 2 * 10 ^ 15 }
+        requires early { IsMoment now }
         ensures { self.new
             ≡ record self.old {
               busy = Some
@@ -85,7 +86,7 @@ impl Service {
     #[inline(always)]
     pub(crate) fn follow(&mut self, given: Option<Waiting<Key>>)
         requires busy { IsSome self.old.busy }
-        requires early { ForSome self.old.busy (λ s. s.period.finish < 2 * 10 ^ 15) }
+        requires early { ForSome self.old.busy (λ s. IsMoment s.period.finish) }
         ensures { self.new
             ≡ record self.old { busy = after_service self.old.bw self.old.busy given } }
     {

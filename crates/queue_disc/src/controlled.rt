@@ -1,6 +1,7 @@
 //! A queue under CoDel (RFC 8289, section 5) and nothing else.
 
 ghost use Rattle.std.specs.Prelude.{◌≡◌, ◌≢◌, ◌+◌, ◌*◌, ◌^◌, ◌<◌, ◌≤◌, true, false, [], ◌∷◌, ◌++◌, length, map, drop, IfErr, IfOk, OnOk, OnErr, IsOk, MatchOption, slice_get};
+ghost use Rattle.emu_model.specs.Moments.{IsMoment};
 ghost use Rattle.emu_model.specs.DropTail.{bytes_of, accepts};
 ghost use Rattle.emu_model.specs.Codel.{codel_dequeue, initial_control};
 ghost use Rattle.queue_disc.specs.Queues.{with_item};
@@ -112,7 +113,7 @@ impl<A> Codel<A> {
     /// where it drops. Refused, the queue is as before.
     #[inline(always)]
     pub fn dequeue(&mut self, now: u64) -> Result<Dequeued<A>, AllocError>
-        requires { now < 2 * 10 ^ 15 }
+        requires early { IsMoment now }
         ensures ok { IfOk result
             (λ d. record {
               dropped = d.dropped.items;

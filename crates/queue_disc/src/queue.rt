@@ -1,6 +1,7 @@
 //! A queue under a discipline: its limit alone, or CoDel (RFC 8289, section 5) as well.
 
 ghost use Rattle.std.specs.Prelude.{◌≡◌, ◌*◌, ◌^◌, ◌<◌, ◌≤◌, true, [], ◌∷◌, length, map, drop, IfOk, OnOk, OnErr, IsOk, IsTrue, MatchOption, slice_get};
+ghost use Rattle.emu_model.specs.Moments.{IsMoment};
 ghost use Rattle.emu_model.specs.DropTail.{bytes_of, accepts};
 ghost use Rattle.emu_model.specs.Codel.{initial_control};
 ghost use Rattle.emu_model.specs.Pipes.{dequeue, configured_control};
@@ -100,7 +101,7 @@ impl<A> Queue<A> {
     /// takes memory only where it drops; refused, the queue is as before.
     #[inline(always)]
     pub fn dequeue(&mut self, now: u64) -> Result<Dequeued<A>, AllocError>
-        requires { now < 2 * 10 ^ 15 }
+        requires early { IsMoment now }
         ensures ok { IfOk result
             (λ d. IsDequeue now d.dropped.items d.given self.old self.new) }
         ensures same { self.new
@@ -154,7 +155,7 @@ impl<A> Queue<A> {
     /// The same where the head is judged, and those behind it.
     #[inline(never)]
     fn dequeue_long(&mut self, now: u64) -> Result<Dequeued<A>, AllocError>
-        requires { now < 2 * 10 ^ 15 }
+        requires early { IsMoment now }
         ensures ok { IfOk result
             (λ d. IsDequeue now d.dropped.items d.given self.old self.new) }
         ensures same { self.new

@@ -2,6 +2,7 @@
 //! helpers (5.6).
 
 ghost use Rattle.std.specs.Prelude.{◌≡◌, ◌+◌, ◌-◌, ◌*◌, ◌^◌, ◌<◌, ◌≤◌, ◌==◌, ◌&&◌, ◌||◌, not, nat_lt, nat_le, if◌then◌else◌};
+ghost use Rattle.emu_model.specs.Moments.{IsMoment, end_of_time};
 ghost use Rattle.emu_model.specs.Codel.{initial_control, count_up, enter_drop_state};
 ghost use Rattle.emu_model.proofs.CodelParts.{found_by, look_empty, stop_dropping, set_next};
 
@@ -97,7 +98,7 @@ impl Model for CodelState {
       dropping = c.dropping;
     } };
 
-    ghost invariant = { λ c. c.drop_next ≤ 2 * 10 ^ 15 + 6 * 10 ^ 10 };
+    ghost invariant = { λ c. c.drop_next ≤ end_of_time + 6 * 10 ^ 10 };
 
     ghost inverse = { λ c. record {
       first_above_time = c.first_above_time;
@@ -136,7 +137,7 @@ impl CodelState {
 
     /// What is found of a head whose stay is short, or isn't (RFC 8289, section 5.6, `dodequeue`).
     pub(crate) fn found(self, times: Times, now: u64, short: bool) -> Found
-        requires { now < 2 * 10 ^ 15 }
+        requires early { IsMoment now }
         ensures { result ≡ found_by times now self.first_above_time short }
     {
         if short {
@@ -207,7 +208,7 @@ impl CodelState {
     /// Sets the moment of the next drop after the last one.
     pub(crate) fn set_next(self, times: Times) -> Self
         requires some { 1 ≤ self.count }
-        requires early { self.drop_next < 2 * 10 ^ 15 }
+        requires early { IsMoment self.drop_next }
         ensures { result ≡ set_next times self.drop_next self }
     {
         CodelState {
@@ -218,7 +219,7 @@ impl CodelState {
 
     /// Begins dropping, with a higher count where it ended a short while ago.
     pub(crate) fn enter_drop_state(self, times: Times, now: u64) -> Self
-        requires { now < 2 * 10 ^ 15 }
+        requires early { IsMoment now }
         ensures { result ≡ enter_drop_state times now self }
     {
         let delta = self.count.saturating_sub(self.last_count);

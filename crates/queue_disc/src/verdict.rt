@@ -1,6 +1,7 @@
 //! What a dequeue will drop, told before anything is taken.
 
 ghost use Rattle.std.specs.Prelude.{◌≡◌, ◌+◌, ◌*◌, ◌^◌, ◌<◌, ◌≤◌, length, drop};
+ghost use Rattle.emu_model.specs.Moments.{IsMoment};
 ghost use Rattle.emu_model.specs.DropTail.{bytes_of};
 ghost use Rattle.emu_model.specs.Codel.{codel_dequeue};
 ghost use Rattle.emu_model.specs.Pipes.{dequeue};
@@ -34,7 +35,7 @@ pub(crate) fn judge<A>(
     control: CodelState,
     now: u64,
 ) -> Verdict
-    requires { now < 2 * 10 ^ 15 }
+    requires early { IsMoment now }
     ensures { result ≡ verdict_of (dequeue discipline now control queue.now.waiting) }
 {
     match discipline {
@@ -46,7 +47,7 @@ pub(crate) fn judge<A>(
 }
 
 fn judge_head<A>(queue: &DropTail<A>, times: Times, control: CodelState, now: u64) -> Verdict
-    requires { now < 2 * 10 ^ 15 }
+    requires early { IsMoment now }
     ensures { result ≡ verdict_of (codel_dequeue times now control queue.now.waiting) }
 {
     let Some(head) = queue.get(0) else {
@@ -79,7 +80,7 @@ fn judge_first<A>(
     now: u64,
     left: u64,
 ) -> Verdict
-    requires early { now < 2 * 10 ^ 15 }
+    requires early { IsMoment now }
     requires left { left ≡ bytes_of (drop 1 queue.now.waiting) }
     ensures { result ≡ drops_first times now seen (drop 1 queue.now.waiting) }
 {
@@ -105,7 +106,7 @@ fn judge_dropping<A>(
     now: u64,
     mut left: u64,
 ) -> Verdict
-    requires early { now < 2 * 10 ^ 15 }
+    requires early { IsMoment now }
     requires some { 0 < length queue.now.waiting }
     requires fits { length queue.now.waiting < 2 ^ 63 }
     requires left { left ≡ bytes_of (drop 1 queue.now.waiting) }

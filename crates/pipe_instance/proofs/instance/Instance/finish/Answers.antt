@@ -1,5 +1,6 @@
 use Rattle.std.proofs.Common.{ℕ, ap, sym, refl, ◌∙◌}
-use Rattle.emu_model.specs.Delay.{enter, delay_ns}
+use Rattle.emu_model.specs.Moments.{milliseconds}
+use Rattle.emu_model.specs.Delay.{enter}
 use Rattle.emu_model.specs.Codel.{Dequeued}
 use Rattle.pipe_instance.specs.Keyed.{KeyedInstance, KeyedService}
 use Rattle.pipe_instance.proofs.Shows.{finish-by, idle-by}
@@ -35,6 +36,6 @@ returns-clause-ok c =
     (λ i. record {
       queue = c.in_ok-dequeued.ensures.same i;
       service = c.follow.ensures i;
-      lane = record { line = (c.in-Ok.ensures.ok ∙ ap (λ l. enter c.in-Some.key c.args.now (delay_ns c.args.delay) l) c.in_ok-enter_ready.ensures.line) i; spare = c.enter.new.self.spare };
+      lane = record { line = (c.in-Ok.ensures.ok ∙ ap (λ l. enter c.in-Some.key c.args.now (milliseconds c.args.delay) l) c.in_ok-enter_ready.ensures.line) i; spare = c.enter.new.self.spare };
       draws = c.self.inside.stream;
     }))
