@@ -15,7 +15,7 @@ use Rattle.control_lines.specs.Shape.{send_of, ends_of, shape_of, command_of, so
 use Rattle.control_lines.specs.Ranges.{address_within, send_within, timed_within, command_within}
 use Rattle.control_lines.specs.Grammar.{Command}
 use Rattle.control_lines.specs.Entries.{Does, is_skipped, is_printable, line_within, shaped, entry_of}
-use Rattle.control_lines.specs.PacketLine.{inject, tcp, udp, IsNumber, IsAddress, IsMoment, IsProtocol, Takes, IsPacket, IsPacketLine}
+use Rattle.control_lines.specs.PacketLine.{inject, tcp, udp, IsNumber, IsAddress, SpellsMoment, IsProtocol, Takes, IsPacket, IsPacketLine}
 use Rattle.control_lines.specs.declared.raw.RawSend.{RawSend}
 use Rattle.control_lines.specs.declared.raw.RawCommand.TheVariants as raw
 use Rattle.control_lines.proofs.PacketWords.{within_is, open_cond}
@@ -65,7 +65,7 @@ timed_inside : (n : ℕ) (send : RawSend) (packet : SendSpec) → n ≤ 10000000
 unfolding timed_within command_within
 timed_inside n send packet p q = rw (within_is n 0 1000000000000000 (omega arith) p, q) refl
 
-pub line_is : (line r1 r2 : List ℕ) (n : ℕ) (packet : SendSpec) → Takes IsMoment line n r1 → n ≤ 1000000000000000 → words r1 ≡ inject ∷ words r2 → list_all is_printable r1 ≡ list_all is_printable r2 → IsPacket r2 packet
+pub line_is : (line r1 r2 : List ℕ) (n : ℕ) (packet : SendSpec) → Takes SpellsMoment line n r1 → n ≤ 1000000000000000 → words r1 ≡ inject ∷ words r2 → list_all is_printable r1 ≡ list_all is_printable r2 → IsPacket r2 packet
     → IsPacketLine line (record { moment = n; command = commands.Inject packet })
 line_is line r1 r2 n packet m le verb printed p =
     let at = begins_at m.word n m.is in

@@ -16,7 +16,7 @@ use Rattle.control_words.specs.Addresses.{address_of}
 use Rattle.control_words.specs.declared.raw.RawAddress.{RawAddress}
 use Rattle.control_lines.specs.Ranges.{within, address_within}
 use Rattle.control_lines.specs.Entries.{is_printable}
-use Rattle.control_lines.specs.PacketLine.{is_address_byte, IsNumber, IsAddress, IsMoment, Leads, Takes}
+use Rattle.control_lines.specs.PacketLine.{is_address_byte, IsNumber, IsAddress, SpellsMoment, Leads, Takes}
 
 -- ---- digits
 pub open_cond : {A : Type 0} (b : Bool) (o : Option A) (a : A) → cond b o None ≡ Some a → (b ≡ true) × (o ≡ Some a)
@@ -156,7 +156,7 @@ last_taken text behind n leads is = record {
   is = leads.is;
 }
 
-pub moment_taken : (text digits behind rest : List ℕ) (n : ℕ) → text ≡ 64 ∷ digits → Leads IsNumber is_ascii_digit digits n behind → behind ≡ 32 ∷ rest → Takes IsMoment text n rest
+pub moment_taken : (text digits behind rest : List ℕ) (n : ℕ) → text ≡ 64 ∷ digits → Leads IsNumber is_ascii_digit digits n behind → behind ≡ 32 ∷ rest → Takes SpellsMoment text n rest
 unfolding moment_of
 moment_taken text digits behind rest n is-text leads is = record {
   word = 64 ∷ leads.front;

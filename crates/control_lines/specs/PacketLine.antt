@@ -30,8 +30,8 @@ udp = codes "udp"
 abbrev pub IsNumber : List ℕ → ℕ → Type 0
 IsNumber word n = number_of word ≡ Some n
 
-abbrev pub IsMoment : List ℕ → ℕ → Type 0
-IsMoment word n = moment_of word ≡ Some n
+abbrev pub SpellsMoment : List ℕ → ℕ → Type 0
+SpellsMoment word n = moment_of word ≡ Some n
 
 abbrev pub IsProtocol : List ℕ → Protocol → Type 0
 IsProtocol word proto = protocol_of word ≡ Some proto

@@ -14,7 +14,7 @@ ghost use Rattle.control_lines.specs.PacketLine.{
   is_address_byte,
   IsNumber,
   IsAddress,
-  IsMoment,
+  SpellsMoment,
   IsProtocol,
   Leads,
   Takes,
@@ -93,7 +93,7 @@ fn number_word(text: &[u8]) -> Option<(u64, &[u8])>
 
 /// A moment as a word, and what follows the space behind it.
 fn moment_word(text: &[u8]) -> Option<(u64, &[u8])>
-    ensures { IfSome result (λ x. Takes IsMoment text.now x.0 x.1.now × (x.0 ≤ MAX_MOMENT)) }
+    ensures { IfSome result (λ x. Takes SpellsMoment text.now x.0 x.1.now × (x.0 ≤ MAX_MOMENT)) }
 {
     let digits = behind(text, b'@')?;
     let (n, rest) = number(digits)?;

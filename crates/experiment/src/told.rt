@@ -120,7 +120,7 @@ impl Experiment {
     /// What is due lies not before the moment of the last event, and before 2 * 10^15 ns.
     pub fn dues_in_time(&self)
         ensures { (p : Pocket) → IsAlone p self.now →
-            AllByRecursion (λ d. (self.now.clock ≤ d.moment) × (IsMoment d.moment))
+            AllByRecursion (λ d. (self.now.clock ≤ d.moment) × IsMoment d.moment)
             (dues_in (view p self.now)) }
     {
         let _ = &self.spec;

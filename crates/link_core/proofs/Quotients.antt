@@ -3,6 +3,7 @@ use Rattle.std.proofs.Common.{◌≡◌, ℕ, zero, suc, ◌+◌, ◌-◌, ◌*�
 use Rattle.std.specs.Prelude.{min}
 use Rattle.std.proofs.lemmas.Nat.{div-mul-add, div-add-mod'}
 use Rattle.std.proofs.Math.Nat.{mod-lt}
+use Rattle.emu_model.specs.Moments.{IsMoment}
 use Rattle.emu_model.specs.Rate.{div_ceil, follow}
 use Rattle.link_core.specs.Served.{period_of, IsQuotient, Tells}
 use Rattle.link_core.specs.declared.rate.Busy.{Busy}
@@ -56,7 +57,7 @@ moved-period (suc b) size q some h =
     λ i. record { start = q.start; sum = q.sum + size; finish = sym e i }
 
 pub moved-tells : (bw size : ℕ) (q : Busy) → (bw ≡ 0 → ⊥) → bw ≤ 10 ^ 10 → size ≤ 1500 →
-    (period_of q).finish < 2 * 10 ^ 15 → Tells bw q → Tells bw (moved bw size q)
+    IsMoment (period_of q).finish → Tells bw q → Tells bw (moved bw size q)
 moved-tells zero size q some wide large early h = absurd (omega arith)
 moved-tells (suc b) size q some wide large early h =
     let work : ℕ = 8 * 10 ^ 9 * size + q.left_over in

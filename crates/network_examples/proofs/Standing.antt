@@ -1,5 +1,6 @@
 -- When a net stands at a moment at which an event may come.
 use Rattle.std.proofs.Common.{◌≡◌, ℕ, ◌+◌, ◌*◌, ◌^◌, ◌<◌, ◌≤◌, sym, ap, ◌∙◌, [], length, arith}
+use Rattle.emu_model.specs.Moments.{IsMoment}
 use Rattle.emu_model.specs.declared.sources.Due.{Due}
 use Rattle.emu_model.specs.declared.sources.Class.TheVariants.{NextCommand, Exit, Finish, Expiry, Emission}
 use Rattle.emu_model.specs.declared.commands.Setting.{Setting}
@@ -14,7 +15,7 @@ use Rattle.network.specs.Changes.{IsStill}
 use Rattle.network.specs.Due.{IsDue}
 
 pub stands_at : (at : Setting) (room now : ℕ) (p : Pocket) (n : KeptNet) → at ≡ record { seed = 0; packet_budget = room; now = now } →
-    now < 2 * 10 ^ 15 → room ≤ p.budget → n.table.seed ≡ 0 → IsHoused p n → Stands at p n
+    IsMoment now → room ≤ p.budget → n.table.seed ≡ 0 → IsHoused p n → Stands at p n
 stands_at at room now p n is early fits seed housed = record {
   early = let e : at.now ≡ now = ap (λ (m : Setting). m.now) is in omega (arith, e, early);
   seed = ap (λ (m : Setting). m.seed) is ∙ sym seed;

@@ -2,7 +2,7 @@
 //! helpers (5.6).
 
 ghost use Rattle.std.specs.Prelude.{◌≡◌, ◌+◌, ◌-◌, ◌*◌, ◌^◌, ◌<◌, ◌≤◌, ◌==◌, ◌&&◌, ◌||◌, not, nat_lt, nat_le, if◌then◌else◌};
-ghost use Rattle.emu_model.specs.Moments.{IsMoment, end_of_time};
+ghost use Rattle.emu_model.specs.Moments.{IsMoment};
 ghost use Rattle.emu_model.specs.Codel.{initial_control, count_up, enter_drop_state};
 ghost use Rattle.emu_model.proofs.CodelParts.{found_by, look_empty, stop_dropping, set_next};
 
@@ -85,6 +85,7 @@ pub(crate) struct CodelState {
 }
 
 impl Model for CodelState {
+    ghost use Rattle.emu_model.specs.Moments.{end_of_time};
     ghost use Rattle.std.specs.Prelude.{◌+◌, ◌*◌, ◌^◌, ◌≤◌};
     ghost use Rattle.emu_model.specs.Codel.{CodelState as CodelControl};
 

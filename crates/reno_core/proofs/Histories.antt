@@ -3,6 +3,7 @@ use Rattle.std.proofs.Common.{◌≡◌, ℕ, ◌+◌, ◌*◌, ◌%◌, ◌^◌
 use Rattle.std.specs.Prelude.{if◌then◌else◌, ◌&&◌, ◌==◌, nat_lt, nat_le, is_none, max, count_by, ⊤}
 use Rattle.std.proofs.lemmas.Bool.{cond_both, and_parts, ltb-true, eqb-true, eq-eqb, ne_eqb, true≢false, cases_Bool}
 use Rattle.std.proofs.lemmas.List.Sums.{sum_by-cons}
+use Rattle.emu_model.specs.Moments.{IsMoment}
 use Rattle.emu_model.specs.declared.sources.FlowSpec.{FlowSpec}
 use Rattle.emu_model.specs.declared.sources.Timing.{Timing}
 use Rattle.emu_model.specs.Reno.{Sender, Sample, timeout_at, emit, emitted, may_emit, ack, ack_new, ack_duplicate, expire, is_new, is_duplicate, round_trip, sample_after, halved_ssthresh, bounded}
@@ -10,7 +11,7 @@ use Rattle.reno_core.specs.Sound.{IsFlow, IsSound, IsSent}
 use Rattle.reno_core.specs.RenoLaws.{Event, acknowledged, expired, allowed, moment_of, IsHistory, sender_with, sender_after, sent_with, firsts_sent, PositionsStayInOrder, WindowHoldsASegment, LossLeavesTwoSegments, SecondExpiryHolds, TimedIsSentOnce, AdaptiveTimeIsBounded}
 use Rattle.reno_core.proofs.SoundnessKept.{ack_sound, expire_sound, emit_sound, initial_sound, multiple_after}
 
-with_sound : (f : FlowSpec) (e : Event) (s : Sender) → moment_of e < 2 * 10 ^ 15 → IsSound f s →
+with_sound : (f : FlowSpec) (e : Event) (s : Sender) → IsMoment (moment_of e) → IsSound f s →
     IsSound f (sender_with f e s)
 with_sound f (acknowledged now a) s early h = ack_sound f now a s early h
 with_sound f (expired now) s early h = expire_sound f now s h

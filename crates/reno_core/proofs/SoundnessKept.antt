@@ -3,6 +3,7 @@ use Rattle.std.proofs.Common.{◌≡◌, ℕ, ◌+◌, ◌-◌, ◌*◌, ◌/◌
 use Rattle.std.specs.Prelude.{if◌then◌else◌, ◌&&◌, ◌==◌, nat_lt, nat_le, is_none, max}
 use Rattle.std.proofs.Math.Nat.{div-add-mod, mul-le-mul_left, mul_comm, add-mod_right, zero-mod}
 use Rattle.std.proofs.lemmas.Bool.{cond_both, and_parts, or_cases, ltb-true, leb-true, eqb-true, true≢false, cases_lt}
+use Rattle.emu_model.specs.Moments.{IsMoment}
 use Rattle.emu_model.specs.declared.sources.FlowSpec.{FlowSpec}
 use Rattle.emu_model.specs.declared.sources.Timing.{Timing}
 use Rattle.emu_model.specs.declared.sources.Timing.TheVariants.{Fixed, Adaptive}
@@ -123,16 +124,16 @@ grown_bounds f n s h =
     (λ e. cond_both (nat_lt s.cwnd s.ssthresh) _ _ (λ w. (f.smss ≤ w) × (w ≤ greatest_word))
     (λ e. (omega arith, omega arith)) (λ e. (omega arith, omega arith)))
 
-trip_below : (now a : ℕ) (m : Option Sample) → now < 2 * 10 ^ 15 → IsEstimate None → (r : ℕ) →
-    round_trip now a m ≡ Some r → r < 2 * 10 ^ 15
+trip_below : (now a : ℕ) (m : Option Sample) → IsMoment now → IsEstimate None → (r : ℕ) →
+    round_trip now a m ≡ Some r → IsMoment r
 trip_below now a None h _ r e = absurd (cc e)
 trip_below now a (Some m) h _ r e = go (nat_le m.end a) e
   where
-    go : (b : Bool) → (if b then Some (now - m.sent) else None) ≡ Some r → r < 2 * 10 ^ 15
+    go : (b : Bool) → (if b then Some (now - m.sent) else None) ≡ Some r → IsMoment r
     go true e = let is : now - m.sent ≡ r = cc e in omega arith
     go false e = absurd (cc e)
 
-estimate_below : (r : ℕ) (e : Option Estimate) → r < 2 * 10 ^ 15 → IsEstimate e →
+estimate_below : (r : ℕ) (e : Option Estimate) → IsMoment r → IsEstimate e →
     IsEstimate (Some (new_estimate r e))
 estimate_below r None h p = (h, omega arith)
 estimate_below r (Some e) h p = (omega (arith, p.0), omega (arith, p.0, p.1))
@@ -145,7 +146,7 @@ time_bounds (Fixed ms) r s slow h k = (omega arith, slow)
 time_bounds Adaptive None s slow h k = (h, k)
 time_bounds Adaptive (Some r) s slow h k = (omega arith, omega arith)
 
-estimate_kept : (r : Option ℕ) (e : Option Estimate) → ((t : ℕ) → r ≡ Some t → t < 2 * 10 ^ 15) →
+estimate_kept : (r : Option ℕ) (e : Option Estimate) → ((t : ℕ) → r ≡ Some t → IsMoment t) →
     IsEstimate e → IsEstimate (estimate_after r e)
 estimate_kept None e h p = p
 estimate_kept (Some t) e h p = estimate_below t e (h t refl) p
@@ -156,7 +157,7 @@ sample_kept None None nxt a h = tt
 sample_kept None (Some m) nxt a h = omega (arith, h)
 sample_kept (Some r) m nxt a h = tt
 
-new_sound : (f : FlowSpec) (now a : ℕ) (s : Sender) → now < 2 * 10 ^ 15 → IsSound f s →
+new_sound : (f : FlowSpec) (now a : ℕ) (s : Sender) → IsMoment now → IsSound f s →
     is_new f a s ≡ true → IsSound f (ack_new f now a s)
 new_sound f now a s early h new =
     let ends : Bool = nat_lt s.snd_una a && nat_le a s.snd_max in
@@ -286,7 +287,7 @@ duplicate_sound f s h under =
     cond_both s.recovery _ _ (IsSound f) (λ _. inflated_sound f t k)
     (λ _. cond_both (t.duplicates == 3) _ _ (IsSound f) (λ _. recovery_sound f t k under) (λ _. k))
 
-pub ack_sound : (f : FlowSpec) (now a : ℕ) (s : Sender) → now < 2 * 10 ^ 15 → IsSound f s →
+pub ack_sound : (f : FlowSpec) (now a : ℕ) (s : Sender) → IsMoment now → IsSound f s →
     IsSound f (ack f now a s)
 ack_sound f now a s early h = cond_both (is_new f a s) _ _ (IsSound f) (new_sound f now a s early h)
     (λ _. cond_both (is_duplicate a s) _ _ (IsSound f)

@@ -22,7 +22,7 @@ moment_of (allowed now) = now
 -- the latest event stands first
 abbrev pub IsHistory : List Event → Type 0
 IsHistory [] = ⊤
-IsHistory (e ∷ es) = (moment_of IsMoment e) × IsHistory es
+IsHistory (e ∷ es) = IsMoment (moment_of e) × IsHistory es
 
 -- a sender that is allowed to sends a segment
 abbrev pub sender_with : FlowSpec → Event → Sender → Sender

@@ -17,7 +17,7 @@ pub record IsFlow (f : FlowSpec) : Type 0 where
 -- round trips are below 2 * 10^15 ns, as all moments are
 abbrev pub IsEstimate : Option Estimate → Type 0
 IsEstimate None = ⊤
-IsEstimate (Some e) = (IsMoment e.srtt) × (IsMoment e.rttvar)
+IsEstimate (Some e) = IsMoment e.srtt × IsMoment e.rttvar
 
 -- what is timed was sent
 abbrev pub IsSent : ℕ → Option Sample → Type 0

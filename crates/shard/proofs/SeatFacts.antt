@@ -3,6 +3,7 @@ use Rattle.std.proofs.Common.{◌≡◌, ◌≢◌, ℕ, zero, suc, ◌+◌, ◌
 use Rattle.std.specs.Prelude.{IsTrue, IsFalse, nat_eq, unwrap_or}
 use Rattle.std.proofs.lemmas.Bool.Decides.{nat_tests}
 use Rattle.std.proofs.lemmas.List.{get_or-set_same, get_or-set_other}
+use Rattle.emu_model.specs.Moments.{end_of_time}
 use Rattle.packet_store.specs.Pocket.{Pocket}
 use Rattle.timer_wheel.specs.Rows.{Row, no_dues}
 use Rattle.shard.specs.Seen.{Seen}
@@ -34,7 +35,7 @@ is_other a b h = λ e. grind (arith, nat_tests)
 
 module _ {M : Type 0} where
   -- a shard without residents
-  pub IsShard-new : (seen : M → Seen) (pockets : ℕ → Pocket) (rows : ℕ → Row) (clock : ℕ) (slots : List (Option (Resident M))) → ((k : ℕ) → resident_at slots k ≡ None) → ((o : ℕ) → rows o ≡ no_dues) → length slots ≡ 256 → clock < 2 ^ 62 + 2 * 10 ^ 15 → IsShard seen pockets rows clock slots
+  pub IsShard-new : (seen : M → Seen) (pockets : ℕ → Pocket) (rows : ℕ → Row) (clock : ℕ) (slots : List (Option (Resident M))) → ((k : ℕ) → resident_at slots k ≡ None) → ((o : ℕ) → rows o ≡ no_dues) → length slots ≡ 256 → clock < 2 ^ 62 + end_of_time → IsShard seen pockets rows clock slots
   IsShard-new seen pockets rows clock slots vacant none long early = record {
     each = λ k. subst (Fits seen pockets (rows k) clock) (sym (vacant k)) (λ s. ap (λ (w : Row). w s) (none k));
     apart = λ i j n. subst (λ a. AreApart a (resident_at slots j)) (sym (vacant i)) tt;

@@ -2,6 +2,7 @@
 use Rattle.std.proofs.Common.{◌≡◌, ◌≢◌, ℕ, ◌+◌, ◌*◌, ◌^◌, ◌<◌, ◌≤◌, true, List, length, get_or, set, Option, Some, None, IsSome, refl, sym, ap, ◌∙◌, arith, subst}
 use Rattle.std.specs.Prelude.{unwrap_or, is_some, option_map}
 use Rattle.std.proofs.lemmas.List.{get_or_read}
+use Rattle.emu_model.specs.Moments.{end_of_time}
 use Rattle.emu_model.specs.declared.commands.Timed.{Timed}
 use Rattle.emu_model.specs.declared.sources.Source.{Source}
 use Rattle.packet_store.specs.Pocket.{Pocket}
@@ -39,7 +40,7 @@ parked_without (Some x) e ready none = by_next e.next refl (ready refl)
 -- how time goes on
 pub record GoesOn (clock time : ℕ) : Type 0 where
   pub on : clock ≤ time
-  pub early : time < 2 ^ 62 + 2 * 10 ^ 15
+  pub early : time < 2 ^ 62 + end_of_time
 
 module _ {M : Type 0} where
   pub read_at : (slots : List (Option (Resident M))) (k : ℕ) (x : Option (Resident M)) (r : Resident M) → k < length slots → x ≡ get_or slots k x → Some r ≡ x → resident_at slots k ≡ Some r

@@ -3,6 +3,7 @@ use Rattle.std.proofs.Common.{◌≡◌, ◌≢◌, ℕ, zero, suc, ◌+◌, ◌
 use Rattle.std.specs.Prelude.{IfSome}
 use Rattle.std.proofs.lemmas.Bool.{cases_eq, cases_lt}
 use Rattle.std.proofs.lemmas.List.{get_or-set_same, get_or-set_other, get_or_past, length-set}
+use Rattle.emu_model.specs.Moments.{end_of_time}
 use Rattle.packet_store.specs.Pocket.{Pocket}
 use Rattle.timer_wheel.specs.Rows.{Row}
 use Rattle.shard.specs.Seen.{Seen}
@@ -73,7 +74,7 @@ module _ {M : Type 0} where
   AreApart-sym (Some r) (Some s) h = λ e. h (sym e)
 
   -- a shard after one slot changed, and time went on
-  pub IsShard-set : (seen : M → Seen) (before after : ℕ → Pocket) (rows later : ℕ → Row) (clock time : ℕ) (slots : List (Option (Resident M))) (k : ℕ) (x : Option (Resident M)) → IsShard seen before rows clock slots → k < 256 → clock ≤ time → time < 2 ^ 62 + 2 * 10 ^ 15 → Fits seen after (later k) time x → ((j : ℕ) → j ≢ k → later j ≡ rows j) → ((j : ℕ) → j ≢ k → KeepsOwner before after (resident_at slots j)) → ((j : ℕ) → j ≢ k → AreApart x (resident_at slots j)) → IsShard seen after later time (set slots k x)
+  pub IsShard-set : (seen : M → Seen) (before after : ℕ → Pocket) (rows later : ℕ → Row) (clock time : ℕ) (slots : List (Option (Resident M))) (k : ℕ) (x : Option (Resident M)) → IsShard seen before rows clock slots → k < 256 → clock ≤ time → time < 2 ^ 62 + end_of_time → Fits seen after (later k) time x → ((j : ℕ) → j ≢ k → later j ≡ rows j) → ((j : ℕ) → j ≢ k → KeepsOwner before after (resident_at slots j)) → ((j : ℕ) → j ≢ k → AreApart x (resident_at slots j)) → IsShard seen after later time (set slots k x)
   IsShard-set seen before after rows later clock time slots k x s within on early fits same keeps apart =
       let inside : k < length slots = omega (arith, within, s.long) in
       record {

@@ -1,6 +1,7 @@
 -- What turns do to the resident whose entry is least.
 use Rattle.std.proofs.Common.{◌≡◌, ◌≢◌, ℕ, ◌+◌, ◌*◌, ◌^◌, ◌<◌, ◌≤◌, List, set, Option, Some, None, IsSome, sym, ap, ◌∙◌, arith, subst}
 use Rattle.std.specs.Prelude.{IfSome, unwrap_or}
+use Rattle.emu_model.specs.Moments.{end_of_time}
 use Rattle.emu_model.specs.declared.records.Ending.{Ending}
 use Rattle.emu_model.specs.declared.sources.Source.{Source}
 use Rattle.emu_model.specs.Net.{counters_of}
@@ -18,7 +19,7 @@ use Rattle.shard.specs.Turns.{IsEnd, last_state}
 use Rattle.shard.proofs.Slots.{late-later}
 use Rattle.shard.proofs.SlotChanges.{seated_at, runs, IsAloneAt, GoesOn, IsChanged, stays, leaves}
 
-within_limit : (o : Option ℕ) (clock due : ℕ) → IsSome o → IfSome o (λ x. x ≤ clock) → IfSome o (λ x. due < x + 2 * 10 ^ 15) → clock < 2 ^ 62 → due < 2 ^ 62 + 2 * 10 ^ 15
+within_limit : (o : Option ℕ) (clock due : ℕ) → IsSome o → IfSome o (λ x. x ≤ clock) → IfSome o (λ x. due < x + end_of_time) → clock < 2 ^ 62 → due < 2 ^ 62 + end_of_time
 within_limit None clock due some late below early = absurd (cc)
 within_limit (Some x) clock due some late below early = omega (arith, late, below, early)
 
@@ -36,7 +37,7 @@ module _ {M : Type 0} (seen : M → Seen) where
         entries = λ x. ap (λ (w : Row). w x) same ∙ f.entries x;
         ready = running;
         late = late-later r.offset clock time on f.late;
-        early = subst (λ t. t < 2 ^ 62 + 2 * 10 ^ 15) (sym at) (within_limit r.offset clock due running f.late (f.below source due was) early);
+        early = subst (λ t. t < 2 ^ 62 + end_of_time) (sym at) (within_limit r.offset clock due running f.late (f.below source due was) early);
       }
 
   pub ended : (p q : Pocket) (e : Ending) (old new : Resident M) (d : Final M) → IsLeaving seen p q e old new → IsDossierOf q new d → IsEnd seen (standing p old) d

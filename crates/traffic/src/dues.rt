@@ -2,25 +2,26 @@
 
 ghost use Rattle.std.specs.Prelude.{◌≡◌, ◌+◌, ◌≤◌, ◌++◌, option_map, option_to_list, vec_len, vec_capacity};
 
+use due_index::DueNumber;
 use emu_model::Due;
 
 /// The same at another moment (ns), where there is one.
-pub(crate) fn at_moment(moment: u64, due: Option<Due>) -> Option<Due>
+pub(crate) fn at_moment(moment: u64, due: DueNumber) -> Option<Due>
     ensures { result ≡ option_map (λ (d : Due). record d { moment = moment }) due }
 {
-    match due {
+    match due.due() {
         Some(due) => Some(Due { moment, ..due }),
         None => None,
     }
 }
 
 /// Appends a due, where there is one.
-pub(crate) fn append(dues: &mut Vec<Due>, due: Option<Due>)
+pub(crate) fn append(dues: &mut Vec<Due>, due: DueNumber)
     requires { vec_len dues.old + 1 ≤ vec_capacity dues.old }
     ensures items { dues.new.items ≡ dues.old.items ++ option_to_list due }
     ensures capacity { vec_capacity dues.new ≡ vec_capacity dues.old }
 {
-    if let Some(due) = due {
+    if let Some(due) = due.due() {
         dues.push_reserved(due);
     }
 }

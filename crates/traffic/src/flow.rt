@@ -12,7 +12,8 @@ ghost use Rattle.traffic.specs.Leaves.{expiry_due, emission_due};
 ghost use Rattle.traffic.specs.Sends.{may_send};
 
 use crate::sends::{Sending, Window};
-use emu_model::{Due, FlowNumber, FlowSpec, Load, Protocol, SendSpec, Size, Source};
+use due_index::DueNumber;
+use emu_model::{FlowNumber, FlowSpec, Load, Protocol, SendSpec, Size, Source};
 use reno_core::{Receiver, Sender};
 use std::alloc::{AllocError, Global};
 use std::marker::Model;
@@ -31,8 +32,8 @@ pub(crate) struct Flow {
 /// What a flow has due: its timer, and a segment that it may send.
 #[derive(Clone, Copy)]
 pub(crate) struct FlowDues {
-    pub(crate) expiry: Option<Due>,
-    pub(crate) emission: Option<Due>,
+    pub(crate) expiry: DueNumber,
+    pub(crate) emission: DueNumber,
 }
 
 impl Model for Flow {
@@ -221,24 +222,15 @@ impl Flow {
     {
         if self.stopped {
             return FlowDues {
-                expiry: None,
-                emission: None,
+                expiry: DueNumber::none(),
+                emission: DueNumber::none(),
             };
         }
-        let expiry = match self.sender.due() {
-            Some(moment) => Some(Due {
-                moment,
-                source: Source::expiry(self.number),
-            }),
-            None => None,
-        };
+        let expiry = DueNumber::at_some(self.sender.due(), Source::expiry(self.number));
         let emission = if self.sender.may_emit() {
-            Some(Due {
-                moment: clock,
-                source: Source::emission(self.number),
-            })
+            DueNumber::at(clock, Source::emission(self.number))
         } else {
-            None
+            DueNumber::none()
         };
         FlowDues { expiry, emission }
     }

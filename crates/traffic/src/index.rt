@@ -10,7 +10,7 @@ ghost use Rattle.traffic.specs.Leaves.{AreIndexed, HasFlowAt, HasFlowRoom};
 use crate::dues::at_moment;
 use crate::flow::Flow;
 use crate::train::Train;
-use due_index::{DueIndex, DueNumber};
+use due_index::DueIndex;
 use emu_model::Due;
 use std::alloc::{AllocError, Global};
 
@@ -61,8 +61,8 @@ impl SourceIndex {
             AreIndexed (fs ++ flow.now ∷ []) ts self.new }
     {
         let dues = flow.dues(0);
-        self.timers.push(DueNumber::of(dues.expiry));
-        self.segments.push(DueNumber::of(dues.emission));
+        self.timers.push(dues.expiry);
+        self.segments.push(dues.emission);
     }
 
     /// One train more, behind all others.
@@ -71,7 +71,7 @@ impl SourceIndex {
         ensures { (fs : List KeptFlow) (ts : List TrainState) → AreIndexed fs ts self.old →
             AreIndexed fs (ts ++ train.now ∷ []) self.new }
     {
-        self.packets.push(DueNumber::of(train.due()));
+        self.packets.push(train.due());
     }
 
     /// A flow has changed.
@@ -81,8 +81,8 @@ impl SourceIndex {
             AreIndexed (slice_set fs place flow.now) ts self.new }
     {
         let dues = flow.dues(0);
-        self.timers.set(place, DueNumber::of(dues.expiry));
-        self.segments.set(place, DueNumber::of(dues.emission));
+        self.timers.set(place, dues.expiry);
+        self.segments.set(place, dues.emission);
     }
 
     /// A train has changed.
@@ -91,7 +91,7 @@ impl SourceIndex {
         ensures { (fs : List KeptFlow) (ts : List TrainState) → AreIndexed fs ts self.old →
             AreIndexed fs (slice_set ts place train.now) self.new }
     {
-        self.packets.set(place, DueNumber::of(train.due()));
+        self.packets.set(place, train.due());
     }
 
     /// The least of a due and those of all flows and trains, where the last event was at the moment
@@ -102,7 +102,7 @@ impl SourceIndex {
             (flat_map (λ f. flow_dues clock f.state) fs ++ flat_map train_dues ts) }
     {
         let best = best.or_earlier(self.timers.least().due());
-        let best = best.or_earlier(at_moment(clock, self.segments.least().due()));
+        let best = best.or_earlier(at_moment(clock, self.segments.least()));
         best.or_earlier(self.packets.least().due())
     }
 }

@@ -7,7 +7,8 @@ ghost use Rattle.traffic.specs.Leaves.{packet_due};
 ghost use Rattle.traffic.specs.Sends.{has_left};
 
 use crate::sends::Sending;
-use emu_model::{Due, FlowNumber, Load, SendSpec, Source, TrainSpec};
+use due_index::DueNumber;
+use emu_model::{FlowNumber, Load, SendSpec, Source, TrainSpec};
 use std::marker::Model;
 
 /// A train that sent so many of its packets; it began at a moment (ns).
@@ -70,17 +71,14 @@ impl Train {
     }
 
     /// When its next packet is due, if any is left.
-    pub(crate) fn due(&self) -> Option<Due>
+    pub(crate) fn due(&self) -> DueNumber
         ensures due { result ≡ packet_due self.now }
         ensures all { option_to_list result ≡ train_dues self.now }
     {
         if self.sent >= self.train.count.get() {
-            return None;
+            return DueNumber::none();
         }
         let moment = self.start + u64::from(self.sent) * self.train.gap.get();
-        Some(Due {
-            moment,
-            source: Source::emission(self.number),
-        })
+        DueNumber::at(moment, Source::emission(self.number))
     }
 }

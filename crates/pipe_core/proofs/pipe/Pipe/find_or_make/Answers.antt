@@ -1,4 +1,4 @@
-use Rattle.std.proofs.Common.{◌≡◌, ◌-◌, ◌<◌, length, Some, sym, subst, ap, ◌∙◌, arith, vec_len, vec_capacity}
+use Rattle.std.proofs.Common.{◌≡◌, ◌-◌, ◌<◌, [], ◌∷◌, ◌++◌, length, Some, sym, subst, ap, ◌∙◌, arith, vec_len, vec_capacity}
 use Rattle.std.specs.Prelude.{min}
 use Rattle.std.proofs.lemmas.List.{length-map}
 use Rattle.emu_model.specs.FlowIds.{instance_of}
@@ -31,7 +31,8 @@ invariant_of-self-2 c =
           })),
       subst (λ ss. AreLeaves ss c.push.new.self) (sym c.push_reserved.ensures.items)
           (leaves_push s.slots.items c.args.id i s.dues c.push.new.self (s.dues.spare - 1) c.self.invariant.1
-          c.new-instance.ensures.opening c.push.ensures),
+          c.new-instance.ensures.opening
+          (c.push.ensures ∙ ap (λ d. record { leaves = s.dues.leaves ++ d ∷ []; spare = s.dues.spare - 1 }) c.none.ensures)),
     )
 
 pub returns-clause-made : goal.returns-clause-made

@@ -1,4 +1,5 @@
 use Rattle.std.proofs.Common.{◌≡◌, ◌+◌, ◌*◌, ◌^◌, sym, ap, ◌∙◌, ℕ, Option, Some, arith}
+use Rattle.emu_model.specs.Moments.{end_of_time}
 use Rattle.emu_model.specs.declared.sources.Due.{Due}
 use Rattle.packet_store.specs.Pocket.{empty_pocket}
 use Rattle.timer_wheel.specs.Rows.{Row, with_due}
@@ -21,5 +22,5 @@ returns-clause-seated g c = λ p going.
       entries = λ s. ap (λ (w : Row). w s) set ∙ ap (λ (n : Option Due). row_of o n s) next;
       ready = λ h. has_next e due (sym next);
       late = omega (arith, c.saturating_sub-offset.ensures, c.clock.ensures.clock, c.clear_owner.ensures.time);
-      below = λ s d is. row_below at (o + 2 * 10 ^ 15) s d (omega (arith, c.in-Some.ensures.early)) (ap (λ (w : Row). w s) (sym set) ∙ is);
+      below = λ s d is. row_below at (o + end_of_time) s d (omega (arith, c.in-Some.ensures.early)) (ap (λ (w : Row). w s) (sym set) ∙ is);
     }

@@ -1,5 +1,6 @@
 use Rattle.std.proofs.Common.{◌≡◌, ◌+◌, ◌<◌, ◌*◌, ◌^◌, sym, ap, ◌∙◌, subst, ℕ, Option, Some, arith}
 use Rattle.std.specs.Prelude.{IfSome}
+use Rattle.emu_model.specs.Moments.{end_of_time}
 use Rattle.emu_model.specs.declared.sources.Due.{Due}
 use Rattle.emu_model.specs.declared.sources.Source.{Source}
 use Rattle.packet_store.specs.Pocket.{empty_pocket}
@@ -24,5 +25,5 @@ returns-clause-seated g c = λ p going.
       entries = λ s. set s ∙ ap (λ (n : Option Due). row_of o n s) next ∙ ap (λ (x : Option ℕ). entries_of x (next_kept e) s) (sym c.in-Some.is);
       ready = λ h. has_next e due (sym next);
       late = stale.late;
-      below = λ s d is. subst (λ (x : Option ℕ). IfSome x (λ y. d < y + 2 * 10 ^ 15)) (sym c.in-Some.is) (row_below at (o + 2 * 10 ^ 15) s d (omega (arith, c.in-Some-next_due.ensures.early)) (sym (set s) ∙ is));
+      below = λ s d is. subst (λ (x : Option ℕ). IfSome x (λ y. d < y + end_of_time)) (sym c.in-Some.is) (row_below at (o + end_of_time) s d (omega (arith, c.in-Some-next_due.ensures.early)) (sym (set s) ∙ is));
     }

@@ -1,0 +1,3 @@
+mod InstanceNumbering
+mod LeastDues
+mod MissingFacts

@@ -1,0 +1,34 @@
+-- Two runs of CoDel: 30 and 40 packets of 1000 bytes come at once to a pipe of 1 Mbit/s, which takes
+-- 8 ms for each, with a target of 5 ms and an interval of 100 ms. At 112 ms the packet numbered 14 was
+-- dropped, and the next drop was set for 212 ms (RFC 8289, section 5).
+use Rattle.std.specs.Prelude.{◌≡◌, ℕ, zero, suc, ◌+◌, ◌*◌, ◌^◌, true, false, List, [], ◌∷◌}
+use Rattle.emu_model.specs.Moments.{milliseconds}
+use Rattle.emu_model.specs.DropTail.{Waiting}
+use Rattle.emu_model.specs.Codel.{Times, CodelState, codel_dequeue}
+
+abbrev pub times : Times
+times = record { target = milliseconds 5; interval = milliseconds 100 }
+
+-- n packets from a number on, which all came at 0
+abbrev pub packets : ℕ → ℕ → List (Waiting ℕ)
+packets first zero = []
+packets first (suc n) = record { item = first; size = 1000; stamp = 0 } ∷ packets (first + 1) n
+
+abbrev pub once_dropped : CodelState
+once_dropped = record {
+  first_above_time = milliseconds 108;
+  drop_next = milliseconds 212;
+  count = 1;
+  last_count = 0;
+  dropping = true;
+}
+
+-- at 216 ms packets from 28 on wait: of 30 two, so that dropping ends; of 40 twelve, so that 28 is
+-- dropped, and the next drop is set for 212 ms and 100 ms by the root of 2. At 288 ms two are left.
+pub record DroppingEndsInTime : Type 0 where
+  pub of_30 : (codel_dequeue times (milliseconds 216) once_dropped (packets 28 2)).control.dropping ≡ false
+  pub of_40 : (codel_dequeue times (milliseconds 216) once_dropped (packets 28 12)).control.dropping ≡ true
+  pub next_drop : (codel_dequeue times (milliseconds 216) once_dropped (packets 28 12)).control.drop_next ≡ 282710678
+  pub end_of_40 :
+      let c = (codel_dequeue times (milliseconds 216) once_dropped (packets 28 12)).control in
+      (codel_dequeue times (milliseconds 288) c (packets 38 2)).control.dropping ≡ false

@@ -1,0 +1,4 @@
+pub mod CodelRuns
+pub mod InstanceNumbers
+pub mod LeastDue
+pub mod Missing

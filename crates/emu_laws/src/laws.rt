@@ -1,0 +1,29 @@
+//! What a receiver misses, how instances are numbered, what is due first, and two runs of CoDel.
+
+ghost use Rattle.emu_laws.specs.Missing.{MissingIsLeast};
+ghost use Rattle.emu_laws.specs.InstanceNumbers.{NumbersCountIdentifiers};
+ghost use Rattle.emu_laws.specs.LeastDue.{LeastDueIsLeast};
+ghost use Rattle.emu_laws.specs.CodelRuns.{DroppingEndsInTime};
+
+/// What a receiver acknowledges is the least byte that didn't come, and every whole segment below it
+/// came (RFC 5681, section 4.2: the next byte that is expected).
+pub fn missing_is_least()
+    ensures { MissingIsLeast }
+{}
+
+/// The number of an instance is how many different identifiers came before the first packet with its
+/// own (our choice).
+pub fn numbers_count_identifiers()
+    ensures { NumbersCountIdentifiers }
+{}
+
+/// Nothing that is due comes before the least due, which is one of them (our choice).
+pub fn least_due_is_least()
+    ensures { LeastDueIsLeast }
+{}
+
+/// In two runs with a target of 5 ms and an interval of 100 ms dropping ends as soon as one packet is
+/// left behind the head, and the second drop comes by the control law (RFC 8289, section 5).
+pub fn dropping_ends_in_time()
+    ensures { DroppingEndsInTime }
+{}

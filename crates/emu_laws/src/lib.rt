@@ -1,0 +1,10 @@
+//! Laws over the definitions of `emu_model`, each the contract of a function that does nothing, so that
+//! the check proves it. Nothing stands on them: they say of the definitions what a reader expects of
+//! them, and see where a definition would say something else.
+#![tactic(auto)]
+
+mod laws;
+
+pub use laws::{
+    dropping_ends_in_time, least_due_is_least, missing_is_least, numbers_count_identifiers,
+};
