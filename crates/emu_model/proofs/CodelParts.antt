@@ -86,8 +86,8 @@ dodequeue-parts {A = A} times now c w rest = go (is_short times now w rest)
         (if d then answer w rest false (with_above (now + times.interval) c)
         else answer w rest (nat_le c.first_above_time now) c)
         ≡ (let found : Found = (if d then record { ok_to_drop = false; first_above_time = now + times.interval }
-            else record { ok_to_drop = nat_le c.first_above_time now; first_above_time = c.first_above_time }) in
-            in_hand found.ok_to_drop (record c { first_above_time = found.first_above_time }) w rest)
+        else record { ok_to_drop = nat_le c.first_above_time now; first_above_time = c.first_above_time }) in
+        in_hand found.ok_to_drop (record c { first_above_time = found.first_above_time }) w rest)
     deeper true = refl
     deeper false = refl
 
@@ -96,7 +96,7 @@ dodequeue-parts {A = A} times now c w rest = go (is_short times now w rest)
         else (if c.first_above_time == 0 then answer w rest false (with_above (now + times.interval) c)
         else answer w rest (nat_le c.first_above_time now) c))
         ≡ in_hand (found_by times now c.first_above_time b).ok_to_drop
-            (record c { first_above_time = (found_by times now c.first_above_time b).first_above_time }) w rest
+        (record c { first_above_time = (found_by times now c.first_above_time b).first_above_time }) w rest
     go true = refl
     go false = deeper (c.first_above_time == 0)
 
