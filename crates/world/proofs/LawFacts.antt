@@ -9,6 +9,7 @@ use Rattle.emu_model.specs.declared.sources.Class.{Class}
 use Rattle.emu_model.specs.declared.sources.Class.TheVariants.{NextCommand, Exit, Finish, Expiry, Emission}
 use Rattle.emu_model.specs.declared.sources.Due.{Due}
 use Rattle.emu_model.specs.Step.{State, step, step_with, count_step, take_class, take_due, is_last_step, spend, next_event}
+use Rattle.emu_model.specs.Net.{counters_of}
 use Rattle.emu_model.specs.Alone.{alone}
 use Rattle.emu_model.specs.Laws.{IsExtendedBy, RecordsGrow, LaterCommandsWait, TakesSteps}
 use Rattle.world.specs.Tenants.{Shown, shown}
@@ -77,6 +78,11 @@ waits : LaterCommandsWait → (spec : Spec) (c d more : List Timed) (n : ℕ) �
 waits law spec c d more n e h =
     ap (λ l. (alone spec l n).net.records) e ∙ ap (λ (s : State). s.net.records) (law spec c more n h)
 
+-- and of the counters
+waits-counters : LaterCommandsWait → (spec : Spec) (c d more : List Timed) (n : ℕ) → d ≡ c ++ more → TakesSteps spec c n → counters_of (alone spec d n).net ≡ counters_of (alone spec c n).net
+waits-counters law spec c d more n e h =
+    ap (λ l. counters_of (alone spec l n).net) e ∙ ap (λ (s : State). counters_of s.net) (law spec c more n h)
+
 -- how far two records go
 pub record Told (v : Shown) : Type 0 where
   pub is_alone : IsAlone v
@@ -90,7 +96,10 @@ agree_first : RecordsGrow → LaterCommandsWait → (v w : Shown) → Told v →
 agree_first grows later v w a b spec c = record {
   fewer = λ le. fewer (w.events - v.events) (omega (arith, le));
   more = λ le. more (v.events - w.events) (omega (arith, le));
-  as_many = λ e. a.is_alone.records ∙ sym (waits later v.spec v.commands w.commands c.0 v.events c.1 a.takes) ∙ ap (λ n. (alone v.spec w.commands n).net.records) e ∙ ap (λ s. (alone s w.commands w.events).net.records) spec ∙ sym b.is_alone.records;
+  as_many = λ e. (
+    a.is_alone.records ∙ sym (waits later v.spec v.commands w.commands c.0 v.events c.1 a.takes) ∙ ap (λ n. (alone v.spec w.commands n).net.records) e ∙ ap (λ s. (alone s w.commands w.events).net.records) spec ∙ sym b.is_alone.records,
+    a.is_alone.counters ∙ sym (waits-counters later v.spec v.commands w.commands c.0 v.events c.1 a.takes) ∙ ap (λ n. counters_of (alone v.spec w.commands n).net) e ∙ ap (λ s. counters_of (alone s w.commands w.events).net) spec ∙ sym b.is_alone.counters,
+  );
 }
   where
     its : w.records ≡ (alone v.spec w.commands w.events).net.records
@@ -113,7 +122,7 @@ agree : RecordsGrow → LaterCommandsWait → (v w : Shown) → Told v → Told 
 agree grows later v w a b spec (inl c) = agree_first grows later v w a b spec c
 agree grows later v w a b spec (inr c) =
     let o : AgreeUpTo w v = agree_first grows later w v b a (sym spec) c in
-    record { fewer = o.more; more = o.fewer; as_many = λ e. sym (o.as_many (sym e)) }
+    record { fewer = o.more; more = o.fewer; as_many = λ e. (let x = o.as_many (sym e) in (sym x.0, sym x.1)) }
 
 pub agree_on_names : RecordsGrow → LaterCommandsWait → (one other : Places) → IsWorld one → IsWorld other → AgreeOnNames one other
 agree_on_names grows later one other h k n m s t a b spec c =

@@ -57,11 +57,12 @@ pub record IsWorld (w : Places) : Type 0 where
 abbrev pub AreFollowedBy : List Timed → List Timed → Type 0
 AreFollowedBy c d = (more : List Timed) × (d ≡ c ++ more)
 
--- the records of the one with fewer events are the first of the other's
+-- the records of the one with fewer events are the first of the other's; with as many they are the same, and so are
+-- the counters
 pub record AgreeUpTo (v w : Shown) : Type 0 where
   pub fewer : v.events ≤ w.events → IsExtendedBy v.records w.records
   pub more : w.events ≤ v.events → IsExtendedBy w.records v.records
-  pub as_many : v.events ≡ w.events → v.records ≡ w.records
+  pub as_many : v.events ≡ w.events → (v.records ≡ w.records) × (v.counters ≡ w.counters)
 
 -- two worlds agree on a name in each that has the same spec, and of whose commands one list begins with the other
 abbrev pub AgreeOnNames : Places → Places → Type 0

@@ -1,4 +1,4 @@
-use Rattle.std.proofs.Common.{◌≡◌, ℕ}
+use Rattle.std.proofs.Common.{◌≡◌, ◌∙◌, ℕ}
 use Rattle.std.specs.Prelude.{flat_map}
 use Rattle.std.specs.List.{best_of}
 use Rattle.emu_model.specs.declared.packets.Packet.{Packet}
@@ -17,7 +17,7 @@ returns c =
     let b = c.args.best in
     let d = c.or_earlier.result in
     let least : (f : ℕ → Packet) → d ≡ best_of is_before b (flat_map pipe_dues (seen_pipes f ps)) =
-    least-is ps x b d c.least.result c.self.invariant.1 c.least.ensures c.or_earlier.ensures.least in
+    least-is ps x b d c.due.result c.self.invariant.1 (c.due.ensures ∙ c.least.ensures) c.or_earlier.ensures.least in
     let r : Reaches ps (λ f. flat_map pipe_dues (seen_pipes f ps)) b d =
     reach_least c.self.inside.seed ps b d c.self.invariant.0.0 (λ f. (c.self.invariant.1 f).fit) least in
     rw (← c.self.view_is) (record {
