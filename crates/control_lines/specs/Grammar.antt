@@ -33,7 +33,7 @@ ArePorts ws (Some ports) = (w : List ℕ) × (ws ≡ w ∷ []) × (ports_of w �
 abbrev pub IsRule : Words → RawRule → Type 0
 IsRule ws rule = (number proto src dst : List ℕ) × (action sports dports : Words)
     × (ws ≡ number
-        ∷ (action ++ proto ∷ codes "from" ∷ src ∷ (sports ++ codes "to" ∷ dst ∷ dports)))
+    ∷ (action ++ proto ∷ codes "from" ∷ src ∷ (sports ++ codes "to" ∷ dst ∷ dports)))
     × (number_of number ≡ Some rule.number) × IsAction action rule.action
     × (match_of proto ≡ Some rule.proto)
     × (prefix_of src ≡ Some rule.src) × ArePorts sports rule.sports

@@ -22,11 +22,10 @@ least_due_is_least moment dues =
     let all : List Due = all_dues moment dues in
     let best = IsFirstBest-from_best_of is_before-order first dues in
     let at : ℕ = best.0 in
-    let is : get_or all at first ≡ least_due moment dues = best.2 in
-    (
+    let is : get_or all at first ≡ least_due moment dues = best.2 in (
       (λ k d there.
-      let within : k < length all = slice_get_within all k d there in
-      subst (λ e. is_before e (least_due moment dues) ≡ false) (get_or_from_slice_get all k d first there)
-      (subst (λ e. is_before (get_or all k first) e ≡ false) is (best.1.1 k first within))),
+          let within : k < length all = slice_get_within all k d there in
+          subst (λ e. is_before e (least_due moment dues) ≡ false) (get_or_from_slice_get all k d first there)
+          (subst (λ e. is_before (get_or all k first) e ≡ false) is (best.1.1 k first within))),
       (at, slice_get-get_or all at first best.1.0 ∙ ap Some is),
     )

@@ -107,12 +107,12 @@ stops zero smss xs from = record {
 }
 stops (suc n) smss xs from = elim (cases_Bool (has xs from)) [
   | inr f ↦ record {
-      steps = 0;
-      few = omega arith;
-      at = rw f (omega arith);
-      runs = tt;
-      last = inl (rw f f);
-    }
+    steps = 0;
+    few = omega arith;
+    at = rw f (omega arith);
+    runs = tt;
+    last = inl (rw f f);
+  }
   | inl t ↦
       let s = stops n smss xs (from + smss) in
       record {
@@ -157,8 +157,7 @@ missing_is_least smss firsts pos =
     let came : List ℕ = received firsts in
     let n : ℕ = length came in
     let s = stops n smss came 0 in
-    let rising = rises_received firsts in
-    (
+    let rising = rises_received firsts in (
       elim s.last [
         | inl gap ↦ gap
         | inr all ↦ elim (cases_Bool (has came (missing smss came))) [

@@ -185,7 +185,9 @@ fn lists(list: &RuleList, wanted: &[(u32, u64, u64, u64)]) -> bool {
 fn finds_pipe(list: &RuleList, wanted: (u16, u32, u64)) -> bool {
     let verdict = list.find(&udp());
     match verdict {
-        Verdict::IntoPipe(pipe, place) => { (pipe.get(), place.number.get(), place.order) == wanted }
+        Verdict::IntoPipe(pipe, place) => {
+            (pipe.get(), place.number.get(), place.order) == wanted
+        }
         _ => false,
     }
 }

@@ -99,13 +99,19 @@ fn places_may_be_empty(rt: HostRuntime) -> Result<(), Fail> {
     pushes(&mut index, None)?;
     pushes(&mut index, due(3, Class::Exit, 256))?;
     pushes(&mut index, None)?;
-    assert!(rt; index.least().due() == due(3, Class::Exit, 256), "the only one");
+    assert!(rt;
+        index.least().due() == due(3, Class::Exit, 256),
+        "the only one"
+    );
     index.clear();
     assert_eq!(rt; index.len(), 0);
     assert!(rt; index.least().due().is_none(), "none is left");
     pushes(&mut index, due(8, Class::Exit, 512))?;
     pushes(&mut index, None)?;
-    assert!(rt; index.least().due() == due(8, Class::Exit, 512), "a new one");
+    assert!(rt;
+        index.least().due() == due(8, Class::Exit, 512),
+        "a new one"
+    );
     Ok(())
 }
 

@@ -14,12 +14,11 @@ invariant_of-self c =
     let long : length ys ≡ length xs = omega (arith, c.put-self-inside.auto.nodes, ap length same) in
     let whole = take_at ys (drop (length ys) xs) s.nodes.len (omega (arith, long, s.nodes.ok.0)) in
     let low : c.args.place < s.places =
-    omega (arith, c.requires, ap (λ (p : Places). length p.leaves) c.self.view_is, leaves_long xs s.half s.places c.self.invariant.0) in
-    (
+    omega (arith, c.requires, ap (λ (p : Places). length p.leaves) c.self.view_is, leaves_long xs s.half s.places c.self.invariant.0) in (
       subst (λ l. IsIndex l s.half s.places) (sym whole)
-      (set_index xs s.half s.places c.self.invariant.0 ys c.args.place c.args.due low c.put-self-inside.ensures.met long
-      (c.put-self-inside.ensures.leaves s.half c.args.place (ap length same ∙ c.self.invariant.0.long) refl
-      ∙ ap (λ l. set (drop s.half l) c.args.place c.args.due) same)),
+          (set_index xs s.half s.places c.self.invariant.0 ys c.args.place c.args.due low c.put-self-inside.ensures.met long
+          (c.put-self-inside.ensures.leaves s.half c.args.place (ap length same ∙ c.self.invariant.0.long) refl
+          ∙ ap (λ l. set (drop s.half l) c.args.place c.args.due) same)),
       c.put-self-inside.ensures.least ∙ ap (λ l. node_at l 1) (sym whole),
     )
 
