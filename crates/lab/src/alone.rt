@@ -68,6 +68,7 @@ fn tell<P: Progress>(experiment: &Experiment, progress: &P) {
 }
 
 // Makes events until there is nothing more to do.
+#[inline(always)]
 fn advance<P: Progress>(
     experiment: &mut Experiment,
     shelf: &mut OwnShelf,

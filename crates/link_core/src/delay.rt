@@ -56,6 +56,7 @@ impl<A: Drop> DelayLine<A> {
     /// Puts an item on its way that finished at `finish` (ns): it leaves after its delay (ms), at
     /// least 1 ns later, and not before what entered earlier. Where memory is refused the line
     /// stays.
+    #[inline(always)]
     pub fn enter(&mut self, item: A, finish: u64, delay: Delay) -> Result<(), AllocError>
         requires { IsMoment finish }
         ensures ok { OnOk result
@@ -74,6 +75,7 @@ impl<A: Drop> DelayLine<A> {
 
     /// Makes the growth of an `enter` of the same arguments, which then isn't refused until
     /// something else enters.
+    #[inline(always)]
     pub fn enter_ready(&mut self, _finish: u64, _delay: Delay) -> Result<(), AllocError>
         ensures ready { OnOk result (0 < self.new.spare) }
         ensures refused { OnErr result (self.old.spare ≡ 0) }
@@ -84,6 +86,7 @@ impl<A: Drop> DelayLine<A> {
     }
 
     /// Takes out what leaves first; None where nothing is on its way.
+    #[inline(always)]
     pub fn leave(&mut self) -> Option<A>
         ensures item { result ≡ first_item self.old.line.flight }
         ensures line { self.new.line ≡ left self.old.line }
@@ -94,6 +97,7 @@ impl<A: Drop> DelayLine<A> {
     }
 
     /// When the first item leaves (ns).
+    #[inline(always)]
     pub fn due(&self) -> Option<u64>
         ensures { result ≡ first_exit self.now.line.flight }
     {
@@ -111,6 +115,7 @@ impl<A: Drop> DelayLine<A> {
 
 impl<A: Copy> DelayLine<A> {
     /// What leaves first, which stays.
+    #[inline(always)]
     pub fn front(&self) -> Option<A>
         ensures { result ≡ first_item self.now.line.flight }
     {

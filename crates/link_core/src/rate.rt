@@ -25,6 +25,7 @@ struct Busy {
 
 impl Busy {
     /// A period in which nothing is served yet.
+    #[inline(always)]
     fn at(start: u64) -> Self
         ensures period { period_of result ≡ period_at start }
         ensures tells { (bw : ℕ) → Tells bw result }
@@ -38,6 +39,7 @@ impl Busy {
     }
 
     /// A nanosecond that has begun counts whole.
+    #[inline(always)]
     fn finish(self) -> u64
         requires { (period_of self).finish < 2 ^ 64 }
         ensures { result ≡ (period_of self).finish }
@@ -46,6 +48,7 @@ impl Busy {
     }
 
     /// The period with one packet more: what is left over is served with it.
+    #[inline(always)]
     fn followed(self, bw: Bandwidth, size: Size) -> Self
         requires tells { Tells bw self }
         requires early { IsMoment (period_of self).finish }
@@ -97,6 +100,7 @@ impl RateServer {
     }
 
     /// Begins a busy period at `now` (ns) with a packet.
+    #[inline(always)]
     pub fn start(&mut self, now: u64, size: Size)
         requires early { IsMoment now }
         ensures { self.new ≡ record self.old { busy = Some (begun self.old.bw now size) } }
@@ -105,6 +109,7 @@ impl RateServer {
     }
 
     /// Takes the next packet into service at the finish of the one before. At rest it does nothing.
+    #[inline(always)]
     pub fn follow(&mut self, size: Size)
         requires { ForSome self.old.busy (λ p. IsMoment p.finish) }
         ensures { self.new
@@ -134,6 +139,7 @@ impl RateServer {
     }
 
     /// The finish (ns) of the packet in service.
+    #[inline(always)]
     pub fn due(&self) -> Option<u64>
         ensures { result ≡ option_map (λ p. p.finish) self.now.busy }
     {

@@ -64,6 +64,7 @@ impl LossStream {
     }
 
     // The word of a place (RFC 8439, ChaCha20).
+    #[inline(never)]
     fn word(&mut self, place: u128) -> u32
         ensures word { result ≡ loss_word self.old.seed self.old.pipe self.old.instance place }
         ensures same { self.new ≡ self.old }
@@ -85,6 +86,7 @@ impl LossStream {
     /// Draws the word of the next packet, at every rate, and answers whether it loses the packet.
     /// The count stays at 2^128 - 1. At the rates 0 and 1, which every word is above and below, none
     /// is computed.
+    #[inline(always)]
     pub fn lose(&mut self, plr: LossRate) -> bool
         ensures answer { result
             ≡ is_lost self.old.seed self.old.pipe self.old.instance self.old.drawn plr }

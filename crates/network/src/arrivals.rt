@@ -21,6 +21,7 @@ use std::alloc::AllocError;
 use traffic::Sending;
 
 // A packet with this header.
+#[inline(always)]
 fn packet_of(load: Load, send: &SendSpec, number: u64) -> Packet
     ensures { result ≡ packet_of load send.now number }
 {

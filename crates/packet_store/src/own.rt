@@ -115,6 +115,7 @@ impl Shelf for OwnShelf {
         }
     }
 
+    #[inline(always)]
     fn count(&self, owner: Owner) -> usize {
         if owner == 0 { self.slab.len() } else { 0 }
     }

@@ -99,6 +99,7 @@ impl Pipe {
     }
 
     /// How many instances it has, 256 at most.
+    #[inline(always)]
     pub fn instances(&self) -> usize
         ensures instances { result ≡ length self.now.slots }
         ensures few { result ≤ 256 }
@@ -191,6 +192,7 @@ impl Pipe {
     }
 
     // Makes the growth that an instance needs to accept a packet of this size.
+    #[inline(always)]
     fn accept_ready(&mut self, index: usize, size: Size, now: u64) -> Result<(), AllocError>
         requires { index < length self.old.slots }
         ensures grown { IsGrown self.old self.new }
@@ -253,6 +255,7 @@ impl Pipe {
     }
 
     // A packet comes to an instance.
+    #[inline(always)]
     fn arrive_at<S: Shelf>(
         &mut self,
         index: usize,
@@ -315,6 +318,7 @@ impl Pipe {
     /// shelf into `drops`, which loses what it held and keeps its room, so that a list that once had
     /// room enough has it ever after. All growths come first: of the delay line, and where CoDel is the
     /// discipline of lists of drops; refused, only room has grown.
+    #[inline(always)]
     pub fn finish<S: Shelf>(
         &mut self,
         shelf: &mut S,
@@ -356,6 +360,7 @@ impl Pipe {
     }
 
     /// The packet that leaves first in an instance, which stays; None where nothing is on its way.
+    #[inline(always)]
     pub fn front<S: Shelf>(&self, shelf: &S, owner: Owner, index: usize) -> Option<Packet>
         requires inside { index < length self.now.slots }
         requires named { AreNamed (S.pocket shelf.now owner) (keys_of self.now.slots) }
@@ -367,6 +372,7 @@ impl Pipe {
 
     /// What leaves first in an instance goes: the packet, which is taken from the shelf; None where
     /// nothing is on its way. Takes no memory, and keeps room for arrivals.
+    #[inline(always)]
     pub fn exit<S: Shelf>(&mut self, shelf: &mut S, owner: Owner, index: usize) -> Option<Packet>
         requires inside { index < length self.old.slots }
         requires named { AreNamed (S.pocket shelf.old owner) (keys_of self.old.slots) }

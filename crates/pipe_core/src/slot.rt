@@ -26,6 +26,7 @@ pub(crate) struct Slot {
 
 impl Slot {
     /// What it has due first, by its pipe and its place there.
+    #[inline(always)]
     pub(crate) fn due(&self, pipe: PipeNumber, place: u8) -> DueNumber
         requires { pipe * 256 + place ≡ instance_number self.now }
         ensures { result ≡ slot_due self.now }
@@ -36,6 +37,7 @@ impl Slot {
     }
 
     /// A packet comes: its loss word is drawn, and then the limit decides.
+    #[inline(always)]
     pub(crate) fn arrive<S: Shelf>(
         &mut self,
         shelf: &mut S,
@@ -71,6 +73,7 @@ impl Slot {
     /// The packet in service finishes, at the moment at which it is due, and is told; the next is
     /// served. What CoDel drops is taken from the shelf into `drops`, which loses what it held and
     /// keeps its room. All growths come first.
+    #[inline(always)]
     pub(crate) fn finish<S: Shelf>(
         &mut self,
         shelf: &mut S,
@@ -109,6 +112,7 @@ impl Slot {
     }
 
     // How many packets a finish can drop, at most.
+    #[inline(always)]
     fn most_dropped(&self, config: &PipeConfig) -> usize
         requires { IsTuned config.now self.now.instance }
         ensures { result ≡ most_dropped self.now.instance.queue }
@@ -123,6 +127,7 @@ impl Slot {
     }
 
     /// The packet that leaves first, which stays; None where nothing is on its way.
+    #[inline(always)]
     pub(crate) fn front<S: Shelf>(&self, shelf: &S, owner: Owner) -> Option<Packet>
         requires { AreNamed (S.pocket shelf.now owner) (keys_in self.now.instance) }
         ensures { result ≡ first_item
@@ -137,6 +142,7 @@ impl Slot {
 
     /// What leaves first goes, and its packet is taken from the shelf; None where nothing is on its
     /// way.
+    #[inline(always)]
     pub(crate) fn exit<S: Shelf>(&mut self, shelf: &mut S, owner: Owner) -> Option<Packet>
         requires { AreNamed (S.pocket shelf.old owner) (keys_in self.old.instance) }
         ensures left { Exits result (S.pocket shelf.old owner)

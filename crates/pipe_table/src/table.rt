@@ -66,6 +66,7 @@ impl PipeTable {
     }
 
     // The place of a pipe in the list.
+    #[inline(always)]
     pub(crate) fn place_of(&self, number: PipeNumber) -> Option<usize>
         ensures { result ≡ position (has_number number) self.now.pipes }
     {
@@ -212,6 +213,7 @@ impl PipeTable {
     /// The packet in service in an instance finishes at the moment `now` (ns), at which it is due, and
     /// is told. What CoDel drops stands in `drops` then, in order; the list keeps its room. Refused, only
     /// room has grown.
+    #[inline(always)]
     pub fn finish<S: Shelf>(
         &mut self,
         shelf: &mut S,

@@ -82,6 +82,7 @@ impl<A> Codel<A> {
     }
 
     /// The same where the limit lets it in and there is room. Takes no memory.
+    #[inline(always)]
     pub fn enqueue_reserved(&mut self, item: A, size: Size, now: u64)
         requires accepted { accepts self.old.limit self.old.waiting size ≡ true }
         requires room { length self.old.waiting < self.old.capacity }
@@ -95,6 +96,7 @@ impl<A> Codel<A> {
     }
 
     /// Makes the growth that `enqueue` of these can need.
+    #[inline(always)]
     pub fn enqueue_ready(&mut self, size: Size, now: u64) -> Result<(), AllocError>
         ensures ok { OnOk result (self.new ≡ record self.old { capacity = self.new.capacity }) }
         ensures room { OnOk result
@@ -142,6 +144,7 @@ impl<A> Codel<A> {
     }
 
     /// How many wait.
+    #[inline(always)]
     pub fn waiting(&self) -> usize
         ensures waiting { result ≡ length self.now.waiting }
         ensures fits { result < 2 ^ 63 }
@@ -150,6 +153,7 @@ impl<A> Codel<A> {
     }
 
     /// The bytes of what waits.
+    #[inline(always)]
     pub fn bytes(&self) -> u64
         ensures bytes { result ≡ bytes_of self.now.waiting }
         ensures few { result ≤ 1500000 }
@@ -158,6 +162,7 @@ impl<A> Codel<A> {
     }
 
     /// Whether the limit lets an item of `size` bytes wait as well.
+    #[inline(always)]
     pub fn accepts(&self, size: Size) -> bool
         ensures { result ≡ accepts self.now.limit self.now.waiting size }
     {

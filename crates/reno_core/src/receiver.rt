@@ -55,6 +55,7 @@ impl Receiver {
     /// Takes the segment that begins at `first`, and answers what it acknowledges: the least byte that
     /// did not come. A segment that came before changes nothing. Only one that leaves a gap can need
     /// memory; where that is refused nothing changes.
+    #[inline(always)]
     pub fn take(&mut self, first: u64) -> Result<u64, AllocError>
         ensures upto { IfOk result (λ upto. upto ≡ missing self.old.smss self.new.came) }
         ensures came { OnOk result (self.new.came ≡ with_segment first self.old.came) }
@@ -90,6 +91,7 @@ impl Receiver {
     }
 
     /// Makes the growth of a `take` of any segment, which then isn't refused until one came.
+    #[inline(always)]
     pub fn take_ready(&mut self, _first: u64) -> Result<(), AllocError>
         ensures ready { OnOk result (0 < self.new.room) }
         ensures refused { OnErr result (self.old.room ≡ 0) }
@@ -113,6 +115,7 @@ fn is_full(in_order: u64, others: &VecDeque<u64>) -> bool
 
 // Takes out of `others` what follows in order on the first `count` segments, and answers how many
 // came in order then.
+#[inline(never)]
 fn absorb(smss: u64, mut count: u64, others: &mut VecDeque<u64>) -> u64
     requires least { 1 ≤ smss }
     requires most { smss ≤ 1460 }

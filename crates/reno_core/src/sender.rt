@@ -48,6 +48,7 @@ impl Sender {
     }
 
     /// Takes an acknowledgement of all bytes below `upto` at the moment `now`.
+    #[inline(always)]
     pub fn ack(&mut self, now: u64, upto: u64)
         requires early { IsMoment now }
         ensures { self.new
@@ -66,6 +67,7 @@ impl Sender {
     }
 
     /// Sends one segment at the moment `now`, and answers its first byte.
+    #[inline(always)]
     pub fn emit(&mut self, now: u64) -> u64
         requires early { IsMoment now }
         requires may { may_emit self.old.flow self.old.sender ≡ true }
@@ -79,6 +81,7 @@ impl Sender {
     }
 
     /// A segment may be sent now: one that is to be sent again, or one that the windows let through.
+    #[inline(always)]
     pub fn may_emit(&self) -> bool
         ensures { result ≡ may_emit self.now.flow self.now.sender }
     {
@@ -86,6 +89,7 @@ impl Sender {
     }
 
     /// When its timer is due (ns), if it runs.
+    #[inline(always)]
     pub fn due(&self) -> Option<u64>
         ensures { result ≡ self.now.sender.timer }
     {
@@ -93,6 +97,7 @@ impl Sender {
     }
 
     /// The congestion window in bytes.
+    #[inline(always)]
     pub fn cwnd(&self) -> u64
         ensures { result ≡ self.now.sender.cwnd }
     {
@@ -100,6 +105,7 @@ impl Sender {
     }
 
     /// The slow start threshold in bytes.
+    #[inline(always)]
     pub fn ssthresh(&self) -> u64
         ensures { result ≡ self.now.sender.ssthresh }
     {

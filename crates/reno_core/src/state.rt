@@ -86,6 +86,7 @@ impl State {
     }
 
     /// A segment at `snd_nxt` is left, and fits the lesser of both windows.
+    #[inline(always)]
     pub(crate) fn has_room(&self, flow: &FlowSpec) -> bool
         requires { IsSound flow.now (sender_of self.now) }
         ensures { result ≡ has_room flow.now (sender_of self.now) }
@@ -120,6 +121,7 @@ impl State {
     }
 
     /// The round trip that an acknowledgement of all bytes below `upto` completes.
+    #[inline(always)]
     fn round_trip(&self, now: u64, upto: u64) -> Option<u64>
         ensures { result ≡ round_trip now upto (option_map sample_of self.now.sample) }
     {
@@ -131,6 +133,7 @@ impl State {
 
     /// Completes a sample, and takes the time that holds after new data was acknowledged: restored
     /// where it is fixed, else estimated anew.
+    #[inline(always)]
     fn take_round_trip(&mut self, flow: &FlowSpec, now: u64, upto: u64)
         requires early { IsMoment now }
         requires estimate { IsEstimate (sender_of self.old).estimate }
@@ -153,6 +156,7 @@ impl State {
     }
 
     /// An acknowledgement of new data (RFC 5681, sections 3.1 and 3.2; RFC 6298, 5.2 and 5.3).
+    #[inline(always)]
     fn ack_new(&mut self, flow: &FlowSpec, now: u64, upto: u64)
         requires early { IsMoment now }
         requires sound { IsSound flow.now (sender_of self.old) }
@@ -199,12 +203,14 @@ impl State {
         }
     }
 
+    #[inline(always)]
     fn is_new(&self, flow: &FlowSpec, upto: u64) -> bool
         ensures { result ≡ is_new flow.now upto (sender_of self.now) }
     {
         self.snd_una < upto && upto <= self.snd_max && upto % segment_bytes(flow) == 0
     }
 
+    #[inline(always)]
     fn is_duplicate(&self, upto: u64) -> bool
         ensures { result ≡ is_duplicate upto (sender_of self.now) }
     {
@@ -213,6 +219,7 @@ impl State {
 
     /// An acknowledgement of all bytes below `upto`. One that is neither of new data nor a duplicate
     /// changes nothing.
+    #[inline(always)]
     pub(crate) fn ack(&mut self, flow: &FlowSpec, now: u64, upto: u64)
         requires early { IsMoment now }
         requires sound { IsSound flow.now (sender_of self.old) }
@@ -246,6 +253,7 @@ impl State {
     }
 
     /// Sends one segment, and answers its first byte.
+    #[inline(always)]
     pub(crate) fn emit(&mut self, flow: &FlowSpec, now: u64) -> u64
         requires early { IsMoment now }
         requires sound { IsSound flow.now (sender_of self.old) }

@@ -92,6 +92,7 @@ impl CountedRule {
     }
 
     /// Its number, and how many rules were added before it.
+    #[inline(always)]
     pub fn place(&self) -> Place
         ensures { result ≡ place_of self.now }
     {
@@ -109,12 +110,14 @@ impl CountedRule {
         self.rule.number.get()
     }
 
+    #[inline(always)]
     pub(crate) fn matches(&self, packet: &Packet) -> bool
         ensures { result ≡ rule_matches packet.now self.now.rule }
     {
         matches(&self.rule, packet)
     }
 
+    #[inline(always)]
     pub(crate) fn count(&mut self, packet: &Packet)
         ensures { self.new ≡ count_packet packet.now self.old }
     {
@@ -123,6 +126,7 @@ impl CountedRule {
     }
 
     /// The verdict, if the search ends at this rule.
+    #[inline(always)]
     pub(crate) fn decision(&self) -> Option<Verdict>
         ensures { result ≡ decision self.now.rule.action self.now }
     {

@@ -10,6 +10,7 @@ use crate::memory::{MOST_WALKED, SearchMemory};
 use emu_model::{Packet, Place, Verdict};
 
 /// The least place at or after `from` whose rule matches.
+#[inline(never)]
 fn next_match(rules: &[CountedRule], from: usize, packet: &Packet) -> Option<usize>
     ensures { result ≡ least_match packet.now (the_rules rules.now) from }
 {

@@ -77,6 +77,7 @@ impl Flow {
     }
 
     /// The header of its segments.
+    #[inline(always)]
     pub(crate) fn send(&self) -> SendSpec
         ensures { result ≡ data_send self.now.state.flow }
     {
@@ -95,6 +96,7 @@ impl Flow {
     }
 
     /// The header of its acknowledgements.
+    #[inline(always)]
     pub(crate) fn reply(&self) -> SendSpec
         ensures { result ≡ ack_send self.now.state.flow }
     {
@@ -113,6 +115,7 @@ impl Flow {
     }
 
     /// Sends one segment at the moment `now`.
+    #[inline(always)]
     pub(crate) fn emit(&mut self, now: u64) -> Sending
         requires early { IsMoment now }
         requires may { may_send self.old.state ≡ true }
@@ -136,6 +139,7 @@ impl Flow {
     }
 
     /// Makes the growth of a `take` of any segment.
+    #[inline(always)]
     pub(crate) fn take_ready(&mut self, first: u64) -> Result<(), AllocError>
         ensures ready { OnOk result (0 < self.new.room) }
         ensures state { self.new.state ≡ self.old.state }
@@ -146,6 +150,7 @@ impl Flow {
     }
 
     /// Its receiver takes the segment that begins at `first`, and acknowledges it.
+    #[inline(always)]
     pub(crate) fn take(&mut self, first: u64) -> Sending
         requires { 0 < self.old.room }
         ensures flow { let f = self.old.state in
@@ -170,6 +175,7 @@ impl Flow {
     }
 
     /// Its sender takes an acknowledgement of all bytes below `upto`, unless it is stopped.
+    #[inline(always)]
     pub(crate) fn take_ack(&mut self, now: u64, upto: u64) -> Option<Window>
         requires early { IsMoment now }
         ensures taken { IfSome result (λ w. (n : Net) → acknowledged now upto n self.old.state
@@ -201,6 +207,7 @@ impl Flow {
         self.window()
     }
 
+    #[inline(always)]
     fn window(&self) -> Window
         ensures { result ≡ record {
           cwnd = self.now.state.sender.cwnd;

@@ -75,6 +75,7 @@ impl SourceIndex {
     }
 
     /// A flow has changed.
+    #[inline(always)]
     pub(crate) fn set_flow(&mut self, place: usize, flow: &Flow)
         requires { HasFlowAt place self.old }
         ensures { (fs : List KeptFlow) (ts : List TrainState) → AreIndexed fs ts self.old →
@@ -86,6 +87,7 @@ impl SourceIndex {
     }
 
     /// A train has changed.
+    #[inline(always)]
     pub(crate) fn set_train(&mut self, place: usize, train: &Train)
         requires { place < length self.old.packets.leaves }
         ensures { (fs : List KeptFlow) (ts : List TrainState) → AreIndexed fs ts self.old →

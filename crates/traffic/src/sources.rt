@@ -147,6 +147,7 @@ impl Traffic {
     }
 
     /// The header of what `emit` sends; None where there is no source of this number.
+    #[inline(always)]
     pub fn next_send(&self, number: FlowNumber) -> Option<SendSpec>
         ensures { (n : Net) → result ≡ next_send number (with_traffic self.now n) }
     {
@@ -162,6 +163,7 @@ impl Traffic {
     }
 
     /// Sends a packet of a train or a segment of a flow, which may: the packet that is to be made.
+    #[inline(always)]
     pub fn emit(&mut self, now: u64, number: FlowNumber) -> Option<Sending>
         requires early { IsMoment now }
         requires may { IsEmitting number self.old }
@@ -188,6 +190,7 @@ impl Traffic {
     }
 
     /// The header of the acknowledgement that `take` makes; None where there is no such flow.
+    #[inline(always)]
     pub fn reply(&self, number: FlowNumber) -> Option<SendSpec>
         ensures { (n : Net) → result ≡ reply_send number (with_traffic self.now n) }
     {
@@ -199,6 +202,7 @@ impl Traffic {
     }
 
     /// Makes the growth of a `take` of any segment of this flow. Only room changes.
+    #[inline(always)]
     pub fn take_ready(&mut self, number: FlowNumber, first: u64) -> Result<(), AllocError>
         ensures ready { OnOk result (HasRoomFor number self.new) }
         ensures others { (k : ℕ) → HasRoomFor k self.old → HasRoomFor k self.new }
@@ -214,6 +218,7 @@ impl Traffic {
 
     /// A flow's receiver takes the segment that begins at `first`, also of a stopped one: the
     /// acknowledgement that is to be made; None where there is no such flow.
+    #[inline(always)]
     pub fn take(&mut self, number: FlowNumber, first: u64) -> Option<Sending>
         requires { HasRoomFor number self.old }
         ensures taken { (at : Setting) (n : Net) → let m = with_traffic self.old n in
@@ -232,6 +237,7 @@ impl Traffic {
 
     /// A flow's sender takes an acknowledgement of all bytes below `upto`: its windows after it; None
     /// where there is no such flow, or it is stopped.
+    #[inline(always)]
     pub fn take_ack(&mut self, now: u64, number: FlowNumber, upto: u64) -> Option<Window>
         requires early { IsMoment now }
         ensures { (n : Net) → let m = with_traffic self.old n in
@@ -310,6 +316,7 @@ impl Traffic {
     }
 
     /// The place of the flow of this number.
+    #[inline(always)]
     fn flow_place(&self, number: FlowNumber) -> Option<usize>
         ensures { result ≡ position (λ f. f.state.number == number) self.now.flows }
     {
@@ -317,6 +324,7 @@ impl Traffic {
     }
 
     /// The place of the train of this number.
+    #[inline(always)]
     fn train_place(&self, number: FlowNumber) -> Option<usize>
         ensures { result ≡ position (λ t. t.number == number) self.now.trains }
     {

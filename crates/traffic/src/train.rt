@@ -50,6 +50,7 @@ impl Train {
         }
     }
 
+    #[inline(always)]
     pub(crate) fn send(&self) -> SendSpec
         ensures { result ≡ self.now.train.packet }
     {
@@ -57,6 +58,7 @@ impl Train {
     }
 
     /// Sends one packet.
+    #[inline(always)]
     pub(crate) fn emit(&mut self) -> Sending
         requires { has_left self.old ≡ true }
         ensures train { self.new ≡ record self.old { sent = self.old.sent + 1 } }
@@ -71,6 +73,7 @@ impl Train {
     }
 
     /// When its next packet is due, if any is left.
+    #[inline(always)]
     pub(crate) fn due(&self) -> DueNumber
         ensures due { result ≡ packet_due self.now }
         ensures all { option_to_list result ≡ train_dues self.now }
