@@ -1,6 +1,6 @@
 -- Bounds: what the definitions say at the ends of a range, where no worked example goes. Each number
 -- is worked out by hand from the rule in its comment.
-use Rattle.std.specs.Prelude.{◌≡◌, refl, ℕ, ◌-◌, ◌^◌, true, false, Option, Some, None, List, [], ◌∷◌, replicate, map}
+use Rattle.std.specs.Prelude.{◌≡◌, refl, ℕ, ◌-◌, ◌^◌, Bool, true, false, Option, Some, None, List, [], ◌∷◌, replicate, map}
 use Rattle.emu_model.specs.Spans.{PortSpan}
 use Rattle.emu_model.specs.declared.pipes.QueueLimit.TheVariants.{Slots, KBytes}
 use Rattle.emu_model.specs.declared.sources.FlowSpec.{FlowSpec}
@@ -12,7 +12,7 @@ use Rattle.emu_model.specs.declared.pipes.Discipline.TheVariants.{ControlledDela
 use Rattle.emu_model.specs.Pipes.{same_discipline}
 use Rattle.emu_model.specs.Loss.{is_below_rate, stream_of}
 use Rattle.emu_model.specs.DropTail.{Waiting, accepts}
-use Rattle.emu_model.specs.Codel.{Times, CodelState, initial_control, is_short, ok_to_drop, initial_count, count_up, begin_dropping, drop_on, control_step, control_law, codel_dequeue, drop_first}
+use Rattle.emu_model.specs.Codel.{Times, CodelState, initial_control, dodequeue, answer, while_dropping, initial_count, count_up, enter_drop_state, control_step, control_law, codel_dequeue, drop_first}
 use Rattle.emu_model.specs.Reno.{Sender, initial_sender, initial_window, bounded, expire, is_new, round_trip, new_estimate, estimated_timeout, ack, emit, window_after, halved_ssthresh}
 
 -- 256 instances a pipe: the 256th has the number 255, and there is no 257th
@@ -61,26 +61,30 @@ times = record { target = 5; interval = 100 }
 abbrev left_behind : ℕ → List (Waiting ℕ)
 left_behind last = packet 1500 ∷ packet last ∷ []
 
-short_stay : is_short times 4 (packet 40) (left_behind 40) ≡ true
-short_stay = refl
-
-long_stay : is_short times 5 (packet 40) (left_behind 40) ≡ false
-long_stay = refl
-
-one_packet_left : is_short times 5 (packet 40) (packet 1500 ∷ []) ≡ true
-one_packet_left = refl
-
-more_left : is_short times 5 (packet 40) (packet 1461 ∷ packet 40 ∷ []) ≡ false
-more_left = refl
-
--- it may be dropped at first_above_time, and not 1 ns before
 abbrev above_since : ℕ → CodelState
 above_since moment = record initial_control { first_above_time = moment }
 
-at_the_moment : ok_to_drop times 105 (above_since 105) (packet 40) (left_behind 40) ≡ true
+-- whether a head may be dropped that was above since long ago
+abbrev may_drop : ℕ → Waiting ℕ → List (Waiting ℕ) → Bool
+may_drop now p rest = (dodequeue times now (above_since 1) (p ∷ rest)).ok_to_drop
+
+short_stay : may_drop 4 (packet 40) (left_behind 40) ≡ false
+short_stay = refl
+
+long_stay : may_drop 5 (packet 40) (left_behind 40) ≡ true
+long_stay = refl
+
+one_packet_left : may_drop 5 (packet 40) (packet 1500 ∷ []) ≡ false
+one_packet_left = refl
+
+more_left : may_drop 5 (packet 40) (packet 1461 ∷ packet 40 ∷ []) ≡ true
+more_left = refl
+
+-- it may be dropped at first_above_time, and not 1 ns before
+at_the_moment : (dodequeue times 105 (above_since 105) (packet 40 ∷ left_behind 40)).ok_to_drop ≡ true
 at_the_moment = refl
 
-before_the_moment : ok_to_drop times 104 (above_since 105) (packet 40) (left_behind 40) ≡ false
+before_the_moment : (dodequeue times 104 (above_since 105) (packet 40 ∷ left_behind 40)).ok_to_drop ≡ false
 before_the_moment = refl
 
 -- dropping begins at the last count, count - lastcount, below drop_next + 16 intervals = 1600 if
@@ -215,14 +219,14 @@ flight_to_top : halved_ssthresh flow (record two_sent { snd_nxt = 0; snd_max = 8
 flight_to_top = refl
 
 -- lastcount is the count that dropping begins with, 5 - 2
-last_count_is_new : (begin_dropping times 1599 (dropped_before 5 2)).last_count ≡ 3
+last_count_is_new : (enter_drop_state times 1599 (dropped_before 5 2)).last_count ≡ 3
 last_count_is_new = refl
 
 -- two drops at one dequeue: 200 + 100 / sqrt(2) = 270, 270 + 100 / sqrt(3) = 327
 abbrev dropping_on : CodelState
 dropping_on = record { first_above_time = 100; drop_next = 200; count = 1; last_count = 1; dropping = true }
 
-two_at_once : (drop_on times 310 dropping_on (packet 1500) (replicate 4 (packet 1500))).control.drop_next ≡ 327
+two_at_once : (while_dropping 9 times 310 (answer (packet 1500) (replicate 4 (packet 1500)) true dropping_on)).control.drop_next ≡ 327
 unfolding control_step
 two_at_once = refl
 
@@ -245,7 +249,7 @@ dropping_ends : (codel_dequeue times 310 dropping_on (packet 40 ∷ [])).control
 dropping_ends = refl
 
 -- as dropping begins, the packet behind the one dropped is looked at: nothing is behind it
-next_is_looked_at : (drop_first times 310 dropping_on (packet 1500) (packet 40 ∷ [])).control.first_above_time ≡ 0
+next_is_looked_at : (drop_first times 310 (answer (packet 1500) (packet 40 ∷ []) true dropping_on)).control.first_above_time ≡ 0
 next_is_looked_at = refl
 
 -- the control law with an interval of 100: 100 / sqrt(1) is 100, and 1 / sqrt(2) is rounded to 0
@@ -258,24 +262,24 @@ unfolding control_step
 no_step = refl
 
 -- a packet that came at 3 has waited 4 at 7, which is short
-since_its_stamp : is_short times 7 (record (packet 40) { stamp = 3 }) (left_behind 40) ≡ true
+since_its_stamp : may_drop 7 (record (packet 40) { stamp = 3 }) (left_behind 40) ≡ false
 since_its_stamp = refl
 
 -- a drop is due at drop_next itself: at 200 the count becomes 2
-at_drop_next : (drop_on times 200 dropping_on (packet 1500) (replicate 4 (packet 1500))).control.count ≡ 2
+at_drop_next : (while_dropping 9 times 200 (answer (packet 1500) (replicate 4 (packet 1500)) true dropping_on)).control.count ≡ 2
 unfolding control_step
 at_drop_next = refl
 
 -- behind a drop a head with too little behind it is given, ends dropping, and clears first_above_time
-one_then_given : (drop_on times 310 dropping_on (packet 1500) (packet 40 ∷ [])).dropped ≡ packet 1500 ∷ []
+one_then_given : (while_dropping 9 times 310 (answer (packet 1500) (packet 40 ∷ []) true dropping_on)).dropped ≡ packet 1500 ∷ []
 one_then_given = refl
 
 given_ends_dropping :
-    (drop_on times 310 dropping_on (packet 1500) (packet 40 ∷ [])).control.dropping ≡ false
+    (while_dropping 9 times 310 (answer (packet 1500) (packet 40 ∷ []) true dropping_on)).control.dropping ≡ false
 given_ends_dropping = refl
 
 given_clears_above :
-    (drop_on times 310 dropping_on (packet 1500) (packet 40 ∷ [])).control.first_above_time ≡ 0
+    (while_dropping 9 times 310 (answer (packet 1500) (packet 40 ∷ []) true dropping_on)).control.first_above_time ≡ 0
 given_clears_above = refl
 
 -- so does an empty queue
@@ -290,9 +294,9 @@ after_drop_next : initial_count times 1649 (record (dropped_before 5 2) { drop_n
 after_drop_next = refl
 
 -- dropping that begins again with a count of 6 - 2 has its next drop after 100 / sqrt(4)
-begins_with_four : (begin_dropping times 1000 (dropped_before 6 2)).count ≡ 4
+begins_with_four : (enter_drop_state times 1000 (dropped_before 6 2)).count ≡ 4
 begins_with_four = refl
 
-next_of_four : (begin_dropping times 1000 (dropped_before 6 2)).drop_next ≡ 1050
+next_of_four : (enter_drop_state times 1000 (dropped_before 6 2)).drop_next ≡ 1050
 unfolding control_step
 next_of_four = refl

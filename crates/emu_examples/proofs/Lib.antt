@@ -17,16 +17,6 @@ mod CodelReentry
 mod CodelTwoDrops
 mod CountedBehind
 mod DeletedEverywhere
-mod Drawn01
-mod Drawn02
-mod Drawn03
-mod Drawn04
-mod Drawn05
-mod Drawn06
-mod Drawn07
-mod Drawn08
-mod Drawn09
-mod Drawn10
 mod EndedInTime
 mod ExitsInOrder
 mod FastRetransmit
@@ -46,6 +36,7 @@ mod LossNone
 mod LossSteps
 mod LossWords
 mod LossWordsBoth
+pub mod Makings
 mod MaskFixed
 mod MaskedInstances
 mod NetSteps
@@ -92,3 +83,4 @@ mod TracedTwoPipes
 mod TwoLosses
 mod TwoPipesInTurn
 mod TwoPipesThenDenied
+pub mod Words

@@ -78,7 +78,7 @@ rules =
     counted 100 0 Count ∷ counted 200 1 (SkipTo 300) ∷ counted 250 2 (Pipe 4) ∷ counted 300 3 (Pipe 5)
     ∷ default_rule ∷ []
 
-goes_to_the_fifth_pipe : verdict 0 packet rules ≡ Pipe 5 (record { number = 300; order = 3 })
+goes_to_the_fifth_pipe : verdict 0 packet rules ≡ IntoPipe 5 (record { number = 300; order = 3 })
 goes_to_the_fifth_pipe = refl
 
 behind_the_fifth_pipe : start_behind (record { number = 300; order = 3 }) rules ≡ 4

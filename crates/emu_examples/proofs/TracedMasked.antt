@@ -1,63 +1,30 @@
 -- TracedMasked: the report of a scenario, computed by the definitions.
-use Rattle.std.specs.Prelude.{◌≡◌, refl, List, [], ◌∷◌, None, true}
-use Rattle.emu_model.specs.declared.packets.Load.TheVariants.{Plain}
-use Rattle.emu_model.specs.declared.packets.Protocol.TheVariants.{Udp}
-use Rattle.emu_model.specs.declared.rules.Action.TheVariants.{Pipe}
-use Rattle.emu_model.specs.declared.rules.ProtocolMatch.TheVariants.{AnyProtocol}
-use Rattle.emu_model.specs.declared.pipes.QueueLimit.TheVariants.{Slots}
-use Rattle.emu_model.specs.declared.pipes.Discipline.TheVariants.{TailDrop}
-use Rattle.emu_model.specs.declared.commands.Spec.{Spec}
-use Rattle.emu_model.specs.declared.commands.Timed.{Timed}
-use Rattle.emu_model.specs.declared.commands.Command.TheVariants.{Add, Config, Inject, Trace, End}
-use Rattle.emu_model.specs.declared.records.Record.{Record}
-use Rattle.emu_model.specs.declared.records.Record.TheVariants.{CommandDone, PacketMade, PacketArrived, InstanceIdentified, PacketFinished, PacketDelivered}
-use Rattle.emu_model.specs.declared.records.Counters.{Counters}
-use Rattle.emu_model.specs.Alone.{alone, trace_of}
+use Rattle.emu_examples.proofs.Words.{Add, AnyProtocol, CommandDone, Config, End, Inject, InstanceIdentified, List, PacketArrived, PacketDelivered, PacketFinished, PacketMade, Pipe, Plain, Record, Slots, TailDrop, Timed, Trace, Udp, [], alone, refl, trace_of, true, ◌++◌, ◌+◌, ◌∷◌, ◌≡◌}
+use Rattle.emu_examples.proofs.Makings.{at, counted, masked, packet, pipe_with, rule_for_all, runs, spec}
 
 -- experiment traced-masked
 abbrev exp_0-commands : List Timed
 exp_0-commands =
-    record { moment = 0; command = Trace true } ∷
-    record { moment = 0; command = Config 1 (record { bw = 1000000; delay = 0; queue = Slots 50; plr = 0; mask = record { proto = 0; src = 0; dst = 4294967295; sport = 0; dport = 0 }; discipline = TailDrop }) } ∷
-    record { moment = 0; command = Add (record { number = 100; action = Pipe 1; proto = AnyProtocol; src = record { address = 0; len = 0 }; sports = None; dst = record { address = 0; len = 0 }; dports = None }) } ∷
-    record { moment = 0; command = Inject (record { proto = Udp; src = 167772161; sport = 1000; dst = 167772162; dport = 2000; size = 1000 }) } ∷
-    record { moment = 0; command = Inject (record { proto = Udp; src = 167772161; sport = 1000; dst = 167772163; dport = 2000; size = 1000 }) } ∷
-    record { moment = 0; command = Inject (record { proto = Udp; src = 167772161; sport = 1000; dst = 167772162; dport = 2000; size = 1000 }) } ∷
-    record { moment = 20000000; command = End } ∷
-    []
+    (at 0 (Trace true) ∷
+    at 0 (Config 1 (pipe_with 1000000 0 (Slots 50) 0 (masked 0 0 4294967295 0 0) TailDrop)) ∷
+    at 0 (Add (rule_for_all 100 (Pipe 1) AnyProtocol)) ∷
+    at 0 (Inject (packet Udp 167772161 1000 167772162 2000 1000)) ∷
+    at 0 (Inject (packet Udp 167772161 1000 167772163 2000 1000)) ∷
+    at 0 (Inject (packet Udp 167772161 1000 167772162 2000 1000)) ∷ at 20000000 End ∷ [])
 
 abbrev exp_0-records : List Record
 exp_0-records =
-    CommandDone 0 0 ∷
-    CommandDone 0 1 ∷
-    CommandDone 0 2 ∷
-    CommandDone 0 3 ∷
-    PacketMade 0 0 Plain Udp 167772161 1000 167772162 2000 1000 ∷
-    InstanceIdentified 0 1 0 0 0 167772162 0 0 ∷
-    PacketArrived 0 0 1 0 ∷
-    CommandDone 0 4 ∷
+    runs 4 (λ i. CommandDone 0 i ∷ []) ++
+    (PacketMade 0 0 Plain Udp 167772161 1000 167772162 2000 1000 ∷
+    InstanceIdentified 0 1 0 0 0 167772162 0 0 ∷ PacketArrived 0 0 1 0 ∷ CommandDone 0 4 ∷
     PacketMade 0 1 Plain Udp 167772161 1000 167772163 2000 1000 ∷
-    InstanceIdentified 0 1 1 0 0 167772163 0 0 ∷
-    PacketArrived 0 1 1 1 ∷
-    CommandDone 0 5 ∷
-    PacketMade 0 2 Plain Udp 167772161 1000 167772162 2000 1000 ∷
-    PacketArrived 0 2 1 0 ∷
-    PacketFinished 8000000 0 1 0 ∷
-    PacketFinished 8000000 1 1 1 ∷
-    PacketDelivered 8000001 0 Plain ∷
-    PacketDelivered 8000001 1 Plain ∷
-    PacketFinished 16000000 2 1 0 ∷
-    PacketDelivered 16000001 2 Plain ∷
-    CommandDone 20000000 6 ∷
-    []
-
-abbrev exp_0-counters : Counters
-exp_0-counters = record { made = 3; delivered = 3; held = 0; drops = 0 ∷ 0 ∷ 0 ∷ 0 ∷ 0 ∷ 0 ∷ 0 ∷ 0 ∷ [] }
-
-abbrev exp_0-spec : Spec
-exp_0-spec = record { seed = 0; budget = record { packets = 1000; steps = 1000000 } }
+    InstanceIdentified 0 1 1 0 0 167772163 0 0 ∷ PacketArrived 0 1 1 1 ∷ CommandDone 0 5 ∷
+    PacketMade 0 2 Plain Udp 167772161 1000 167772162 2000 1000 ∷ PacketArrived 0 2 1 0 ∷
+    PacketFinished 8000000 0 1 0 ∷ PacketFinished 8000000 1 1 1 ∷ PacketDelivered 8000001 0 Plain ∷
+    PacketDelivered 8000001 1 Plain ∷ PacketFinished 16000000 2 1 0 ∷
+    PacketDelivered 16000001 2 Plain ∷ CommandDone 20000000 6 ∷ [])
 
 exp_0 :
-    trace_of (alone exp_0-spec exp_0-commands 16)
-    ≡ record { records = exp_0-records; counters = exp_0-counters }
+    trace_of (alone (spec 0 1000 1000000) exp_0-commands 16)
+    ≡ record { records = exp_0-records; counters = counted 3 3 0 0 0 0 0 0 0 0 0 }
 exp_0 = refl
