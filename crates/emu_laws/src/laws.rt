@@ -23,7 +23,7 @@ pub fn least_due_is_least()
 {}
 
 /// In two runs with a target of 5 ms and an interval of 100 ms dropping ends as soon as one packet is
-/// left behind the head, and the second drop comes by the control law (RFC 8289, section 5).
+/// left behind the head, and the second drop comes by the control law (RFC 8289, section 5.5).
 pub fn dropping_ends_in_time()
     ensures { DroppingEndsInTime }
 {}

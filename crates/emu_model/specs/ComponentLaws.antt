@@ -55,7 +55,7 @@ abbrev pub ExitsNeverFall : Type 0
 ExitsNeverFall = (last : ℕ) (es : List (ℕ × ℕ)) → NeverFalls last (exits last es)
 
 -- the step of the control law is the greatest whole number d with d * d * count at most
--- interval * interval (RFC 8289, section 5: interval / sqrt(count); its rounding is our choice)
+-- interval * interval (RFC 8289, section 5.6: interval / sqrt(count); its rounding is our choice)
 abbrev pub ControlStepIsGreatest : Type 0
 ControlStepIsGreatest = (interval count : ℕ) → interval < 2 ^ 36 → 1 ≤ count →
     IsControlStep interval count (control_step interval count)
@@ -75,13 +75,13 @@ abbrev pub AcceptsWithinLimit : Type 0
 AcceptsWithinLimit = (limit : QueueLimit) (ws : List (Waiting Packet)) (w : Waiting Packet) →
     accepts limit ws w.size ≡ true → IsWithin limit (ws ++ w ∷ [])
 
--- what CoDel drops, what it gives and what it leaves is what waited, in order (RFC 8289, section 5)
+-- what CoDel drops, what it gives and what it leaves is what waited, in order (RFC 8289, section 5.5)
 abbrev pub CodelKeepsOrder : Type 0
 CodelKeepsOrder = (times : Times) (now : ℕ) (c : CodelState) (ws : List (Waiting Packet)) →
     let d = codel_dequeue times now c ws in
     d.dropped ++ option_to_list d.given ++ d.rest ≡ ws
 
--- CoDel drops nothing whose sojourn is below the target (RFC 8289, section 5)
+-- CoDel drops nothing whose sojourn is below the target (RFC 8289, section 5.5)
 abbrev pub CodelSparesTheQuick : Type 0
 CodelSparesTheQuick = (times : Times) (now : ℕ) (c : CodelState) (ws : List (Waiting Packet)) →
     All (λ w. times.target ≤ now - w.stamp) (codel_dequeue times now c ws).dropped

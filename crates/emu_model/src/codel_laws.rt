@@ -3,17 +3,17 @@
 
 ghost use Rattle.emu_model.specs.CodelLaws.{DropsAreOnTime, DroppingBeginsWithOne, ReentryGoesOn};
 
-/// While CoDel drops, each drop comes at the moment of the control law (RFC 8289, section 5).
+/// While CoDel drops, each drop comes at the moment of the control law (RFC 8289, section 5.6).
 pub fn drops_are_on_time()
     ensures { DropsAreOnTime }
 {}
 
-/// Dropping begins with one packet (RFC 8289, section 5).
+/// Dropping begins with one packet (RFC 8289, section 5.5).
 pub fn dropping_begins_with_one()
     ensures { DroppingBeginsWithOne }
 {}
 
-/// Dropping that begins again soon goes on at the rate that was reached (RFC 8289, section 5).
+/// Dropping that begins again soon goes on at the rate that was reached (RFC 8289, section 5.5).
 pub fn reentry_goes_on()
     ensures { ReentryGoesOn }
 {}

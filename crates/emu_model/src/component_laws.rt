@@ -23,7 +23,7 @@ pub fn exits_never_fall()
     ensures { ExitsNeverFall }
 {}
 
-/// The control law's step is the greatest whole number that fits (RFC 8289, section 5).
+/// The control law's step is the greatest whole number that fits (RFC 8289, section 5.6).
 pub fn control_step_is_greatest()
     ensures { ControlStepIsGreatest }
 {}
@@ -38,12 +38,12 @@ pub fn accepts_within_limit()
     ensures { AcceptsWithinLimit }
 {}
 
-/// CoDel keeps the order (RFC 8289, section 5).
+/// CoDel keeps the order (RFC 8289, section 5.5).
 pub fn codel_keeps_order()
     ensures { CodelKeepsOrder }
 {}
 
-/// CoDel drops nothing whose sojourn is below the target (RFC 8289, section 5).
+/// CoDel drops nothing whose sojourn is below the target (RFC 8289, section 5.6).
 pub fn codel_spares_the_quick()
     ensures { CodelSparesTheQuick }
 {}
