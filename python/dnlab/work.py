@@ -72,6 +72,15 @@ def pieces_of(report: str, wanted: Sequence[str] = ()) -> Iterator[Piece]:
             raise Faulty(f"{report}: it has no experiment {name}")
 
 
+class TooMany(Faulty):
+    """A report has more experiments than can be taken: `count` of them, where `most` can be."""
+
+    def __init__(self, count: str, most: int) -> None:
+        super().__init__(f"{count} experiments are too many, where {most} can be taken")
+        self.count = count
+        self.most = most
+
+
 class Progress:
     """Says on standard error how many experiments are done: on a terminal by a line that is written anew at most twice a
     second, with how long the rest may take; elsewhere by a line each half a minute."""
@@ -131,8 +140,7 @@ def over(given: Given, function: Callable[[View], T], plans: Optional[dict[str, 
             workers = cores() if sum(map(len, found)) >= _WORTH else 1
         workers = max(1, min(workers, total))
         if most is not None and total > most:
-            raise Faulty(f"{given.report}: {total} experiments are too many, where {most} can be taken: name some by"
-                         " --experiment")
+            raise TooMany(str(total), most)
     progress = Progress(tool, total)
     try:
         if (workers or 1) == 1:
