@@ -11,7 +11,7 @@ from dnlab.templates import GIVEN, Value, shown, value_of
 _MOST_NAME = 32
 _MOST_SEED = 2**64 - 1
 # Columns of the tables, which a setting can't be called.
-TAKEN = (*GIVEN, "experiment", "of", "stat", "unit", "n", "mean", "low", "high", "least", "greatest", "level", "interval",
+TAKEN = (*GIVEN, "experiment", "of", "stat", "unit", "n", "mean", "low", "high", "least", "greatest", "level", "method",
          "marks")
 
 

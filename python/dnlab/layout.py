@@ -94,7 +94,7 @@ def estimated(row: Row) -> str:
     """A mean with its interval, in the units for people, to two digits of the interval's half width; that of the
     bootstrap by its ends, since they aren't as far from the mean.
 
-    >>> estimated({"unit": "ns", "mean": 31270000.0, "low": 31190000.0, "high": 31350000.0, "interval": "t"})
+    >>> estimated({"unit": "ns", "mean": 31270000.0, "low": 31190000.0, "high": 31350000.0, "method": "t"})
     '31.270 ± 0.080'
     """
     if row["mean"] is None:
@@ -108,7 +108,7 @@ def estimated(row: Row) -> str:
     if half <= 0:
         return f"{mean:.6g} ± 0"
     digits = min(9, max(0, 1 - math.floor(math.log10(half))))
-    if row["interval"] == "t":
+    if row["method"] == "t":
         return f"{mean:.{digits}f} ± {half:.{digits}f}"
     return f"{mean:.{digits}f} [{low:.{digits}f}, {high:.{digits}f}]"
 

@@ -311,8 +311,8 @@ class Sweep:
 
     def table(self, level: float = 95, interval: Kind = "t") -> pd.DataFrame:
         """A row for each setting, of and stat: over the seeds n (how many have a value), mean, low and high (the ends of
-        its interval, Student's t or the bootstrap), least and greatest, in `unit`; the level and
-        the kind of the interval; and the marks of its experiments (see `view.Note`)."""
+        its interval, Student's t or the bootstrap), least and greatest, in `unit`; the interval's
+        level and method; and the marks of its experiments (see `view.Note`)."""
         rows = self.rows()
         found: list[dict[str, Any]] = []
         names = [*self.settings, "of"]
@@ -324,9 +324,9 @@ class Sweep:
                 made = estimate(values, level, interval)
                 found.append({**own, "stat": stat, "unit": unit_of(stat), **made._asdict(),
                               "least": min(values, default=None), "greatest": max(values, default=None),
-                              "level": level, "interval": interval, "marks": marks})
+                              "level": level, "method": interval, "marks": marks})
         return frames.of_rows(found, [*self.settings, "of", "stat", "unit", "n", "mean", "low", "high", "least",
-                                      "greatest", "level", "interval", "marks"])
+                                      "greatest", "level", "method", "marks"])
 
     def _stats_of(self, of: str) -> list[str]:
         """The stats that were asked of somebody, in the order in which they were."""
@@ -340,13 +340,13 @@ class Sweep:
 
     def changeless(self) -> Optional[str]:
         """What is to be said where the seeds change nothing, so that intervals would have no width."""
-        settings = self.cases[0].settings
-        first, *others = [case for case in self.cases if case.settings == settings][:2]
-        if not others:
-            return None
-        texts = [re.sub("^ *experiment .*", "", self.text(case), flags=re.MULTILINE) for case in (first, *others)]
-        if texts[0] != texts[1] or re.search(r" plr +(?!0(\.0*)?( |$))", texts[0], re.MULTILINE):
-            return None
+        by_setting: dict[tuple[str, ...], list[Case]] = {}
+        for case in self.cases:
+            by_setting.setdefault(tuple(map(str, case.settings.values())), []).append(case)
+        for same in by_setting.values():
+            texts = [re.sub("^ *experiment .*", "", self.text(case), flags=re.MULTILINE) for case in same[:2]]
+            if len(texts) < 2 or texts[0] != texts[1] or re.search(r" plr +(?!0(\.0*)?( |$))", texts[0], re.MULTILINE):
+                return None
         return "the seeds change nothing: the template draws nothing by rng, and no pipe loses by a plr"
 
     def notes(self) -> list[tuple[str, Note]]:
