@@ -7,7 +7,7 @@ from pathlib import Path
 
 import numpy as np
 import pytest
-from conftest import tool, view_of
+from conftest import EXAMPLES, tool, view_of
 from hypothesis import given
 from hypothesis import strategies as some
 
@@ -121,6 +121,17 @@ def test_axes() -> None:
     assert sorted({float(y) for y in boxes.get_lines()[0].get_ydata()}) == [11.2, 13.6]
     assert throughput.get_ylabel() == "Mbit/s" and throughput.get_xlim() == window.get_xlim() == (10, 30)
     assert window.get_xlabel() == "time (ms)"
+
+
+def test_senders_are_chosen(tmp_path: Path) -> None:
+    pytest.importorskip("matplotlib")
+    report, scenario = (EXAMPLES / "reno_four_segments" / name for name in ("expected.txt", "scenario.txt"))
+    words = ["--what", "sojourn,cdf:sojourn", "--out", tmp_path / "x.svg"]
+    assert tool("plot", report, scenario, "--of", "flow 1", *words)[0] == 0
+    drawn = (tmp_path / "x.svg").read_text()
+    assert ">flow 1<" in drawn and "acks" not in drawn
+    status, _, err = tool("plot", report, scenario, "--of", "train *", *words)
+    assert status == 0 and "--of 'train *': it has flow 1, flow 1 acks" in err
 
 
 def report_of(count: int) -> bytes:

@@ -121,8 +121,8 @@ def draw(given: argparse.Namespace) -> list[Drawn]:
         advice = "name some by --only a,b"
         if not given.overlay:
             advice += ", or lay them over one another by --overlay; tools/summary and tools/sweep compare more by numbers"
-        raise Faulty(f"{given.report}: {many.count} experiments are too many {'in one panel' if given.overlay else 'side by side'}"
-                     f" ({most} at most): {advice}") from None
+        where = "in one panel" if given.overlay else "side by side"
+        raise Faulty(f"{given.report}: {many.count} experiments are too many {where} ({most} at most): {advice}") from None
     if not drawn:
         raise Faulty(f"{given.report}: it has no experiment, so there is nothing to draw")
     return drawn
@@ -138,7 +138,8 @@ def main(words_given: Sequence[str]) -> int:
         notes = [(one.name, note) for one in drawn for note in one.notes]
         if given.overlay:
             panels, more = overlaid(names, columns)
-            names, columns, notes = [", ".join(names) if len(names) < 4 else f"{len(names)} experiments"], [panels], notes + more
+            names, columns = [", ".join(names) if len(names) < 4 else f"{len(names)} experiments"], [panels]
+            notes += more
         figure = pictures.figure_of_panels(names, columns, Span(given.begin, given.end))
         pictures.save(figure, given.out)
     except Faulty as faulty:
