@@ -1,6 +1,7 @@
 """The experiments of a sweep: each setting of a grid with each seed, and their names."""
 import hashlib
 import itertools
+import math
 import re
 from collections import Counter
 from typing import Any, Iterable, Mapping, NamedTuple, Sequence
@@ -10,6 +11,8 @@ from dnlab.templates import GIVEN, Value, shown, value_of
 
 _MOST_NAME = 32
 _MOST_SEED = 2**64 - 1
+# All experiments of a sweep are listed before the first is run.
+_MOST = 10**6
 # Columns of the tables, which a setting can't be called.
 TAKEN = (*GIVEN, "experiment", "of", "stat", "unit", "n", "mean", "low", "high", "least", "greatest", "level", "method",
          "marks")
@@ -56,6 +59,9 @@ def name_of(settings: Mapping[str, Any], seed: int) -> str:
 def cases_of(grid: Mapping[str, Sequence[Any]], seeds: Iterable[int]) -> list[Case]:
     """The experiments, in order: the last setting changes first, and the seed before it."""
     own = list(seeds)
+    total = len(own) * math.prod(map(len, grid.values()))
+    if total > _MOST:
+        raise Faulty(f"{total} experiments are more than {_MOST}: sweep a part of them at a time")
     found = [Case(name_of(dict(zip(grid, values)), seed), seed, dict(zip(grid, values)))
              for values in itertools.product(*grid.values()) for seed in own]
     if not found:
@@ -100,6 +106,8 @@ def seeds_of(text: str) -> list[int]:
         parts = re.fullmatch(r"([0-9]{1,20})(?:-([0-9]{1,20}))?", word)
         if not parts or int(parts[2] or parts[1]) < int(parts[1]) or int(parts[2] or parts[1]) > _MOST_SEED:
             raise ValueError(f"{word!r}: a seed from 0 to {_MOST_SEED}, or two with - between, the lesser first")
+        if int(parts[2] or parts[1]) - int(parts[1]) >= _MOST:
+            raise ValueError(f"{word!r}: more than {_MOST} seeds")
         found += range(int(parts[1]), int(parts[2] or parts[1]) + 1)
     if len(set(found)) < len(found):
         raise ValueError(f"{text!r}: a seed twice")

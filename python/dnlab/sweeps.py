@@ -3,6 +3,7 @@ import gc
 import multiprocessing
 import os
 import re
+import shlex
 import signal
 import subprocess
 import tempfile
@@ -137,8 +138,9 @@ class Sweep:
         return text
 
     def _faulty(self, case: Case, said: str) -> Faulty:
-        return Faulty(f"{self.template.name}: {case.told()}: the text that was made of it has a fault"
-                      f" (--dry-run shows the first text)\n{said}")
+        words = [f"--set {shlex.quote(f'{name}={shown(value)}')}" for name, value in case.settings.items()]
+        seen = " ".join([*words, f"--seeds {case.seed} --dry-run"])
+        return Faulty(f"{self.template.name}: {case.told()}: a fault in the text that was made ({seen} shows it)\n{said}")
 
     def check_texts(self, cases: Sequence[tuple[Case, str]], program: str) -> None:
         """Has the program judge some texts, of one experiment each; the first fault is told as `--explain` has it."""

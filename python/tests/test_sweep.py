@@ -118,13 +118,19 @@ def test_names() -> None:
         "a1-b0_5-s3", "a1-b0_5-s4", "a2-b0_5-s3", "a2-b0_5-s4"]
 
 
+def test_more_experiments_than_can_be_listed() -> None:
+    with pytest.raises(dnlab.Faulty, match="1001000 experiments"):
+        cases_of({"a": range(1001)}, range(1000))
+    assert len(cases_of({"a": range(10)}, range(1000))) == 10000
+
+
 @pytest.mark.parametrize("text", ["queue", "queue=", "queue=1,,2", "queue=1,1", "seed=1", "1x=2", "mean=4"])
 def test_wrong_settings(text: str) -> None:
     with pytest.raises(ValueError):
         setting_of(text)
 
 
-@pytest.mark.parametrize("text", ["", "1-", "3-1", "1,1", "1-3,2", "-1", "1.5", str(2**64)])
+@pytest.mark.parametrize("text", ["", "1-", "3-1", "1,1", "1-3,2", "-1", "1.5", str(2**64), "1-10000000"])
 def test_wrong_seeds(text: str) -> None:
     with pytest.raises(ValueError):
         seeds_of(text)
@@ -170,6 +176,7 @@ def test_faults_of_the_text_that_is_made(tmp_path: Path, program: str) -> None:
     file = template(tmp_path)
     status, out, err = tool("sweep", file, "--set", "delay=5,5s", "--seeds", "1-3", DNLAB=program)
     assert status == 1 and not out and "(delay=5s, seed 1)" in err and "line 2: badword" in err
+    assert "(--set delay=5s --seeds 1 --dry-run shows it)" in err
     assert "@0 pipe 1 config bw 1Mbit/s delay 5s" in err and "^^" in err and not (tmp_path / "one.tmpl.kept").exists()
     deep = template(tmp_path, ONE.replace("1Mbit/s delay {{ delay }}", "{% if seed == 3 %}fast{% else %}0{% endif %}"), "b")
     status, out, err = tool("sweep", deep, "--seeds", "1-4", DNLAB=program)
