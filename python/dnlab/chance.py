@@ -2,8 +2,9 @@
 
 Python promises of `random.Random` that a seed gives the same `random()` for ever, and nothing of its other methods. So
 all here is made of `random()`, of whole numbers, and of the logarithm and the exponential of `decimal`, which are
-rounded correctly everywhere, where those of `math` are the machine's own.
+rounded correctly everywhere. Those of `math` are the machine's own; they serve where their last digits can't matter.
 """
+import math
 import random
 from decimal import Context, Decimal
 from typing import Any, Optional, Sequence, Union
@@ -35,7 +36,12 @@ class Chance:
 
     def exponential(self, mean: Number) -> int:
         """A gap of a Poisson process with this mean, to the nearest whole number."""
-        return int(_EXACT.multiply(self._lifetime(), Decimal(mean)).to_integral_value())
+        rest = 1 - self.random()
+        near = -math.log(rest) * mean
+        # No machine's logarithm is wrong by a part in 10^14, so what isn't near to the middle is rounded alike.
+        if near < 10**11 and abs(near % 1 - 0.5) > 0.001:
+            return round(near)
+        return int(_EXACT.multiply(_lifetime(rest), Decimal(mean)).to_integral_value())
 
     def arrivals(self, mean: Number, end: int, begin: int = 0) -> list[int]:
         """The moments of a Poisson process, in order: from `begin` on and before `end`, `mean` apart on average."""
@@ -50,7 +56,7 @@ class Chance:
 
     def pareto(self, shape: Number, least: Number) -> int:
         """A size with a heavy tail, to the nearest whole number: at least `least`, and above x with (least / x)^shape."""
-        grown = _EXACT.exp(_EXACT.divide(self._lifetime(), Decimal(shape)))
+        grown = _EXACT.exp(_EXACT.divide(_lifetime(1 - self.random()), Decimal(shape)))
         return int(_EXACT.multiply(grown, Decimal(least)).to_integral_value())
 
     def choice(self, items: Sequence[Any], weights: Optional[Sequence[Number]] = None) -> Any:
@@ -83,6 +89,7 @@ class Chance:
         """All of some things, in an order that is drawn."""
         return self.sample(items, len(items))
 
-    def _lifetime(self) -> Decimal:
-        """An exponential number of mean 1."""
-        return -_EXACT.ln(_EXACT.subtract(Decimal(1), Decimal(self.random())))
+
+def _lifetime(rest: float) -> Decimal:
+    """How long something of mean lifetime 1 lives that outlives all but this part."""
+    return -_EXACT.ln(Decimal(rest))

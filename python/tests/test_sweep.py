@@ -10,6 +10,7 @@ import os
 import random
 import re
 import subprocess
+from decimal import Context, Decimal
 from pathlib import Path
 from typing import Callable
 
@@ -88,6 +89,14 @@ def test_chance_is_that_of_every_python() -> None:
     assert [chance.pareto(2, 1000) for _ in range(50)] == [
         round(1000 / math.sqrt(1 - plain.random())) for _ in range(50)]
     assert chance.uniform(2, 4) == 2 + 2 * plain.random()
+
+
+def test_gaps_are_those_of_exact_logarithms() -> None:
+    """Also where they lie near the middle between two whole numbers: with this mean each has its own digits behind."""
+    chance, plain = Chance(3), Chance(3)
+    for mean in [7] * 3000 + [10**14] * 50:
+        exact = -Context(prec=40).ln(1 - Decimal(plain.random())) * mean
+        assert chance.exponential(mean) == int(exact.to_integral_value())
 
 
 def test_chance_draws_fairly() -> None:
