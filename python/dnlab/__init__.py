@@ -6,10 +6,12 @@
     p[p.of == "train 9"].delay.quantile(.95)
     r["q50-s1"].windows(), .queues(), .drops(), .commands(), .counters, .ended
     r.summary(percentiles=(50, 95, 99))       # a row for each sender, pipe and experiment, with seed and settings
+    dnlab.sweep("link.tmpl", queue=[10, 50], seed=range(30)).table()   # a template's means, with their intervals
 
 Moments and times are whole nanoseconds (int64), sizes bytes, rates bits per second; nothing is rounded on the way.
-`read` and `run` need numpy and pandas, pictures matplotlib (Debian: apt-get install python3-numpy python3-pandas
-python3-matplotlib). `dnlab.scenario` and `dnlab.splitting` need Python alone.
+`read` and `run` need numpy and pandas, `sweep` scipy and jinja2 too, pictures matplotlib (Debian: apt-get install
+python3-numpy python3-pandas python3-scipy python3-jinja2 python3-matplotlib). `dnlab.scenario` and `dnlab.splitting`
+need Python alone.
 """
 import importlib
 from typing import TYPE_CHECKING, Any
@@ -20,11 +22,15 @@ if TYPE_CHECKING:
     from dnlab.figures import interval, jain
     from dnlab.results import Experiment, Report, intervals, read
     from dnlab.runs import run
+    from dnlab.sweeps import Sweep, sweep
 
 __version__ = "0.1.0"
-__all__ = ["Experiment", "Failed", "Faulty", "Refused", "Report", "interval", "intervals", "jain", "read", "run"]
+__all__ = ["Experiment", "Failed", "Faulty", "Refused", "Report", "Sweep", "interval", "intervals", "jain", "read", "run",
+           "sweep"]
 _PLACES = {"Experiment": "results", "Report": "results", "intervals": "results", "read": "results", "run": "runs",
-           "interval": "figures", "jain": "figures"}
+           "interval": "figures", "jain": "figures", "Sweep": "sweeps", "sweep": "sweeps"}
+_NEEDS = {"figures": (), "results": ("numpy", "pandas"), "runs": ("numpy", "pandas"),
+          "sweeps": ("numpy", "pandas", "scipy", "jinja2")}
 
 
 def __getattr__(name: str) -> Any:
@@ -32,7 +38,7 @@ def __getattr__(name: str) -> Any:
     if name not in _PLACES:
         raise AttributeError(f"module 'dnlab' has no attribute {name!r}")
     place = _PLACES[name]
-    for needed in () if place == "figures" else ("numpy", "pandas"):
+    for needed in _NEEDS[place]:
         try:
             importlib.import_module(needed)
         except ModuleNotFoundError:

@@ -5,15 +5,17 @@ import sys
 from pathlib import Path
 from typing import Optional, Sequence
 
-COMMANDS = ("summary", "plot", "spread")
+COMMANDS = ("summary", "plot", "spread", "sweep")
 # Debian's packages serve Debian's own Python, which may not be the first on the PATH.
 SYSTEM = "/usr/bin/python3"
-NEEDS = {"summary": ("numpy",), "plot": ("numpy", "matplotlib"), "spread": ()}
+NEEDS = {"summary": ("numpy",), "plot": ("numpy", "matplotlib"), "spread": (),
+         "sweep": ("numpy", "pandas", "scipy", "jinja2")}
 HELP = """Tools for reports of dnlab, in Python.
 
   python3 -m dnlab summary REPORT [SCENARIO ..]   prints a table, or rows for other programs
   python3 -m dnlab plot REPORT [SCENARIO ..]      draws windows, queues, times under way, bytes and drops
   python3 -m dnlab spread SCENARIO ..             runs scenarios in parts, here, by ssh or by Slurm
+  python3 -m dnlab sweep TEMPLATE --set ..        runs a template with each setting and seed; means with intervals
 
 Each has --help. In Python: import dnlab; help(dnlab).
 
@@ -81,6 +83,11 @@ def plot() -> int:
 def spread() -> int:
     """The script dnlab-spread."""
     return main(["spread", *sys.argv[1:]])
+
+
+def sweep() -> int:
+    """The script dnlab-sweep."""
+    return main(["sweep", *sys.argv[1:]])
 
 
 if __name__ == "__main__":

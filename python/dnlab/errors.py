@@ -29,3 +29,7 @@ class Failed(Exception):
         super().__init__(f"dnlab ended with status {status}: {said}")
         self.status = status
         self.said = said
+
+    def __reduce__(self) -> tuple[type, tuple[int, str]]:
+        """So that it passes from one process to another whole."""
+        return Failed, (self.status, self.said)

@@ -1,4 +1,5 @@
 """Rows as a text with columns under each other."""
+import math
 import re
 from typing import Optional, Sequence
 
@@ -83,3 +84,42 @@ def bare_table(rows: Sequence[Row]) -> str:
     cells = [heading, *([_shown(name, row[name]) for name in names] for row in rows)]
     texts = [place for place, name in enumerate(names) if all(isinstance(row[name], str) for row in rows)]
     return lines_of(cells, texts)
+
+
+# How units of a sweep are shown to people: the name, and how many of the unit are one of it.
+UNITS = {"ns": ("ms", 10**6), "bit/s": ("Mbit/s", 10**6)}
+
+
+def estimated(row: Row) -> str:
+    """A mean with its interval, in the units for people, to two digits of the interval's half width; that of the
+    bootstrap by its ends, since they aren't as far from the mean.
+
+    >>> estimated({"unit": "ns", "mean": 31270000.0, "low": 31190000.0, "high": 31350000.0, "method": "t"})
+    '31.270 ± 0.080'
+    """
+    if row["mean"] is None:
+        return "-"
+    _, scale = UNITS.get(row["unit"], ("", 1))
+    mean = row["mean"] / scale
+    if row["low"] is None:
+        return f"{mean:.6g}"
+    low, high = row["low"] / scale, row["high"] / scale
+    half = (high - low) / 2
+    if half <= 0:
+        return f"{mean:.6g} ± 0"
+    digits = min(9, max(0, 1 - math.floor(math.log10(half))))
+    if row["method"] == "t":
+        return f"{mean:.{digits}f} ± {half:.{digits}f}"
+    return f"{mean:.{digits}f} [{low:.{digits}f}, {high:.{digits}f}]"
+
+
+def sweep_table(rows: Sequence[Row], settings: Sequence[str]) -> str:
+    """The rows of a sweep's table, a line for each setting, a column for each of and stat; times in ms."""
+    columns = {(row["of"], row["stat"]): UNITS.get(row["unit"], (row["unit"], 1))[0] for row in rows}
+    lines: dict[tuple[str, ...], dict[tuple[str, str], str]] = {}
+    for row in rows:
+        key = tuple(plain(row[name]) for name in settings)
+        lines.setdefault(key, {})[row["of"], row["stat"]] = estimated(row)
+    heading = [*settings, *(" ".join(filter(None, (*column, unit))) for column, unit in columns.items())]
+    cells = [heading, *([*key, *(own.get(column, "-") for column in columns)] for key, own in lines.items())]
+    return lines_of(cells, range(len(settings)))

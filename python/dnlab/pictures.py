@@ -7,7 +7,7 @@ from matplotlib.backends.backend_agg import FigureCanvasAgg
 from matplotlib.figure import Figure
 from matplotlib.ticker import NullLocator
 
-from dnlab.series import Panel, Series, panel_of
+from dnlab.series import Panel, Series, Span, panel_of
 from dnlab.view import View
 
 # Texts stay texts, and nothing in a file hangs on the day or on chance: the same report gives the same bytes.
@@ -19,6 +19,8 @@ MARKERS = ("o", "s", "^", "D", "v", "P", "*", "<", ">")
 COLOURS = ("#000000", "#d55e00", "#0072b2", "#999999", "#009e73", "#555555", "#cc79a7", "#222288", "#b08000")
 Unit = tuple[int, str]
 UNITS: tuple[Unit, ...] = ((10**9, "s"), (10**6, "ms"), (10**3, "us"), (1, "ns"))
+# Shares and boxes are of ns or bit/s, and drawn as ms or Mbit/s.
+_MILLION = 10**6
 METADATA: dict[str, dict[str, Any]] = {"svg": {"Date": None}, "pdf": {"CreationDate": None}, "png": {}}
 
 
@@ -33,7 +35,8 @@ def subplots(rows: int, columns: int, **words: Any) -> tuple[Figure, Any]:
 
 def time_unit(panels: Sequence[Panel]) -> Unit:
     """The greatest unit of which the panels' moments have two or more."""
-    last = max((int(one.moments[-1]) for panel in panels for one in panel.series if len(one.moments)), default=0)
+    last = max((int(one.moments[-1]) for panel in panels if not panel.across for one in panel.series
+                if len(one.moments)), default=0)
     return next((unit for unit in UNITS if last >= 2 * unit[0]), UNITS[-1])
 
 
@@ -42,7 +45,7 @@ def draw_series(axes: Any, one: Series, place: int, scale: int) -> None:
     moments = np.asarray(one.moments) / scale
     colour = COLOURS[place % len(COLOURS)]
     marker = MARKERS[place % len(MARKERS)]
-    if one.form == "steps":
+    if one.form in ("steps", "share"):
         axes.plot(moments, one.values, drawstyle="steps-post", color=colour, linewidth=1.0, label=one.label,
                   linestyle=LINES[place % len(LINES)], marker=marker, markersize=2.5,
                   markevery=max(1, len(moments) // 12))
@@ -63,12 +66,29 @@ def draw_panel(axes: Any, panel: Panel, unit: Unit) -> None:
             axes.text(0.5, 0.5, panel.words, ha="center", va="center", transform=axes.transAxes)
             axes.xaxis.set_major_locator(NullLocator())
             return
-        for place, one in enumerate(panel.series):
-            draw_series(axes, one, place, unit[0])
         axes.grid(linewidth=0.3)
+        if panel.series[0].form == "box":
+            draw_boxes(axes, panel.series)
+            return
+        for place, one in enumerate(panel.series):
+            draw_series(axes, one, place, _MILLION if panel.across else unit[0])
+        if panel.across:
+            axes.set_xlabel(panel.across)
+            axes.set_xlim(left=0)
         # Where a legend hides least is looked for at length; among many points it has its corner.
         many = sum(len(one.moments) for one in panel.series) > 20000
         axes.legend(loc="upper right" if many else "best", framealpha=0.7)
+
+
+def draw_boxes(axes: Any, boxes: Sequence[Series]) -> None:
+    """A box for each: its quartiles and median, lines from the 5th to the 95th percentile, the least and the greatest."""
+    shapes = []
+    for one in boxes:
+        least, low, first, median, third, high, greatest = (float(value) / _MILLION for value in one.moments)
+        shapes.append({"label": one.label, "whislo": low, "q1": first, "med": median, "q3": third, "whishi": high,
+                       "fliers": [least, greatest]})
+    axes.bxp(shapes, medianprops={"color": COLOURS[1]}, flierprops={"marker": "_", "markersize": 4})
+    axes.tick_params(axis="x", labelrotation=20)
 
 
 def frame(row: Sequence[Any], panels: Sequence[Panel]) -> None:
@@ -82,7 +102,7 @@ def frame(row: Sequence[Any], panels: Sequence[Panel]) -> None:
     row[0].set_ylim(bottom=0, top=max(known) if len(known) == len(tops) else None)
     top = row[0].get_ylim()[1]
     for axes, panel in drawn:
-        above = [one for one in panel.series if max(one.values) > top]
+        above = [one for one in panel.series if one.form != "box" and max(one.values) > top]
         names = ", ".join(f"{one.label} to {max(one.values)}" for one in above)
         if above:
             axes.text(0.02, 0.96, f"above the frame: {names}", va="top", size=6, transform=axes.transAxes)
@@ -93,8 +113,8 @@ def figure_of(views: Sequence[View], what: Sequence[str]) -> Figure:
     return figure_of_panels([view.name for view in views], [[panel_of(view, one) for one in what] for view in views])
 
 
-def figure_of_panels(names: Sequence[str], columns: Sequence[Sequence[Panel]]) -> Figure:
-    """A figure of columns of panels; the columns' names stand on top."""
+def figure_of_panels(names: Sequence[str], columns: Sequence[Sequence[Panel]], span: Span = Span()) -> Figure:
+    """A figure of columns of panels; the columns' names stand on top. Time goes over the span, where one is given."""
     with matplotlib.rc_context(STYLE):
         rows = len(columns[0])
         figure, grid = subplots(rows, len(columns), squeeze=False, sharey="row",
@@ -103,7 +123,7 @@ def figure_of_panels(names: Sequence[str], columns: Sequence[Sequence[Panel]]) -
             unit = time_unit(panels)
             for row, panel in enumerate(panels):
                 draw_panel(grid[row][column], panel, unit)
-            share_time(grid, column, unit)
+            share_time([grid[row][column] for row, panel in enumerate(panels) if not panel.across], unit, span)
             grid[0][column].set_title(f"{name}\n{panels[0].title}", loc="left")
         for axes, drawn in zip(grid, zip(*columns)):
             frame(axes, drawn)
@@ -111,14 +131,15 @@ def figure_of_panels(names: Sequence[str], columns: Sequence[Sequence[Panel]]) -
     return figure
 
 
-def share_time(grid: Any, column: int, unit: Unit) -> None:
-    """One span of time for all panels of a column, named below the last."""
-    drawn = [row[column] for row in grid if row[column].get_lines()]
+def share_time(axes_of_time: Sequence[Any], unit: Unit, span: Span = Span()) -> None:
+    """One span of time for all panels of a column that go along it, named below the last."""
+    drawn = [axes for axes in axes_of_time if axes.get_lines()]
     if drawn:
-        last = max(axes.get_xlim()[1] for axes in drawn)
+        last = max(axes.get_xlim()[1] for axes in drawn) if span.end is None else span.end / unit[0]
         for axes in drawn:
-            axes.set_xlim(0, last)
-    grid[-1][column].set_xlabel(f"time ({unit[1]})")
+            axes.set_xlim(span.begin / unit[0], last)
+    if axes_of_time:
+        axes_of_time[-1].set_xlabel(f"time ({unit[1]})")
 
 
 def save(figure: Figure, name: str) -> None:

@@ -16,6 +16,8 @@ from dnlab.packets import DELIVERED, DROPPED
 from dnlab.view import Note, View
 
 WHAT = ("window", "queue", "sojourn", "rate", "drops")
+# Panels that are drawn where they are asked for by name (`dnlab.shares` makes them).
+MORE = ("throughput", "cdf:sojourn", "cdf:throughput", "box:sojourn", "box:throughput")
 # So many lines can be told apart in one panel without colour; thresholds are drawn of so many flows.
 MOST = 8
 THRESHOLDS = 2
@@ -25,10 +27,18 @@ STRETCHES = 1500
 Values = NDArray[np.float64]
 
 
-class Series(NamedTuple):
-    """`form` is `steps` (a value holds until the next), `points` or `marks` (what happened at a moment).
+class Span(NamedTuple):
+    """From which moment to which is drawn, ns; to the last one where there is no end."""
+    begin: int = 0
+    end: Optional[int] = None
 
-    `moments` are int64, ns, in order; `values` have the same shape (n,)."""
+
+class Series(NamedTuple):
+    """`form` is `steps` (a value holds until the next), `points` or `marks` (what happened at a moment); besides `share`
+    (the part of all, 0 to 1, that isn't above what stands in `moments`) and `box` (`moments` are the least, the 5th,
+    25th, 50th, 75th and 95th percentile, and the greatest).
+
+    `moments` are int64, ns (of a share or box the values, ns or bit/s), in order; `values` have the same shape (n,)."""
     label: str
     form: str
     moments: Ints
@@ -37,21 +47,45 @@ class Series(NamedTuple):
 
 @dataclass
 class Panel:
-    """`words` stand in a panel that has no series; `top`, where it is given, is the frame's greatest value."""
+    """`words` stand in a panel that has no series; `top`, where it is given, is the frame's greatest value; `across` is
+    what stands along it where that isn't time."""
     title: str
     unit: str
     series: list[Series]
     words: str = ""
     top: Optional[float] = None
+    across: str = ""
 
 
-def panel_of(view: View, what: str) -> Panel:
-    """A panel of an experiment, by its name in `WHAT`; long series are thinned."""
+def panel_of(view: View, what: str, span: Span = Span(), every: Optional[int] = None) -> Panel:
+    """A panel of an experiment, by its name in `WHAT` or `MORE`, of a span of time; long series are thinned. `every` is
+    the time, ns, over which throughput is taken; else it is a 1, 2 or 5 with zeros, so that there are 50 or more."""
+    # Here, since it builds on this module.
+    from dnlab import shares
+
     makers: dict[str, Callable[[View], Panel]] = {
         "window": windows, "queue": queues, "sojourn": sojourns, "rate": rates, "drops": drops}
-    panel = makers[what](view)
+    panel = makers[what](view) if what in makers else shares.panel_of(view, what, span, every)
+    if not panel.across and panel.series and span != Span():
+        panel.series = [one for one in (within(one, span) for one in panel.series) if len(one.moments)]
+        panel.words = panel.words if panel.series else "nothing in this time"
     panel.series = [thinned(one) for one in panel.series]
     return panel
+
+
+def within(one: Series, span: Span) -> Series:
+    """The part of a series that lies in a span; steps begin with what holds at its begin, and hold to its end."""
+    moments, values = one.moments, one.values
+    end = int(moments[-1]) if span.end is None and len(moments) else span.end or 0
+    begin, after = (int(np.searchsorted(moments, moment, side=side))  # type: ignore[call-overload]
+                    for moment, side in ((span.begin, "left"), (end, "right")))
+    if one.form != "steps":
+        return one._replace(moments=moments[begin:after], values=values[begin:after])
+    held, left = min(begin, 1), int(0 < after < len(moments))
+    return one._replace(
+        moments=np.concatenate((np.full(held, span.begin, dtype=np.int64), moments[begin:after],
+                                np.full(left, end, dtype=np.int64))),
+        values=np.concatenate((values[begin - held:begin], values[begin:after], values[after - left:after])))
 
 
 def thinned(one: Series, stretches: int = STRETCHES) -> Series:
@@ -90,12 +124,23 @@ def steps(view: View, label: str, moments: Ints, amounts: "Ints | int") -> Serie
 def most(view: View, panel_name: str, series: Sequence[Series]) -> list[Series]:
     """The series with most steps or points, where there are too many to be told apart."""
     series = [one for one in series if len(one.moments)]
-    if len(series) <= MOST:
-        return series
-    view.more_notes.append(Note(f"{panel_name} lines", f"{panel_name}: {len(series)} lines are too many to be told"
-                                f" apart, so the {MOST} with most changes are drawn"))
-    kept = sorted(range(len(series)), key=lambda place: -len(series[place].moments))[:MOST]
+    kept = fewest(series)
+    if len(kept) < len(series):
+        view.more_notes.append(too_many(panel_name, len(series)))
+    return kept
+
+
+def fewest(series: Sequence[Series]) -> list[Series]:
+    """As many series as can be told apart: acknowledgements are left out first, then those with fewest changes."""
+    kept = sorted(range(len(series)),
+                  key=lambda place: (series[place].label.endswith(" acks"), -len(series[place].moments)))[:MOST]
     return [series[place] for place in sorted(kept)]
+
+
+def too_many(panel_name: str, count: int) -> Note:
+    """What is said where lines are left out."""
+    return Note(f"{panel_name} lines", f"{panel_name}: {count} lines are too many to be told apart, so {MOST} are drawn:"
+                " those with most changes, acknowledgements last")
 
 
 def windows(view: View) -> Panel:

@@ -37,14 +37,19 @@ def columns_of(percentiles: Sequence[Percentile] = PERCENTILES) -> tuple[str, ..
     return ("experiment", "of", *_COUNTS, *CAUSES, *times_of(percentiles), *_MORE)
 
 
-def spread(times: Optional[Ints], percentiles: Sequence[Percentile]) -> Row:
-    """Least, percentiles by nearest rank, and greatest; None where there is no time or one isn't known."""
+def spread(times: Optional[Ints], percentiles: Sequence[Percentile], with_mean: bool = False) -> Row:
+    """Least, percentiles by nearest rank, and greatest, where it is asked for the mean too; None where there is no time
+    or one isn't known."""
     names = times_of(percentiles)
     if times is None or not len(times) or int(times.min()) < 0:
-        return dict.fromkeys(names)
+        return dict.fromkeys((*names, "mean") if with_mean else names)
     places = [0, *(place(len(times), one) for one in percentiles), len(times) - 1]
     ordered = np.partition(times, sorted(set(places)))
-    return {name: int(ordered[at]) for name, at in zip(names, places)}
+    found: Row = {name: int(ordered[at]) for name, at in zip(names, places)}
+    if with_mean:
+        # In two halves, so that no sum passes 64 bits.
+        found["mean"] = ((int((times >> 20).sum()) << 20) + int((times & 0xFFFFF).sum())) / len(times)
+    return found
 
 
 def span(firsts: Ints, lasts: Ints, size: Optional[int]) -> Row:
@@ -64,10 +69,12 @@ def sum_of(sizes: Ints) -> Optional[int]:
 
 @dataclass
 class Tables:
-    """Makes the rows of an experiment; `varied` is what of its settings isn't the same in all experiments."""
+    """Makes the rows of an experiment; `varied` is what of its settings isn't the same in all experiments, and
+    `with_mean` adds the `mean` time under way to the rows of packets and pipes."""
     view: View
     percentiles: Sequence[Percentile] = PERCENTILES
     varied: Optional[str] = None
+    with_mean: bool = False
 
     def rows(self) -> list[Row]:
         """All rows of the experiment, its whole last."""
@@ -98,7 +105,7 @@ class Tables:
                 "held": int(np.count_nonzero(fate == HELD)), "bytes": size,
                 **span(table.made[packets], table.ended[delivered], size),
                 **dict(zip(CAUSES, causes.tolist())),
-                **spread(table.delay[delivered], self.percentiles)}
+                **spread(table.delay[delivered], self.percentiles, self.with_mean)}
 
     def sender(self, of: str, packets: Ints) -> Row:
         return {**self.packets(of, packets), **self.useful(packets), **self.progress(of, packets)}
@@ -153,7 +160,7 @@ class Tables:
         return {"of": of, "packets": len(served), "delivered": len(gone), "held": int(np.count_nonzero(held)),
                 "bytes": size, **span(table.arrival[served], table.finish[served], size),
                 **{cause: count if cause in known else None for cause, count in zip(CAUSES, causes)},
-                **spread(times, self.percentiles)}
+                **spread(times, self.percentiles, self.with_mean)}
 
     def whole(self) -> list[Row]:
         """The row of all packets; bytes, rates and times stand in the rows of both directions where there are two."""

@@ -72,26 +72,50 @@ def pieces_of(report: str, wanted: Sequence[str] = ()) -> Iterator[Piece]:
             raise Faulty(f"{report}: it has no experiment {name}")
 
 
-class Progress:
-    """Says on standard error, where that is a terminal, how many experiments are done; at most twice a second."""
+class TooMany(Faulty):
+    """A report has more experiments than can be taken: `count` of them, where `most` can be."""
 
-    def __init__(self, tool: str, total: Optional[int] = None) -> None:
+    def __init__(self, count: str, most: int) -> None:
+        super().__init__(f"{count} experiments are too many, where {most} can be taken")
+        self.count = count
+        self.most = most
+
+
+class Progress:
+    """Says on standard error how many experiments are done: on a terminal by a line that is written anew at most twice a
+    second, with how long the rest may take; elsewhere by a line each half a minute."""
+
+    def __init__(self, tool: str, total: Optional[int] = None, done: int = 0) -> None:
+        """`done` of them were done before."""
         self.tool = tool
         self.total = total
-        self.done = 0
+        self.done = self.before = done
         self.shown = 0
-        self.last = time.monotonic()
+        self.begin = self.last = time.monotonic()
         self.is_seen = sys.stderr.isatty()
 
-    def step(self) -> None:
-        self.done += 1
+    def step(self, count: int = 1) -> None:
+        self.done += count
         now = time.monotonic()
-        if self.is_seen and now - self.last >= 0.5:
-            self.last = now
-            of = f" of {self.total}" if self.total is not None else ""
-            text = f"{self.tool}: {self.done}{of} experiments"
+        if now - self.last < (0.5 if self.is_seen else 30):
+            return
+        self.last = now
+        text = self.told(now)
+        if self.is_seen:
             print(f"\r{text.ljust(self.shown)}", end="", file=sys.stderr, flush=True)
             self.shown = len(text)
+        else:
+            print(text, file=sys.stderr, flush=True)
+
+    def told(self, now: float) -> str:
+        """How far it is at a moment, in seconds."""
+        if not self.total:
+            return f"{self.tool}: {self.done} experiments"
+        full = 20 * self.done // self.total
+        bar = "\u2588" * full + "\u2591" * (20 - full) + " " if self.is_seen else ""
+        left = (now - self.begin) * (self.total - self.done) / max(self.done - self.before, 1)
+        rest = f"{int(left) // 3600:02}:{int(left) // 60 % 60:02}:{int(left) % 60:02}"
+        return f"{self.tool}: {bar}{self.done} of {self.total} experiments, ETA {rest}"
 
     def close(self) -> None:
         if self.shown:
@@ -116,8 +140,7 @@ def over(given: Given, function: Callable[[View], T], plans: Optional[dict[str, 
             workers = cores() if sum(map(len, found)) >= _WORTH else 1
         workers = max(1, min(workers, total))
         if most is not None and total > most:
-            raise Faulty(f"{given.report}: {total} experiments are too many, where {most} can be taken: name some by"
-                         " --experiment")
+            raise TooMany(str(total), most)
     progress = Progress(tool, total)
     try:
         if (workers or 1) == 1:

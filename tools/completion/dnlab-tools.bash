@@ -1,22 +1,29 @@
-# Completion of dnlab-summary, dnlab-plot and dnlab-spread for bash. Installed by tools/install; to try it:
+# Completion of dnlab-summary, dnlab-plot, dnlab-spread and dnlab-sweep for bash. Installed by tools/install; to try it:
 # source tools/completion/dnlab-tools.bash
 _dnlab_tools() {
   local now=${COMP_WORDS[COMP_CWORD]} before="" words=""
   [ "$COMP_CWORD" -gt 0 ] && before=${COMP_WORDS[COMP_CWORD - 1]}
   case ${COMP_WORDS[0]##*/}:$before in
-    *:--what) words="window queue sojourn rate drops" ;;
+    *:--what) words="window queue sojourn rate drops throughput cdf:sojourn cdf:throughput box:sojourn box:throughput" ;;
     *:--percentiles) words="50,99 50,95,99" ;;
     *:--by) words="varied settings experiment seed" ;;
-    *:--every) words="10ms 100ms 1s" ;;
+    *:--stat) words="goodput delay.median delay.p95 delay.p99 lost" ;;
+    *:--interval) words="t bootstrap" ;;
+    *:--ci) words="90 95 99" ;;
+    *:--every | *:--bin) words="10ms 100ms 1s" ;;
     *:--workers | *:--jobs) words="1 2 4 8" ;;
     *:--parts) words="4 16 64" ;;
-    *:--experiment | *:--of | *:--columns | *:--ssh) return ;;
-    *:--out | *:--work | *:--program) ;;
+    *:--experiment | *:--only | *:--of | *:--columns | *:--ssh | *:--on | *:--set | *:--seeds | *:--from | *:--to) return ;;
+    *:--out | *:--work | *:--program | *:--csv | *:--json | *:--parquet | *:--each | *:--plot | *:--kept) ;;
     dnlab-summary:*)
       words="--experiment --of --percentiles --every --losses --by --columns --workers --csv --json --help"
       ;;
-    dnlab-plot:*) words="--experiment --what --out --workers --help" ;;
+    dnlab-plot:*) words="--experiment --only --of --what --from --to --bin --overlay --out --workers --help" ;;
     dnlab-spread:*) words="--parts --jobs --ssh --slurm --program --out --work --resume --help" ;;
+    dnlab-sweep:*)
+      words="--set --seeds --of --stat --ci --interval --csv --json --parquet --each --plot --dry-run --kept --anew"
+      words+=" --workers --on --program --help"
+      ;;
   esac
   COMPREPLY=()
   if [ -n "$words" ] && { [[ $now == -* ]] || [[ $before == --* ]]; }; then
@@ -24,4 +31,4 @@ _dnlab_tools() {
   fi
   # Else file names, which bash completes itself.
 }
-complete -o default -F _dnlab_tools dnlab-summary dnlab-plot dnlab-spread
+complete -o default -F _dnlab_tools dnlab-summary dnlab-plot dnlab-spread dnlab-sweep

@@ -151,9 +151,10 @@ def experiments_of(args: argparse.Namespace, program: str) -> list[Part]:
     return everything
 
 
-def spread(args: argparse.Namespace) -> None:
+def spread(args: argparse.Namespace, named: Optional[str] = None) -> None:
+    """Runs the scenarios in parts, by the program that is named, else the proved one; `Stop` says what went wrong."""
     try:
-        program = proved_program()
+        program = named or proved_program()
     except Failed as failed:
         raise Stop(failed.status, f"spread: {failed.said}\n") from failed
     everything = experiments_of(args, program)

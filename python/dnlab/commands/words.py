@@ -42,6 +42,15 @@ def time_of(text: str) -> int:
     return int(time)
 
 
+def moment_of(text: str) -> int:
+    """A moment with its unit, in ns; 0 may have none.
+
+    >>> moment_of("0"), moment_of("0s"), moment_of("1.5s")
+    (0, 0, 1500000000)
+    """
+    return 0 if re.fullmatch(r"0(?:\.0+)?(?:ns|us|ms|s)?", text) else time_of(text)
+
+
 def count_of(text: str) -> int:
     """A number from 1 on."""
     if not re.fullmatch(r"[1-9][0-9]{0,5}", text):

@@ -1,0 +1,167 @@
+"""Panels of throughput, CDFs and boxes, spans of time and overlays, against values worked out by hand.
+
+Of `reno_four_segments` the four segments of 1500 bytes are delivered at 11.2, 12.4, 13.6 and 32.4 ms, so long after they
+were made: 11.2, 12.4, 13.6 and 11.2 ms; the acknowledgements of 40 bytes take 10 ms each.
+"""
+from pathlib import Path
+
+import numpy as np
+import pytest
+from conftest import EXAMPLES, tool, view_of
+from hypothesis import given
+from hypothesis import strategies as some
+
+from dnlab.errors import Faulty
+from dnlab.series import MORE, Panel, Series, Span, fewest, panel_of, within
+from dnlab.shares import overlaid
+
+MS = 10**6
+
+
+def drawn(what: str, span: Span = Span(), every: "int | None" = None) -> dict[str, list[tuple[float, float]]]:
+    """The lines of a panel of the four segments, by label; moments in ms."""
+    panel = panel_of(view_of("reno_four_segments"), what, span, every)
+    return {one.label: list(zip((one.moments / MS).tolist(), one.values.tolist())) for one in panel.series}
+
+
+def test_throughput() -> None:
+    """Three segments in the second 10 ms: 4500 bytes, 3.6 Mbit/s; one in the fourth, 1.2 Mbit/s."""
+    lines = drawn("throughput", every=10 * MS)
+    assert lines["flow 1"] == [(0, 0), (10, 3.6), (20, 0), (30, 1.2), (40, 0), (50, 0)]
+    # Acknowledgements at 21.2, 22.4, 23.6 and 42.4 ms.
+    assert lines["flow 1 acks"] == [(0, 0), (10, 0), (20, 0.096), (30, 0), (40, 0.032), (50, 0.032)]
+    # The last line stands at 42.4 ms: of 500 us there are 50 or more.
+    assert panel_of(view_of("reno_four_segments"), "throughput").title == "Throughput in each 500 us"
+
+
+def test_shares() -> None:
+    lines = drawn("cdf:sojourn")
+    assert lines["flow 1"] == [(11.2, .25), (11.2, .5), (12.4, .75), (13.6, 1)]
+    assert lines["flow 1 acks"] == [(10, .25), (10, .5), (10, .75), (10, 1)]
+    assert drawn("cdf:sojourn", Span(12 * MS, 20 * MS))["flow 1"] == [(12.4, .5), (13.6, 1)]
+    # Whole windows alone: four of 10 ms before 42.4 ms.
+    assert drawn("cdf:throughput", every=10 * MS)["flow 1"] == [(0, .25), (0, .5), (1.2, .75), (3.6, 1)]
+
+
+def test_boxes() -> None:
+    """By nearest rank of four: the 5th and 25th percentile are the first, the 50th the second, the 75th the third."""
+    marks = [x for x, _ in drawn("box:sojourn")["flow 1"]]
+    assert marks == [11.2, 11.2, 11.2, 11.2, 12.4, 13.6, 13.6]
+    assert [x for x, _ in drawn("box:throughput", every=10 * MS)["flow 1"]] == [0, 0, 0, 0, 1.2, 3.6, 3.6]
+
+
+def test_a_span_of_time() -> None:
+    assert drawn("sojourn", Span(12 * MS, 33 * MS))["flow 1"] == [(12.4, 12.4), (13.6, 13.6), (32.4, 11.2)]
+    # The window of 4380 bytes holds at 12 ms, and that of 8760 from 23.6 ms to 33 ms.
+    assert drawn("window", Span(12 * MS, 33 * MS))["cwnd 1"] == [(12, 4380), (21.2, 5840), (22.4, 7300), (23.6, 8760), (33, 8760)]
+    assert drawn("rate", Span(12 * MS, 14 * MS))["flow 1"] == [(12, 1500), (12.4, 3000), (13.6, 4500), (14, 4500)]
+    panel = panel_of(view_of("reno_four_segments"), "sojourn", Span(50 * MS))
+    assert not panel.series and panel.words == "nothing in this time"
+
+
+@given(some.lists(some.tuples(some.integers(0, 5), some.integers(0, 9)), min_size=1, max_size=12), some.integers(0, 40),
+       some.integers(1, 40))
+def test_steps_hold_what_they_held(steps: list[tuple[int, int]], begin: int, length: int) -> None:
+    """Within the span the value at each moment is that of the whole series."""
+    moments = np.cumsum([1 + gap for gap, _ in steps])
+    whole = Series("x", "steps", moments, np.array([value for _, value in steps]))
+    part = within(whole, Span(begin, begin + length))
+    assert not len(part.moments) or begin <= part.moments[0] <= part.moments[-1] <= begin + length
+
+    def held(one: Series, moment: int) -> "int | None":
+        past = [value for at, value in zip(one.moments, one.values) if at <= moment]
+        return int(past[-1]) if past else None
+
+    for moment in range(begin, begin + length + 1):
+        assert held(part, moment) == held(whole, moment)
+
+
+def test_without_the_scenario() -> None:
+    for what in MORE:
+        panel = panel_of(view_of("reno_four_segments", joined=False), what)
+        assert not panel.series and "scenario" in panel.words
+    # Under `trace 1` a report has it all.
+    assert all(panel_of(view_of("traced_flow", joined=False), what).series for what in MORE)
+
+
+def line(label: str, count: int, form: str = "steps") -> Series:
+    return Series(label, form, np.arange(count), np.arange(count))
+
+
+def test_acknowledgements_are_left_out_first() -> None:
+    """Of ten lines the two are left out that are acknowledgements, though the data's have fewer changes."""
+    lines = [line(f"flow {number}{more}", count) for number in range(5) for more, count in (("", 3 + number), (" acks", 90))]
+    assert [one.label for one in fewest(lines)] == [
+        "flow 0", "flow 0 acks", "flow 1", "flow 1 acks", "flow 2", "flow 2 acks", "flow 3", "flow 4"]
+    assert [one.label for one in fewest([line(f"flow {number}", number) for number in range(1, 11)])] == [
+        f"flow {number}" for number in range(3, 11)]
+
+
+def test_overlaid() -> None:
+    panels = [[Panel("T", "ms", [line("flow 1", 3), line("loss", 2, "marks")], top=5.0)],
+              [Panel("T", "ms", [line("flow 1", 4)], top=7.0)]]
+    made, notes = overlaid(["a", "b"], panels)
+    assert [one.label for one in made[0].series] == ["a: flow 1", "b: flow 1", "a: loss"] and made[0].top == 7 and not notes
+    made, notes = overlaid(list("abcdefghij"), [[Panel("T", "ms", [line("flow 1", 3)])]] * 10)
+    assert len(made[0].series) == 8 and "10 lines" in notes[0][1].text
+    boxes = [[Panel("T", "ms", [line("flow 1", 7, "box")])]]
+    assert len(overlaid([str(number) for number in range(60)], boxes * 60)[0][0].series) == 60
+    with pytest.raises(Faulty, match="61 boxes"):
+        overlaid([str(number) for number in range(61)], boxes * 61)
+
+
+def test_axes() -> None:
+    pictures = pytest.importorskip("dnlab.pictures", reason="matplotlib is missing (Debian: python3-matplotlib)")
+    view, span = view_of("reno_four_segments"), Span(10 * MS, 30 * MS)
+    panels = [panel_of(view, what, span, 10 * MS) for what in ("cdf:sojourn", "box:sojourn", "throughput", "window")]
+    shares, boxes, throughput, window = pictures.figure_of_panels(["x"], [panels], span).axes
+    assert (shares.get_xlabel(), shares.get_ylabel(), shares.get_ylim()) == ("ms", "share", (0, 1))
+    assert [text.get_text() for text in boxes.get_xticklabels()] == ["flow 1", "flow 1 acks"] and boxes.get_ylabel() == "ms"
+    # Delivered in this time: 11.2, 12.4, 13.6 ms; the box is from the first to the third.
+    assert sorted({float(y) for y in boxes.get_lines()[0].get_ydata()}) == [11.2, 13.6]
+    assert throughput.get_ylabel() == "Mbit/s" and throughput.get_xlim() == window.get_xlim() == (10, 30)
+    assert window.get_xlabel() == "time (ms)"
+
+
+def test_senders_are_chosen(tmp_path: Path) -> None:
+    pytest.importorskip("matplotlib")
+    report, scenario = (EXAMPLES / "reno_four_segments" / name for name in ("expected.txt", "scenario.txt"))
+    words = ["--what", "sojourn,cdf:sojourn", "--out", tmp_path / "x.svg"]
+    assert tool("plot", report, scenario, "--of", "flow 1", *words)[0] == 0
+    drawn = (tmp_path / "x.svg").read_text()
+    assert ">flow 1<" in drawn and "acks" not in drawn
+    status, _, err = tool("plot", report, scenario, "--of", "train *", *words)
+    assert status == 0 and "--of 'train *': it has flow 1, flow 1 acks" in err
+
+
+def report_of(count: int) -> bytes:
+    return b"".join(b"experiment e%d\n0 ok 0\ncounters 0 0 0 0 0 0 0 0 0 0 0\n" % number for number in range(count))
+
+
+def test_too_many_side_by_side(tmp_path: Path) -> None:
+    """From 21 on they are refused, with what to do; from a file before one is read, from standard input too."""
+    pytest.importorskip("matplotlib")
+    for count in 21, 250:
+        (tmp_path / "report").write_bytes(report_of(count))
+        for report, text in ((tmp_path / "report", b""), ("-", report_of(count))):
+            status, out, err = tool("plot", report, "--out", tmp_path / "x.svg", text=text)
+            assert status == 1 and not out and "Traceback" not in err and len(err.splitlines()) == 1
+            assert "side by side (20 at most)" in err and "--only" in err and "--overlay" in err
+    (tmp_path / "report").write_bytes(report_of(20))
+    assert tool("plot", tmp_path / "report", "--what", "drops", "--out", tmp_path / "x.svg")[0] == 0
+    (tmp_path / "report").write_bytes(report_of(250))
+    words = ["--what", "drops", "--out", tmp_path / "x.svg"]
+    status, out, _ = tool("plot", tmp_path / "report", "--only", "e3,e5", "--only", "e9", *words)
+    assert status == 0 and "experiments: 3" in out
+    assert tool("plot", tmp_path / "report", "--only", "e3,none", *words)[0] == 1
+    assert tool("plot", tmp_path / "report", "--overlay", *words)[0] == 0
+
+
+@pytest.mark.parametrize("words", [["--from", "2s", "--to", "1s"], ["--from", "5"], ["--to", "0"], ["--bin", "1ms"],
+                                   ["--what", "cdf"], ["--what", "box:window"], ["--bin", "0s", "--what", "throughput"]],
+                         ids=" ".join)
+def test_wrong_words(words: list[str], tmp_path: Path) -> None:
+    pytest.importorskip("matplotlib")
+    (tmp_path / "report").write_bytes(report_of(1))
+    status, out, err = tool("plot", tmp_path / "report", *words)
+    assert status == 2 and not out and "usage" in err
