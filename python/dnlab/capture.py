@@ -68,7 +68,8 @@ def rows_of(view: View, side: str, wanted: Flags) -> Ints:
     acknowledges = columns.kind == ACKNOWLEDGES
     word = np.where(acknowledges == (side == "sender"), DELIVER, MAKE)
     rows: Ints = np.flatnonzero(columns.word == word)
-    return rows[wanted[columns.packet[rows]]]
+    kept: Ints = rows[wanted[columns.packet[rows]]]
+    return kept
 
 
 def sequences(view: View) -> Ints:
@@ -80,8 +81,7 @@ def sequences(view: View) -> Ints:
         if int(table.kind[packets[0]]) not in (DATA, ACKNOWLEDGES):
             sizes = table.size[packets] - HEADER
             found[packets] = 1 + np.cumsum(sizes) - sizes
-    kept: Ints = found % _MOST
-    return kept
+    return found % _MOST
 
 
 def frames_of(view: View, side: str, wanted: Flags) -> Iterator[Frame]:

@@ -11,7 +11,7 @@ from dnlab.errors import Faulty
 from dnlab.report import Piece
 from dnlab.summing import tell
 from dnlab.view import View, view_of
-from dnlab.work import pieces_of, plans_of
+from dnlab.work import pieces_of, plans_of, whole_file
 
 EXAMPLE = """The scenario must have `@0 trace 1` as the first command of the experiment, and leave it on: only then the report has
 every packet's addresses and size. What else a capture has is made up: Ethernet, no SYN and no FIN, sequence numbers
@@ -65,7 +65,7 @@ def write_one(given: argparse.Namespace, view: View) -> None:
         return
     name = given.out or f"{view.name}.pcap"
     try:
-        with open(name, "wb") as file:
+        with whole_file(name) as file:
             count = capture.write(view, given.at, packets, file)
     except OSError as fault:
         raise Faulty(f"{name}: {fault.strerror}") from None
