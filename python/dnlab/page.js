@@ -3,7 +3,7 @@
 "use strict";
 const TYPES = {i1: Int8Array, i2: Int16Array, i4: Int32Array, f8: Float64Array};
 // So many stretches of time keep their first, least, greatest and last value: points cost more than lines.
-const STRETCHES = {steps: 600, points: 200, marks: 200};
+const STRETCHES = {steps: 400, points: 100, marks: 100};
 const DASHES = ["solid", "dash", "dot", "dashdot", "longdash", "longdashdot", "8px,2px,2px,2px", "1px,4px", "12px,4px"];
 const SYMBOLS = ["circle", "square-open", "triangle-up", "diamond-open", "triangle-down-open", "cross", "star-open",
   "triangle-left", "triangle-right-open"];
@@ -76,16 +76,21 @@ function carried(serial) {
     + (size[serial] < 0 ? "" : `, ${size[serial]} bytes`);
 }
 
+// The moment so long behind another; -1 where it isn't known.
+const behind = (moment, span) => span < 0 ? -1 : moment + span;
+
 function journey(serial) {
-  const {made, ended, fate, starts, pipe, arrival, finish, exit} = now.table;
-  const lines = [carried(serial), `made ${time(made[serial])}`];
+  const {ended, fate, starts, pipe, arrival, finish, exit} = now.table, made = now.table.made[serial];
+  const lines = [carried(serial), `made ${time(made)}`];
   for (let k = starts[serial]; k < starts[serial + 1]; k++) {
-    lines.push(`at ${now.pipes[pipe[k]]}: came ${time(arrival[k])}`
-      + (finish[k] < 0 ? "" : `, served ${time(finish[k])}`) + (exit[k] < 0 ? "" : `, left ${time(exit[k])}`));
+    const came = behind(made, arrival[k]);
+    lines.push(`at ${now.pipes[pipe[k]]}: came ${time(came)}`
+      + (finish[k] < 0 ? "" : `, served ${time(behind(came, finish[k]))}`)
+      + (exit[k] < 0 ? "" : `, left ${time(behind(came, exit[k]))}`));
   }
-  const spent = made[serial] < 0 || ended[serial] < 0 ? "" : `, ${time(ended[serial] - made[serial])} after it was made`;
+  const end = behind(made, ended[serial]), spent = made < 0 || end < 0 ? "" : `, ${time(end - made)} after it was made`;
   const how = fate[serial] > 1 ? `dropped (${now.fates[fate[serial]]})` : now.fates[fate[serial]];
-  lines.push(fate[serial] ? `${how} ${time(ended[serial])}${spent}` : "still under way at the end");
+  lines.push(fate[serial] ? `${how} ${time(end)}${spent}` : "still under way at the end");
   return lines;
 }
 

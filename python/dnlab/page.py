@@ -105,17 +105,23 @@ def panels_of(view: View) -> dict[str, Panel]:
 
 
 def journeys(view: View, blocks: Blocks) -> dict[str, int]:
-    """The columns of packets, and of their visits, which stand by packet; `starts` has where each packet's begin."""
+    """The columns of packets, and of their visits, which stand by packet; `starts` has where each packet's begin.
+
+    Moments are told from one that comes before (an end and an arrival from the making, a finish and an exit from the
+    arrival), which keeps columns narrow; -1 is what isn't known."""
     table, visits = view.packets, view.visits
-    who = np.where(table.who < 0, len(table.names), table.who)
     pipes = np.unique(visits.pipe)
     columns: dict[str, Any] = {
-        "made": table.made, "ended": table.ended, "fate": table.fate, "size": table.size, "who": who,
-        "kind": table.kind, "number": table.number, "again": table.again.astype(np.int64),
-        "starts": np.searchsorted(visits.packet, np.arange(len(table) + 1)),
-        "pipe": np.searchsorted(pipes, visits.pipe), "arrival": visits.arrival, "finish": visits.finish,
-        "exit": visits.exit}
+        "made": table.made, "ended": _since(table.made, table.ended), "fate": table.fate, "size": table.size,
+        "who": np.where(table.who < 0, len(table.names), table.who), "kind": table.kind, "number": table.number,
+        "again": table.again.astype(np.int64), "starts": np.searchsorted(visits.packet, np.arange(len(table) + 1)),
+        "pipe": np.searchsorted(pipes, visits.pipe), "arrival": _since(table.made[visits.packet], visits.arrival),
+        "finish": _since(visits.arrival, visits.finish), "exit": _since(visits.arrival, visits.exit)}
     return {name: blocks.add(column) for name, column in columns.items()}
+
+
+def _since(before: Ints, moments: Ints) -> Ints:
+    return np.where(moments < 0, -1, moments - before)
 
 
 def drawn(view: View) -> Drawn:
