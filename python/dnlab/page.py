@@ -70,11 +70,30 @@ def _bytes(values: Ints) -> int:
     return next(size for size in _TYPES if most <= 2**(8 * size - 1))
 
 
-def sequences(view: View) -> Panel:
-    """Of each flow the bytes over time: sent, sent again, acknowledged, and dropped; by who sent them in `Series.label`,
-    as `flow 1: sent`. Without the moments of making what was delivered stands in place of what was sent."""
+class Shown(NamedTuple):
+    """A series, and the packets that its points are of, shape (n,); None where they are of no packet."""
+    series: Series
+    packets: Optional[Ints] = None
+
+
+class Pane(NamedTuple):
+    """A panel's title, unit and series; `words` stand in place of these."""
+    title: str
+    unit: str
+    shown: list[Shown]
+    words: str
+
+
+def pane_of(panel: Panel) -> Pane:
+    """A panel of pictures, whole."""
+    return Pane(panel.title, panel.unit, [Shown(one) for one in panel.series], panel.words.replace("\n", " "))
+
+
+def sequences(view: View) -> Pane:
+    """Of each flow the bytes over time: sent, sent again, acknowledged, and dropped; labels are as `flow 1: sent`. Without
+    the moments of making what was delivered stands in place of what was sent."""
     table = view.packets
-    series: list[Series] = []
+    series: list[Shown] = []
     for flow, packets in flows_of(view):
         acks = np.flatnonzero((table.kind == ACKNOWLEDGES) & (table.flow == flow))
         if view.is_told:
@@ -86,22 +105,38 @@ def sequences(view: View) -> Panel:
                    _of(view, flow, "dropped", "marks", packets[table.fate[packets] >= DROPPED], table.ended),
                    _of(view, flow, "acknowledgement dropped", "marks", acks[table.fate[acks] >= DROPPED], table.ended)]
     title = "Bytes over time" + ("" if view.is_told else " (when they were sent needs the scenario)")
-    return Panel(title, "byte", [one for one in series if len(one.moments)], "" if series else "no flow sent a segment")
+    shown = [one for one in series if len(one.series.moments)]
+    return Pane(title, "byte", shown, "" if shown else "no flow sent a segment")
 
 
-def _of(view: View, flow: int, what: str, form: str, packets: Ints, moments: Ints) -> Series:
+def _of(view: View, flow: int, what: str, form: str, packets: Ints, moments: Ints) -> Shown:
     packets = packets[np.argsort(moments[packets], kind="stable")]
-    return Series(f"flow {flow}: {what}", form, moments[packets], view.packets.number[packets], packets)
+    return Shown(Series(f"flow {flow}: {what}", form, moments[packets], view.packets.number[packets]), packets)
 
 
-def panels_of(view: View) -> dict[str, Panel]:
+def delays(view: View) -> Pane:
+    """The times under way, with the packets: those of each sender stand in the order of delivery."""
+    pane, table, senders = pane_of(sojourns(view)), view.packets, dict(view.senders)
+
+    def own(one: Series) -> Ints:
+        delivered = senders[one.label][table.fate[senders[one.label]] == DELIVERED]
+        ordered: Ints = delivered[np.argsort(table.ended[delivered], kind="stable")]
+        return ordered
+
+    return pane._replace(shown=[Shown(one, own(one)) for one, _ in pane.shown])
+
+
+def speeds(view: View) -> Pane:
+    """What was delivered, added up: the script makes rates of it, of as long a time as is in sight."""
+    pane = pane_of(rates(view))
+    return pane._replace(title=pane.title.replace("Delivered", "Rate of what was delivered"),
+                         unit="Mbit/s" if pane.unit == "bytes" else "packets/s")
+
+
+def panes_of(view: View) -> dict[str, Pane]:
     """The panels of a page by their names, whole."""
-    found = {"sequence": sequences(view), "window": windows(view), "queue": queues(view), "delay": sojourns(view),
-             "rate": rates(view)}
-    rate = found["rate"]
-    rate.title = rate.title.replace("Delivered", "Rate of what was delivered")
-    rate.unit = "Mbit/s" if rate.unit == "bytes" else "packets/s"
-    return found
+    return {"sequence": sequences(view), "window": pane_of(windows(view)), "queue": pane_of(queues(view)),
+            "delay": delays(view), "rate": speeds(view)}
 
 
 def journeys(view: View, blocks: Blocks) -> dict[str, int]:
@@ -127,11 +162,10 @@ def _since(before: Ints, moments: Ints) -> Ints:
 def drawn(view: View) -> Drawn:
     """An experiment for a page."""
     blocks = Blocks()
-    panels = [{"what": what, "title": panel.title, "unit": panel.unit,
-               "words": "" if panel.series else panel.words.replace("\n", " "),
+    panels = [{"what": what, "title": pane.title, "unit": pane.unit, "words": "" if pane.shown else pane.words,
                "series": [{"label": one.label, "form": one.form, "x": blocks.add(one.moments), "y": blocks.add(one.values),
-                           "packets": -1 if one.packets is None else blocks.add(one.packets)} for one in panel.series]}
-              for what, panel in panels_of(view).items()]
+                           "packets": -1 if packets is None else blocks.add(packets)} for one, packets in pane.shown]}
+              for what, pane in panes_of(view).items()]
     until = max(view.ended.moment if view.ended.is_short() else view.last, 1)
     unit = next(unit for unit in _UNITS if until >= 2 * unit[0] or unit[0] == 1)
     head = {"name": view.name, "about": about(view), "notes": [note.text for note in [*view.notes, *view.more_notes]],

@@ -28,12 +28,11 @@ Values = NDArray[np.float64]
 class Series(NamedTuple):
     """`form` is `steps` (a value holds until the next), `points` or `marks` (what happened at a moment).
 
-    `moments` are int64, ns, in order; `values` have the same shape (n,), and `packets` too, where each is of one packet."""
+    `moments` are int64, ns, in order; `values` have the same shape (n,)."""
     label: str
     form: str
     moments: Ints
     values: "Ints | Values"
-    packets: Optional[Ints] = None
 
 
 @dataclass
@@ -67,8 +66,7 @@ def thinned(one: Series, stretches: int = STRETCHES) -> Series:
     # Sorted by value within a stretch, its least and greatest stand at its ends.
     order = np.lexsort((one.values, at))
     kept = np.unique(np.concatenate((first, last, order[first], order[last])))
-    return one._replace(moments=one.moments[kept], values=one.values[kept],
-                        packets=None if one.packets is None else one.packets[kept])
+    return one._replace(moments=one.moments[kept], values=one.values[kept])
 
 
 def steps(view: View, label: str, moments: Ints, amounts: "Ints | int") -> Series:
@@ -192,7 +190,7 @@ def sojourns(view: View) -> Panel:
         delivered = packets[table.fate[packets] == DELIVERED]
         # In the order of delivery, as long series are thinned by it.
         delivered = delivered[np.argsort(table.ended[delivered], kind="stable")]
-        series.append(Series(who, "points", table.ended[delivered], delay[delivered] / 10**6, delivered))
+        series.append(Series(who, "points", table.ended[delivered], delay[delivered] / 10**6))
     series = most(view, "sojourn", series)
     return Panel("Time from being made to delivery", "ms", series, "" if series else "nothing was delivered")
 
