@@ -86,7 +86,8 @@ class Pane(NamedTuple):
 
 def pane_of(panel: Panel) -> Pane:
     """A panel of pictures, whole."""
-    return Pane(panel.title, panel.unit, [Shown(one) for one in panel.series], panel.words.replace("\n", " "))
+    shown = [Shown(one) for one in panel.series if len(one.moments)]
+    return Pane(panel.title, panel.unit, shown, panel.words.replace("\n", " "))
 
 
 def sequences(view: View) -> Pane:

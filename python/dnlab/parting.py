@@ -2,7 +2,8 @@
 
 Serial numbers shift as soon as one packet more is made, so a packet is named by who sent it and its place there: a
 train's by its place, a flow's by the first byte of its segment (or the number that it acknowledges) and by which of
-them it is. Commands' own lines (`ok`) and listings are compared where nothing else differs.
+them it is. Commands' own lines (`ok`) and listings are compared where nothing else differs. Where one run was made
+without `trace 1`, the lines that only a traced one has are left out.
 """
 from dataclasses import dataclass
 from typing import Any, NamedTuple, Optional
@@ -11,7 +12,7 @@ import numpy as np
 from numpy.typing import NDArray
 
 from dnlab.digits import Ints
-from dnlab.lines import ACK, CAUSES, DROP, EXPIRE, IDENTIFY, MAKE, OK, REFUSED, RULE, WORDS, pipe_name
+from dnlab.lines import ACK, ARRIVE, CAUSES, DROP, EXPIRE, IDENTIFY, MAKE, OK, REFUSED, RULE, WORDS, pipe_name
 from dnlab.makings import ACKNOWLEDGES, DATA
 from dnlab.packets import UNKNOWN
 from dnlab.series import in_flight, waiting
@@ -167,8 +168,11 @@ def parting(first: View, second: View) -> Optional[Parting]:
     texts: dict[str, int] = {}
     told = Told(first, texts), Told(second, texts)
     words = [one.view.experiment.columns.word for one in told]
-    events = [np.flatnonzero((word != OK) & (word < RULE)) for word in words]
-    rest = [np.arange(len(word)) for word in words]
+    traced = [(word == MAKE) | (word == IDENTIFY) | (word == ARRIVE) for word in words]
+    both = all(lines.any() for lines in traced)
+    kept = [np.ones(len(word), dtype=np.bool_) if both else ~lines for word, lines in zip(words, traced)]
+    events = [np.flatnonzero(own & (word != OK) & (word < RULE)) for own, word in zip(kept, words)]
+    rest = [np.flatnonzero(own) for own in kept]
     return _parted(told, events) or _parted(told, rest)
 
 

@@ -114,6 +114,12 @@ def test_serial_numbers_that_shift(alone: Alone) -> None:
     assert parting(first, view(alone, more)) is None
 
 
+def test_a_traced_run_beside_one_that_is_not(alone: Alone) -> None:
+    """Lines that only a traced run has are no difference of what happened; the command is."""
+    found = parting(view(alone, TRAIN), view(alone, TRAIN.replace("@0 train", "@0 trace 1\n@0 train")))
+    assert found is not None and "`trace 1`" in found.told[1].line(found.rows[1] or 0)
+
+
 def test_segments_are_told_by_bytes(alone: Alone) -> None:
     """Segments that are lost are sent again; where B stops, A's next line is the third sending of the first byte."""
     text = ("experiment a seed 0 budget 100\n@0 pipe 1 config plr 1\n@0 add 100 pipe 1 ip from any to any\n"
@@ -134,6 +140,7 @@ def test_what_compare_refuses(two: list[Path]) -> None:
             (2, "there is no metric 'delay.95'", (a, b, "--tolerance", "delay.95=5%")), (2, "usage", (a,)),
             (2, "its unit is missing: ns, us", (a, b, "--tolerance", "delay.p95=5")), (2, "two scenarios", (a, b, plan, plan, plan)),
             (3, "it has no experiment x: it has a", (a, b, plan, other, "--experiment", "x")),
+            (3, "it has no experiment, so", (a, os.devnull)), (2, "no row is like train 8", (a, b, "--of", "train 8")),
             (3, "none.txt", (a, "none.txt")), (3, "line 1", (a, plan)), (2, "standard input", ("-", "-"))):
         got = tool("compare", *words)
         assert got[0] == status and said in got[2] and not got[1], words
@@ -180,7 +187,8 @@ def test_statuses_of_expect(two: list[Path], tmp_path: Path) -> None:
             (2, "no row 'train 8': there are train 9, pipe 1.0, all", (a, plan, "train 8: drops < 1")),
             (2, "no experiment 'b': there are a", (a, plan, "b/train 9: drops < 1")), (2, "no bound", (a, plan)),
             (2, "a sign", (a, plan, "train 9: drops 1")), (3, "none", (tmp_path / "none", "all: drops < 1")),
-            (3, "line 1", (plan, "all: drops < 1")), (2, "it has no bound", (a, "--bounds", os.devnull))):
+            (3, "line 1", (plan, "all: drops < 1")), (3, "no experiment", (os.devnull, "all: drops < 1")),
+            (2, "it has no bound", (a, "--bounds", os.devnull))):
         got = tool("expect", *words)
         assert got[0] == status and said in got[2] and not got[1], words
 

@@ -187,11 +187,17 @@ def main(words_given: Sequence[str]) -> int:
         missing = [] if given.experiment else [
             f"{one.report} has no experiment {name}" for one, other in ((first, second), (second, first))
             for name in other.pieces if name not in one.pieces]
+        for one in (first, second):
+            if not one.pieces:
+                raise Faulty(f"{one.report}: it has no experiment, so there is nothing to compare")
         parts = list(parts_of(given, first, second))
     except Faulty as faulty:
         print(f"compare: {faulty}", file=sys.stderr)
         return 3
     found = [pair for part in parts for pair in part.pairs]
+    if parts and not found:
+        print(f"compare: no row is like {' or '.join(given.of)}: dnlab-summary shows the rows", file=sys.stderr)
+        return 2
     if given.json:
         print(as_json(parts, missing))
     else:
@@ -199,4 +205,4 @@ def main(words_given: Sequence[str]) -> int:
             print("\n".join(part.said))
         print("\n".join(missing) + "\n" if missing else "", table(found, given.all), sep="", end="")
     has_parted = not given.tolerance and any(part.parted for part in parts)
-    return 1 if missing or has_parted or not found or any(pair.is_bad() for pair in found) else 0
+    return 1 if missing or has_parted or any(pair.is_bad() for pair in found) else 0

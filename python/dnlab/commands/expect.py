@@ -77,6 +77,8 @@ def main(words_given: Sequence[str]) -> int:
         plans = plans_of(given.scenarios)
         found = list(summed(Given(given.report, tuple(given.scenarios)), plans, given.experiment,
                             percentiles_for(bounds), workers=given.workers))
+        if not found:
+            raise Faulty(f"{given.report}: it has no experiment, so no bound can hold")
     except Faulty as faulty:
         print(f"expect: {faulty}", file=sys.stderr)
         return 3
