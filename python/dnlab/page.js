@@ -13,7 +13,7 @@ const MARKS = {"sent": "circle-open", "delivered": "circle-open", "sent again": 
 const FORMS = ["", "-open", "-dot", "-open-dot"];
 const heads = JSON.parse(document.getElementById("heads").textContent);
 const at = (name) => document.getElementById(name);
-let now = null;
+let now = null, turns = 0, saving = 0;
 
 // ---- columns
 
@@ -157,7 +157,7 @@ function layoutOf(panel, begin, end) {
     legend: {orientation: "h", x: 0, y: 1.02, yanchor: "bottom", font: {size: 11}}, font: {size: 12, color: "#111"},
     hoverlabel: {align: "left"},
     xaxis: {range: [begin / scale, end / scale], title: {text: now.unit[1], standoff: 4}, gridcolor: "#ddd"},
-    yaxis: {fixedrange: true, rangemode: "tozero", title: {text: panel.unit}, gridcolor: "#ddd"}};
+    yaxis: {fixedrange: true, rangemode: panel.what === "sequence" ? "normal" : "tozero", title: {text: panel.unit}, gridcolor: "#ddd"}};
 }
 
 // ---- what is in sight
@@ -174,7 +174,9 @@ function draw() {
     Plotly.react(panel.place, traces, layoutOf(panel, begin, end), {responsive: true, displaylogo: false,
       displayModeBar: false, doubleClick: false});
   }
-  history.replaceState(null, "", `#${now.name},${Math.round(begin)},${Math.round(end)}`);
+  // Behind the last of many steps, since browsers take only so many of these.
+  clearTimeout(saving);
+  saving = setTimeout(() => history.replaceState(null, "", `#${now.name},${Math.round(begin)},${Math.round(end)}`), 300);
   document.body.dataset.drawn = now.name;
   document.body.dataset.opened ||= Math.round(performance.now());
 }
@@ -209,6 +211,8 @@ function frame(panel) {
   panel.place = document.createElement("div");
   panel.place.className = "panel";
   panel.place.id = "panel-" + panel.what;
+  panel.place.setAttribute("role", "img");
+  panel.place.setAttribute("aria-label", `${panel.title}: ${panel.series.map((one) => one.label).join(", ")}`);
   at("panels").append(panel.place);
 }
 
@@ -222,7 +226,9 @@ function listen(panel) {
 }
 
 async function choose(place, range) {
-  const head = heads[place], columns = await unpack(place);
+  const turn = ++turns, head = heads[place], columns = await unpack(place);
+  // Another was chosen meanwhile.
+  if (turn !== turns) return;
   const table = Object.fromEntries(Object.entries(head.table).map(([name, block]) => [name, columns[block]]));
   now = {...head, columns, table, range: [0, head.until], panels: head.panels.map((panel) => ({...panel}))};
   at("experiment").value = place;
@@ -233,6 +239,7 @@ async function choose(place, range) {
   at("flow").disabled = !flows.length;
   at("packet").value = "";
   tell(null);
+  document.querySelectorAll(".panel").forEach(Plotly.purge);
   at("panels").replaceChildren();
   now.panels.forEach(frame);
   show(...(range || now.range));

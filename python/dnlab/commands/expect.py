@@ -46,6 +46,8 @@ def words(given: Sequence[str]) -> argparse.Namespace:
     found.said = said
     if not said and not found.bounds:
         parser.error(f"no bound: {FORM}")
+    if [found.report, *found.scenarios, *found.bounds].count("-") > 1:
+        parser.error("standard input can't be two texts")
     return found
 
 
