@@ -134,9 +134,10 @@ def test_losses_and_rates(tmp_path: Path) -> None:
     sequence = found["panels"]["sequence"]
     dropped = drops_of(text)
     assert dropped and near(sequence["flow 1: dropped"]["points"], dropped, (508, 40000))
-    # What was lost is sent again, later.
-    again = sequence["flow 1: sent again"]["points"]
-    assert near([y for _, y in again], [byte for _, byte in dropped], (40000,)) and again[0][0] > dropped[0][0]
+    # What was lost is sent again by the third acknowledgement that says nothing new, the fourth of its number.
+    same = [int(words[0]) / 1e6 for words in map(str.split, text.split("\n")) if words[1:2] == ["deliver"]
+            and words[3:] == ["ack", "1", str(dropped[0][1])]]
+    assert near(sequence["flow 1: sent again"]["points"], [(same[3], dropped[0][1])], (508, 40000))
     every = re.search(r"in each ([0-9]+) ms", found["titles"][-1])
     assert every
     rows = list(csv.DictReader(io.StringIO(tool("summary", folder / "report.txt", folder / "scenario.txt", "--every", f"{every[1]}ms", "--csv")[1])))
@@ -194,14 +195,25 @@ def test_keys_chooser_and_a_phone(tmp_path: Path) -> None:
     assert "<title>360 360 deep</title>" in browse(tmp_path / "phone.html", "--dump-dom")
 
 
-# 20000 packets of a train every 10 us, at a rate that serves one each 8 us; but packets of 1500 bytes from 100 ms on.
+# 20000 packets of a train every 10 us, at a rate that serves one each 8 us; but 30 packets of 1500 bytes, 120 us each,
+# every 200 us from 99.505 ms on, so that for 6 ms more comes than is served.
 LONG = """experiment long seed 0 budget 1000
 @0 pipe 1 config bw 100Mbit/s delay 1 queue 1000
 @0 add 100 pipe 1 ip from any to any
 @0 train 1 udp 10.0.0.1 1 10.0.0.2 2 100 count 20000 gap 10000
-@100000000 train 2 udp 10.0.0.1 1 10.0.0.2 2 1500 count 30 gap 0
+@99505000 train 2 udp 10.0.0.1 1 10.0.0.2 2 1500 count 30 gap 200000
 @1000000000 end
 """
+
+
+def longest() -> float:
+    """The greatest delay of the first train, in ms: each packet waits until what came before is served."""
+    came = sorted([(10000 * k, 8000) for k in range(20000)] + [(99505000 + 200000 * k, 120000) for k in range(30)])
+    free, most = 0, 0
+    for moment, service in came:
+        free = max(free, moment) + service
+        most = max(most, free - moment if service == 8000 else 0)
+    return (most + 10**6) / 10**6
 
 
 @browsing
@@ -212,8 +224,7 @@ def test_what_is_thinned(alone: Alone, tmp_path: Path) -> None:
     page = page_of(tmp_path, tmp_path / "r", tmp_path / "s")
     found = read_back(page)
     points = found["panels"]["delay"]["train 1"]["points"]
-    # 30 packets of 120 us wait before it: the one that is made with them waits for all, 3.6 ms, besides 1 ms and its own 8 us.
-    assert 100 < len(points) <= 800 and abs(max(y for _, y in points) - 4.608) < 0.01
+    assert 100 < len(points) <= 800 and abs(max(y for _, y in points) - longest()) < 0.002
     deliveries = [int(line.split()[0]) for line in (tmp_path / "r").read_text().split("\n") if "deliver" in line]
     near_by = read_back(page, address="#long,50000000,51000000")
     wanted = [moment / 1e6 for moment in deliveries if 50000000 <= moment <= 51000000]
