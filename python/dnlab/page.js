@@ -13,7 +13,7 @@ const MARKS = {"sent": "circle-open", "delivered": "circle-open", "sent again": 
 const FORMS = ["", "-open", "-dot", "-open-dot"];
 const heads = JSON.parse(document.getElementById("heads").textContent);
 const at = (name) => document.getElementById(name);
-let now = null, turns = 0, saving = 0;
+let now = null, turns = 0, drawing = 0, saving = 0;
 
 // ---- columns
 
@@ -162,17 +162,27 @@ function layoutOf(panel, begin, end) {
 
 // ---- what is in sight
 
-function draw() {
-  const [begin, end] = now.range, flow = at("flow").value;
+function paint(panel, begin, end) {
+  const flow = at("flow").value;
+  const own = panel.what === "sequence" ? panel.series.filter((one) => one.label.startsWith(flow + ": ")) : panel.series;
+  const traces = own.map((one, place) => traceOf(panel, own, place, begin, end));
+  const every = panel.what === "rate" && traces.length ? `, in each ${time(traces[0].every)}` : "";
+  panel.heading.textContent = panel.title + every;
+  Plotly.react(panel.place, traces, layoutOf(panel, begin, end), {responsive: true, displaylogo: false,
+    displayModeBar: false, doubleClick: false});
+  if (!panel.isHeard) listen(panel);
+  panel.isHeard = true;
+}
+
+// Draws one panel after the other, so that the first stand at once; what is asked for meanwhile takes their place.
+async function draw() {
+  const turn = ++drawing, [begin, end] = now.range;
   at("range").textContent = `in sight: ${time(begin)} to ${time(end)}`;
-  for (const panel of now.panels) {
-    if (!panel.place) continue;
-    const own = panel.what === "sequence" ? panel.series.filter((one) => one.label.startsWith(flow + ": ")) : panel.series;
-    const traces = own.map((one, place) => traceOf(panel, own, place, begin, end));
-    const every = panel.what === "rate" && traces.length ? `, in each ${time(traces[0].every)}` : "";
-    panel.heading.textContent = panel.title + every;
-    Plotly.react(panel.place, traces, layoutOf(panel, begin, end), {responsive: true, displaylogo: false,
-      displayModeBar: false, doubleClick: false});
+  for (const panel of now.panels.filter((one) => one.place)) {
+    paint(panel, begin, end);
+    document.body.dataset.first ||= Math.round(performance.now());
+    await new Promise((next) => setTimeout(next));
+    if (turn !== drawing) return;
   }
   // Behind the last of many steps, since browsers take only so many of these.
   clearTimeout(saving);
@@ -186,7 +196,7 @@ function show(begin, end) {
   const width = Math.min(Math.max(end - begin, 10), now.until);
   const first = Math.min(Math.max(begin, 0), now.until - width);
   now.range = [first, first + width];
-  draw();
+  return draw();
 }
 
 function zoom(factor) {
@@ -242,8 +252,7 @@ async function choose(place, range) {
   document.querySelectorAll(".panel").forEach(Plotly.purge);
   at("panels").replaceChildren();
   now.panels.forEach(frame);
-  show(...(range || now.range));
-  now.panels.filter((panel) => panel.place).forEach(listen);
+  await show(...(range || now.range));
 }
 
 // `#NAME` or `#NAME,FROM,TO`, in ns, says what is shown first.
@@ -258,7 +267,7 @@ const KEYS = {"+": () => zoom(0.5), "=": () => zoom(0.5), "-": () => zoom(2), "0
 heads.forEach((head, place) => at("experiment").append(new Option(head.name, place)));
 at("tools").addEventListener("submit", (event) => event.preventDefault());
 at("experiment").addEventListener("change", () => choose(+at("experiment").value));
-at("flow").addEventListener("change", draw);
+at("flow").addEventListener("change", () => draw());
 at("packet").addEventListener("input", () => tell(at("packet").value === "" ? null : +at("packet").value));
 for (const [name, key] of [["in", "+"], ["out", "-"], ["earlier", "ArrowLeft"], ["later", "ArrowRight"], ["whole", "0"]]) {
   at(name).addEventListener("click", KEYS[key]);

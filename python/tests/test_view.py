@@ -174,7 +174,7 @@ def test_keys_chooser_and_a_phone(tmp_path: Path) -> None:
     folder = COOKBOOK / "bufferbloat"
     page = page_of(tmp_path, folder / "report.txt", folder / "scenario.txt")
     key = "document.body.dispatchEvent(new KeyboardEvent('keydown', {key: '%s', bubbles: true}));"
-    range_of = "told.%s = document.getElementById('range').textContent;"
+    range_of = "await new Promise((next) => setTimeout(next, 500)); told.%s = document.getElementById('range').textContent;"
     found = read_back(page, "".join(key % one + range_of % name for one, name in
                                     (("+", "near"), ("ArrowLeft", "left"), ("ArrowRight", "right"), ("-", "far"), ("0", "all"))))
     # 0 to 1238 ms, half of it about the middle, then half of that to the left and back.
