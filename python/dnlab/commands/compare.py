@@ -23,7 +23,8 @@ shift: the moment, the last line that both have, the lines of each from there on
 wait (with the one in service) and how many are in the delay line.
 
 Metrics are those of dnlab-expect: goodput, loss, drops.full, delay.p95 ..; the ratio is B's by A's. Those that differ
-are shown, with --all every one. Without --tolerance any difference is one; with some only the metrics that they name are judged:
+are shown, with --all every one. Without --tolerance any difference is one; with some only the metrics that they name
+are judged:
   delay.p95=5%   by so much of A's value       drops=2    by so many packets
   delay.*=1ms    several by a pattern          *=1%       all; what is named twice keeps to the last
 
