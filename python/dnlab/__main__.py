@@ -5,17 +5,22 @@ import sys
 from pathlib import Path
 from typing import Optional, Sequence
 
-COMMANDS = ("summary", "plot", "spread", "sweep")
+COMMANDS = ("summary", "plot", "spread", "sweep", "compare", "expect", "view", "pcap")
 # Debian's packages serve Debian's own Python, which may not be the first on the PATH.
 SYSTEM = "/usr/bin/python3"
 NEEDS = {"summary": ("numpy",), "plot": ("numpy", "matplotlib"), "spread": (),
-         "sweep": ("numpy", "pandas", "scipy", "jinja2")}
+         "sweep": ("numpy", "pandas", "scipy", "jinja2"), "compare": ("numpy",), "expect": ("numpy",),
+         "view": ("numpy", "plotly"), "pcap": ("numpy", "dpkt")}
 HELP = """Tools for reports of dnlab, in Python.
 
   python3 -m dnlab summary REPORT [SCENARIO ..]   prints a table, or rows for other programs
   python3 -m dnlab plot REPORT [SCENARIO ..]      draws windows, queues, times under way, bytes and drops
   python3 -m dnlab spread SCENARIO ..             runs scenarios in parts, here, by ssh or by Slurm
   python3 -m dnlab sweep TEMPLATE --set ..        runs a template with each setting and seed; means with intervals
+  python3 -m dnlab compare A B [SCENARIO ..]      says where two reports part, and their metrics side by side
+  python3 -m dnlab expect REPORT [SCENARIO ..] BOUND ..   says whether a report keeps to bounds
+  python3 -m dnlab view REPORT [SCENARIO ..]      makes a page to look at runs in a browser, packet by packet
+  python3 -m dnlab pcap REPORT [SCENARIO ..]      writes packets as Wireshark and tcptrace read them
 
 Each has --help. In Python: import dnlab; help(dnlab).
 
@@ -88,6 +93,26 @@ def spread() -> int:
 def sweep() -> int:
     """The script dnlab-sweep."""
     return main(["sweep", *sys.argv[1:]])
+
+
+def compare() -> int:
+    """The script dnlab-compare."""
+    return main(["compare", *sys.argv[1:]])
+
+
+def expect() -> int:
+    """The script dnlab-expect."""
+    return main(["expect", *sys.argv[1:]])
+
+
+def view() -> int:
+    """The script dnlab-view."""
+    return main(["view", *sys.argv[1:]])
+
+
+def pcap() -> int:
+    """The script dnlab-pcap."""
+    return main(["pcap", *sys.argv[1:]])
 
 
 if __name__ == "__main__":

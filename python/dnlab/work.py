@@ -4,6 +4,7 @@ import sys
 import time
 from collections import deque
 from concurrent.futures import Future, ProcessPoolExecutor
+from contextlib import contextmanager
 from pathlib import Path
 from typing import BinaryIO, Callable, Iterable, Iterator, NamedTuple, Optional, Sequence, TypeVar, Union
 
@@ -70,6 +71,18 @@ def pieces_of(report: str, wanted: Sequence[str] = ()) -> Iterator[Piece]:
     for name in wanted:
         if name in missing:
             raise Faulty(f"{report}: it has no experiment {name}")
+
+
+@contextmanager
+def whole_file(name: str) -> Iterator[BinaryIO]:
+    """A file that has its name only once it is whole: of what ends by a fault nothing is left."""
+    beside = f"{name}.{os.getpid()}"
+    try:
+        with open(beside, "wb") as file:
+            yield file
+        os.replace(beside, name)
+    finally:
+        Path(beside).unlink(missing_ok=True)
 
 
 class TooMany(Faulty):

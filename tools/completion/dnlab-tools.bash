@@ -1,4 +1,4 @@
-# Completion of dnlab-summary, dnlab-plot, dnlab-spread and dnlab-sweep for bash. Installed by tools/install; to try it:
+# Completion of the commands of dnlab's Python package for bash. Installed by tools/install; to try it:
 # source tools/completion/dnlab-tools.bash
 _dnlab_tools() {
   local now=${COMP_WORDS[COMP_CWORD]} before="" words=""
@@ -13,12 +13,19 @@ _dnlab_tools() {
     *:--every | *:--bin) words="10ms 100ms 1s" ;;
     *:--workers | *:--jobs) words="1 2 4 8" ;;
     *:--parts) words="4 16 64" ;;
+    *:--at) words="sender receiver" ;;
+    *:--tolerance) words="delay.p95=5% goodput=1% drops=2 *=1%" ;;
+    *:--lines) words="3 10" ;;
     *:--experiment | *:--only | *:--of | *:--columns | *:--ssh | *:--on | *:--set | *:--seeds | *:--from | *:--to) return ;;
-    *:--out | *:--work | *:--program | *:--csv | *:--json | *:--parquet | *:--each | *:--plot | *:--kept) ;;
+    *:--out | *:--work | *:--program | *:--csv | *:--json | *:--parquet | *:--each | *:--plot | *:--kept | *:--bounds) ;;
     dnlab-summary:*)
       words="--experiment --of --percentiles --every --losses --by --columns --workers --csv --json --help"
       ;;
     dnlab-plot:*) words="--experiment --only --of --what --from --to --bin --overlay --out --workers --help" ;;
+    dnlab-compare:*) words="--experiment --of --tolerance --percentiles --lines --all --json --help" ;;
+    dnlab-expect:*) words="--experiment --bounds --all --workers --help" ;;
+    dnlab-view:*) words="--experiment --out --single --workers --help" ;;
+    dnlab-pcap:*) words="--experiment --of --at --out --help" ;;
     dnlab-spread:*) words="--parts --jobs --ssh --slurm --program --out --work --resume --help" ;;
     dnlab-sweep:*)
       words="--set --seeds --of --stat --ci --interval --csv --json --parquet --each --plot --dry-run --kept --anew"
@@ -31,4 +38,5 @@ _dnlab_tools() {
   fi
   # Else file names, which bash completes itself.
 }
-complete -o default -F _dnlab_tools dnlab-summary dnlab-plot dnlab-spread dnlab-sweep
+complete -o default -F _dnlab_tools dnlab-summary dnlab-plot dnlab-spread dnlab-sweep dnlab-compare dnlab-expect \
+  dnlab-view dnlab-pcap

@@ -1,1 +1,1 @@
-"""The commands of the package: `summary`, `plot`, `spread` and `sweep`, each with a `main` that takes words and gives a status."""
+"""The commands of the package, each with a `main` that takes words and gives a status."""

@@ -3,7 +3,7 @@ import argparse
 import re
 from fractions import Fraction
 
-_UNITS = {"ns": 1, "us": 10**3, "ms": 10**6, "s": 10**9}
+from dnlab.units import TIMES
 
 
 def parser_of(name: str, about: str, more: str) -> argparse.ArgumentParser:
@@ -36,7 +36,7 @@ def time_of(text: str) -> int:
     (100000000, 1500)
     """
     found = re.fullmatch(r"([0-9]+(?:\.[0-9]+)?)(ns|us|ms|s)", text)
-    time = Fraction(found[1]) * _UNITS[found[2]] if found else Fraction(0)
+    time = Fraction(found[1]) * TIMES[found[2]] if found else Fraction(0)
     if time < 1 or time.denominator != 1:
         raise argparse.ArgumentTypeError(f"{text!r} is no time of whole nanoseconds, as 100ms, 20us or 1s")
     return int(time)

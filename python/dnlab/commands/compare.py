@@ -1,0 +1,209 @@
+"""Says where two reports of dnlab part, and shows their metrics side by side with ratios."""
+import argparse
+import json
+import sys
+from dataclasses import dataclass, field
+from fnmatch import fnmatchcase
+from typing import Any, Iterator, NamedTuple, Optional, Sequence
+
+from dnlab.beside import Pair, Tolerance, pairs, tolerance_of
+from dnlab.commands.words import count_of, parser_of, percentiles_of
+from dnlab.errors import Faulty
+from dnlab.layout import lines_of
+from dnlab.metrics import metrics, percentiles_in
+from dnlab.parting import Parting, parting
+from dnlab.report import Piece
+from dnlab.scenario import Plan
+from dnlab.tables import Tables
+from dnlab.view import View, view_of
+from dnlab.work import pieces_of, plans_of
+
+EXAMPLE = """Where they first part is said by what packets carry (flow 1 byte 2920, train 9 packet 5), since serial numbers
+shift: the moment, the last line that both have, the lines of each from there on, and of each pipe how many packets
+wait (with the one in service) and how many are in the delay line.
+
+Metrics are those of dnlab-expect: goodput, loss, drops.full, delay.p95 ..; the ratio is B's by A's. Those that differ
+are shown, with --all every one. Without --tolerance any difference is one; with some only the metrics that they name
+are judged:
+  delay.p95=5%   by so much of A's value       drops=2    by so many packets
+  delay.*=1ms    several by a pattern          *=1%       all; what is named twice keeps to the last
+
+Experiments are those of the same name; --experiment deep=codel has A's experiment deep beside B's codel. A and B may be
+one file. One scenario serves both; of two the first is A's and the second B's. Without it sizes and the moments at
+which packets were made can't be told, but of a report made under `trace 1`.
+
+Example:
+  tools/compare before.txt after.txt scenario.txt --tolerance delay.p95=5% --tolerance goodput=1%
+  tools/compare report.txt report.txt scenario.txt --experiment deep=codel --of 'train *' --percentiles 50,95
+
+Exit status: 0 the same, or within the tolerances; 1 they differ; 2 wrong usage; 3 what can't be read."""
+
+
+class Part(NamedTuple):
+    """What is found of two experiments, without their columns: metrics, where they part (`moment`, ns, and the first
+    line of each; None where nowhere), and the same for people."""
+    name: str
+    pairs: list[Pair]
+    parted: Optional[dict[str, Any]]
+    said: list[str]
+
+
+@dataclass
+class Run:
+    """A report with its scenario, and its experiments by name."""
+    report: str
+    scenario: list[str]
+    plans: Optional[dict[str, Plan]] = None
+    pieces: dict[str, Piece] = field(default_factory=dict)
+
+    def open(self) -> None:
+        self.plans = plans_of(self.scenario)
+        self.pieces = {piece.name: piece for piece in pieces_of(self.report)}
+
+    def view(self, name: str) -> View:
+        return view_of(self.pieces[name], self.plans, self.report, ", ".join(self.scenario))
+
+
+def tolerance(text: str) -> Tolerance:
+    try:
+        return tolerance_of(text)
+    except ValueError as fault:
+        raise argparse.ArgumentTypeError(str(fault)) from None
+
+
+def words(given: Sequence[str]) -> argparse.Namespace:
+    parser = parser_of("compare", __doc__ or "", EXAMPLE)
+    parser.add_argument("a", metavar="A", help="a report, or - for standard input")
+    parser.add_argument("b", metavar="B", help="another, or the same")
+    parser.add_argument("scenarios", metavar="SCENARIO", nargs="*", help="the scenario of both, or A's and B's")
+    parser.add_argument("--experiment", action="append", default=[], metavar="NAME[=OTHER]",
+                        help="only this experiment, beside that one of B; may be said again [all]")
+    parser.add_argument("--of", action="append", default=[], metavar="PATTERN",
+                        help="only these rows, as 'flow 1', 'train *', 'pipe 1.0'; may be said again [all]")
+    parser.add_argument("--tolerance", action="append", default=[], type=tolerance, metavar="METRIC=VALUE",
+                        help="how far a metric may differ; may be said again")
+    parser.add_argument("--percentiles", type=percentiles_of, default=["50", "99"], metavar="P,P..",
+                        help="of the time under way [50,99]")
+    parser.add_argument("--lines", type=count_of, default=3, metavar="N",
+                        help="how many lines of each are shown where they part [3]")
+    parser.add_argument("--all", action="store_true", help="show metrics that are the same too")
+    parser.add_argument("--json", action="store_true", help="print an object, amounts in ns, bytes and bit/s")
+    found = parser.parse_intermixed_args(list(given))
+    if len(found.scenarios) > 2:
+        parser.error("two scenarios at most: A's and B's")
+    if [found.a, found.b, *found.scenarios].count("-") > 1:
+        parser.error("standard input can't be two texts")
+    return found
+
+
+def names_of(wanted: Sequence[str], first: Run, second: Run) -> list[tuple[str, str]]:
+    """The experiments that stand beside each other; `Faulty` where one isn't there."""
+    asked = [(name.partition("=")[0], name.partition("=")[2] or name) for name in wanted]
+    for names in asked:
+        for name, run in zip(names, (first, second)):
+            if name not in run.pieces:
+                raise Faulty(f"{run.report}: it has no experiment {name}: it has {', '.join(list(run.pieces)[:40])}")
+    return asked or [(name, name) for name in first.pieces if name in second.pieces]
+
+
+def only(first: Optional[Plan], second: Optional[Plan], lines: int) -> list[str]:
+    """Commands that one of two plans has and the other hasn't, in words."""
+    if first is None or second is None:
+        return []
+    said = [f"{what} {one} | {other}" for what, one, other in
+            (("seed", first.seed, second.seed), ("budget", first.budget, second.budget),
+             ("steps", first.steps, second.steps)) if one != other]
+    texts = [[(command.moment, command.text) for command in plan.commands] for plan in (first, second)]
+    for name, plan, others in (("A", first, set(texts[1])), ("B", second, set(texts[0]))):
+        own = [command for command in plan.commands if (command.moment, command.text) not in others]
+        said += [f"only in {name}: line {command.line}: @{command.moment} {command.text}" for command in own[:lines]]
+        said += [f"only in {name}: {len(own) - lines} more commands"] if len(own) > lines else []
+    return said
+
+
+def parts_of(given: argparse.Namespace, first: Run, second: Run) -> Iterator[Part]:
+    """What is found of each two experiments."""
+    named = [metric for one in given.tolerance for metric in one.metrics]
+    percentiles = list(dict.fromkeys([*given.percentiles, *percentiles_in(named)]))
+    for name, other in names_of(given.experiment, first, second):
+        views = first.view(name), second.view(other)
+        rows = [[row for row in Tables(view, percentiles).rows()
+                 if not given.of or any(fnmatchcase(row["of"], one) for one in given.of)] for view in views]
+        shown = name if name == other else f"{name}={other}"
+        found = parting(*views)
+        yield Part(shown, list(pairs(shown, rows[0], rows[1], metrics(percentiles), given.tolerance)), parted(shown, found),
+                   told(shown, found, only(views[0].plan, views[1].plan, given.lines), given.lines))
+
+
+def parted(name: str, found: Optional[Parting]) -> Optional[dict[str, Any]]:
+    """Where two experiments part, for other programs."""
+    if found is None:
+        return None
+    lines = {run: one.line(row) if row is not None else None for run, one, row in zip("ab", found.told, found.rows)}
+    return {"experiment": name, "moment": found.moment, **lines}
+
+
+def told(name: str, found: Optional[Parting], differs: Sequence[str], lines: int) -> list[str]:
+    """Where two experiments part, in lines, with what differs in their scenarios."""
+    if found is None:
+        return [f"{name}: the same, line by line"]
+    said = [f"{name}: they part at {found.moment} ns", *(f"  {text}" for text in differs)]
+    equal = found.equal
+    said.append("  last equal: " + (f"A {found.told[0].line(equal[0])} | B {found.told[1].line(equal[1])}" if equal
+                                    else "none, they part at the first"))
+    for run, one, rows in zip("AB", found.told, found.following):
+        said += [f"  {run}: {one.line(int(row))}" for row in rows[:lines]] or [f"  {run}: no line more"]
+    cells = [["  packets", "A before", "A behind", "B before", "B behind"],
+             *([f"  at {pipe}", *counts] for pipe, counts in found.queues())]
+    return said + (lines_of(cells, (0,)).rstrip("\n").split("\n") if len(cells) > 1 else [])
+
+
+def table(found: Sequence[Pair], everything: bool) -> str:
+    """The metrics that differ, or all, as a table; with how many are the same."""
+    kept = [pair for pair in found if everything or not pair.is_same() or pair.judged.startswith(("within", "beyond"))]
+    cells = [["experiment", "of", "metric", "A", "B", "B/A", "judged"]]
+    cells += [[pair.experiment, pair.of, pair.metric.word, *pair.shown(), pair.judged or "-"] for pair in kept]
+    same = sum(pair.is_same() for pair in found)
+    return (lines_of(cells, (0, 1, 2, 6)) if kept else "") + f"{same} of {len(found)} metrics are the same\n"
+
+
+def as_json(parts: Sequence[Part], missing: Sequence[str]) -> str:
+    def number(pair: Pair, value: Any) -> Any:
+        return None if value is None else int(value) if value.denominator == 1 else float(value)
+
+    return json.dumps({
+        "metrics": [{"experiment": pair.experiment, "of": pair.of, "metric": pair.metric.word,
+                     "a": number(pair, pair.first), "b": number(pair, pair.second), "ratio": pair.ratio(),
+                     "judged": pair.judged} for part in parts for pair in part.pairs],
+        "partings": [part.parted for part in parts if part.parted],
+        "missing": list(missing)}, indent=1)
+
+
+def main(words_given: Sequence[str]) -> int:
+    given = words(words_given)
+    first, second = Run(given.a, given.scenarios[:1]), Run(given.b, given.scenarios[-1:])
+    try:
+        first.open()
+        second.open()
+        missing = [] if given.experiment else [
+            f"{one.report} has no experiment {name}" for one, other in ((first, second), (second, first))
+            for name in other.pieces if name not in one.pieces]
+        for one in (first, second):
+            if not one.pieces:
+                raise Faulty(f"{one.report}: it has no experiment, so there is nothing to compare")
+        parts = list(parts_of(given, first, second))
+    except Faulty as faulty:
+        print(f"compare: {faulty}", file=sys.stderr)
+        return 3
+    found = [pair for part in parts for pair in part.pairs]
+    if parts and not found:
+        print(f"compare: no row is like {' or '.join(given.of)}: dnlab-summary shows the rows", file=sys.stderr)
+        return 2
+    if given.json:
+        print(as_json(parts, missing))
+    else:
+        for part in parts:
+            print("\n".join(part.said))
+        print("\n".join(missing) + "\n" if missing else "", table(found, given.all), sep="", end="")
+    has_parted = not given.tolerance and any(part.parted for part in parts)
+    return 1 if missing or has_parted or any(pair.is_bad() for pair in found) else 0

@@ -1,0 +1,280 @@
+"""The page of `view` in headless Chromium: what is drawn is read back, from the dots and lines of its SVG, and compared
+with values worked out by hand, with lines of the report and with `summary`."""
+import csv
+import html
+import io
+import json
+import re
+import shutil
+import subprocess
+from pathlib import Path
+from typing import Any, Callable
+
+import numpy as np
+import pytest
+from conftest import EXAMPLES, ROOT, tool, view_of
+
+pytest.importorskip("plotly", reason="plotly is missing (Debian: python3-plotly)")
+from dnlab.page import Blocks, drawn  # noqa: E402  (plotly is asked for first)
+
+Alone = Callable[[bytes], bytes]
+COOKBOOK = ROOT / "cookbook"
+BROWSER = shutil.which("chromium") or ""
+browsing = pytest.mark.skipif(not BROWSER, reason="Chromium is missing (Debian: chromium)")
+RENO = EXAMPLES / "reno_four_segments"
+
+# Waits until a page is drawn, does `ACTS`, and writes what stands in the panels into the page: of each trace its dots
+# and the corners of its line in the units of the axes, and the words of what one points at.
+READ = """<pre id="readback"></pre><script>
+const value = (axes, x, y) => [axes.xaxis.p2l(x), axes.yaxis.p2l(y)];
+function cornersOf(axes, path) {
+  const found = []; let x = 0, y = 0;
+  for (const [, word, rest] of path.matchAll(/([MLHV])([-0-9.,]+)/g)) {
+    const numbers = rest.split(",").map(Number);
+    if (word === "H") x = numbers[0]; else if (word === "V") y = numbers[0]; else [x, y] = numbers;
+    found.push(value(axes, x, y));
+  }
+  return found;
+}
+function panelsOf() {
+  const found = {};
+  for (const panel of document.querySelectorAll(".panel")) {
+    found[panel.id.slice(6)] = [...panel.querySelectorAll(".scatterlayer .trace")].map((trace) => {
+      const own = trace.__data__[0].trace, line = trace.querySelector(".lines path");
+      return {name: own.name, text: own.text, form: own.mode === "lines" ? own.line.dash : own.marker.symbol,
+        points: [...trace.querySelectorAll(".points path")].map((dot) =>
+          value(panel._fullLayout, ...dot.getAttribute("transform").match(/-?[0-9.]+/g).map(Number))),
+        line: line ? cornersOf(panel._fullLayout, line.getAttribute("d")) : []};
+    });
+  }
+  return found;
+}
+async function read() {
+  while (!document.body.dataset.drawn) await new Promise((next) => setTimeout(next, 50));
+  const told = {};
+  ACTS
+  await new Promise((next) => setTimeout(next, 200));
+  const words = Object.fromEntries(["about", "range", "journey", "notes"].map((name) => [name, document.getElementById(name).innerText]));
+  document.getElementById("readback").textContent = JSON.stringify({...words, ...told, panels: panelsOf(),
+    name: document.body.dataset.drawn, titles: [...document.querySelectorAll("h2")].map((title) => title.textContent),
+    wide: [innerWidth, document.documentElement.scrollWidth]});
+}
+read();
+</script></body>"""
+
+
+def browse(page: Path, *more: str, address: str = "") -> str:
+    """What is in a page once it is read, as Chromium has it."""
+    done = subprocess.run([BROWSER, "--headless", "--no-sandbox", "--disable-gpu", "--hide-scrollbars", "--window-size=1000,1800",
+                           f"--user-data-dir={page.parent / 'profile'}", "--virtual-time-budget=20000", *more,
+                           f"file://{page}{address}"], capture_output=True, text=True, timeout=120, check=True)
+    return done.stdout
+
+
+def read_back(page: Path, acts: str = "", address: str = "") -> dict[str, Any]:
+    """What stands in a page, behind some acts."""
+    beside = page.with_name("read.html")
+    beside.write_text(page.read_text().replace("</body>", READ.replace("ACTS", acts)))
+    found = re.search(r'<pre id="readback">(.+?)</pre>', browse(beside, "--dump-dom", address=address), re.DOTALL)
+    assert found, "nothing was drawn"
+    made: dict[str, Any] = json.loads(html.unescape(found[1]))
+    made["panels"] = {panel: {one["name"]: one for one in traces} for panel, traces in made["panels"].items()}
+    return made
+
+
+def page_of(folder: Path, report: Path, scenario: Path, *words: str) -> Path:
+    status, out, err = tool("view", report, scenario, "--out", folder / "page.html", *words)
+    assert status == 0 and "page.html" in out, err
+    return folder / "page.html"
+
+
+def near(found: Any, wanted: Any, scale: tuple[float, ...]) -> bool:
+    """Whether points (or values) stand where they must, to a thousandth of their axes."""
+    return np.shape(found) == np.shape(wanted) and bool((np.abs(np.subtract(found, wanted)) < np.array(scale) / 1000).all())
+
+
+@browsing
+def test_what_is_drawn_by_hand(tmp_path: Path) -> None:
+    """Three segments at once, served in 1.2 ms each, 10 ms of delay each way; the fourth by the first acknowledgement."""
+    page = page_of(tmp_path, RENO / "expected.txt", RENO / "scenario.txt")
+    found = read_back(page, 'Plotly.Fx.hover("panel-sequence", [{curveNumber: 0, pointNumber: 3}]);'
+                            'told.hover = document.querySelector("#panel-sequence .hoverlayer").textContent;'
+                            'const field = document.getElementById("packet"); field.value = 1; field.dispatchEvent(new Event("input"));')
+    scale = (42.4, 6000)
+    sequence = found["panels"]["sequence"]
+    assert near(sequence["flow 1: sent"]["points"], [(0, 0), (0, 1460), (0, 2920), (21.2, 4380)], scale)
+    line = sequence["flow 1: acknowledged"]["line"]
+    assert near(line[:5], [(21.2, 1460), (22.4, 1460), (22.4, 2920), (23.6, 2920), (23.6, 4380)], scale)
+    assert near(found["panels"]["delay"]["flow 1"]["points"], [(11.2, 11.2), (12.4, 12.4), (13.6, 13.6), (32.4, 11.2)], (42.4, 14))
+    queue = found["panels"]["queue"]["at 1.0"]["line"]
+    assert near(queue[:6], [(0, 3), (1.2, 3), (1.2, 2), (2.4, 2), (2.4, 1), (3.6, 1)], (42.4, 4))
+    # Windows, from the lines of the report: M ack F CWND SSTHRESH, and 4380 bytes at the begin.
+    lines = [words.split() for words in (RENO / "expected.txt").read_text().split("\n") if " ack 1 " in words and "deliver" not in words]
+    steps = [(0, 4380)] + [(int(words[0]) / 1e6, int(words[3])) for words in lines]
+    corners = found["panels"]["window"]["cwnd 1"]["line"]
+    assert len(steps) == 5 and near([corners[0], *corners[2::2]], steps, (42.4, 12000))
+    assert found["hover"].startswith("flow 1: sent: 4380packet 6: flow 1, byte 4380, 1500 bytesmade 21.2 msat 1.0: came 21.2 ms")
+    assert found["journey"].split("\n") == ["packet 1: flow 1, byte 1460, 1500 bytes", "made 0 ms",
+                                            "at 1.0: came 0 ms, served 2.4 ms, left 12.4 ms", "delivered 12.4 ms, 12.4 ms after it was made"]
+    assert found["about"].startswith("8 packets made, 8 delivered, 0 under way")
+
+
+def drops_of(report: str) -> list[tuple[float, int]]:
+    """Moments and bytes of dropped segments of flow 1, by the report's lines."""
+    return [(int(words[0]) / 1e6, int(words[5])) for words in map(str.split, report.split("\n"))
+            if words[1:2] == ["drop"] and words[3:5] == ["data", "1"]]
+
+
+@browsing
+def test_losses_and_rates(tmp_path: Path) -> None:
+    """Beside the report's lines, and beside `summary --every`."""
+    folder = COOKBOOK / "two_flows"
+    found = read_back(page_of(tmp_path, folder / "report.txt", folder / "scenario.txt"))
+    text = (folder / "report.txt").read_text()
+    sequence = found["panels"]["sequence"]
+    dropped = drops_of(text)
+    assert dropped and near(sequence["flow 1: dropped"]["points"], dropped, (508, 40000))
+    # What was lost is sent again by the third acknowledgement that says nothing new, the fourth of its number.
+    same = [int(words[0]) / 1e6 for words in map(str.split, text.split("\n")) if words[1:2] == ["deliver"]
+            and words[3:] == ["ack", "1", str(dropped[0][1])]]
+    assert near(sequence["flow 1: sent again"]["points"], [(same[3], dropped[0][1])], (508, 40000))
+    every = re.search(r"in each ([0-9]+) ms", found["titles"][-1])
+    assert every
+    rows = list(csv.DictReader(io.StringIO(tool("summary", folder / "report.txt", folder / "scenario.txt", "--every", f"{every[1]}ms", "--csv")[1])))
+    for name in ("flow 1", "flow 2", "flow 1 acks"):
+        wanted = [int(row["rate"]) / 1e6 for row in rows if row["of"] == name]
+        line = found["panels"]["rate"][name]["line"]
+        for k, rate in enumerate(wanted):
+            middle = (k + 0.5) * int(every[1])
+            over = [y for (x, y), (after, _) in zip(line, line[1:]) if x < middle < after]
+            assert middle > line[-1][0] or np.allclose(over, [rate], atol=0.004), (name, k)
+        assert sum(wanted) > 0
+
+
+@browsing
+@pytest.mark.parametrize("folder", sorted(path.parent for path in COOKBOOK.glob("*/scenario.txt")), ids=lambda path: str(path.name))
+def test_a_picture_of_each_of_the_cookbook(folder: Path, tmp_path: Path) -> None:
+    """Each is drawn, with a picture; what is in a panel is told apart without colour; packets are as many as counted."""
+    page = page_of(tmp_path, folder / "report.txt", folder / "scenario.txt")
+    browse(page, f"--screenshot={tmp_path / 'page.png'}")
+    picture = (tmp_path / "page.png").read_bytes()
+    assert picture.startswith(b"\x89PNG") and len(picture) > 20000
+    found = read_back(page)
+    first = (folder / "report.txt").read_text().split("\nexperiment ")[0]
+    assert found["name"] == first.split()[1]
+    made, delivered = first.rstrip().split("\n")[-1].split()[1:3]
+    assert found["about"].startswith(f"{made} packets made, {delivered} delivered")
+    assert sum(len(one["points"]) for one in found["panels"]["delay"].values()) == int(delivered)
+    for traces in found["panels"].values():
+        assert len({one["form"] for one in traces.values()}) == len(traces) > 0
+
+
+@browsing
+def test_keys_chooser_and_a_phone(tmp_path: Path) -> None:
+    folder = COOKBOOK / "bufferbloat"
+    page = page_of(tmp_path, folder / "report.txt", folder / "scenario.txt")
+    key = "document.body.dispatchEvent(new KeyboardEvent('keydown', {key: '%s', bubbles: true}));"
+    range_of = "await new Promise((next) => setTimeout(next, 500)); told.%s = document.getElementById('range').textContent;"
+    found = read_back(page, "".join(key % one + range_of % name for one, name in
+                                    (("+", "near"), ("ArrowLeft", "left"), ("ArrowRight", "right"), ("-", "far"), ("0", "all"))))
+    # 0 to 1238 ms, half of it about the middle, then half of that to the left and back.
+    assert [found[name].removeprefix("in sight: ") for name in ("near", "left", "right", "far", "all")] == [
+        "309.5 ms to 928.5 ms", "0 ms to 619 ms", "309.5 ms to 928.5 ms", "0 ms to 1238 ms", "0 ms to 1238 ms"]
+    choose = "const menu = document.getElementById('experiment'); menu.value = 1; menu.dispatchEvent(new Event('change'));" \
+             "await new Promise((next) => setTimeout(next, 1000)); told.tabs = [...document.querySelectorAll('select, button, input')]" \
+             ".map((one) => one.tabIndex);"
+    found = read_back(page, choose)
+    assert found["name"] == "codel" and "codel target" in found["about"] and found["tabs"] == [0] * 8
+    assert near(found["panels"]["sequence"]["flow 1: dropped"]["points"], drops_of((folder / "report.txt").read_text()), (1250, 30000))
+    # In a frame as wide as a phone nothing is wider than it.
+    inner = page.read_text().replace("</body>", "<script>setTimeout(() => parent.postMessage(`${innerWidth} "
+                                     "${document.documentElement.scrollWidth} ${document.body.dataset.drawn}`, '*'), 3000)</script></body>")
+    (tmp_path / "inner.html").write_text(inner)
+    (tmp_path / "phone.html").write_text('<!DOCTYPE html><body><iframe src="inner.html" width="360" height="700" style="border:0"></iframe>'
+                                         "<script>addEventListener('message', (event) => document.title = event.data)</script>")
+    assert "<title>360 360 deep</title>" in browse(tmp_path / "phone.html", "--dump-dom")
+
+
+# 20000 packets of a train every 10 us, at a rate that serves one each 8 us; but 30 packets of 1500 bytes, 120 us each,
+# every 200 us from 99.505 ms on, so that for 6 ms more comes than is served.
+LONG = """experiment long seed 0 budget 1000
+@0 pipe 1 config bw 100Mbit/s delay 1 queue 1000
+@0 add 100 pipe 1 ip from any to any
+@0 train 1 udp 10.0.0.1 1 10.0.0.2 2 100 count 20000 gap 10000
+@99505000 train 2 udp 10.0.0.1 1 10.0.0.2 2 1500 count 30 gap 200000
+@1000000000 end
+"""
+
+
+def longest() -> float:
+    """The greatest delay of the first train, in ms: each packet waits until what came before is served."""
+    came = sorted([(10000 * k, 8000) for k in range(20000)] + [(99505000 + 200000 * k, 120000) for k in range(30)])
+    free, most = 0, 0
+    for moment, service in came:
+        free = max(free, moment) + service
+        most = max(most, free - moment if service == 8000 else 0)
+    return (most + 10**6) / 10**6
+
+
+@browsing
+def test_what_is_thinned(alone: Alone, tmp_path: Path) -> None:
+    """Of the whole the greatest delay is drawn, and of a short span each packet."""
+    (tmp_path / "s").write_text(LONG)
+    (tmp_path / "r").write_bytes(alone(LONG.encode()))
+    page = page_of(tmp_path, tmp_path / "r", tmp_path / "s")
+    found = read_back(page)
+    points = found["panels"]["delay"]["train 1"]["points"]
+    assert 100 < len(points) <= 800 and abs(max(y for _, y in points) - longest()) < 0.002
+    deliveries = [int(line.split()[0]) for line in (tmp_path / "r").read_text().split("\n") if "deliver" in line]
+    near_by = read_back(page, address="#long,50000000,51000000")
+    wanted = [moment / 1e6 for moment in deliveries if 50000000 <= moment <= 51000000]
+    got = [x for x, _ in near_by["panels"]["delay"]["train 1"]["points"]]
+    assert len(got) == len(wanted) == 100 and np.abs(np.subtract(got, wanted)).max() < 0.001
+
+
+def test_columns_are_packed() -> None:
+    """The narrowest type that has all values, by differences where they are narrower; each at a multiple of eight."""
+    blocks = Blocks()
+    for values in ([5, -1, 127], [128], [10**15, 10**15 + 100, 10**15 + 227], [-2**31, 2**31 - 1], [0.5, 1.0], []):
+        blocks.add(np.array(values))
+    assert [head[0] for head in blocks.heads] == ["i1", "i2", "f8", "i4", "f8", "f8"] and [head[1] % 8 for head in blocks.heads] == [0] * 6
+    blocks.add(np.arange(1000) * 100)
+    kind, at, length, is_delta = blocks.heads[-1]
+    assert (kind, length, is_delta) == ("i1", 1000, 1)
+    assert np.cumsum(np.frombuffer(b"".join(blocks.parts)[at:at + length], dtype=kind)).tolist() == list(range(0, 100000, 100))
+
+
+def test_files_and_no_network(tmp_path: Path) -> None:
+    page = page_of(tmp_path, RENO / "expected.txt", RENO / "scenario.txt")
+    beside = (tmp_path / "dnlab-plotly.js")
+    text = page.read_text()
+    assert beside.stat().st_size > 10**6 and len(text) < 50000
+    assert re.findall(r'(?:src|href)="([^"]*)"', text) == ["dnlab-plotly.js"] and "http" not in text
+    assert tool("view", RENO / "expected.txt", RENO / "scenario.txt", "--out", tmp_path / "other.html")[1] == f"{tmp_path}/other.html: experiments: 1\n"
+    beside.unlink()
+    single = page_of(tmp_path, RENO / "expected.txt", RENO / "scenario.txt", "--single").read_text()
+    assert len(single) > 10**6 and not beside.exists() and 'src="dnlab' not in single
+    status, _, err = tool("view", RENO / "expected.txt", "--out", tmp_path / "none" / "a.html")
+    assert status == 1 and "a.html" in err
+    (tmp_path / "bad").write_text("experiment a\n0 okay 0\n")
+    status, out, err = tool("view", tmp_path / "bad", "--out", tmp_path / "bad.html")
+    assert status == 1 and "line 2" in err and not out and not (tmp_path / "bad.html").exists()
+    assert tool("view", EXAMPLES / "four_experiments" / "expected.txt", "--out", tmp_path / "four.html", "--experiment", "none")[0] == 1
+    status, out, _ = tool("view", "--help")
+    assert status == 0 and "Example:" in out and "Exit status" in out
+
+
+@browsing
+def test_single_and_without_the_scenario(tmp_path: Path) -> None:
+    status, _, err = tool("view", RENO / "expected.txt", "--out", tmp_path / "page.html", "--single")
+    assert status == 0 and "no scenario" not in err and "scenario" in err
+    found = read_back(tmp_path / "page.html")
+    assert near(found["panels"]["sequence"]["flow 1: delivered"]["points"], [(11.2, 0), (12.4, 1460), (13.6, 2920), (32.4, 4380)], (42.4, 6000))
+    assert "scenario" in found["notes"] and "delay" not in found["panels"]
+
+
+def test_journeys_without_pipes() -> None:
+    """An experiment whose packets came to no pipe has no visit."""
+    view = view_of("one_packet")
+    head = drawn(view).head
+    assert head["table"]["starts"] >= 0 and head["until"] >= 1 and len(head["panels"]) == 5
