@@ -1,4 +1,4 @@
-# One pipe there, drop-tail, and one back, with Agent/TCP/Reno of ns-2.35. tools/beside_ns2 calls it with
+# One pipe there, drop-tail, and one back, with Agent/TCP/Reno of ns-2.35. tools/beside/ns2 calls it with
 # key=value words. A queue-limit of one more than the pipe's holds as many that wait: ns-2 counts the packet in service.
 array set o {n 2000 flows 1 at2 1.0 delay 10 ssthresh 44 dead "" end 60 out -}
 foreach word $argv { regexp {^([^=]+)=(.*)$} $word all key value; set o($key) $value }

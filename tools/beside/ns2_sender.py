@@ -1,7 +1,7 @@
-"""A sender that departs from RFC 5681 as Agent/TCP/Reno of ns-2.35 does, for tools/beside_ns2: windows in real
+"""A sender that departs from RFC 5681 as Agent/TCP/Reno of ns-2.35 does, for tools/beside/ns2: windows in real
 numbers of segments, ssthresh from the window in place of FlightSize, growth on the acknowledgement that ends a
 recovery, a timer that a fast retransmit starts anew, ssthresh halved at every expiry, and times in ticks of 1 ms.
-It has the methods that tools/second_parts.py's Sender has."""
+It has the methods that tools/second/second_parts.py's Sender has."""
 
 TICK = 0.001
 # Where ns-2's ticks lie is random; this lets the run with a round trip of 0.8 s agree, and so do others.

@@ -1,4 +1,4 @@
-// A train through a queue of ns-3.37, served at a rate; tools/beside_ns3 compiles and calls it.
+// A train through a queue of ns-3.37, served at a rate; tools/beside/ns3 compiles and calls it.
 //   codel BW TARGET_US INTERVAL_US SIZE COUNT GAP_NS   CoDelQueueDisc before a server of our own, which rounds up
 //                                                      once in a busy period, as a pipe does
 //   device BW SIZE COUNT GAP_NS                        PointToPointNetDevice, whose server is ns-3's own

@@ -1,16 +1,18 @@
 """Which texts are scenarios, by the package's reader (python/dnlab/scenario.py), and whether a report is whole.
 
-tools/hostile, tools/limits and tools/differ have here a second word on which fault stands where, written from
-docs/use/SCENARIO.md and docs/use/REPORT.md alone. It has no simulation: which finishes and drops a report has is not judged
-here.
+tools/attack/hostile, tools/attack/limits and tools/second/differ have here a second word on which fault stands where,
+written from docs/use/SCENARIO.md and docs/use/REPORT.md alone. It has no simulation: which finishes and drops a report
+has is not judged here.
 """
 import pathlib
 import re
 import sys
 
-sys.path.insert(0, str(pathlib.Path(__file__).resolve().parent.parent / "python"))
+sys.path.insert(0, str(pathlib.Path(__file__).resolve().parents[2] / "python"))
 
-from dnlab.scenario import CAUSES, MOST_BYTES, MOST_EXPERIMENTS, MOST_LINE, SCALES, TIMES, Judged  # noqa: E402, F401
+from dnlab.scenario import MOST_BYTES, MOST_LINE, SCALES, TIMES, Judged  # noqa: E402  (the path is set first)
+
+__all__ = ["MOST_BYTES", "MOST_LINE", "SCALES", "TIMES", "Judged", "trouble"]
 
 COUNTERS = re.compile(rb"counters" + rb" ([0-9]+)" * 11)
 BODY = re.compile(rb"[0-9]+ (?:ok|refused|make|identify|arrive|finish|pass|deliver|drop|ack|expire|spent).*"

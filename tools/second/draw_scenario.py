@@ -1,4 +1,4 @@
-"""Draws scenarios for tools/differ: small queues, short flows, losses, masks, CoDel, changes of configuration,
+"""Draws scenarios for tools/second/differ: small queues, short flows, losses, masks, CoDel, changes of configuration,
 deletions, equal moments, rules that go on, several experiments; some of them damaged afterwards.
 
 Moments are drawn from a few, and times of service are often whole milliseconds, so that commands, exits and

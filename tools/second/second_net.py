@@ -1,4 +1,4 @@
-"""Parts of tools/second: what moves packets in one experiment, written from docs/use/RULES.md and docs/use/ORDER.md."""
+"""Parts of tools/second/second: what moves packets in one experiment, written from docs/use/RULES.md and docs/use/ORDER.md."""
 import heapq
 from collections import deque
 from types import SimpleNamespace

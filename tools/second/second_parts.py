@@ -1,4 +1,4 @@
-"""Parts of tools/second: loss words, one instance of a pipe, one sender. Written from docs/use/RULES.md, docs/use/CODEL.md and
+"""Parts of tools/second/second: loss words, one instance of a pipe, one sender. Written from docs/use/RULES.md, docs/use/CODEL.md and
 docs/use/RENO.md alone, for reading and not for speed."""
 from collections import deque
 from math import isqrt

@@ -1,4 +1,4 @@
-"""Parts of tools/second: rules and configurations as they are read and listed, written from docs/use/RULES.md,
+"""Parts of tools/second/second: rules and configurations as they are read and listed, written from docs/use/RULES.md,
 docs/use/SCENARIO.md and docs/use/REPORT.md. The words are taken to be a line of a scenario."""
 from collections import deque
 

@@ -1,4 +1,4 @@
-"""Parts of tools/second: what commands do, and the report of a text, written from docs/use/SCENARIO.md, docs/use/RULES.md and
+"""Parts of tools/second/second: what commands do, and the report of a text, written from docs/use/SCENARIO.md, docs/use/RULES.md and
 docs/use/ORDER.md."""
 from collections import deque
 from types import SimpleNamespace
