@@ -1,3 +1,4 @@
+# shellcheck shell=bash
 # The program that a script runs (tools/common/proved.py is the same in Python).
 
 # prints the path of a program; in the place of the repository's script ./dnlab, which answers without a proof too and

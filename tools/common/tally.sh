@@ -1,3 +1,4 @@
+# shellcheck shell=bash
 # How many trials passed and how many failed, for scripts that test something (tools/common/tally.py is the same in
 # Python).
 passed=0
