@@ -3,7 +3,7 @@ import os
 import subprocess
 import sys
 from pathlib import Path
-from typing import Callable
+from typing import Callable, Iterator
 
 import pytest
 from hypothesis import settings
@@ -15,7 +15,20 @@ from dnlab import report, scenario  # noqa: E402
 from dnlab.programs import proved_program  # noqa: E402
 from dnlab.view import View  # noqa: E402
 
-EXAMPLES = ROOT / "examples"
+
+class Examples:
+    """The worked examples: `EXAMPLES / NAME` is the folder of that name, whatever its subject."""
+
+    folder = ROOT / "examples"
+
+    def __truediv__(self, name: str) -> Path:
+        return next(self.folder.glob(f"*/{name}"))
+
+    def glob(self, pattern: str) -> Iterator[Path]:
+        return self.folder.glob(f"*/{pattern}")
+
+
+EXAMPLES = Examples()
 # The same examples each time, and no files of them are left.
 settings.register_profile("dnlab", derandomize=True, database=None, deadline=None)
 settings.load_profile("dnlab")

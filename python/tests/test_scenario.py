@@ -56,14 +56,11 @@ def test_limits() -> None:
 
 
 def test_all_examples(program: str) -> None:
-    """Each text of examples/ is one, or has the fault that its folder's name says."""
+    """Each text of examples/ is one, or has the fault that its stderr.txt says."""
     for path in sorted(EXAMPLES.glob("*/scenario.txt")):
         fault = Judged(path.read_bytes()).fault
-        stderr = path.parent / "expected_stderr.txt"
-        if path.parent.name.startswith("fault_"):
-            assert fault and fault[1] == path.parent.name[len("fault_"):]
-        elif not path.parent.name.startswith(("faulty", "cut")) and not stderr.exists():
-            assert fault is None, path
+        stderr = path.parent / "stderr.txt"
+        assert (fault and f"line {fault[0]}: {fault[1]}\n") == (stderr.read_text() if stderr.exists() else None), path
 
 
 @pytest.mark.parametrize("name", [name for _, name, _ in pkgutil.walk_packages(dnlab.__path__, "dnlab.")

@@ -82,7 +82,7 @@ def begins(text: bytes) -> list[int]:
     return [number for number, line in enumerate(text.split(b"\n")) if line.split()[:1] == [b"experiment"]]
 
 
-FILES = sorted([*ROOT.glob("examples/*/scenario.txt"), *ROOT.glob("cookbook/*/scenario.txt")])
+FILES = sorted([*ROOT.glob("examples/*/*/scenario.txt"), *ROOT.glob("cookbook/*/scenario.txt")])
 
 
 def ways(turn: int, text: bytes) -> tuple[int, ...]:

@@ -1,0 +1,115 @@
+"""A sender that departs from RFC 5681 as Agent/TCP/Reno of ns-2.35 does, for tools/beside/ns2: windows in real
+numbers of segments, ssthresh from the window in place of FlightSize, growth on the acknowledgement that ends a
+recovery, a timer that a fast retransmit starts anew, ssthresh halved at every expiry, and times in ticks of 1 ms.
+It has the methods that tools/second/second_parts.py's Sender has."""
+
+TICK = 0.001
+# Where ns-2's ticks lie is random; this lets the run with a round trip of 0.8 s agree, and so do others.
+BOOT = 0.0007
+SECOND = 10**9
+
+
+class Ns2Sender:
+    def __init__(self, smss, segments, ssthresh, window, rto):
+        self.smss, self.total, self.most = smss, segments, window // smss
+        self.size, self.threshold = 3.0, ssthresh // smss
+        self.next, self.highest, self.max_sent = 0, -1, -1
+        self.duplicates = self.inflated = 0
+        self.out = []
+        self.timer = None
+        self.is_stopped = False
+        self.backoff, self.rto = 1, 1.0
+        self.srtt = self.rttvar = 0
+        self.timed = None
+        self.last_timed = -1
+        self.send_much()
+
+    @property
+    def cwnd(self):
+        return round((self.size + self.inflated) * self.smss)
+
+    @property
+    def ssthresh(self):
+        return self.threshold * self.smss
+
+    def may_emit(self):
+        return bool(self.out)
+
+    def send_much(self):
+        window = min(int(self.size) + self.inflated, self.most)
+        while self.next <= self.highest + window and self.next < self.total:
+            self.out.append(self.next)
+            self.next += 1
+
+    def emit(self, now):
+        number = self.out.pop(0)
+        if number > self.max_sent:
+            self.max_sent = number
+            if self.timed is None:
+                self.timed = (number, now) if number > self.last_timed else None
+                self.last_timed = max(self.last_timed, number)
+        if self.timer is None:
+            self.set_timer(now)
+        return number * self.smss
+
+    def set_timer(self, now):
+        time = max(self.rto, 1.0) * self.backoff
+        self.timer = now + round(min(time, 60.0) * SECOND)
+
+    def ack(self, upto, now):
+        number = upto // self.smss - 1
+        if number > self.highest:
+            self.inflated = 0
+            self.new_data(number, now)
+        elif number == self.highest:
+            self.duplicates += 1
+            if self.duplicates == 3:
+                self.halve()
+                self.timed, self.inflated = None, 3
+                self.set_timer(now)
+                self.out.append(self.highest + 1)
+            elif self.duplicates > 3:
+                self.inflated += 1
+        if self.duplicates == 0 or self.duplicates > 2:
+            self.send_much()
+
+    def new_data(self, number, now):
+        self.duplicates = 0
+        self.highest = number
+        self.next = max(self.next, number + 1)
+        if self.timed and number >= self.timed[0]:
+            self.backoff = 1
+            self.measure(self.timed[1] / SECOND, now / SECOND)
+            self.timed = None
+        self.timer = None
+        if self.next > number + 1 or number < self.max_sent:
+            self.set_timer(now)
+        self.size += 1 if self.size < self.threshold else 1 / self.size
+
+    def measure(self, begun, now):
+        """In ticks, with 3 and 2 binary places, as ns-2 keeps them."""
+        ticks = max(1, int((now - begun + (begun + BOOT) % TICK) / TICK))
+        if self.srtt:
+            delta = ticks - (self.srtt >> 3)
+            self.srtt = max(1, self.srtt + delta)
+            self.rttvar = max(1, self.rttvar + abs(delta) - (self.rttvar >> 2))
+        else:
+            self.srtt, self.rttvar = ticks << 3, ticks << 1
+        self.rto = (((self.rttvar << 3) + self.srtt) >> 3) * TICK
+
+    def halve(self):
+        half = min(self.size + self.inflated, self.most) / 2
+        self.threshold, self.size = max(2, int(half)), half
+
+    def expire(self, now):
+        self.inflated = self.duplicates = 0
+        self.halve()
+        self.size = 1.0
+        if self.backoff < 64:
+            self.backoff *= 2
+        if self.backoff > 8:
+            self.rttvar += self.srtt >> 3
+            self.srtt = 0
+        self.set_timer(now)
+        self.next, self.timed, self.out = self.highest + 1, None, []
+        self.send_much()

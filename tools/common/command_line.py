@@ -1,0 +1,24 @@
+"""What the command lines of the tools have in common."""
+import argparse
+import os
+import shutil
+
+import proved
+
+
+def parser_of(about: str | None, **how: str) -> argparse.ArgumentParser:
+    """A parser whose help is the text at a tool's head."""
+    return argparse.ArgumentParser(description=about, formatter_class=argparse.RawDescriptionHelpFormatter, **how)
+
+
+def program_of(parser: argparse.ArgumentParser, named: str | None = None) -> str:
+    """The whole path of the program that is named, else of $DNLAB, else of the proved one; an end where there is none."""
+    return path_of(parser, proved.program(named))
+
+
+def path_of(parser: argparse.ArgumentParser, named: str, hint: str = "") -> str:
+    """The whole path of a program; an end where there is none of this name."""
+    found = shutil.which(named)
+    if found is None:
+        parser.error(f"{named} is no program{hint}")
+    return os.path.abspath(found)

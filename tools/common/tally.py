@@ -1,0 +1,29 @@
+"""How many trials passed and how many failed, as every tool that tests something says it."""
+from collections.abc import Iterable
+
+
+class Tally:
+    """Counts trials; one that failed is said at once, behind the words that stand before each."""
+
+    def __init__(self, before: str = "") -> None:
+        self.before = before
+        self.passed = 0
+        self.failed = 0
+
+    def count(self, is_well: object, what: str = "") -> None:
+        if is_well:
+            self.passed += 1
+            return
+        self.failed += 1
+        if what:
+            print(self.before + what, flush=True)
+
+    def count_all(self, trials: Iterable[tuple[str, object]], before: str = "") -> None:
+        """Counts trials that come with their names."""
+        for name, is_well in trials:
+            self.count(is_well, f"{before}{name}: not so")
+
+    def close(self) -> int:
+        """Says the closing line, and answers the tool's status: 1 where a trial failed or none ran."""
+        print(f"{self.passed} passed, {self.failed} failed", flush=True)
+        return 1 if self.failed or not self.passed else 0

@@ -1,0 +1,219 @@
+"""Parts of tools/second/second: loss words, one instance of a pipe, one sender. Written from docs/use/RULES.md, docs/use/CODEL.md and
+docs/use/RENO.md alone, for reading and not for speed."""
+from collections import deque
+from math import isqrt
+
+MOST_INSTANCES = 256
+MAXPACKET = 1500
+WORD = 2**32 - 1
+SECOND = 10**9
+
+
+def quarter(x, a, b, c, d):
+    """The quarter round of RFC 8439."""
+    for at, one, other, turn in ((a, b, d, 16), (c, d, b, 12), (a, b, d, 8), (c, d, b, 7)):
+        x[at] = (x[at] + x[one]) & WORD
+        x[other] ^= x[at]
+        x[other] = ((x[other] << turn) | (x[other] >> (32 - turn))) & WORD
+
+
+def loss_word(seed, stream, place):
+    """The word at a place of ChaCha20, with a 64-bit counter and a 64-bit nonce."""
+    block = place // 16
+    start = [0x61707865, 0x3320646E, 0x79622D32, 0x6B206574, seed & WORD, seed >> 32, 0, 0, 0, 0, 0, 0,
+             block & WORD, block >> 32, stream & WORD, stream >> 32]
+    x = list(start)
+    for _ in range(10):
+        for column in range(4):
+            quarter(x, column, column + 4, column + 8, column + 12)
+        for row in range(4):
+            quarter(x, row, 4 + (row + 1) % 4, 8 + (row + 2) % 4, 12 + (row + 3) % 4)
+    return (x[place % 16] + start[place % 16]) & WORD
+
+
+class Codel:
+    """The state of RFC 8289, section 5."""
+
+    def __init__(self):
+        self.first_above = self.drop_next = self.count = self.lastcount = 0
+        self.dropping = False
+
+
+def control_law(moment, count, interval):
+    return moment + isqrt(interval * interval // count)
+
+
+class Instance:
+    """A queue, a server and a delay line."""
+
+    def __init__(self):
+        self.waiting = deque()
+        self.bytes = self.drawn = 0
+        self.codel = Codel()
+        self.serving = self.finish = None
+        self.begun = self.served = 0
+        self.is_cut = False
+        self.line = deque()
+        self.last_exit = 0
+
+    def is_lost(self, seed, stream, plr):
+        self.drawn += 1
+        return loss_word(seed, stream, self.drawn - 1) * 10**6 < plr * 2**32
+
+    def has_room(self, size, config):
+        if config.kbytes:
+            return self.bytes + size <= 1024 * config.queue
+        return len(self.waiting) < config.queue
+
+    def enqueue(self, packet, now):
+        self.waiting.append((packet, now))
+        self.bytes += packet.size
+
+    def take_head(self, now, config):
+        """`dodequeue`: the packet and whether it may be dropped."""
+        state = self.codel
+        if not self.waiting:
+            state.first_above = 0
+            return None, False
+        packet, stamp = self.waiting.popleft()
+        self.bytes -= packet.size
+        if now - stamp < config.target or self.bytes <= MAXPACKET:
+            state.first_above = 0
+            return packet, False
+        if state.first_above == 0:
+            state.first_above = now + config.interval
+            return packet, False
+        return packet, now >= state.first_above
+
+    def dequeue(self, now, config):
+        """What is dropped, and the packet for the server or None."""
+        if not config.is_codel:
+            if not self.waiting:
+                return [], None
+            packet, _ = self.waiting.popleft()
+            self.bytes -= packet.size
+            return [], packet
+        state, dropped = self.codel, []
+        packet, may_drop = self.take_head(now, config)
+        if state.dropping:
+            state.dropping = may_drop
+            while state.dropping and now >= state.drop_next:
+                dropped.append(packet)
+                state.count = min(state.count + 1, WORD)
+                packet, state.dropping = self.take_head(now, config)
+                if state.dropping:
+                    state.drop_next = control_law(state.drop_next, state.count, config.interval)
+        elif may_drop:
+            dropped.append(packet)
+            packet, _ = self.take_head(now, config)
+            state.dropping = True
+            delta = state.count - state.lastcount
+            is_near = delta > 1 and now < state.drop_next + 16 * config.interval
+            state.count = delta if is_near else 1
+            state.drop_next = control_law(now, state.count, config.interval)
+            state.lastcount = state.count
+        return dropped, packet
+
+    def serve(self, now, config, goes_on):
+        """Dequeues for the server, which goes on with a busy period or begins one; what CoDel dropped."""
+        dropped, packet = self.dequeue(now, config)
+        self.serving = packet
+        self.finish = None
+        if packet:
+            if not goes_on or self.is_cut:
+                self.begun, self.served, self.is_cut = now, 0, False
+            self.served += packet.size
+            taken = -(-8 * 10**9 * self.served // config.bw) if config.bw else 0
+            self.finish = self.begun + taken
+        return dropped
+
+    def cut_period(self):
+        self.is_cut = self.serving is not None
+
+    def enter_line(self, packet, now, config):
+        self.last_exit = max(self.last_exit, now + max(config.delay * 10**6, 1))
+        self.line.append((self.last_exit, packet))
+
+
+class Sender:
+    """A Reno sender, in bytes."""
+
+    def __init__(self, smss, segments, ssthresh, window, rto):
+        self.smss, self.total, self.window = smss, smss * segments, window
+        self.una = self.nxt = self.max = self.duplicates = 0
+        self.cwnd = (4 if smss <= 1095 else 3) * smss
+        self.ssthresh = ssthresh
+        self.recovery = self.resend = self.timed = self.is_stopped = False
+        self.is_adaptive = rto is None
+        self.first_time = self.time = SECOND if rto is None else rto * 10**6
+        self.timer = self.sample = self.srtt = self.rttvar = None
+
+    def may_emit(self):
+        if self.is_stopped:
+            return False
+        fits = self.nxt < self.total and self.nxt + self.smss - self.una <= min(self.cwnd, self.window)
+        return self.resend or fits
+
+    def emit(self, now):
+        """The first byte of the segment that goes out."""
+        if self.resend:
+            self.resend, first = False, self.una
+        else:
+            first = self.nxt
+            if self.nxt == self.max and self.is_adaptive and self.sample is None:
+                self.sample = (first + self.smss, now)
+            self.nxt += self.smss
+            self.max = max(self.max, self.nxt)
+        if self.timer is None:
+            self.timer = now + self.time
+        return first
+
+    def half(self):
+        return max((self.max - self.una) // 2, 2 * self.smss)
+
+    def ack(self, number, now):
+        if self.una < number <= self.max and number % self.smss == 0:
+            self.new_data(number, now)
+        elif number == self.una < self.max:
+            self.duplicate()
+
+    def new_data(self, number, now):
+        if self.recovery:
+            self.cwnd, self.recovery = self.ssthresh, False
+        elif self.cwnd < self.ssthresh:
+            self.cwnd = min(WORD, self.cwnd + min(number - self.una, self.smss))
+        else:
+            self.cwnd = min(WORD, self.cwnd + max(1, self.smss * self.smss // self.cwnd))
+        self.una, self.nxt = number, max(self.nxt, number)
+        self.duplicates, self.resend, self.timed = 0, False, False
+        if not self.is_adaptive:
+            self.time = self.first_time
+        elif self.sample and number >= self.sample[0]:
+            self.measure(now - self.sample[1])
+        self.timer = now + self.time if self.una < self.max else None
+
+    def measure(self, rtt):
+        self.sample = None
+        if self.srtt is None:
+            self.srtt, self.rttvar = rtt, rtt // 2
+        else:
+            self.rttvar = (3 * self.rttvar + abs(self.srtt - rtt)) // 4
+            self.srtt = (7 * self.srtt + rtt) // 8
+        self.time = min(max(self.srtt + max(1, 4 * self.rttvar), SECOND), 60 * SECOND)
+
+    def duplicate(self):
+        self.duplicates = min(WORD, self.duplicates + 1)
+        if self.recovery:
+            self.cwnd = min(WORD, self.cwnd + self.smss)
+        elif self.duplicates == 3:
+            self.ssthresh = self.half()
+            self.cwnd = min(WORD, self.ssthresh + 3 * self.smss)
+            self.resend, self.recovery, self.sample = True, True, None
+
+    def expire(self, now):
+        if not self.timed:
+            self.ssthresh = self.half()
+        self.cwnd, self.nxt, self.duplicates = self.smss, self.una, 0
+        self.recovery, self.resend, self.timed, self.sample = False, False, True, None
+        self.time = min(2 * self.time, 60 * SECOND)
+        self.timer = now + self.time

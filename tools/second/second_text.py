@@ -1,0 +1,126 @@
+"""Parts of tools/second/second: rules and configurations as they are read and listed, written from docs/use/RULES.md,
+docs/use/SCENARIO.md and docs/use/REPORT.md. The words are taken to be a line of a scenario."""
+from collections import deque
+
+import scenario_text
+
+PROTOCOLS = {"ip": None, "tcp": 6, "udp": 17}
+FIELDS = {"proto": ("proto", 2), "src-ip": ("src", 8), "dst-ip": ("dst", 8), "src-port": ("sport", 4),
+          "dst-port": ("dport", 4)}
+
+
+def number_of(address):
+    parts = [int(part) for part in address.split(".")]
+    return parts[0] << 24 | parts[1] << 16 | parts[2] << 8 | parts[3]
+
+
+def dotted(number):
+    return ".".join(str(number >> shift & 255) for shift in (24, 16, 8, 0))
+
+
+class End:
+    """One end of a rule: address with length, and ports."""
+
+    def __init__(self, words):
+        word = words.popleft()
+        address, _, length = ("0.0.0.0/0" if word == "any" else word).partition("/")
+        self.length = int(length or 32)
+        self.mask = (2**32 - 1) >> self.length ^ (2**32 - 1)
+        self.address = number_of(address) & self.mask
+        self.ports = None
+        if words and words[0] != "to":
+            first, _, last = words.popleft().partition("-")
+            self.ports = (int(first), int(last or first))
+
+    def has(self, address, port):
+        return address & self.mask == self.address and (not self.ports or self.ports[0] <= port <= self.ports[1])
+
+    def text(self):
+        address = "any" if not self.length else dotted(self.address) + (f"/{self.length}" if self.length < 32 else "")
+        if not self.ports:
+            return address
+        first, last = self.ports
+        return f"{address} {first}" if first == last else f"{address} {first}-{last}"
+
+
+class Rule:
+    def __init__(self, words, order):
+        words = deque(words[1:])
+        self.number = int(words.popleft())
+        self.place = (self.number, order)
+        self.action = words.popleft()
+        self.target = int(words.popleft()) if self.action in ("skipto", "pipe") else None
+        self.proto = words.popleft()
+        words.popleft()
+        self.source = End(words)
+        words.popleft()
+        self.sink = End(words)
+        self.packets = self.bytes = 0
+
+    def matches(self, packet):
+        return (PROTOCOLS[self.proto] in (None, packet.proto) and self.source.has(packet.src, packet.sport)
+                and self.sink.has(packet.dst, packet.dport))
+
+    def text(self):
+        action = self.action if self.target is None else f"{self.action} {self.target}"
+        return (f"rule {self.number:05} {self.packets} {self.bytes} {action} {self.proto} "
+                f"from {self.source.text()} to {self.sink.text()}")
+
+
+def split_unit(word):
+    digits = word.rstrip("KMGBytesbit/mu")
+    return int(digits), word[len(digits):]
+
+
+class Config:
+    """What `pipe P config` says; what isn't written takes its default."""
+
+    def __init__(self, words):
+        self.bw, self.delay, self.queue, self.kbytes, self.plr = 0, 0, 50, False, 0
+        self.is_codel, self.target, self.interval = False, 5 * 10**6, 100 * 10**6
+        self.mask = dict.fromkeys(FIELDS, 0)
+        words = deque(words)
+        while words:
+            getattr(self, "take_" + words.popleft())(words)
+
+    def take_bw(self, words):
+        number, unit = split_unit(words.popleft())
+        scale = scenario_text.SCALES[unit[:1] if unit[:1] in ("K", "M", "G") else ""]
+        self.bw = number * scale * (8 if unit.endswith("Byte/s") else 1)
+
+    def take_delay(self, words):
+        self.delay = split_unit(words.popleft())[0]
+
+    def take_queue(self, words):
+        self.queue, unit = split_unit(words.popleft())
+        self.kbytes = bool(unit)
+
+    def take_plr(self, words):
+        whole, _, part = words.popleft().partition(".")
+        self.plr = int(whole) * 10**6 + int(part.ljust(6, "0"))
+
+    def take_mask(self, words):
+        if words[0] == "all":
+            words.popleft()
+            self.mask = {name: 16**digits - 1 for name, (_, digits) in FIELDS.items()}
+        while words and words[0] in FIELDS:
+            name = words.popleft()
+            self.mask[name] = int(words.popleft(), 16)
+
+    def take_droptail(self, words):
+        pass
+
+    def take_codel(self, words):
+        self.is_codel = True
+        while words and words[0] in ("target", "interval"):
+            name = words.popleft()
+            number, unit = split_unit(words.popleft())
+            setattr(self, name, number * scenario_text.TIMES[unit])
+
+    def discipline(self):
+        return f"codel target {self.target} interval {self.interval}" if self.is_codel else "droptail"
+
+    def text(self):
+        mask = "/".join(f"{self.mask[name]:0{digits}x}" for name, (_, digits) in FIELDS.items())
+        queue = f"{self.queue}KBytes" if self.kbytes else self.queue
+        return f"bw {self.bw} delay {self.delay} queue {queue} plr {self.plr} mask {mask} {self.discipline()}"
