@@ -1,6 +1,6 @@
 -- The least byte that did not come: as many segments as came can't hold one more.
 use Rattle.std.proofs.Common.{inl, inr, ◌≡◌, ℕ, zero, suc, ◌+◌, ◌*◌, ◌<◌, ◌≤◌, ◌⊎◌, Bool, true, false, List, [], ◌∷◌, length, refl, sym, ap, ◌∙◌, subst, eq-eqb, arith}
-use Rattle.std.specs.Prelude.{◌||◌, ◌==◌, nat_lt}
+use Rattle.std.specs.Prelude.{◌==◌}
 use Rattle.std.specs.List.{list_any, AllByRecursion}
 use Rattle.std.proofs.lemmas.Bool.{cases_Bool, cases_order, eqb-true, ne_eqb, lt-ltb, le-ltb}
 use Rattle.std.proofs.Math.Nat.{mul-le-mul_right}
@@ -142,7 +142,7 @@ run_at (suc n) smss xs a zero h low = ap (has xs) (omega arith) ∙ h.0
 run_at (suc n) smss xs a (suc k) h low =
     ap (has xs) (omega arith) ∙ run_at n smss xs (a + smss) k h.1 (omega (arith, low))
 
-fewer : (a b n : ℕ) → a * n < b * n → a < b
+pub fewer : (a b n : ℕ) → a * n < b * n → a < b
 fewer a b n h = elim (cases_order a b) [
   | inl e ↦ omega (arith, h, ap (λ m. m * n) e)
   | inr w ↦ elim w [

@@ -2,3 +2,4 @@ pub mod CodelRuns
 pub mod InstanceNumbers
 pub mod LeastDue
 pub mod Missing
+pub mod SenderWindow

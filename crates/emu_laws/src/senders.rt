@@ -1,0 +1,21 @@
+//! A sender keeps to the receiver's window.
+
+ghost use Rattle.emu_laws.specs.SenderWindow.{FlightFitsWindow, NewDataFitsWindows, DoneFlowsAreSilent};
+
+/// In every state of every run, what a flow has sent and is not acknowledged is at most the receiver's
+/// window (RFC 5681, section 3.1).
+pub fn flight_fits_window()
+    ensures { FlightFitsWindow }
+{}
+
+/// A segment of new data is sent only where it ends within the lesser of cwnd and rwnd, counted from the
+/// first byte that is not acknowledged (RFC 5681, section 3.1). What is sent again after a loss goes
+/// without regard to them.
+pub fn new_data_fits_windows()
+    ensures { NewDataFitsWindows }
+{}
+
+/// A flow that is stopped, or whose every byte is acknowledged, has no segment due.
+pub fn done_flows_are_silent()
+    ensures { DoneFlowsAreSilent }
+{}
