@@ -4,5 +4,6 @@ mod FlowsKept
 mod InstanceNumbering
 mod LeastDues
 mod MissingFacts
+mod PipeDelay
 mod SenderWindow
 mod Words

@@ -2,4 +2,5 @@ pub mod CodelRuns
 pub mod InstanceNumbers
 pub mod LeastDue
 pub mod Missing
+pub mod PipeDelay
 pub mod SenderWindow

@@ -1,0 +1,15 @@
+//! A pipe gives the delay that was asked.
+
+ghost use Rattle.emu_laws.specs.PipeDelay.{DelayIsKept, IdleTakesItsTime};
+
+/// A packet that finishes leaves the pipe no sooner than after the delay (1 ns at least), and exactly
+/// then where nothing before it leaves later.
+pub fn delay_is_kept()
+    ensures { DelayIsKept }
+{}
+
+/// Through an idle instance a packet takes its bits over the rate, rounded up once, and the delay, to the
+/// nanosecond.
+pub fn idle_takes_its_time()
+    ensures { IdleTakesItsTime }
+{}
