@@ -5,5 +5,6 @@ mod InstanceNumbering
 mod LeastDues
 mod MissingFacts
 mod PipeDelay
+mod PipeRate
 mod SenderWindow
 mod Words

@@ -3,4 +3,5 @@ pub mod InstanceNumbers
 pub mod LeastDue
 pub mod Missing
 pub mod PipeDelay
+pub mod PipeRate
 pub mod SenderWindow

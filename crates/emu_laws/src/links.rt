@@ -1,6 +1,7 @@
-//! A pipe gives the delay that was asked.
+//! A pipe gives the delay and the rate that were asked.
 
 ghost use Rattle.emu_laws.specs.PipeDelay.{DelayIsKept, IdleTakesItsTime};
+ghost use Rattle.emu_laws.specs.PipeRate.{RateIsKept};
 
 /// A packet that finishes leaves the pipe no sooner than after the delay (1 ns at least), and exactly
 /// then where nothing before it leaves later.
@@ -12,4 +13,10 @@ pub fn delay_is_kept()
 /// nanosecond.
 pub fn idle_takes_its_time()
     ensures { IdleTakesItsTime }
+{}
+
+/// In any stretch of a busy period no more bits finish than the rate allows in it and in one nanosecond
+/// more (each finish is rounded up), with one packet more.
+pub fn rate_is_kept()
+    ensures { RateIsKept }
 {}
