@@ -6,5 +6,7 @@ mod LeastDues
 mod MissingFacts
 mod PipeDelay
 mod PipeRate
+mod PipesKept
+mod QueuesKept
 mod SenderWindow
 mod Words

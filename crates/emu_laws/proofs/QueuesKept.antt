@@ -1,0 +1,67 @@
+-- What waits in an instance: a server takes the next as soon as it can, and nothing is accepted beyond the limit.
+use Rattle.std.proofs.Common.{◌≡◌, ℕ, ◌+◌, ◌*◌, List, [], ◌∷◌, ◌++◌, length, Bool, true, false, refl, ◌∙◌, subst, Option, Some, None, arith}
+use Rattle.std.specs.Prelude.{if◌then◌else◌, is_some, option_map, option_to_list}
+use Rattle.std.proofs.lemmas.Bool.{ltb-true, leb-true}
+use Rattle.std.proofs.lemmas.List.{length-append}
+use Rattle.std.proofs.lemmas.List.Sums.{sum-map, sum_by-append, sum_by-cons}
+use Rattle.emu_laws.proofs.Words.{Packet, PipeConfig, QueueLimit, Slots, KBytes, Lost, Full}
+use Rattle.emu_model.specs.DropTail.{Waiting, bytes_of, accepts}
+use Rattle.emu_model.specs.Codel.{Dequeued}
+use Rattle.emu_model.specs.Pipes.{InService, Instance, After, dequeue, period_with, serve_next, no_drop, drop_one, enqueue, accept, drawn_one, instance_arrive, send_off, cut_service}
+use Rattle.emu_model.specs.ComponentLaws.{IsWithin}
+use Rattle.emu_model.specs.Alone.{alone}
+use Rattle.emu_model.proofs.CallerLemmas.{dequeue-cut}
+use Rattle.emu_laws.proofs.EachOf.{either, each_weaker}
+use Rattle.emu_laws.proofs.PipesKept.{InstanceKeeps, Each, alone-pipes}
+use Rattle.emu_laws.proofs.FlowsKept.{Anything, anything}
+use Rattle.emu_laws.specs.NeverIdle.{IsWorkConserving, NeverIdle}
+
+-- of both of two, where the choice is known
+of_choice : {A : Type 0} (P : A → Type 0) (b : Bool) (x y : A) → (b ≡ true → P x) → (b ≡ false → P y) →
+    P (if b then x else y)
+of_choice P true x y p q = p refl
+of_choice P false x y p q = q refl
+
+-- an option put through f is none where it is none
+none_of : {A B : Type 0} (f : A → B) (o : Option A) → option_map f o ≡ None → o ≡ None
+none_of f None e = refl
+none_of f (Some a) e = absurd (cc e)
+
+-- once the next is taken, or none was there
+next-busy : (config : PipeConfig) (now : ℕ) (i : Instance) → IsWorkConserving (serve_next config now i).state
+next-busy config now i e =
+    let d : Dequeued Packet = dequeue config.discipline now i.control i.waiting in
+    (dequeue-cut config.discipline now i.control i.waiting).last
+    (none_of (λ w. record { item = w.item; period = period_with config.bw now w.size i.service }) d.given e)
+
+some_served : (o : Option (InService Packet)) → is_some o ≡ true → o ≡ None → ⊥
+some_served None e g = cc e
+some_served (Some s) e g = cc g
+
+arrive-busy : (config : PipeConfig) (now : ℕ) (p : Packet) (lost : Bool) (i : Instance) → IsWorkConserving i →
+    IsWorkConserving (instance_arrive config now p lost i).state
+arrive-busy config now p lost i h =
+    either P lost (drop_one i p Lost)
+    (if accepts config.queue i.waiting p.size then accept config now p i else drop_one i p Full) h
+    (either P (accepts config.queue i.waiting p.size) (accept config now p i) (drop_one i p Full)
+    (of_choice P (is_some i.service) (no_drop (enqueue now p i)) (serve_next config now (enqueue now p i))
+    (λ s e. absurd (some_served i.service s e)) (λ s. next-busy config now (enqueue now p i))) h)
+  where
+    P : After Instance → Type 0
+    P a = IsWorkConserving a.state
+
+busy-kept : InstanceKeeps Anything (λ k config. Unit {0}) (λ k i. IsWorkConserving i)
+busy-kept = record {
+  config = λ k config ok. tt;
+  opened = λ k id e. refl;
+  arrived = λ k config now packet lost i c h. arrive-busy config now packet lost (drawn_one i) h;
+  finished = λ k config now i c h. next-busy config now (record i { line = send_off config now i.service i.line });
+  left = λ k i h. h;
+  configured = λ k old new i h e. h (none_of cut_service i.service e);
+}
+
+pub never_idle : NeverIdle
+never_idle spec c n =
+    each_weaker (Each Anything (λ k config. Unit {0}) (λ k i. IsWorkConserving i) busy-kept) _ (λ p h. h.instances)
+    (alone spec c n).net.pipes
+    (alone-pipes Anything (λ k config. Unit {0}) (λ k i. IsWorkConserving i) busy-kept spec c n (anything c))
