@@ -15,6 +15,7 @@ use Rattle.emu_laws.proofs.EachOf.{either, each_weaker}
 use Rattle.emu_laws.proofs.PipesKept.{InstanceKeeps, Each, alone-pipes}
 use Rattle.emu_laws.proofs.FlowsKept.{Anything, anything}
 use Rattle.emu_laws.specs.NeverIdle.{IsWorkConserving, NeverIdle}
+use Rattle.emu_laws.specs.QueueBound.{IsAtMost, LimitsPipe, QueuesAreBounded}
 
 -- of both of two, where the choice is known
 of_choice : {A : Type 0} (P : A → Type 0) (b : Bool) (x y : A) → (b ≡ true → P x) → (b ≡ false → P y) →
@@ -65,3 +66,82 @@ never_idle spec c n =
     each_weaker (Each Anything (λ k config. Unit {0}) (λ k i. IsWorkConserving i) busy-kept) _ (λ p h. h.instances)
     (alone spec c n).net.pipes
     (alone-pipes Anything (λ k config. Unit {0}) (λ k i. IsWorkConserving i) busy-kept spec c n (anything c))
+
+bytes-append : (xs ys : List (Waiting Packet)) → bytes_of (xs ++ ys) ≡ bytes_of xs + bytes_of ys
+bytes-append xs ys =
+    sum-map (λ w. w.size) (xs ++ ys) ∙ sum_by-append (λ w. w.size) xs ys
+    ∙ omega (arith, sum-map (λ (w : Waiting Packet). w.size) xs, sum-map (λ (w : Waiting Packet). w.size) ys)
+
+bytes-one : (w : Waiting Packet) → bytes_of (w ∷ []) ≡ w.size
+bytes-one w = sum-map (λ v. v.size) (w ∷ []) ∙ sum_by-cons (λ v. v.size) w [] ∙ omega arith
+
+-- one that is accepted is within a limit that is no less
+accepted : (queue limit : QueueLimit) (ws : List (Waiting Packet)) (w : Waiting Packet) → IsAtMost queue limit →
+    accepts queue ws w.size ≡ true → IsWithin limit (ws ++ w ∷ [])
+accepted (Slots m) (Slots n) ws w h e =
+    omega (arith, h, ltb-true (length ws) m e, length-append ws (w ∷ []))
+accepted (KBytes m) (KBytes n) ws w h e =
+    omega (arith, h, leb-true (bytes_of ws + w.size) (1024 * m) e, bytes-append ws (w ∷ []), bytes-one w)
+accepted (Slots m) (KBytes n) ws w h e = absurd h
+accepted (KBytes m) (Slots n) ws w h e = absurd h
+
+-- what is left of what waits is within it
+fewer-within : (limit : QueueLimit) (xs ys : List (Waiting Packet)) → IsWithin limit (xs ++ ys) → IsWithin limit ys
+fewer-within (Slots n) xs ys h = omega (arith, h, length-append xs ys)
+fewer-within (KBytes n) xs ys h = omega (arith, h, bytes-append xs ys)
+
+none-within : (limit : QueueLimit) → IsWithin limit []
+none-within (Slots n) = omega arith
+none-within (KBytes n) = omega arith
+
+next-within : (limit : QueueLimit) (config : PipeConfig) (now : ℕ) (i : Instance) → IsWithin limit i.waiting →
+    IsWithin limit (serve_next config now i).state.waiting
+next-within limit config now i h =
+    let d : Dequeued Packet = dequeue config.discipline now i.control i.waiting in
+    let whole : i.waiting ≡ d.dropped ++ (option_to_list d.given ++ d.rest) =
+    (dequeue-cut config.discipline now i.control i.waiting).whole in
+    fewer-within limit (option_to_list d.given) d.rest
+    (fewer-within limit d.dropped (option_to_list d.given ++ d.rest) (subst (IsWithin limit) whole h))
+
+arrive-within : (limit : QueueLimit) (config : PipeConfig) (now : ℕ) (p : Packet) (lost : Bool) (i : Instance) →
+    IsAtMost config.queue limit → IsWithin limit i.waiting →
+    IsWithin limit (instance_arrive config now p lost i).state.waiting
+arrive-within limit config now p lost i c h =
+    either P lost (drop_one i p Lost)
+    (if accepts config.queue i.waiting p.size then accept config now p i else drop_one i p Full) h
+    (of_choice P (accepts config.queue i.waiting p.size) (accept config now p i) (drop_one i p Full)
+    (λ e. taken (accepted config.queue limit i.waiting (record { item = p; size = p.size; stamp = now }) c e)) (λ e. h))
+  where
+    P : After Instance → Type 0
+    P a = IsWithin limit a.state.waiting
+
+    taken : IsWithin limit (enqueue now p i).waiting → P (accept config now p i)
+    taken q =
+        either P (is_some i.service) (no_drop (enqueue now p i)) (serve_next config now (enqueue now p i)) q
+        (next-within limit config now (enqueue now p i) q)
+
+module _ (pipe : ℕ) (limit : QueueLimit) where
+  abbrev Limited : ℕ → PipeConfig → Type 0
+  Limited k config = k ≡ pipe → IsAtMost config.queue limit
+
+  abbrev Within : ℕ → Instance → Type 0
+  Within k i = k ≡ pipe → IsWithin limit i.waiting
+
+  within-kept : InstanceKeeps (LimitsPipe pipe limit) Limited Within
+  within-kept = record {
+    config = λ k config ok. ok;
+    opened = λ k id e. none-within limit;
+    arrived = λ k config now packet lost i c h e.
+        arrive-within limit config now packet lost (drawn_one i) (c e) (h e);
+    finished = λ k config now i c h e.
+        next-within limit config now (record i { line = send_off config now i.service i.line }) (h e);
+    left = λ k i h. h;
+    configured = λ k old new i h. h;
+  }
+
+pub queues_are_bounded : QueuesAreBounded
+queues_are_bounded spec c n pipe limit ok =
+    each_weaker (Each (LimitsPipe pipe limit) (Limited pipe limit) (Within pipe limit) (within-kept pipe limit)) _
+    (λ p h e. each_weaker (Within pipe limit p.number) (λ i. IsWithin limit i.waiting) (λ i q. q e) p.instances h.instances)
+    (alone spec c n).net.pipes
+    (alone-pipes (LimitsPipe pipe limit) (Limited pipe limit) (Within pipe limit) (within-kept pipe limit) spec c n ok)

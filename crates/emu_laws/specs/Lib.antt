@@ -5,4 +5,5 @@ pub mod Missing
 pub mod NeverIdle
 pub mod PipeDelay
 pub mod PipeRate
+pub mod QueueBound
 pub mod SenderWindow

@@ -1,8 +1,15 @@
 //! What waits in a pipe.
 
 ghost use Rattle.emu_laws.specs.NeverIdle.{NeverIdle};
+ghost use Rattle.emu_laws.specs.QueueBound.{QueuesAreBounded};
 
 /// In every state of every run, an instance in which something waits has a packet in service.
 pub fn never_idle()
     ensures { NeverIdle }
+{}
+
+/// Where no command gives a pipe a queue of more than n slots, at most n packets wait in each of its
+/// instances in every state; where none gives it more than n KBytes, at most n * 1024 bytes.
+pub fn queues_are_bounded()
+    ensures { QueuesAreBounded }
 {}
