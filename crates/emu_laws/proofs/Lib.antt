@@ -9,4 +9,5 @@ mod PipeRate
 mod PipesKept
 mod QueuesKept
 mod SenderWindow
+mod WaitsBounded
 mod Words

@@ -7,3 +7,4 @@ pub mod PipeDelay
 pub mod PipeRate
 pub mod QueueBound
 pub mod SenderWindow
+pub mod WaitBound

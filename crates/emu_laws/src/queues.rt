@@ -2,6 +2,7 @@
 
 ghost use Rattle.emu_laws.specs.NeverIdle.{NeverIdle};
 ghost use Rattle.emu_laws.specs.QueueBound.{QueuesAreBounded};
+ghost use Rattle.emu_laws.specs.WaitBound.{WaitIsBounded};
 
 /// In every state of every run, an instance in which something waits has a packet in service.
 pub fn never_idle()
@@ -12,4 +13,10 @@ pub fn never_idle()
 /// instances in every state; where none gives it more than n KBytes, at most n * 1024 bytes.
 pub fn queues_are_bounded()
     ensures { QueuesAreBounded }
+{}
+
+/// A packet that comes finishes within the transmission of the one in service and that of all that wait
+/// with it, where none is dropped on the way and no `config` ends the busy period.
+pub fn wait_is_bounded()
+    ensures { WaitIsBounded }
 {}
