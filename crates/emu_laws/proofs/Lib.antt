@@ -1,3 +1,4 @@
+mod AckedCame
 mod EachChange
 mod EachOf
 mod FlowsKept

@@ -7,7 +7,7 @@ use Rattle.std.proofs.Math.Nat.{mul-le-mul_right}
 use Rattle.emu_model.specs.Reno.{with_segment, first_gap, missing}
 use Rattle.emu_laws.specs.Missing.{received, MissingIsLeast}
 
-pub has : List ℕ → ℕ → Bool
+unfoldable pub has : List ℕ → ℕ → Bool
 has xs x = list_any (λ y. y == x) xs
 
 -- each is less than all behind it
@@ -96,7 +96,7 @@ pub record Stops (n smss : ℕ) (xs : List ℕ) (from : ℕ) : Type 0 where
   pub runs : Runs steps smss xs from
   pub last : (has xs (first_gap n smss xs from) ≡ false) ⊎ (steps ≡ n)
 
-stops : (n smss : ℕ) (xs : List ℕ) (from : ℕ) → Stops n smss xs from
+pub stops : (n smss : ℕ) (xs : List ℕ) (from : ℕ) → Stops n smss xs from
 unfolding Runs has
 stops zero smss xs from = record {
   steps = 0;

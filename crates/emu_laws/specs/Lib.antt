@@ -1,3 +1,4 @@
+pub mod AckedArrived
 pub mod CodelRuns
 pub mod InstanceNumbers
 pub mod LeastDue

@@ -14,5 +14,5 @@ pub use laws::{
 pub use links::{delay_is_kept, idle_takes_its_time, rate_is_kept};
 pub use queues::{never_idle, queues_are_bounded, wait_is_bounded};
 pub use senders::{
-    done_flows_are_silent, flight_fits_window, new_data_fits_windows,
+    acked_has_arrived, done_flows_are_silent, flight_fits_window, new_data_fits_windows,
 };

@@ -1,5 +1,6 @@
-//! A sender keeps to the receiver's window.
+//! A sender keeps to the receiver's window, and takes as acknowledged only what arrived.
 
+ghost use Rattle.emu_laws.specs.AckedArrived.{AckedHasArrived};
 ghost use Rattle.emu_laws.specs.SenderWindow.{FlightFitsWindow, NewDataFitsWindows, DoneFlowsAreSilent};
 
 /// In every state of every run, what a flow has sent and is not acknowledged is at most the receiver's
@@ -18,4 +19,10 @@ pub fn new_data_fits_windows()
 /// A flow that is stopped, or whose every byte is acknowledged, has no segment due.
 pub fn done_flows_are_silent()
     ensures { DoneFlowsAreSilent }
+{}
+
+/// In every state of every run, the bytes that a sender takes as acknowledged came to the receiver, and so
+/// did those that each acknowledgement under way says (RFC 5681, section 4.2).
+pub fn acked_has_arrived()
+    ensures { AckedHasArrived }
 {}
