@@ -2,6 +2,8 @@ mod AckedCame
 mod EachChange
 mod EachOf
 mod FlowsKept
+mod HeldBudget
+mod HeldSizes
 mod InstanceNumbering
 mod LeastDues
 mod MissingFacts

@@ -9,3 +9,4 @@ pub mod PipeRate
 pub mod QueueBound
 pub mod SenderWindow
 pub mod WaitBound
+pub mod WorkBound

@@ -7,6 +7,7 @@ mod laws;
 mod links;
 mod queues;
 mod senders;
+mod work;
 
 pub use laws::{
     dropping_ends_in_time, least_due_is_least, missing_is_least, numbers_count_identifiers,
@@ -16,3 +17,4 @@ pub use queues::{never_idle, queues_are_bounded, wait_is_bounded};
 pub use senders::{
     acked_has_arrived, done_flows_are_silent, flight_fits_window, new_data_fits_windows,
 };
+pub use work::held_within_budget;
