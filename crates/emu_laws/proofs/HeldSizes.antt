@@ -17,32 +17,28 @@ use Rattle.emu_model.specs.Events.{flying_in}
 use Rattle.emu_model.proofs.CallerLemmas.{dequeue-cut}
 use Rattle.emu_laws.proofs.EachOf.{either, some_or}
 
--- of one that is put in place of another, with what is added, or what is taken
-pub replaced-up : {A : Type 0} (f : A → ℕ) (test : A → Bool) (x y : A) (d : ℕ) (xs : List A) → find test xs ≡ Some x →
-    f y ≤ f x + d → sum_by f (replace_first test y xs) ≤ sum_by f xs + d
-replaced-up f test x y d [] e h = absurd (cc e)
-replaced-up f test x y d (z ∷ zs) e h = go (test z) e (λ g. replaced-up f test x y d zs g h)
+-- of one that is put in place of another, with what is added, and what is taken
+pub replaced-by : {A : Type 0} (f : A → ℕ) (test : A → Bool) (x y : A) (up down : ℕ) (xs : List A) →
+    find test xs ≡ Some x → f y + down ≤ f x + up →
+    sum_by f (replace_first test y xs) + down ≤ sum_by f xs + up
+replaced-by f test x y up down [] e h = absurd (cc e)
+replaced-by f test x y up down (z ∷ zs) e h = go (test z) e (λ g. replaced-by f test x y up down zs g h)
   where
     go : (b : Bool) → (if b then Some z else find test zs) ≡ Some x →
-        (find test zs ≡ Some x → sum_by f (replace_first test y zs) ≤ sum_by f zs + d) →
-        sum_by f (if b then y ∷ zs else z ∷ replace_first test y zs) ≤ sum_by f (z ∷ zs) + d
+        (find test zs ≡ Some x → sum_by f (replace_first test y zs) + down ≤ sum_by f zs + up) →
+        sum_by f (if b then y ∷ zs else z ∷ replace_first test y zs) + down ≤ sum_by f (z ∷ zs) + up
     go true g later =
         let same : z ≡ x = cc g in
         omega (arith, h, ap f same, sum_by-cons f z zs, sum_by-cons f y zs)
     go false g later = omega (arith, later g, sum_by-cons f z zs, sum_by-cons f z (replace_first test y zs))
 
+pub replaced-up : {A : Type 0} (f : A → ℕ) (test : A → Bool) (x y : A) (d : ℕ) (xs : List A) → find test xs ≡ Some x →
+    f y ≤ f x + d → sum_by f (replace_first test y xs) ≤ sum_by f xs + d
+replaced-up f test x y d xs e h = omega (arith, replaced-by f test x y d 0 xs e (omega (arith, h)))
+
 pub replaced-down : {A : Type 0} (f : A → ℕ) (test : A → Bool) (x y : A) (d : ℕ) (xs : List A) → find test xs ≡ Some x →
     f y + d ≤ f x → sum_by f (replace_first test y xs) + d ≤ sum_by f xs
-replaced-down f test x y d [] e h = absurd (cc e)
-replaced-down f test x y d (z ∷ zs) e h = go (test z) e (λ g. replaced-down f test x y d zs g h)
-  where
-    go : (b : Bool) → (if b then Some z else find test zs) ≡ Some x →
-        (find test zs ≡ Some x → sum_by f (replace_first test y zs) + d ≤ sum_by f zs) →
-        sum_by f (if b then y ∷ zs else z ∷ replace_first test y zs) + d ≤ sum_by f (z ∷ zs)
-    go true g later =
-        let same : z ≡ x = cc g in
-        omega (arith, h, ap f same, sum_by-cons f z zs, sum_by-cons f y zs)
-    go false g later = omega (arith, later g, sum_by-cons f z zs, sum_by-cons f z (replace_first test y zs))
+replaced-down f test x y d xs e h = omega (arith, replaced-by f test x y 0 d xs e (omega (arith, h)))
 
 pub removed-down : {A : Type 0} (f : A → ℕ) (test : A → Bool) (x : A) (xs : List A) → find test xs ≡ Some x →
     sum_by f (remove_first test xs) + f x ≤ sum_by f xs

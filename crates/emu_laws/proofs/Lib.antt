@@ -11,6 +11,7 @@ mod PipeDelay
 mod PipeRate
 mod PipesKept
 mod QueuesKept
+mod RecordsBounded
 mod SenderWindow
 mod WaitsBounded
 mod Words

@@ -17,4 +17,4 @@ pub use queues::{never_idle, queues_are_bounded, wait_is_bounded};
 pub use senders::{
     acked_has_arrived, done_flows_are_silent, flight_fits_window, new_data_fits_windows,
 };
-pub use work::held_within_budget;
+pub use work::{held_within_budget, records_are_bounded};
