@@ -13,5 +13,6 @@ mod PipesKept
 mod QueuesKept
 mod RecordsBounded
 mod SenderWindow
+mod ServiceOnTime
 mod WaitsBounded
 mod Words

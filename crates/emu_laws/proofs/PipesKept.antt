@@ -71,53 +71,54 @@ with_pipe-each P p (x ∷ xs) q s =
     (s.0, with_pipe-each P p xs q s.1)
 
 -- what each change of an instance keeps of it, and what its pipe's configuration is
-pub record InstanceKeeps (Allowed : Command → Type 0) (C : ℕ → PipeConfig → Type 0) (I : ℕ → Instance → Type 0) : Type 0 where
+pub record InstanceKeeps (Allowed : Command → Type 0) (C : ℕ → PipeConfig → Type 0) (I : ℕ → PipeConfig → Instance → Type 0) : Type 0 where
   pub config : (k : ℕ) (config : PipeConfig) → Allowed (Config k config) → C k config
-  pub opened : (k : ℕ) (id : FlowId) → I k (initial_instance id)
-  pub arrived : (k : ℕ) (config : PipeConfig) (now : ℕ) (packet : Packet) (lost : Bool) (i : Instance) → C k config → I k i →
-      I k (instance_arrive config now packet lost (drawn_one i)).state
-  pub finished : (k : ℕ) (config : PipeConfig) (now : ℕ) (i : Instance) → C k config → I k i →
-      I k (instance_finish config now i).state
-  pub left : (k : ℕ) (i : Instance) → I k i → I k (record i { line = leave i.line })
-  pub configured : (k : ℕ) (old new : PipeConfig) (i : Instance) → I k i → I k (instance_configure old new i)
+  pub opened : (k : ℕ) (config : PipeConfig) (id : FlowId) → I k config (initial_instance id)
+  pub arrived : (k : ℕ) (config : PipeConfig) (now : ℕ) (packet : Packet) (lost : Bool) (i : Instance) →
+      C k config → I k config i → I k config (instance_arrive config now packet lost (drawn_one i)).state
+  pub finished : (k : ℕ) (config : PipeConfig) (now : ℕ) (i : Instance) → C k config → I k config i →
+      I k config (instance_finish config now i).state
+  pub left : (k : ℕ) (config : PipeConfig) (i : Instance) → I k config i → I k config (record i { line = leave i.line })
+  pub configured : (k : ℕ) (old new : PipeConfig) (i : Instance) → I k old i → I k new (instance_configure old new i)
 
-module _ (Allowed : Command → Type 0) (C : ℕ → PipeConfig → Type 0) (I : ℕ → Instance → Type 0)
+module _ (Allowed : Command → Type 0) (C : ℕ → PipeConfig → Type 0) (I : ℕ → PipeConfig → Instance → Type 0)
     (keeps : InstanceKeeps Allowed C I) where
   pub record Each (p : PipeState) : Type 0 where
     pub config : C p.number p.config
-    pub instances : AllByRecursion (I p.number) p.instances
+    pub instances : AllByRecursion (I p.number p.config) p.instances
 
-  in-pipe : (k : ℕ) (c : PipeConfig) (p : PipeState) → C k c → InPipe (I k) k c p → Each p
+  in-pipe : (k : ℕ) (c : PipeConfig) (p : PipeState) → C k c → InPipe (I k c) k c p → Each p
   in-pipe k c p d h = record {
     config = subst (λ j. C j p.config) (sym h.number) (subst (λ x. C k x) (sym h.config) d);
-    instances = subst (λ j. AllByRecursion (I j) p.instances) (sym h.number) h.each;
+    instances = subst (λ j. AllByRecursion (I j p.config) p.instances) (sym h.number)
+        (subst (λ x. AllByRecursion (I k x) p.instances) (sym h.config) h.each);
   }
 
   arrive : (seed now : ℕ) (packet : Packet) (p : PipeState) → Each p → Each (pipe_arrive seed now packet p).state
   arrive seed now packet p h =
       in-pipe p.number p.config (pipe_arrive seed now packet p).state h.config
-      (pipe_arrive-each (I p.number) seed now packet p (keeps.opened p.number)
+      (pipe_arrive-each (I p.number p.config) seed now packet p (keeps.opened p.number p.config)
       (λ lost i q. keeps.arrived p.number p.config now packet lost i h.config q) h.instances)
 
   finish : (now k : ℕ) (p : PipeState) → Each p → Each (pipe_finish now k p).state
   finish now k p h =
       in-pipe p.number p.config (pipe_finish now k p).state h.config
-      (change_one-each (I p.number) p.number p.config k (instance_finish p.config now) p
+      (change_one-each (I p.number p.config) p.number p.config k (instance_finish p.config now) p
       (record { number = refl; config = refl; each = h.instances })
       (λ i q. keeps.finished p.number p.config now i h.config q))
 
   exit : (k : ℕ) (p : PipeState) → Each p → Each (pipe_exit k p)
   exit k p h = record {
     config = h.config;
-    instances = each_changed (I p.number) (λ i. record i { line = leave i.line }) k p.instances
-        (λ i q. keeps.left p.number i q) h.instances;
+    instances = each_changed (I p.number p.config) (λ i. record i { line = leave i.line }) k p.instances
+        (λ i q. keeps.left p.number p.config i q) h.instances;
   }
 
   configure : (k : ℕ) (config : PipeConfig) (p : PipeState) → p.number ≡ k → Allowed (Config k config) → Each p →
       Each (pipe_configure config p)
   configure k config p e ok h = record {
     config = subst (λ j. C j config) (sym e) (keeps.config k config ok);
-    instances = each_mapped (I p.number) (I p.number) (instance_configure p.config config)
+    instances = each_mapped (I p.number p.config) (I p.number config) (instance_configure p.config config)
         (λ i q. keeps.configured p.number p.config config i q) p.instances h.instances;
   }
 

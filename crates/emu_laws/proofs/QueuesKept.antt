@@ -51,21 +51,21 @@ arrive-busy config now p lost i h =
     P : After Instance → Type 0
     P a = IsWorkConserving a.state
 
-busy-kept : InstanceKeeps Anything (λ k config. Unit {0}) (λ k i. IsWorkConserving i)
+busy-kept : InstanceKeeps Anything (λ k config. Unit {0}) (λ k config i. IsWorkConserving i)
 busy-kept = record {
   config = λ k config ok. tt;
-  opened = λ k id e. refl;
+  opened = λ k config id e. refl;
   arrived = λ k config now packet lost i c h. arrive-busy config now packet lost (drawn_one i) h;
   finished = λ k config now i c h. next-busy config now (record i { line = send_off config now i.service i.line });
-  left = λ k i h. h;
+  left = λ k config i h. h;
   configured = λ k old new i h e. h (none_of cut_service i.service e);
 }
 
 pub never_idle : NeverIdle
 never_idle spec c n =
-    each_weaker (Each Anything (λ k config. Unit {0}) (λ k i. IsWorkConserving i) busy-kept) _ (λ p h. h.instances)
+    each_weaker (Each Anything (λ k config. Unit {0}) (λ k config i. IsWorkConserving i) busy-kept) _ (λ p h. h.instances)
     (alone spec c n).net.pipes
-    (alone-pipes Anything (λ k config. Unit {0}) (λ k i. IsWorkConserving i) busy-kept spec c n (anything c))
+    (alone-pipes Anything (λ k config. Unit {0}) (λ k config i. IsWorkConserving i) busy-kept spec c n (anything c))
 
 bytes-append : (xs ys : List (Waiting Packet)) → bytes_of (xs ++ ys) ≡ bytes_of xs + bytes_of ys
 bytes-append xs ys =
@@ -124,24 +124,24 @@ module _ (pipe : ℕ) (limit : QueueLimit) where
   abbrev Limited : ℕ → PipeConfig → Type 0
   Limited k config = k ≡ pipe → IsAtMost config.queue limit
 
-  abbrev Within : ℕ → Instance → Type 0
-  Within k i = k ≡ pipe → IsWithin limit i.waiting
+  abbrev Within : ℕ → PipeConfig → Instance → Type 0
+  Within k config i = k ≡ pipe → IsWithin limit i.waiting
 
   within-kept : InstanceKeeps (LimitsPipe pipe limit) Limited Within
   within-kept = record {
     config = λ k config ok. ok;
-    opened = λ k id e. none-within limit;
+    opened = λ k config id e. none-within limit;
     arrived = λ k config now packet lost i c h e.
         arrive-within limit config now packet lost (drawn_one i) (c e) (h e);
     finished = λ k config now i c h e.
         next-within limit config now (record i { line = send_off config now i.service i.line }) (h e);
-    left = λ k i h. h;
+    left = λ k config i h. h;
     configured = λ k old new i h. h;
   }
 
 pub queues_are_bounded : QueuesAreBounded
 queues_are_bounded spec c n pipe limit ok =
     each_weaker (Each (LimitsPipe pipe limit) (Limited pipe limit) (Within pipe limit) (within-kept pipe limit)) _
-    (λ p h e. each_weaker (Within pipe limit p.number) (λ i. IsWithin limit i.waiting) (λ i q. q e) p.instances h.instances)
+    (λ p h e. each_weaker (Within pipe limit p.number p.config) (λ i. IsWithin limit i.waiting) (λ i q. q e) p.instances h.instances)
     (alone spec c n).net.pipes
     (alone-pipes (LimitsPipe pipe limit) (Limited pipe limit) (Within pipe limit) (within-kept pipe limit) spec c n ok)

@@ -8,5 +8,6 @@ pub mod PipeDelay
 pub mod PipeRate
 pub mod QueueBound
 pub mod SenderWindow
+pub mod ServiceMoments
 pub mod WaitBound
 pub mod WorkBound

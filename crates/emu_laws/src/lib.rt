@@ -12,7 +12,7 @@ mod work;
 pub use laws::{
     dropping_ends_in_time, least_due_is_least, missing_is_least, numbers_count_identifiers,
 };
-pub use links::{delay_is_kept, idle_takes_its_time, rate_is_kept};
+pub use links::{delay_is_kept, idle_takes_its_time, rate_is_kept, service_is_on_time};
 pub use queues::{never_idle, queues_are_bounded, wait_is_bounded};
 pub use senders::{
     acked_has_arrived, done_flows_are_silent, flight_fits_window, new_data_fits_windows,
