@@ -19,7 +19,7 @@ use Rattle.emu_model.proofs.CallerLemmas.{dequeue-cut}
 use Rattle.emu_laws.specs.Missing.{received}
 use Rattle.emu_laws.specs.AckedArrived.{first_missing, SaysWhatCame, AckedHasArrived}
 use Rattle.emu_laws.proofs.EachOf.{either, each_joined, each_front, each_back, each_weaker, each_mapped, each_got, each_changed, each_found, each_replaced, each_removed}
-use Rattle.emu_laws.proofs.EachChange.{IsTrue_of, Keeps, steps_keep, found-passes, found_put}
+use Rattle.emu_laws.proofs.EachChange.{IsTrueOf, Keeps, steps_keep, found-passes, found_put}
 use Rattle.emu_laws.proofs.MissingFacts.{has, Stops, stops, missing_is_least}
 use Rattle.emu_laws.proofs.FlowsKept.{Anything, anything}
 use Rattle.emu_laws.proofs.PipesKept.{change_one-each, pipe_arrive-each, with_pipe-each}
@@ -145,8 +145,8 @@ found_more test f new (x ∷ xs) e = go (test x) e (found_more test f new xs)
 
 -- a flow whose receiver misses no less is put in place of one: what was true stays true
 true_put : (f g : FlowState) (fs : List FlowState) → find (λ x. x.number == g.number) fs ≡ Some f →
-    first_missing f ≤ first_missing g → (l : Load) → IsTrue_of l fs →
-    IsTrue_of l (replace_first (λ x. x.number == g.number) g fs)
+    first_missing f ≤ first_missing g → (l : Load) → IsTrueOf l fs →
+    IsTrueOf l (replace_first (λ x. x.number == g.number) g fs)
 true_put f g fs e more Plain h = tt
 true_put f g fs e more (Seg k first) h = tt
 true_put f g fs e more (Ack k upto) h = go (cases_eq g.number k)
@@ -157,7 +157,7 @@ true_put f g fs e more (Ack k upto) h = go (cases_eq g.number k)
     first : Some f ≡ Some h.0 → h.0 ≡ f
     first c = cc c
 
-    go : (g.number ≡ k) ⊎ (g.number ≡ k → ⊥) → IsTrue_of (Ack k upto) (replace_first (λ x. x.number == g.number) g fs)
+    go : (g.number ≡ k) ⊎ (g.number ≡ k → ⊥) → IsTrueOf (Ack k upto) (replace_first (λ x. x.number == g.number) g fs)
     go (inl n) = (
       g,
       found_put_at k n,
@@ -171,7 +171,7 @@ true_put f g fs e more (Ack k upto) h = go (cases_eq g.number k)
             (found_put (λ x. x.number == g.number) f g fs e (eq-eqb g.number g.number refl))
     go (inr n) = (h.0, other_put k g fs n ∙ h.1, h.2)
 
-true_more : (new : FlowState) (fs : List FlowState) (l : Load) → IsTrue_of l fs → IsTrue_of l (fs ++ new ∷ [])
+true_more : (new : FlowState) (fs : List FlowState) (l : Load) → IsTrueOf l fs → IsTrueOf l (fs ++ new ∷ [])
 true_more new fs Plain h = tt
 true_more new fs (Seg k first) h = tt
 true_more new fs (Ack k upto) h = (h.0, found_more (λ x. x.number == k) h.0 new fs h.1, h.2)
@@ -321,7 +321,7 @@ weaker T U h i q = record {
 
 -- a packet's load is true of the flows
 abbrev pub IsTrue : List FlowState → Packet → Type 0
-IsTrue fs p = IsTrue_of p.load fs
+IsTrue fs p = IsTrueOf p.load fs
 
 pub record AllTrue (o : Option Packet) (n : Net) : Type 0 where
   pub flows : AllByRecursion Acked n.flows
@@ -330,7 +330,7 @@ pub record AllTrue (o : Option Packet) (n : Net) : Type 0 where
   pub way : OnWay (IsTrue n.flows) o
 
 -- other flows, of which all is true that was true
-changed : (n : Net) (fs : List FlowState) → ((l : Load) → IsTrue_of l n.flows → IsTrue_of l fs) →
+changed : (n : Net) (fs : List FlowState) → ((l : Load) → IsTrueOf l n.flows → IsTrueOf l fs) →
     AllByRecursion Acked fs → (o : Option Packet) → AllTrue o n → AllTrue None (record n { flows = fs })
 changed n fs rise acked o h = record {
   flows = acked;
@@ -450,9 +450,9 @@ true-keeps b = record {
     found k q n e h = each_found (PipeOf (IsTrue n.flows)) (λ x. x.number == k) q n.pipes e h.pipes
 
     says : (k upto : ℕ) (p : Packet) (f : FlowState) (n : Net) → p.load ≡ Ack k upto → find_flow k n ≡ Some f →
-        IsTrue_of p.load n.flows → upto ≤ first_missing f
+        IsTrueOf p.load n.flows → upto ≤ first_missing f
     says k upto p f n is e h =
-        let t : IsTrue_of (Ack k upto) n.flows = subst (λ l. IsTrue_of l n.flows) is h in
+        let t : IsTrueOf (Ack k upto) n.flows = subst (λ l. IsTrueOf l n.flows) is h in
         subst (λ x. upto ≤ first_missing x) (same t.0 (sym t.1 ∙ e)) t.2
       where
         same : (g : FlowState) → Some g ≡ Some f → g ≡ f
@@ -472,7 +472,7 @@ acked_has_arrived spec c n =
   where
     says : (m : Net) (p : Packet) → IsTrue m.flows p → SaysWhatCame m p
     says m p h k upto f is e =
-        let t : IsTrue_of (Ack k upto) m.flows = subst (λ l. IsTrue_of l m.flows) is h in
+        let t : IsTrueOf (Ack k upto) m.flows = subst (λ l. IsTrueOf l m.flows) is h in
         subst (λ x. upto ≤ first_missing x) (same t.0 (sym t.1 ∙ e)) t.2
       where
         same : (g : FlowState) → Some g ≡ Some f → g ≡ f

@@ -26,10 +26,10 @@ pub record Alike (n m : Net) : Type 0 where
   pub flows : m.flows ≡ n.flows
 
 -- an acknowledgement is one of a flow, of no more than what came there
-abbrev pub IsTrue_of : Load → List FlowState → Type 0
-IsTrue_of Plain fs = Unit {0}
-IsTrue_of (Seg k first) fs = Unit {0}
-IsTrue_of (Ack k upto) fs =
+abbrev pub IsTrueOf : Load → List FlowState → Type 0
+IsTrueOf Plain fs = Unit {0}
+IsTrueOf (Seg k first) fs = Unit {0}
+IsTrueOf (Ack k upto) fs =
     (f : FlowState) × (find (λ g. g.number == k) fs ≡ Some f) × (upto ≤ missing f.flow.smss f.came)
 
 -- the changes of what a net holds, P being kept by each; the option is the packet on its way. At most b packets are
@@ -37,7 +37,7 @@ IsTrue_of (Ack k upto) fs =
 pub record Keeps (b : ℕ) (Sends : FlowState → Type 0) (Allowed : Command → Type 0) (P : Option Packet → Net → Type 0) : Type 0 where
   pub quiet : (o : Option Packet) (n m : Net) → Alike n m → P o n → P o m
   pub lost : (p : Packet) (n : Net) → P (Some p) n → P None n
-  pub made : (number : ℕ) (l : Load) (send : SendSpec) (n : Net) → held n < b → IsTrue_of l n.flows → P None n →
+  pub made : (number : ℕ) (l : Load) (send : SendSpec) (n : Net) → held n < b → IsTrueOf l n.flows → P None n →
       P (Some (packet_of l send number)) n
   pub placed : (place : Place) (p : Packet) (n : Net) → P (Some p) n → P (Some (record p { place = place })) n
   pub entered : (now : ℕ) (p : Packet) (n : Net) → P (Some p) n → P None (to_direct now p n)
@@ -145,7 +145,7 @@ module _ (b : ℕ) (Sends : FlowState → Type 0) (Allowed : Command → Type 0)
       let m : Net = record n { book = counted_book start p n.book } in
       by_verdict-walks at (verdict start p n.book.rules) p m (alike (Some p) n m refl refl refl h)
 
-  make-walks : (at : Setting) → at.packet_budget ≡ b → (l : Load) (send : SendSpec) (n : Net) → IsTrue_of l n.flows →
+  make-walks : (at : Setting) → at.packet_budget ≡ b → (l : Load) (send : SendSpec) (n : Net) → IsTrueOf l n.flows →
       P None n → P None (make at l send n)
   make-walks at e l send n tells h =
       let p : Packet = packet_of l send n.made in

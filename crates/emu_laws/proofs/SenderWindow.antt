@@ -14,7 +14,7 @@ use Rattle.emu_model.specs.Alone.{alone}
 use Rattle.emu_laws.proofs.EachOf.{either, each_joined, each_weaker, each_found}
 use Rattle.emu_laws.proofs.MissingFacts.{fewer}
 use Rattle.emu_laws.proofs.FlowsKept.{MaySend, FlowKeeps, alone-flows, alone-sends}
-use Rattle.emu_laws.specs.SenderWindow.{FlightFitsWindow, NewDataFitsWindows, DoneFlowsAreSilent}
+use Rattle.emu_laws.specs.SenderWindow.{FlightFitsWindow, NewDataFitsWindows, DoneFlowsAreSilent, SequenceIsInOrder, TooSmallWindowSendsNothing}
 
 -- whole segments are acknowledged and sent, in order, within the window and the flow's bytes; what is sent again
 -- was sent before
@@ -244,3 +244,51 @@ silent clock f h done = go f.stopped refl done
 pub done_flows_are_silent : DoneFlowsAreSilent
 done_flows_are_silent spec c n =
     each_weaker FlowFits _ (λ f h. silent (alone spec c n).clock f h) (alone spec c n).net.flows (alone-fits spec c n)
+
+pub sequence_is_in_order : SequenceIsInOrder
+sequence_is_in_order spec c n =
+    each_weaker FlowFits _ (λ f h. (h.una_nxt, h.nxt_max, h.bytes)) (alone spec c n).net.flows (alone-fits spec c n)
+
+-- nothing was sent, nor is to be sent again
+record Nothing (s : Sender) : Type 0 where
+  una : s.snd_una ≡ 0
+  nxt : s.snd_nxt ≡ 0
+  most : s.snd_max ≡ 0
+  calm : s.resend ≡ false
+
+ack-nothing : (f : FlowSpec) (now a : ℕ) (s : Sender) → Nothing s → Nothing (ack f now a s)
+ack-nothing f now a s h =
+    of_choice Nothing (is_new f a s) (ack_new f now a s) (if is_duplicate a s then ack_duplicate f s else s)
+    (λ e. absurd (new (and_parts (nat_lt s.snd_una a && nat_le a s.snd_max) (a % f.smss == 0) e).0))
+    (λ e. of_choice Nothing (is_duplicate a s) (ack_duplicate f s) s
+    (λ g. absurd (omega (arith, h.una, h.most, ltb-true s.snd_una s.snd_max (and_parts (a == s.snd_una) (nat_lt s.snd_una s.snd_max) g).1)))
+    (λ g. h))
+  where
+    new : (nat_lt s.snd_una a && nat_le a s.snd_max) ≡ true → ⊥
+    new e =
+        let parts = and_parts (nat_lt s.snd_una a) (nat_le a s.snd_max) e in
+        omega (arith, h.most, ltb-true s.snd_una a parts.0, leb-true a s.snd_max parts.1)
+
+emit-nothing : (f : FlowSpec) (now : ℕ) (s : Sender) → f.rwnd < f.smss → may_emit f s ≡ true → Nothing s →
+    Nothing (emit f now s)
+emit-nothing f now s low may h =
+    let r : Room f s = room f s may h.calm in
+    absurd (omega (arith, r.fits, low, h.una, h.nxt))
+
+abbrev SendsNothing : FlowState → Type 0
+SendsNothing f = f.flow.rwnd < f.flow.smss → Nothing f.sender
+
+nothing-kept : FlowKeeps SendsNothing
+nothing-kept = record {
+  came = λ came f h. h;
+  acked = λ now upto f h low. ack-nothing f.flow now upto f.sender (h low);
+  expired = λ now f h low. record { una = (h low).una; nxt = (h low).una; most = (h low).most; calm = refl };
+  emitted = λ now f may h low. emit-nothing f.flow now f.sender low may.1 (h low);
+  stopped = λ f h. h;
+  started = λ k f low. record { una = refl; nxt = refl; most = refl; calm = refl };
+}
+
+pub too_small_window_sends_nothing : TooSmallWindowSendsNothing
+too_small_window_sends_nothing spec c n =
+    each_weaker SendsNothing _ (λ f h low. (h low).most) (alone spec c n).net.flows
+    (alone-flows SendsNothing nothing-kept spec c n)

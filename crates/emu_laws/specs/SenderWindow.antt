@@ -1,6 +1,6 @@
 -- A sender keeps to the receiver's window (RFC 5681, section 3.1: no more is sent than the lesser of cwnd and rwnd
 -- allows).
-use Rattle.std.specs.Prelude.{◌≡◌, ◌≢◌, ℕ, ◌+◌, ◌≤◌, min, true, false, ◌⊎◌, Some, None, List}
+use Rattle.std.specs.Prelude.{◌≡◌, ◌≢◌, ℕ, ◌+◌, ◌<◌, ◌≤◌, min, true, false, ◌⊎◌, Some, None, List}
 use Rattle.std.specs.List.{AllByRecursion}
 use Rattle.emu_model.specs.declared.sources.Class.TheVariants.{Emission}
 use Rattle.emu_model.specs.declared.commands.Spec.{Spec}
@@ -32,3 +32,15 @@ DoneFlowsAreSilent = (spec : Spec) (c : List Timed) (n : ℕ) →
     AllByRecursion (λ f. (f.stopped ≡ true) ⊎ (f.sender.snd_una ≡ total_bytes f.flow) →
     AllByRecursion (λ d. d.source.class ≢ Emission) (flow_dues (alone spec c n).clock f))
     (alone spec c n).net.flows
+
+-- in every state what is acknowledged, what is sent next and what was sent once follow one another, and none is
+-- beyond the flow's bytes
+abbrev pub SequenceIsInOrder : Type 0
+SequenceIsInOrder = (spec : Spec) (c : List Timed) (n : ℕ) →
+    AllByRecursion (λ f. (f.sender.snd_una ≤ f.sender.snd_nxt) × (f.sender.snd_nxt ≤ f.sender.snd_max)
+    × (f.sender.snd_max ≤ total_bytes f.flow)) (alone spec c n).net.flows
+
+-- a flow whose segments are larger than the receiver's window never sends
+abbrev pub TooSmallWindowSendsNothing : Type 0
+TooSmallWindowSendsNothing = (spec : Spec) (c : List Timed) (n : ℕ) →
+    AllByRecursion (λ f. f.flow.rwnd < f.flow.smss → f.sender.snd_max ≡ 0) (alone spec c n).net.flows

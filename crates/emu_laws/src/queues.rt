@@ -9,8 +9,8 @@ pub fn never_idle()
     ensures { NeverIdle }
 {}
 
-/// Where no command gives a pipe a queue of more than n slots, at most n packets wait in each of its
-/// instances in every state; where none gives it more than n KBytes, at most n * 1024 bytes.
+/// Where each command that configures a pipe gives it at most n slots, at most n packets wait in each of
+/// its instances in every state; where each gives it at most n KBytes, at most n * 1024 bytes.
 pub fn queues_are_bounded()
     ensures { QueuesAreBounded }
 {}
