@@ -10,6 +10,7 @@ mod MissingFacts
 mod PipeDelay
 mod PipeRate
 mod PipesKept
+mod QueueInTurn
 mod QueuesKept
 mod RecordsBounded
 mod SenderWindow

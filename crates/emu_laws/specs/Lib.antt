@@ -7,6 +7,7 @@ pub mod NeverIdle
 pub mod PipeDelay
 pub mod PipeRate
 pub mod QueueBound
+pub mod QueueTurn
 pub mod SenderWindow
 pub mod ServiceMoments
 pub mod WaitBound

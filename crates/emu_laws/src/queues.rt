@@ -2,6 +2,7 @@
 
 ghost use Rattle.emu_laws.specs.NeverIdle.{NeverIdle};
 ghost use Rattle.emu_laws.specs.QueueBound.{QueuesAreBounded};
+ghost use Rattle.emu_laws.specs.QueueTurn.{QueueIsServedInTurn};
 ghost use Rattle.emu_laws.specs.WaitBound.{WaitIsBounded};
 
 /// In every state of every run, an instance in which something waits has a packet in service.
@@ -19,4 +20,9 @@ pub fn queues_are_bounded()
 /// with it, where none is dropped on the way and no `config` ends the busy period.
 pub fn wait_is_bounded()
     ensures { WaitIsBounded }
+{}
+
+/// What waits in a drop-tail queue finishes in turn, as packets of the busy period of the one in service.
+pub fn queue_is_served_in_turn()
+    ensures { QueueIsServedInTurn }
 {}
