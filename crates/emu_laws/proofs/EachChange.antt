@@ -17,7 +17,7 @@ use Rattle.emu_model.specs.Events.{direct_exit, deliver_some, flying_in, leave_p
 use Rattle.emu_model.specs.declared.sources.Due.{Due}
 use Rattle.emu_model.specs.Step.{State, setting, take_class, take_due, count_step, spend, is_last_step, next_event, step_with, step}
 use Rattle.emu_model.specs.Alone.{alone}
-use Rattle.emu_laws.proofs.EachOf.{either, some_or}
+use Rattle.emu_laws.proofs.EachOf.{either, some_or, of_choice}
 
 -- the same link of `allow`, pipes and flows
 pub record Alike (n m : Net) : Type 0 where
@@ -66,12 +66,6 @@ pub record Keeps (b : ℕ) (Sends : FlowState → Type 0) (Allowed : Command →
       P None (put_flow (record f { stopped = true }) n)
   pub started : (k : ℕ) (f : FlowSpec) (n : Net) → Allowed (Flow k f) →
       list_any (λ g. g.number == k) n.flows ≡ false → P None n → P None (start_flow k f n)
-
--- of both of two, where the choice is known
-of_choice : {A : Type 0} (P : A → Type 0) (b : Bool) (x y : A) → (b ≡ true → P x) → (b ≡ false → P y) →
-    P (if b then x else y)
-of_choice P true x y p q = p refl
-of_choice P false x y p q = q refl
 
 -- of what an option gives, and of what stands in for none
 found_or : {A B : Type 0} (P : B → Type 0) (f : A → B) (o : Option A) (d : B) →

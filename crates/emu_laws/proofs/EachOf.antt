@@ -11,6 +11,12 @@ pub either : {A : Type 0} (P : A → Type 0) (b : Bool) (x y : A) → P x → P 
 either P true x y p q = p
 either P false x y p q = q
 
+-- of both of two, where the choice is known
+pub of_choice : {A : Type 0} (P : A → Type 0) (b : Bool) (x y : A) → (b ≡ true → P x) → (b ≡ false → P y) →
+    P (if b then x else y)
+of_choice P true x y p q = p refl
+of_choice P false x y p q = q refl
+
 -- of what an option gives, and of what stands in for none
 pub some_or : {A B : Type 0} (P : B → Type 0) (f : A → B) (o : Option A) (d : B) →
     ((a : A) → o ≡ Some a → P (f a)) → P d → P (option_map_or f o d)

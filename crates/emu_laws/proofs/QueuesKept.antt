@@ -1,5 +1,5 @@
 -- What waits in an instance: a server takes the next as soon as it can, and nothing is accepted beyond the limit.
-use Rattle.std.proofs.Common.{◌≡◌, ℕ, ◌+◌, ◌*◌, List, [], ◌∷◌, ◌++◌, length, Bool, true, false, refl, ◌∙◌, subst, Option, Some, None, arith}
+use Rattle.std.proofs.Common.{◌≡◌, ℕ, ◌+◌, ◌*◌, List, [], ◌∷◌, ◌++◌, length, Bool, true, refl, ◌∙◌, subst, Option, Some, None, arith}
 use Rattle.std.specs.Prelude.{if◌then◌else◌, is_some, option_map, option_to_list}
 use Rattle.std.proofs.lemmas.Bool.{ltb-true, leb-true}
 use Rattle.std.proofs.lemmas.List.{length-append}
@@ -11,17 +11,11 @@ use Rattle.emu_model.specs.Pipes.{InService, Instance, After, dequeue, period_wi
 use Rattle.emu_model.specs.ComponentLaws.{IsWithin}
 use Rattle.emu_model.specs.Alone.{alone}
 use Rattle.emu_model.proofs.CallerLemmas.{dequeue-cut}
-use Rattle.emu_laws.proofs.EachOf.{either, each_weaker}
+use Rattle.emu_laws.proofs.EachOf.{either, each_weaker, of_choice}
 use Rattle.emu_laws.proofs.PipesKept.{InstanceKeeps, Each, alone-pipes}
 use Rattle.emu_laws.proofs.FlowsKept.{Anything, anything}
 use Rattle.emu_laws.specs.NeverIdle.{IsWorkConserving, NeverIdle}
 use Rattle.emu_laws.specs.QueueBound.{IsAtMost, LimitsPipe, QueuesAreBounded}
-
--- of both of two, where the choice is known
-of_choice : {A : Type 0} (P : A → Type 0) (b : Bool) (x y : A) → (b ≡ true → P x) → (b ≡ false → P y) →
-    P (if b then x else y)
-of_choice P true x y p q = p refl
-of_choice P false x y p q = q refl
 
 -- an option put through f is none where it is none
 none_of : {A B : Type 0} (f : A → B) (o : Option A) → option_map f o ≡ None → o ≡ None

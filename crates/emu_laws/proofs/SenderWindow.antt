@@ -11,7 +11,7 @@ use Rattle.emu_model.specs.Net.{FlowState}
 use Rattle.emu_model.specs.declared.sources.Due.{Due}
 use Rattle.emu_model.specs.Dues.{due, flow_dues}
 use Rattle.emu_model.specs.Alone.{alone}
-use Rattle.emu_laws.proofs.EachOf.{either, each_joined, each_weaker, each_found}
+use Rattle.emu_laws.proofs.EachOf.{either, each_joined, each_weaker, each_found, of_choice}
 use Rattle.emu_laws.proofs.MissingFacts.{fewer}
 use Rattle.emu_laws.proofs.FlowsKept.{MaySend, FlowKeeps, alone-flows, alone-sends}
 use Rattle.emu_laws.specs.SenderWindow.{FlightFitsWindow, NewDataFitsWindows, DoneFlowsAreSilent, SequenceIsInOrder, TooSmallWindowSendsNothing}
@@ -152,12 +152,6 @@ first-fits f now s r h =
       bytes = omega (arith, h.bytes, whole_more s.snd_nxt f.smss f.segments h.whole_nxt r.left);
       again = λ g. omega (arith, h.again g);
     }
-
--- of both of two, where the choice is known
-of_choice : {A : Type 0} (P : A → Type 0) (b : Bool) (x y : A) → (b ≡ true → P x) → (b ≡ false → P y) →
-    P (if b then x else y)
-of_choice P true x y p q = p refl
-of_choice P false x y p q = q refl
 
 emit-fits : (f : FlowSpec) (now : ℕ) (s : Sender) → may_emit f s ≡ true → Fits f s → Fits f (emit f now s)
 emit-fits f now s may h =
