@@ -1,6 +1,6 @@
 -- The different identifiers of a list that begins with another begin with those of the other.
-use Rattle.std.proofs.Common.{inl, inr, ◌≡◌, ℕ, suc, ◌+◌, ◌<◌, Bool, true, false, cond, List, [], ◌∷◌, ◌++◌, length, refl, sym, ap, ◌∙◌, append_assoc, append-nil, eq-eqb, arith}
-use Rattle.std.specs.Prelude.{◌||◌, ◌==◌, not, nat_lt, Some, position}
+use Rattle.std.proofs.Common.{inl, inr, ◌≡◌, Bool, true, false, cond, List, [], ◌∷◌, ◌++◌, length, refl, sym, ap, ◌∙◌, append_assoc, append-nil, eq-eqb, arith}
+use Rattle.std.specs.Prelude.{◌||◌, nat_lt, Some, position}
 use Rattle.std.specs.List.{list_any, position_or_len}
 use Rattle.std.proofs.lemmas.Bool.{cases_Bool, lt-ltb}
 use Rattle.std.proofs.lemmas.List.{length-append}

@@ -1,13 +1,13 @@
 -- The least of dues, by the kit's law of the first that nothing beats.
-use Rattle.std.proofs.Common.{◌≡◌, ℕ, ◌<◌, false, List, ◌∷◌, length, get_or, sym, ap, ◌∙◌, subst}
-use Rattle.std.specs.Prelude.{Some, slice_get}
+use Rattle.std.proofs.Common.{◌≡◌, ℕ, ◌<◌, false, List, length, get_or, ap, ◌∙◌, subst}
+use Rattle.std.specs.Prelude.{Some}
 use Rattle.std.specs.Cmp.{IsStrictWeakOrder}
 use Rattle.std.proofs.lemmas.List.MinMax.{IsFirstBest-from_best_of, IsStrictWeakOrder-by_number}
 use Rattle.std.proofs.lemmas.Option.{slice_get_within, get_or_from_slice_get, slice_get-get_or}
 use Rattle.emu_model.specs.declared.sources.Class.TheVariants.{NextCommand}
 use Rattle.emu_model.specs.declared.sources.Due.{Due}
 use Rattle.emu_model.specs.Dues.{due, rank, is_before, least_due}
-use Rattle.emu_model.proofs.CallerLemmas.{first_by, first_by-order}
+use Rattle.emu_model.proofs.CallerLemmas.{first_by-order}
 use Rattle.emu_laws.specs.LeastDue.{LeastDueIsLeast, all_dues}
 
 is_before-order : IsStrictWeakOrder is_before

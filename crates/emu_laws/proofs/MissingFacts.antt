@@ -1,13 +1,13 @@
 -- The least byte that did not come: as many segments as came can't hold one more.
 use Rattle.std.proofs.Common.{inl, inr, ◌≡◌, ℕ, zero, suc, ◌+◌, ◌*◌, ◌<◌, ◌≤◌, ◌⊎◌, Bool, true, false, List, [], ◌∷◌, length, refl, sym, ap, ◌∙◌, subst, eq-eqb, arith}
-use Rattle.std.specs.Prelude.{◌||◌, ◌==◌, nat_lt}
+use Rattle.std.specs.Prelude.{◌==◌}
 use Rattle.std.specs.List.{list_any, AllByRecursion}
 use Rattle.std.proofs.lemmas.Bool.{cases_Bool, cases_order, eqb-true, ne_eqb, lt-ltb, le-ltb}
 use Rattle.std.proofs.Math.Nat.{mul-le-mul_right}
 use Rattle.emu_model.specs.Reno.{with_segment, first_gap, missing}
 use Rattle.emu_laws.specs.Missing.{received, MissingIsLeast}
 
-pub has : List ℕ → ℕ → Bool
+unfoldable pub has : List ℕ → ℕ → Bool
 has xs x = list_any (λ y. y == x) xs
 
 -- each is less than all behind it
@@ -96,7 +96,7 @@ pub record Stops (n smss : ℕ) (xs : List ℕ) (from : ℕ) : Type 0 where
   pub runs : Runs steps smss xs from
   pub last : (has xs (first_gap n smss xs from) ≡ false) ⊎ (steps ≡ n)
 
-stops : (n smss : ℕ) (xs : List ℕ) (from : ℕ) → Stops n smss xs from
+pub stops : (n smss : ℕ) (xs : List ℕ) (from : ℕ) → Stops n smss xs from
 unfolding Runs has
 stops zero smss xs from = record {
   steps = 0;
@@ -142,7 +142,7 @@ run_at (suc n) smss xs a zero h low = ap (has xs) (omega arith) ∙ h.0
 run_at (suc n) smss xs a (suc k) h low =
     ap (has xs) (omega arith) ∙ run_at n smss xs (a + smss) k h.1 (omega (arith, low))
 
-fewer : (a b n : ℕ) → a * n < b * n → a < b
+pub fewer : (a b n : ℕ) → a * n < b * n → a < b
 fewer a b n h = elim (cases_order a b) [
   | inl e ↦ omega (arith, h, ap (λ m. m * n) e)
   | inr w ↦ elim w [

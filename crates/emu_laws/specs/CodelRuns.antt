@@ -1,7 +1,7 @@
 -- Two runs of CoDel: 30 and 40 packets of 1000 bytes come at once to a pipe of 1 Mbit/s, which takes
 -- 8 ms for each, with a target of 5 ms and an interval of 100 ms. At 112 ms the packet numbered 14 was
 -- dropped, and the next drop was set for 212 ms (RFC 8289, section 5.5).
-use Rattle.std.specs.Prelude.{◌≡◌, ℕ, zero, suc, ◌+◌, ◌*◌, ◌^◌, true, false, List, [], ◌∷◌}
+use Rattle.std.specs.Prelude.{◌≡◌, ℕ, zero, suc, ◌+◌, true, false, List, [], ◌∷◌}
 use Rattle.emu_model.specs.Moments.{milliseconds}
 use Rattle.emu_model.specs.DropTail.{Waiting}
 use Rattle.emu_model.specs.Codel.{Times, CodelState, codel_dequeue}

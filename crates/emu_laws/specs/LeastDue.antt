@@ -1,5 +1,5 @@
 -- What is due first (our choice: by moment, class and number).
-use Rattle.std.specs.Prelude.{◌≡◌, ℕ, ◌<◌, false, Some, List, ◌∷◌, length, slice_get}
+use Rattle.std.specs.Prelude.{◌≡◌, ℕ, false, Some, List, ◌∷◌, slice_get}
 use Rattle.emu_model.specs.declared.sources.Class.TheVariants.{NextCommand}
 use Rattle.emu_model.specs.declared.sources.Due.{Due}
 use Rattle.emu_model.specs.Dues.{due, is_before, least_due}

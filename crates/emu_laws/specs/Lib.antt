@@ -1,4 +1,14 @@
+pub mod AckedArrived
 pub mod CodelRuns
 pub mod InstanceNumbers
 pub mod LeastDue
 pub mod Missing
+pub mod NeverIdle
+pub mod PipeDelay
+pub mod PipeRate
+pub mod QueueBound
+pub mod QueueTurn
+pub mod SenderWindow
+pub mod ServiceMoments
+pub mod WaitBound
+pub mod WorkBound

@@ -1,0 +1,46 @@
+-- A sender keeps to the receiver's window (RFC 5681, section 3.1: no more is sent than the lesser of cwnd and rwnd
+-- allows).
+use Rattle.std.specs.Prelude.{◌≡◌, ◌≢◌, ℕ, ◌+◌, ◌<◌, ◌≤◌, min, true, false, ◌⊎◌, Some, None, List}
+use Rattle.std.specs.List.{AllByRecursion}
+use Rattle.emu_model.specs.declared.sources.Class.TheVariants.{Emission}
+use Rattle.emu_model.specs.declared.commands.Spec.{Spec}
+use Rattle.emu_model.specs.declared.commands.Timed.{Timed}
+use Rattle.emu_model.specs.Reno.{flight_size, total_bytes}
+use Rattle.emu_model.specs.Net.{FlowState, find_flow, find_train}
+use Rattle.emu_model.specs.Dues.{flow_dues}
+use Rattle.emu_model.specs.Step.{next_event}
+use Rattle.emu_model.specs.Alone.{alone}
+
+-- in every state what a flow has sent and is not acknowledged is at most the receiver's window
+abbrev pub FlightFitsWindow : Type 0
+FlightFitsWindow = (spec : Spec) (c : List Timed) (n : ℕ) →
+    AllByRecursion (λ f. flight_size f.sender ≤ f.flow.rwnd) (alone spec c n).net.flows
+
+-- where the next event is a flow's segment of new data, it ends within the lesser of both windows, counted from the
+-- first byte that is not acknowledged; what is sent again (`resend`) goes without regard to them
+abbrev pub NewDataFitsWindows : Type 0
+NewDataFitsWindows = (spec : Spec) (c : List Timed) (n : ℕ) (t : Timed) (f : FlowState) →
+    let s = alone spec c n in
+    let source = (next_event s t).source in
+    source.class ≡ Emission → find_train source.number s.net ≡ None → find_flow source.number s.net ≡ Some f →
+    f.sender.resend ≡ false →
+    f.sender.snd_nxt + f.flow.smss ≤ f.sender.snd_una + min f.sender.cwnd f.flow.rwnd
+
+-- in every state a flow that is stopped, or whose every byte is acknowledged, has no segment due
+abbrev pub DoneFlowsAreSilent : Type 0
+DoneFlowsAreSilent = (spec : Spec) (c : List Timed) (n : ℕ) →
+    AllByRecursion (λ f. (f.stopped ≡ true) ⊎ (f.sender.snd_una ≡ total_bytes f.flow) →
+    AllByRecursion (λ d. d.source.class ≢ Emission) (flow_dues (alone spec c n).clock f))
+    (alone spec c n).net.flows
+
+-- in every state what is acknowledged, what is sent next and what was sent once follow one another, and none is
+-- beyond the flow's bytes
+abbrev pub SequenceIsInOrder : Type 0
+SequenceIsInOrder = (spec : Spec) (c : List Timed) (n : ℕ) →
+    AllByRecursion (λ f. (f.sender.snd_una ≤ f.sender.snd_nxt) × (f.sender.snd_nxt ≤ f.sender.snd_max)
+    × (f.sender.snd_max ≤ total_bytes f.flow)) (alone spec c n).net.flows
+
+-- a flow whose segments are larger than the receiver's window never sends
+abbrev pub TooSmallWindowSendsNothing : Type 0
+TooSmallWindowSendsNothing = (spec : Spec) (c : List Timed) (n : ℕ) →
+    AllByRecursion (λ f. f.flow.rwnd < f.flow.smss → f.sender.snd_max ≡ 0) (alone spec c n).net.flows
