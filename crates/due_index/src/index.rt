@@ -1,6 +1,6 @@
 //! An index of dues by place.
 
-ghost use Rattle.std.specs.Prelude.{◌≡◌, ◌+◌, ◌-◌, ◌<◌, ◌≤◌, ◌++◌, ◌∷◌, [], length, slice_set, IfOk, OnOk, OnErr, IsOk};
+ghost use Rattle.std.specs.Prelude.{◌≡◌, ◌+◌, ◌-◌, ◌<◌, ◌≤◌, ◌++◌, ◌∷◌, [], length, slice_get, slice_set, Some, IfOk, OnOk, OnErr, IsOk};
 ghost use Rattle.due_index.specs.Least.{least_of, dues_in};
 
 use crate::number::DueNumber;
@@ -117,6 +117,15 @@ impl DueIndex {
             return;
         }
         self.least = put(self.nodes.as_mut_slice(), leaf, due);
+    }
+
+    /// What is due at a place.
+    #[inline(always)]
+    pub fn at(&self, place: usize) -> DueNumber
+        requires { place < length self.now.leaves }
+        ensures { slice_get self.now.leaves place ≡ Some result }
+    {
+        self.nodes[self.half + place]
     }
 
     /// No places any more; their room stays.

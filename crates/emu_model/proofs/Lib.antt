@@ -1,5 +1,6 @@
 mod Later
-mod ChangesWalk
+mod Earlier
+pub mod ChangesWalk
 mod Growth
 mod ControlRoot
 mod ComponentFacts
@@ -19,14 +20,14 @@ mod FoundPipes
 mod PassingOrder
 mod Numbers
 mod Single
-mod AllFacts
+pub mod AllFacts
 mod Holding
 mod Ahead
 pub mod CodelParts
 mod Cuts
 mod FirstBy
 pub mod CallerLemmas
-mod PipeParts
+pub mod PipeParts
 mod DueParts
 mod SourceDues
 mod Near

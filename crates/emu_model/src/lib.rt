@@ -24,7 +24,10 @@ pub use component_laws::{
     loss_has_its_extremes,
 };
 pub use due_laws::{dues_stay_ahead, dues_stay_below};
-pub use laws::{budget_ends, dues_differ, later_commands_wait, packets_add_up, records_grow};
+pub use laws::{
+    budget_ends, dues_differ, later_commands_wait, packets_add_up, records_are_not_read,
+    records_grow,
+};
 pub use packets::{Load, Packet, Place, Protocol};
 pub use pipes::{Discipline, Mask, PipeConfig, QueueLimit};
 pub use ranged::{

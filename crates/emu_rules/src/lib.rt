@@ -5,4 +5,4 @@
 mod list;
 
 pub use list::{AddError, RuleList};
-pub use rule_search::CountedRule;
+pub use rule_search::{CountedRule, Foreseen, NO_RULE};

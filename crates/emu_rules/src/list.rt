@@ -1,13 +1,14 @@
 //! The rule list.
 
-ghost use Rattle.std.specs.Prelude.{◌≡◌, Some, None, IfOk, OnOk, OnErr, MatchResult};
-ghost use Rattle.emu_model.specs.Rules.{initial_book, add_refusal, book_with, delete_refusal, book_without, verdict, counted_book, start_behind, is_rule_number};
+ghost use Rattle.std.specs.Prelude.{◌≡◌, ◌≢◌, ◌<◌, ◌∷◌, [], length, Some, None, IfOk, OnOk, OnErr, MatchResult};
+ghost use Rattle.emu_model.specs.Rules.{initial_book, add_refusal, book_with, delete_refusal, book_without, verdict, counted_book, start_behind, is_rule_number, the_rules, count_at};
+ghost use Rattle.rule_search.specs.Walk.{CountsAlone};
 ghost use Rattle.emu_rules.specs.Errors.{refusal_of};
 
 use emu_model::{Packet, Place, Refusal, Rule, RuleNumber, Verdict};
 use rule_search::{
-    CountedRule, SearchMemory, aim, first_behind, first_from, judge, judge_and_count,
-    judge_by_memory, target_of,
+    CountedRule, Foreseen, NO_RULE, SearchMemory, aim, count_at, first_behind, first_from, foresee,
+    judge, judge_and_count, judge_by_memory, target_of,
 };
 use std::alloc::{AllocError, Global};
 use std::marker::Model;
@@ -191,6 +192,41 @@ impl RuleList {
     {
         let start = first_behind(&self.rules, place);
         judge_by_memory(&mut self.memory, &self.rules, &self.jumps, start, packet)
+    }
+
+    /// The verdict of `foresee`, and by which rule.
+    #[inline(always)]
+    pub fn foresee_rule(&mut self, packet: &Packet) -> Foreseen
+        ensures verdict { result.verdict ≡ verdict 0 packet.now self.old.rules }
+        ensures same { self.new ≡ self.old }
+        ensures rule { result.rule ≢ NO_RULE →
+            CountsAlone 0 packet.now (the_rules self.old.rules) result.rule }
+    {
+        foresee(&mut self.memory, &self.rules, &self.jumps, 0, packet)
+    }
+
+    /// The same of a search behind the place of a rule.
+    #[inline(always)]
+    pub fn foresee_rule_after(&mut self, place: Place, packet: &Packet) -> Foreseen
+        ensures verdict { let start = start_behind place self.old.rules in
+            result.verdict ≡ verdict start packet.now self.old.rules }
+        ensures same { self.new ≡ self.old }
+        ensures rule { let start = start_behind place self.old.rules in result.rule ≢ NO_RULE →
+            CountsAlone start packet.now (the_rules self.old.rules) result.rule }
+    {
+        let start = first_behind(&self.rules, place);
+        foresee(&mut self.memory, &self.rules, &self.jumps, start, packet)
+    }
+
+    /// The rule at a place counts a packet, which was foreseen there.
+    #[inline(always)]
+    pub fn count_at(&mut self, rule: usize, packet: &Packet)
+        requires { rule < length self.old.rules }
+        ensures { self.new ≡ record self.old {
+          rules = count_at (rule ∷ []) packet.now 0 self.old.rules;
+        } }
+    {
+        count_at(&mut self.rules, rule, packet);
     }
 
     /// The rules in order with their counters, the default last.

@@ -1,4 +1,4 @@
-//! Texts of worked examples, as examples/ has them, for tests: tools/texts writes all but this file.
+//! Texts of worked examples, as examples/ has them, for tests: tools/gate/texts writes all but this file.
 #![tactic(auto)]
 
 mod floods;

@@ -6,10 +6,10 @@ use Rattle.emu_model.specs.declared.commands.Timed.{Timed}
 use Rattle.emu_model.specs.declared.records.Record.{Record}
 use Rattle.emu_model.specs.Step.{State, step, step_with, next_event}
 use Rattle.emu_model.specs.Alone.{alone}
-use Rattle.emu_model.specs.Laws.{LaterCommandsWait, RecordsGrow, IsExtendedBy, with_more}
+use Rattle.emu_model.specs.Laws.{LaterCommandsWait, RecordsGrow, RecordsAreNotRead, IsExtendedBy, with_more, with_earlier}
 use Rattle.packet_store.specs.Pocket.{Pocket}
-use Rattle.experiment.specs.Kept.{KeptExperiment, view, IsAlone, shown_ending}
-use Rattle.experiment.specs.Moves.{Steps}
+use Rattle.experiment.specs.Kept.{KeptExperiment, view, IsAlone, IsAloneAfter, shown_ending}
+use Rattle.experiment.specs.Moves.{Steps, IsStep}
 
 -- a command that came behind all others waits
 pub alone-applied : LaterCommandsWait → (p : Pocket) (e : KeptExperiment) (c : Timed) (spare : ℕ) → e.next ≡ None → IsAlone p e →
@@ -18,6 +18,16 @@ alone-applied law p e c spare none is =
     (λ i. record (view p e) { left = option_to_list (sym none i) ++ c ∷ [] })
     ∙ ap (with_more (c ∷ [])) is
     ∙ sym (law e.spec e.consumed (c ∷ []) e.steps (sym (ap (λ (s : State). s.steps) is)))
+
+-- a step of the definitions was made
+pub is_step : (p q : Pocket) (old new : KeptExperiment) (c : Timed) → Steps (next_event (view p old) c) c p old q new →
+    old.next ≡ Some c → old.ending ≡ None → IsStep p old q new
+is_step p q old new c s next going = record {
+  stepped = s.stepped
+      ∙ sym (λ i. if is_some (shown_ending (going i)) then view p old else step_with (option_to_list (next i)) (view p old));
+  counted = s.counted;
+  going = going;
+}
 
 -- a step, the next command being known
 pub alone_counted : (p q : Pocket) (old new : KeptExperiment) (c : Timed) → Steps (next_event (view p old) c) c p old q new →
@@ -28,6 +38,41 @@ alone_counted p q old new c s next going spec consumed is =
     ∙ sym (λ i. if is_some (shown_ending (going i)) then view p old else step_with (option_to_list (next i)) (view p old)) in
     stepped ∙ ap step is
     ∙ sym (λ i. alone (spec i) (consumed i) ((s.counted ∙ add-one old.steps) i))
+
+-- the same where what was recorded before was forgotten
+pub after-applied : LaterCommandsWait → (rs : List Record) (p : Pocket) (e : KeptExperiment) (c : Timed) (spare : ℕ) →
+    e.next ≡ None → IsAloneAfter rs p e →
+    IsAloneAfter rs p (record e { next = Some c; consumed = e.consumed ++ c ∷ []; spare = spare })
+after-applied law rs p e c spare none is =
+    (λ i. with_earlier rs (record (view p e) { left = option_to_list (sym none i) ++ c ∷ [] }))
+    ∙ ap (with_more (c ∷ [])) is
+    ∙ sym (law e.spec e.consumed (c ∷ []) e.steps (sym (ap (λ (s : State). s.steps) is)))
+
+pub after_counted : RecordsAreNotRead → (rs : List Record) (p q : Pocket) (old new : KeptExperiment) (c : Timed) →
+    Steps (next_event (view p old) c) c p old q new → old.next ≡ Some c → old.ending ≡ None → new.spec ≡ old.spec →
+    new.consumed ≡ old.consumed → IsAloneAfter rs p old → IsAloneAfter rs q new
+after_counted law rs p q old new c s next going spec consumed is =
+    let stepped : view q new ≡ step (view p old) =
+    s.stepped
+    ∙ sym (λ i. if is_some (shown_ending (going i)) then view p old else step_with (option_to_list (next i)) (view p old)) in
+    ap (with_earlier rs) stepped
+    ∙ sym (law rs (view p old))
+    ∙ ap step is
+    ∙ sym (λ i. alone (spec i) (consumed i) ((s.counted ∙ add-one old.steps) i))
+
+-- the records are forgotten, and stand before those to come
+pub after_forgotten : (rs : List Record) (p : Pocket) (old new : KeptExperiment) →
+    new ≡ record old { net = record old.net { log = new.net.log } } → new.net.log.records ≡ [] →
+    IsAloneAfter rs p old → IsAloneAfter (rs ++ old.net.log.records) p new
+after_forgotten rs p old new rest none is =
+    let all : List Record = rs ++ old.net.log.records in
+    let kept : view p new ≡ record (view p old) { net = record (view p old).net { records = new.net.log.records } } =
+    ap (view p) rest in
+    ap (with_earlier all) kept
+    ∙ ap (λ qs. record (view p old) { net = record (view p old).net { records = all ++ qs } }) none
+    ∙ ap (λ qs. record (view p old) { net = record (view p old).net { records = qs } }) (append-nil all)
+    ∙ is
+    ∙ sym (λ i. alone (rest i).spec (rest i).consumed (rest i).steps)
 
 -- one step more of the same experiment has the records of before in front
 pub alone_grows : RecordsGrow → (p q : Pocket) (old new : KeptExperiment) → IsAlone p old → IsAlone q new →

@@ -4,10 +4,12 @@ use Rattle.std.specs.List.{AllByRecursion}
 use Rattle.emu_model.specs.declared.commands.Spec.{Spec}
 use Rattle.emu_model.specs.declared.commands.Timed.{Timed}
 use Rattle.emu_model.specs.declared.sources.Due.{Due}
+use Rattle.emu_model.specs.declared.records.Record.{Record}
 use Rattle.emu_model.specs.declared.records.Ending.{Ending}
 use Rattle.emu_model.specs.declared.records.Ending.TheVariants.{Ended, Spent, Halted}
 use Rattle.emu_model.specs.Step.{State}
 use Rattle.emu_model.specs.Alone.{alone}
+use Rattle.emu_model.specs.Laws.{with_earlier}
 use Rattle.emu_model.specs.DueLaws.{AreRising, IsEarly}
 use Rattle.packet_store.specs.Pocket.{Pocket}
 use Rattle.network.specs.Kept.{KeptNet, net_of, net_keys, IsHoused}
@@ -49,6 +51,10 @@ view p e = record {
 -- what is shown is the state of the experiment by itself, after as many steps on the commands that came
 abbrev pub IsAlone : Pocket → KeptExperiment → Type 0
 IsAlone p e = view p e ≡ alone e.spec e.consumed e.steps
+
+-- the same where what was recorded before was forgotten
+abbrev pub IsAloneAfter : List Record → Pocket → KeptExperiment → Type 0
+IsAloneAfter earlier p e = with_earlier earlier (view p e) ≡ alone e.spec e.consumed e.steps
 
 -- the owner's packets are just those of the experiment, and it may hold as many as it was given
 pub record IsHousedIn (p : Pocket) (e : KeptExperiment) : Type 0 where

@@ -11,13 +11,13 @@ ghost use Rattle.packet_store.specs.Pocket.{Pocket, empty_pocket, OthersStay};
 ghost use Rattle.network.specs.Kept.{net_of, IsHoused};
 ghost use Rattle.network.specs.Due.{IsDue};
 ghost use Rattle.network.specs.Ready.{TakesNoMemory};
-ghost use Rattle.experiment.specs.Kept.{view, IsAlone, IsHousedIn, last_moment};
-ghost use Rattle.experiment.specs.Moves.{Makes, Steps, Halts, Closes};
+ghost use Rattle.experiment.specs.Kept.{view, IsAlone, IsAloneAfter, IsHousedIn, last_moment};
+ghost use Rattle.experiment.specs.Moves.{Makes, Steps, Halts, IsNext, Closes};
 
 use crate::told::command_due;
 use emu_model::{
     Class, Command, Due, Ending, Setting, Spec, Timed, command_in_range, later_commands_wait,
-    records_grow,
+    records_are_not_read, records_grow,
 };
 use network::Network;
 use packet_store::{Owner, Shelf};
@@ -156,6 +156,8 @@ impl Experiment {
         ensures err { OnErr result (self.new ≡ self.old) }
         ensures housed { (p : Pocket) → IsHousedIn p self.old → IsHousedIn p self.new }
         ensures alone { (p : Pocket) → IsAlone p self.old → IsAlone p self.new }
+        ensures after { (earlier : List Record) (p : Pocket) →
+            IsAloneAfter earlier p self.old → IsAloneAfter earlier p self.new }
         ensures over { result ≡ Err ApplyError.Over → IsSome self.old.ending }
         ensures busy { result ≡ Err ApplyError.Busy →
             (self.old.ending ≡ None) × IsSome self.old.next }
@@ -189,7 +191,8 @@ impl Experiment {
     /// Makes the next event: one step of the definitions. `Ran` and `Ended` where the step was made,
     /// `Still` without a next command or after the end, `Halted` for want of memory: the experiment
     /// stands then as before, and ends so.
-    #[tactic(auto, using(crate::proofs::AloneFacts::alone_counted))]
+    #[tactic(auto, using(crate::proofs::AloneFacts::alone_counted, crate::proofs::AloneFacts::after_counted))]
+    #[inline(always)]
     pub fn event<S: Shelf>(&mut self, shelf: &mut S, owner: Owner) -> Event
         requires { IsHousedIn (S.pocket shelf.old owner) self.old }
         ensures housed { IsHousedIn (S.pocket shelf.new owner) self.new }
@@ -198,6 +201,9 @@ impl Experiment {
         ensures halted { result ≡ Event.Halted → (self.old.ending ≡ None) × IsSome self.old.next }
         ensures alone { IsAlone (S.pocket shelf.old owner) self.old →
             IsAlone (S.pocket shelf.new owner) self.new }
+        ensures after { (earlier : List Record) →
+            IsAloneAfter earlier (S.pocket shelf.old owner) self.old →
+            IsAloneAfter earlier (S.pocket shelf.new owner) self.new }
         ensures grows { IsAlone (S.pocket shelf.old owner) self.old →
             (more : List Record) × (self.new.net.log.records ≡ self.old.net.log.records ++ more) }
         ensures consumed { self.new.consumed ≡ self.old.consumed }
@@ -215,13 +221,15 @@ impl Experiment {
         ensures others { OthersStay owner (S.pocket shelf.old) (S.pocket shelf.new) }
     {
         records_grow();
+        records_are_not_read();
         if self.ending.is_some() {
             return Event::Still;
         }
-        let Some(command) = self.next else {
+        let Some(command) = &self.next else {
             return Event::Still;
         };
-        let Ok(()) = self.step(shelf, owner, &command) else {
+        let first = command_due(command);
+        let Ok(()) = self.step(shelf, owner, first) else {
             return Event::Halted;
         };
         if self.ending.is_some() {
@@ -230,41 +238,36 @@ impl Experiment {
         Event::Ran
     }
 
-    // One step, where this is the next command.
-    fn step<S: Shelf>(
-        &mut self,
-        shelf: &mut S,
-        owner: Owner,
-        command: &Timed,
-    ) -> Result<(), AllocError>
-        requires early { command.now.moment ≤ 10 ^ 15 }
-        requires next { self.old.next ≡ Some command.now }
+    // One step, where there is a next command, which is due then.
+    #[inline(always)]
+    fn step<S: Shelf>(&mut self, shelf: &mut S, owner: Owner, first: Due) -> Result<(), AllocError>
+        requires next { IsNext first self.old.next }
         requires going { self.old.ending ≡ None }
         requires housed { IsHousedIn (S.pocket shelf.old owner) self.old }
-        ensures ok { OnOk result
-            (Steps (next_event (view (S.pocket shelf.old owner) self.old) command.now) command.now
+        ensures ok { OnOk result ((c : TimedCommand) → self.old.next ≡ Some c →
+            Steps (next_event (view (S.pocket shelf.old owner) self.old) c) c
             (S.pocket shelf.old owner) self.old (S.pocket shelf.new owner) self.new) }
         ensures halted { OnErr result
             (Halts (S.pocket shelf.old owner) self.old (S.pocket shelf.new owner) self.new) }
         ensures housed { IsHousedIn (S.pocket shelf.new owner) self.new }
         ensures noted { self.new.noted ≡ self.old.noted }
-        ensures expires { (next_event (view (S.pocket shelf.old owner) self.old)
-            command.now).source.class ≡ Expiry →
+        ensures expires { (c : TimedCommand) → self.old.next ≡ Some c →
+            (next_event (view (S.pocket shelf.old owner) self.old) c).source.class ≡ Expiry →
             6 ≤ self.old.net.log.spare → IsOk result }
-        ensures obeys { (next_event (view (S.pocket shelf.old owner) self.old)
-            command.now).source.class ≡ NextCommand →
-            TakesNoMemory command.now.command (net_of (S.pocket shelf.old owner) self.old.net) →
+        ensures obeys { (c : TimedCommand) → self.old.next ≡ Some c →
+            (next_event (view (S.pocket shelf.old owner) self.old) c).source.class ≡ NextCommand →
+            TakesNoMemory c.command (net_of (S.pocket shelf.old owner) self.old.net) →
             6 ≤ self.old.net.log.spare → IsOk result }
         ensures consumed { self.new.consumed ≡ self.old.consumed }
         ensures spec { self.new.spec ≡ self.old.spec }
         ensures budget { (S.pocket shelf.new owner).budget ≡ (S.pocket shelf.old owner).budget }
         ensures others { OthersStay owner (S.pocket shelf.old) (S.pocket shelf.new) }
     {
-        let due = self.least_due(command);
+        let due = self.net.settled_earliest(self.clock, first);
         if due.source.class == Class::NextCommand {
-            self.take_command(shelf, owner, due, command)
+            self.take_command(shelf, owner, due)
         } else {
-            self.take_event(shelf, owner, due, command)
+            self.take_event(shelf, owner, due)
         }
     }
 
@@ -274,38 +277,39 @@ impl Experiment {
         ensures moment { result.moment ≤ command.now.moment }
         ensures due { IsDue result self.now.net }
     {
-        let first = command_due(command);
-        self.net.earliest(self.clock, first)
+        self.net.earliest(self.clock, command_due(command))
     }
 
     // The next command comes, as the step's event.
+    #[inline(never)]
     fn take_command<S: Shelf>(
         &mut self,
         shelf: &mut S,
         owner: Owner,
         due: Due,
-        command: &Timed,
     ) -> Result<(), AllocError>
         requires early { due.moment ≤ 10 ^ 15 }
         requires class { due.source.class ≡ NextCommand }
-        requires next { self.old.next ≡ Some command.now }
+        requires next { IsSome self.old.next }
         requires going { self.old.ending ≡ None }
         requires housed { IsHousedIn (S.pocket shelf.old owner) self.old }
-        ensures ok { OnOk result
-            (Steps due command.now (S.pocket shelf.old owner) self.old
-            (S.pocket shelf.new owner) self.new) }
+        ensures ok { OnOk result ((c : TimedCommand) → self.old.next ≡ Some c →
+            Steps due c (S.pocket shelf.old owner) self.old (S.pocket shelf.new owner) self.new) }
         ensures halted { OnErr result
             (Halts (S.pocket shelf.old owner) self.old (S.pocket shelf.new owner) self.new) }
         ensures housed { IsHousedIn (S.pocket shelf.new owner) self.new }
         ensures noted { self.new.noted ≡ self.old.noted }
-        ensures obeys { TakesNoMemory command.now.command
-            (net_of (S.pocket shelf.old owner) self.old.net) →
+        ensures obeys { (c : TimedCommand) → self.old.next ≡ Some c →
+            TakesNoMemory c.command (net_of (S.pocket shelf.old owner) self.old.net) →
             6 ≤ self.old.net.log.spare → IsOk result }
         ensures consumed { self.new.consumed ≡ self.old.consumed }
         ensures spec { self.new.spec ≡ self.old.spec }
         ensures budget { (S.pocket shelf.new owner).budget ≡ (S.pocket shelf.old owner).budget }
         ensures others { OthersStay owner (S.pocket shelf.old) (S.pocket shelf.new) }
     {
+        let Some(command) = self.next else {
+            unreachable!();
+        };
         let at = setting_of(&self.spec, due.moment);
         let Ok(()) = self
             .net
@@ -325,22 +329,21 @@ impl Experiment {
     }
 
     // Something else that is due comes, as the step's event.
+    #[inline(always)]
     fn take_event<S: Shelf>(
         &mut self,
         shelf: &mut S,
         owner: Owner,
         due: Due,
-        command: &Timed,
     ) -> Result<(), AllocError>
         requires early { due.moment ≤ 10 ^ 15 }
         requires class { due.source.class ≢ NextCommand }
         requires due { IsDue due self.old.net }
-        requires next { self.old.next ≡ Some command.now }
+        requires next { IsSome self.old.next }
         requires going { self.old.ending ≡ None }
         requires housed { IsHousedIn (S.pocket shelf.old owner) self.old }
-        ensures ok { OnOk result
-            (Steps due command.now (S.pocket shelf.old owner) self.old
-            (S.pocket shelf.new owner) self.new) }
+        ensures ok { OnOk result ((c : TimedCommand) → self.old.next ≡ Some c →
+            Steps due c (S.pocket shelf.old owner) self.old (S.pocket shelf.new owner) self.new) }
         ensures halted { OnErr result
             (Halts (S.pocket shelf.old owner) self.old (S.pocket shelf.new owner) self.new) }
         ensures housed { IsHousedIn (S.pocket shelf.new owner) self.new }
@@ -397,6 +400,7 @@ fn ending_by(command: &Command) -> Option<Ending>
 }
 
 // The last step of the budget ends an experiment that hasn't ended.
+#[inline(always)]
 fn close(
     net: &mut Network,
     spec: &Spec,

@@ -1,14 +1,15 @@
 //! What is told of an experiment.
 
-ghost use Rattle.std.specs.Prelude.{◌≡◌, ◌*◌, ◌^◌, ◌<◌, ◌≤◌, ◌++◌, [], is_some, option_to_list, IfOk, IfSome, OnOk, OnErr};
+ghost use Rattle.std.specs.Prelude.{◌≡◌, ◌*◌, ◌^◌, ◌<◌, ◌≤◌, ◌++◌, [], List, is_some, option_to_list, IfOk, IfSome, OnOk, OnErr};
 ghost use Rattle.std.specs.List.{AllByRecursion};
 ghost use Rattle.emu_model.specs.Moments.{IsMoment};
 ghost use Rattle.emu_model.specs.declared.sources.Class.TheVariants.{NextCommand};
+ghost use Rattle.emu_model.specs.declared.records.Record.{Record};
 ghost use Rattle.emu_model.specs.Net.{counters_of};
 ghost use Rattle.emu_model.specs.Dues.{dues_of};
 ghost use Rattle.packet_store.specs.Pocket.{Pocket};
 ghost use Rattle.network.specs.Kept.{net_of};
-ghost use Rattle.experiment.specs.Kept.{view, IsAlone, IsHousedIn};
+ghost use Rattle.experiment.specs.Kept.{view, IsAlone, IsAloneAfter, IsHousedIn};
 ghost use Rattle.experiment.specs.Dues.{command_dues, dues_in, next_due_in};
 
 use crate::Experiment;
@@ -24,6 +25,21 @@ impl Experiment {
         ensures { result.now ≡ self.now.net.log.records }
     {
         self.net.records()
+    }
+
+    /// What was recorded is forgotten, as if it had been written down; its room stays. Each event goes on as it would
+    /// have gone on.
+    #[tactic(auto, using(crate::proofs::AloneFacts::after_forgotten))]
+    pub fn forget_records(&mut self)
+        ensures rest { self.new
+            ≡ record self.old { net = record self.old.net { log = self.new.net.log } } }
+        ensures records { self.new.net.log.records ≡ [] }
+        ensures room { self.old.net.log.spare ≤ self.new.net.log.spare }
+        ensures housed { (p : Pocket) → IsHousedIn p self.old → IsHousedIn p self.new }
+        ensures after { (earlier : List Record) (p : Pocket) → IsAloneAfter earlier p self.old →
+            IsAloneAfter (earlier ++ self.old.net.log.records) p self.new }
+    {
+        self.net.forget_records();
     }
 
     /// The commands that came, the next one among them.

@@ -1,4 +1,4 @@
-//! What is printed, written by hand. Most cases stand in explained/, which the program is tried on.
+//! What is printed, written by hand. Most cases stand in tools/gate/explained, which the program is tried on.
 
 use super::*;
 use control::{Cause, Fault};

@@ -1,4 +1,4 @@
-//! Warnings, written by hand. Most cases stand in explained/, which the program is tried on.
+//! Warnings, written by hand. Most cases stand in tools/gate/explained, which the program is tried on.
 
 use super::*;
 use control::parse_scenario;

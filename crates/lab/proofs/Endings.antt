@@ -1,13 +1,12 @@
 -- How a call ends: what was written, of what the text says.
 use Rattle.std.proofs.Common.{◌≡◌, ℕ, List, [], ◌++◌, map, Option, sym, ap, subst, ◌∙◌, append-nil}
 use Rattle.std.specs.Io.KnownBytes.{Appends, Keeps}
-use Rattle.emu_model.specs.Alone.{Trace}
 use Rattle.control.specs.declared.scenario.Experiment.{Experiment}
 use Rattle.lab.specs.Bytes.{IsCut, Puts, Stops}
 use Rattle.std.specs.Prelude.{flat_map}
-use Rattle.lab.specs.Reports.{trace_alone, reports_with, report_alone, reports, tally, Reads, Writes, WritesCut}
+use Rattle.lab.specs.Reports.{report_alone, reports, tally, Reads, Writes, WritesCut}
 use Rattle.lab.proofs.Writing.{writing_none, writing_done, appends_kept, puts_both, stops_behind}
-use Rattle.lab.proofs.Reporting.{reports_alone, texts_alone}
+use Rattle.lab.proofs.Reporting.{texts_alone}
 
 cut-all : (a b : Option (List ℕ)) (kept bytes : List ℕ) → kept ≡ [] → Stops a kept b bytes → IsCut a b bytes
 unfolding Stops
@@ -17,30 +16,7 @@ all-written : (a b : Option (List ℕ)) (kept bytes : List ℕ) → kept ≡ [] 
 unfolding Puts
 all-written a b kept bytes none f = writing_done a b bytes (subst (λ k. Puts a k b [] bytes) none f a [] (writing_none a))
 
-same-reports : (es plans : List Experiment) (ts : List Trace) → plans ≡ es → ts ≡ map trace_alone plans → reports_with plans ts ≡ reports es
-same-reports es plans ts are left = ap (reports_with plans) left ∙ reports_alone plans ∙ ap reports are
-
-pub reports_cut : (read a b : Option (List ℕ)) (kept : List ℕ) (es plans : List Experiment) (ts : List Trace) → Reads read es → kept ≡ [] → plans ≡ es → ts ≡ map trace_alone plans →
-    Stops a kept b (reports_with plans ts) → WritesCut reports read a b
-reports_cut read a b kept es plans ts reads none are left f =
-    (es, reads, subst (IsCut a b) (same-reports es plans ts are left) (cut-all a b kept (reports_with plans ts) none f))
-
-pub reports_cut_after : (read a b c : Option (List ℕ)) (kept l : List ℕ) (es plans : List Experiment) (ts : List Trace) → Reads read es → kept ≡ [] → plans ≡ es → ts ≡ map trace_alone plans →
-    Puts a kept b l (reports_with plans ts) → Stops b l c [] → WritesCut reports read a c
-reports_cut_after read a b c kept l es plans ts reads none are left f g =
-    reports_cut read a c kept es plans ts reads none are left
-    (subst (Stops a kept c) (append-nil (reports_with plans ts)) (stops_behind a b c kept l (reports_with plans ts) [] f g))
-
-pub reports_written : (read a b c : Option (List ℕ)) (kept l : List ℕ) (es plans : List Experiment) (ts : List Trace) → Reads read es → kept ≡ [] → plans ≡ es → ts ≡ map trace_alone plans →
-    Puts a kept b l (reports_with plans ts) → Puts b l c [] [] → Writes reports read a c
-reports_written read a b c kept l es plans ts reads none are left f g = (
-  es,
-  reads,
-  subst (Appends a c) (append-nil (reports_with plans ts) ∙ same-reports es plans ts are left)
-      (all-written a c kept (reports_with plans ts ++ []) none (puts_both a b c kept l [] (reports_with plans ts) [] f g)),
-)
-
--- the same of texts that were made before
+-- texts that were made before
 same-texts : (es plans : List Experiment) (texts : List (List ℕ)) → plans ≡ es → texts ≡ map report_alone plans → flat_map (λ x. x) texts ≡ reports es
 same-texts es plans texts are made = ap (flat_map (λ x. x)) made ∙ texts_alone plans ∙ ap reports are
 

@@ -8,4 +8,5 @@ pub mod Servings
 pub mod Settled
 pub mod ReportTexts
 pub mod Turns
+pub mod Tellings
 pub mod Writing

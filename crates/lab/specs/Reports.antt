@@ -16,12 +16,6 @@ trace_alone e = trace_of (alone e.spec e.commands e.spec.budget.steps)
 abbrev pub report_with : Experiment → Trace → List ℕ
 report_with e t = report_of e.name t.records t.counters
 
--- the reports of experiments that left these traces
-abbrev pub reports_with : List Experiment → List Trace → List ℕ
-reports_with [] ts = []
-reports_with (e ∷ es) [] = []
-reports_with (e ∷ es) (t ∷ ts) = report_with e t ++ reports_with es ts
-
 -- the report of an experiment that runs by itself, and those of all, in their order
 abbrev pub report_alone : Experiment → List ℕ
 report_alone e = report_with e (trace_alone e)

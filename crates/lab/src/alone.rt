@@ -1,63 +1,29 @@
 //! An experiment by itself: each command is applied in its turn, and events are made until the next one
-//! is wanted.
+//! is wanted. What they record becomes text on the way.
 
-ghost use Rattle.std.specs.Prelude.{◌≡◌, ◌≤◌, IfOk, OnOk, All, map};
-ghost use Rattle.emu_model.specs.Alone.{alone, trace_of};
-ghost use Rattle.packet_store.specs.Pocket.{Pocket};
+ghost use Rattle.std.specs.Prelude.{◌≡◌, ◌≤◌, ℕ, List, IfOk, OnOk, All, map};
 ghost use Rattle.packet_store.specs.Own.{own_pocket};
-ghost use Rattle.experiment.specs.Kept.{IsHousedIn, view};
+ghost use Rattle.packet_store.specs.Pocket.{Pocket};
+ghost use Rattle.experiment.specs.Kept.{IsHousedIn};
 ghost use Rattle.control.specs.Order.{AreInOrder};
 ghost use Rattle.lab.specs.Runs.{Advances, IsNew, Plays};
-ghost use Rattle.lab.specs.Reports.{trace_alone};
+ghost use Rattle.lab.specs.Telling.{CanTell, IsTold};
+ghost use Rattle.lab.specs.Reports.{report_alone};
 
 use crate::progress::Progress;
+use crate::telling::Telling;
+use crate::texts::Text;
 use control::Experiment as Script;
-use emu_model::{Counters, Record, Spec, Timed, later_commands_wait};
+use emu_model::{Timed, later_commands_wait, packets_add_up};
 use experiment::{ApplyError, Event, Experiment};
 use packet_store::OwnShelf;
 use std::alloc::{AllocError, Global};
-use std::marker::Model;
 
 /// After how many steps it is told again how many were made.
 const TOLD: u64 = 65_536;
 
-/// What a run leaves: its records in their order, and its counters.
-#[derive(Drop)]
-pub struct Outcome {
-    records: Vec<Record>,
-    counters: Counters,
-}
-
-impl Model for Outcome {
-    ghost use Rattle.emu_model.specs.Alone.{Trace};
-
-    ghost Value = { Trace };
-
-    ghost view = { λ o. record { records = o.records.items; counters = o.counters } };
-}
-
-impl Outcome {
-    /// These records and counters.
-    pub(crate) fn new(records: Vec<Record>, counters: Counters) -> Self
-        ensures { result ≡ record { records = records.items; counters = counters } }
-    {
-        Outcome { records, counters }
-    }
-
-    /// The records in their order.
-    pub fn records(&self) -> &[Record]
-        ensures { result.now ≡ self.now.records }
-    {
-        self.records.as_slice()
-    }
-
-    /// The packets that were made, delivered, are held, and were dropped by cause.
-    pub fn counters(&self) -> &Counters
-        ensures { result.now ≡ self.now.counters }
-    {
-        &self.counters
-    }
-}
+/// So many records are told together: they stay where they were written a moment before.
+const BATCH: usize = 256;
 
 // Tells now and then how many steps were made.
 fn tell<P: Progress>(experiment: &Experiment, progress: &P) {
@@ -67,18 +33,41 @@ fn tell<P: Progress>(experiment: &Experiment, progress: &P) {
     }
 }
 
+// Tells what was recorded, once there is a batch of it.
+#[inline(always)]
+fn tell_batch(experiment: &mut Experiment, telling: &mut Telling) -> Result<(), AllocError>
+    requires { CanTell telling.old experiment.old }
+    ensures told { OnOk result ((head : List ℕ) (p : Pocket) →
+        IsTold head telling.old p experiment.old → IsTold head telling.new p experiment.new) }
+    ensures rest { OnOk result (experiment.new ≡ record experiment.old {
+      net = record experiment.old.net { log = experiment.new.net.log };
+    }) }
+    ensures housed { OnOk result
+        ((p : Pocket) → IsHousedIn p experiment.old → IsHousedIn p experiment.new) }
+{
+    if experiment.records().len() < BATCH {
+        return Ok(());
+    }
+    telling.tell(experiment)?;
+    Ok(())
+}
+
 // Makes events until there is nothing more to do.
 #[inline(always)]
 fn advance<P: Progress>(
     experiment: &mut Experiment,
     shelf: &mut OwnShelf,
+    telling: &mut Telling,
     progress: &P,
 ) -> Result<(), AllocError>
-    requires { IsHousedIn (own_pocket shelf.old) experiment.old }
+    requires housed { IsHousedIn (own_pocket shelf.old) experiment.old }
+    requires told { (head : List ℕ) × IsTold head telling.old (own_pocket shelf.old) experiment.old }
     ensures { OnOk result
-        (Advances (own_pocket shelf.old) experiment.old (own_pocket shelf.new) experiment.new) }
+        (Advances telling.old (own_pocket shelf.old) experiment.old
+        telling.new (own_pocket shelf.new) experiment.new) }
 {
     loop {
+        tell_batch(experiment, telling)?;
         match experiment.event(shelf, 0) {
             Event::Ran => tell(experiment, progress),
             Event::Halted => return Err(AllocError),
@@ -91,15 +80,17 @@ fn advance<P: Progress>(
 fn play<P: Progress>(
     experiment: &mut Experiment,
     shelf: &mut OwnShelf,
+    telling: &mut Telling,
     commands: &[Timed],
     progress: &P,
 ) -> Result<(), AllocError>
     requires housed { IsHousedIn (own_pocket shelf.old) experiment.old }
     requires new { IsNew experiment.old }
+    requires told { (head : List ℕ) × IsTold head telling.old (own_pocket shelf.old) experiment.old }
     requires in_order { AreInOrder 0 commands.now }
     ensures { OnOk result
-        (Plays commands.now (own_pocket shelf.old) experiment.old
-        (own_pocket shelf.new) experiment.new) }
+        (Plays commands.now telling.old (own_pocket shelf.old) experiment.old
+        telling.new (own_pocket shelf.new) experiment.new) }
 {
     for command in commands {
         match experiment.apply(command) {
@@ -109,7 +100,7 @@ fn play<P: Progress>(
             Err(ApplyError::Busy) => unreachable!(),
             Err(ApplyError::Backward) => unreachable!(),
         }
-        advance(experiment, shelf, progress)?;
+        advance(experiment, shelf, telling, progress)?;
         if experiment.ending().is_some() {
             break;
         }
@@ -117,47 +108,47 @@ fn play<P: Progress>(
     Ok(())
 }
 
-// What an experiment that was run leaves.
-fn outcome_of(experiment: Experiment) -> Outcome
-    ensures { (p : Pocket) → IsHousedIn p experiment → result ≡ trace_of (view p experiment) }
-{
-    let counters = experiment.counters();
-    let (_, records) = experiment.into_lists();
-    Outcome { records, counters }
-}
-
-/// Runs an experiment by itself on these commands, whose moments (ns) don't fall. `AllocError` where
+/// The report of an experiment that runs by itself; the moments (ns) of its commands don't fall. `AllocError` where
 /// memory was refused.
-pub fn run<P: Progress>(
+fn report_by_itself<P: Progress>(
     alloc: Global,
-    spec: &Spec,
-    commands: &[Timed],
+    plan: &Script,
     progress: &P,
-) -> Result<Outcome, AllocError>
-    requires { AreInOrder 0 commands.now }
-    ensures { IfOk result (λ o. o ≡ trace_of (alone spec.now commands.now spec.now.budget.steps)) }
+) -> Result<Vec<u8>, AllocError>
+    requires { AreInOrder 0 plan.now.commands }
+    ensures { IfOk result (λ text. text.items ≡ report_alone plan.now) }
 {
     later_commands_wait();
-    let mut shelf = OwnShelf::new(alloc, spec.budget.packets);
-    let mut experiment = Experiment::new(alloc, *spec)?;
-    play(&mut experiment, &mut shelf, commands, progress)?;
-    Ok(outcome_of(experiment))
+    packets_add_up();
+    let mut shelf = OwnShelf::new(alloc, plan.spec.budget.packets);
+    let mut experiment = Experiment::new(alloc, plan.spec)?;
+    let mut telling = Telling::new(alloc, plan.name.as_bytes())?;
+    let commands = plan.commands.as_slice();
+    play(
+        &mut experiment,
+        &mut shelf,
+        &mut telling,
+        commands,
+        progress,
+    )?;
+    telling.tell(&mut experiment)?;
+    telling.into_report(&experiment.counters())
 }
 
-/// Runs each experiment by itself, one after the other. `AllocError` where memory was refused.
+/// The reports of experiments that run by themselves, one after the other. `AllocError` where memory was refused.
 pub fn run_all<P: Progress>(
     alloc: Global,
     plans: &[Script],
     progress: &P,
-) -> Result<Vec<Outcome>, AllocError>
+) -> Result<Vec<Text>, AllocError>
     requires { All (λ e. AreInOrder 0 e.commands) plans.now }
-    ensures { IfOk result (λ os. os.items ≡ map trace_alone plans.now) }
+    ensures { IfOk result (λ texts. texts.items ≡ map report_alone plans.now) }
 {
-    let mut outcomes = Vec::with_capacity(alloc, plans.len())?;
+    let mut texts = Vec::with_capacity(alloc, plans.len())?;
     for plan in plans {
-        let outcome = run(alloc, &plan.spec, plan.commands.as_slice(), progress)?;
-        outcomes.push(outcome)?;
-        progress.ended(outcomes.len() as u64, plans.len() as u64);
+        let text = Text::of(report_by_itself(alloc, plan, progress)?);
+        texts.push(text)?;
+        progress.ended(texts.len() as u64, plans.len() as u64);
     }
-    Ok(outcomes)
+    Ok(texts)
 }

@@ -57,7 +57,7 @@ pub fn run_alone<R: Inlet, W: Outlet>(
 }
 
 /// `run_alone`, with somebody who is told how far it is.
-#[tactic(auto, using(crate::proofs::Endings::reports_written, crate::proofs::Endings::reports_cut, crate::proofs::Endings::reports_cut_after))]
+#[tactic(auto, using(crate::proofs::Endings::texts_written, crate::proofs::Endings::texts_cut, crate::proofs::Endings::texts_cut_after))]
 pub fn run_alone_told<R: Inlet, W: Outlet, P: Progress>(
     alloc: Global,
     reader: &mut R,
@@ -74,13 +74,13 @@ pub fn run_alone_told<R: Inlet, W: Outlet, P: Progress>(
 {
     let scenario = read_scenario(alloc, reader)?;
     let plans = scenario.experiments();
-    let Ok(outcomes) = run_all(alloc, plans, progress) else {
+    let Ok(texts) = run_all(alloc, plans, progress) else {
         return Err(RunFault::Memory);
     };
     let Ok(mut buffer) = Buffer::new(alloc) else {
         return Err(RunFault::Memory);
     };
-    let Ok(()) = buffer.put_reports(writer, plans, outcomes.as_slice()) else {
+    let Ok(()) = buffer.put_texts(writer, texts.as_slice()) else {
         return Err(RunFault::Write);
     };
     let Ok(()) = buffer.finish(writer) else {

@@ -8,8 +8,8 @@ ghost use Rattle.lab.specs.Plans.{IsMemory, IsSettleFault};
 ghost use Rattle.lab.specs.Reports.{trace_alone};
 ghost use Rattle.lab.specs.Serving.{Serves, ServesAll, IsServed};
 
-use crate::alone::Outcome;
 use crate::fault::RunFault;
+use crate::outcome::Outcome;
 use crate::worker::Board;
 use bench::{Bench, PostError, Registry, RingMail, Tenant};
 use control::Experiment;

@@ -5,8 +5,8 @@ ghost use Rattle.std.specs.Thread.{IsSync};
 ghost use Rattle.lab.specs.Plans.{IsMemory};
 ghost use Rattle.lab.specs.Reports.{trace_alone, report_alone};
 
-use crate::alone::Outcome;
 use crate::fault::RunFault;
+use crate::outcome::Outcome;
 use control::Experiment;
 use report::report_text;
 use std::alloc::Global;
@@ -43,6 +43,13 @@ impl Text {
             return Err(RunFault::Memory);
         };
         Ok(Text { bytes })
+    }
+
+    /// A report that was made.
+    pub(crate) fn of(bytes: Vec<u8>) -> Text
+        ensures { result ≡ bytes.items }
+    {
+        Text { bytes }
     }
 
     /// Its bytes.

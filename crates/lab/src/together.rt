@@ -6,8 +6,8 @@ ghost use Rattle.lab.specs.Plans.{IsWorkFault, IsTogetherFault, IsMemory, gravit
 ghost use Rattle.lab.specs.Reports.{trace_alone};
 ghost use Rattle.lab.specs.Serving.{IsServed};
 
-use crate::alone::Outcome;
 use crate::fault::RunFault;
+use crate::outcome::Outcome;
 use crate::plan::{Gate, Plan};
 use crate::progress::Progress;
 use crate::tenants::{open_all, serve, settle_all};

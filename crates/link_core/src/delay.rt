@@ -65,7 +65,7 @@ impl<A: Drop> DelayLine<A> {
         ensures succeeds { 0 < self.old.spare → IsOk result }
         ensures room { self.old.spare ≤ self.new.spare + 1 }
     {
-        self.flight.reserve(1)?;
+        self.room_for_one()?;
         let wait = (u64::from(delay.get()) * NANOSECONDS_PER_MILLISECOND).max(1);
         let exit = self.last.max(finish + wait);
         self.flight.push_back_reserved(Underway { item, exit });
@@ -82,6 +82,20 @@ impl<A: Drop> DelayLine<A> {
         ensures line { self.new.line ≡ self.old.line }
         ensures room { self.old.spare ≤ self.new.spare }
     {
+        self.room_for_one()
+    }
+
+    // Makes room for one more, where there is none.
+    #[inline(always)]
+    fn room_for_one(&mut self) -> Result<(), AllocError>
+        ensures ready { OnOk result (0 < self.new.spare) }
+        ensures refused { OnErr result (self.old.spare ≡ 0) }
+        ensures line { self.new.line ≡ self.old.line }
+        ensures room { self.old.spare ≤ self.new.spare }
+    {
+        if self.flight.len() < self.flight.capacity() {
+            return Ok(());
+        }
         self.flight.reserve(1)
     }
 

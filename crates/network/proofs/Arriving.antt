@@ -16,13 +16,13 @@ use Rattle.emu_model.specs.declared.records.DropCause.{DropCause}
 use Rattle.emu_model.specs.declared.records.DropCause.TheVariants.{Budget}
 use Rattle.emu_model.specs.declared.rules.Verdict.{Verdict}
 use Rattle.emu_model.specs.declared.rules.Verdict.TheVariants.{OverTheLink, Dropped, IntoPipe}
-use Rattle.emu_model.specs.declared.rules.Rule.{Rule}
 use Rattle.emu_model.specs.declared.sources.SendSpec.{SendSpec}
-use Rattle.emu_model.specs.Rules.{Counted, verdict, verdict_of_match, matches_from, next_match, the_rules, least_match}
+use Rattle.emu_model.specs.Rules.{Counted, RuleBook, verdict, count_at, counted_book}
+use Rattle.rule_search.proofs.CallerLemmas.{verdict-alike, counted-alone}
 use Rattle.emu_model.specs.Delay.{Line, Leaving, enter}
 use Rattle.emu_model.specs.Pipes.{PipeState, pipe_packets}
 use Rattle.emu_model.specs.declared.commands.Setting.{Setting}
-use Rattle.emu_model.specs.Net.{Net, held, note_all, note_drops, note_traced, note_arrival, arrivals, find_pipe, make_record, drop_record, to_direct, enter_pipe, to_pipe, packet_of, make, pass_rules}
+use Rattle.emu_model.specs.Net.{Net, held, note_all, note_drops, note_traced, note_arrival, arrivals, find_pipe, make_record, drop_record, to_direct, enter_pipe, to_pipe, by_verdict, pass_rules_from, packet_of, make, pass_rules}
 use Rattle.link_core.specs.Lane.{Lane}
 use Rattle.packet_store.specs.Pocket.{Pocket, with_packet}
 use Rattle.pipe_instance.specs.Keyed.{seen_leaving, seen_line}
@@ -33,11 +33,19 @@ use Rattle.pipe_core.specs.Views.{ViewsAgree, PacketsAreNamed}
 use Rattle.pipe_table.specs.Table.{Table, with_pipes, pipe_keys, seen_pipes, HasRoomIn}
 use Rattle.network.specs.Kept.{KeptNet, net_of, line_keys, IsHoused}
 use Rattle.network.specs.Changes.{Becomes, Notes}
-use Rattle.network.specs.Ready.{IsReady, verdict_on, plain, CanMake}
+use Rattle.network.specs.declared.ways.Way.{Way}
+use Rattle.network.specs.declared.ways.Remembered.{Remembered}
+use Rattle.network.specs.declared.ways.Passage.TheVariants.{OnLine, Searched}
+use Rattle.network.specs.Ways.{IsWay, AreKnown, plain}
+use Rattle.network.specs.Ready.{Foresees, IsReady, CanGo, CanPass, HasWay, CanMake}
+use Rattle.rule_search.specs.declared.search.Foreseen.{Foreseen}
+use Rattle.std.specs.Prelude.{IfSome}
+use Rattle.std.proofs.lemmas.Option.{same_Some}
+use Rattle.network.proofs.WayFacts.{alike-made, way-made}
 use Rattle.network.proofs.Frame.{direct-housed, direct-shown}
 use Rattle.network.proofs.AsReady.{IsRoomy, as-make}
 use Rattle.network.proofs.Direct.{enter-keeps, enter-seen}
-use Rattle.network.proofs.Steps.{noted-none, notes-becomes, pipes-become, follow, shown-as}
+use Rattle.network.proofs.Steps.{noted-none, notes-becomes, pipes-become, follow, shown-as, rebase}
 
 -- a packet enters the link of `allow`
 enters-at : (agree : ViewsAgree) (p q : Pocket) (n : KeptNet) (key now : ℕ) (packet : Packet) (l : Lane ℕ) →
@@ -105,33 +113,70 @@ pub ready-placed : (k : ℕ) (packet : Packet) (place : Place) (ps : List KeyedP
 ready-placed k packet place ps ready p e =
     let r : HasRoomAt packet p = ready p e in record { there = r.there; new = r.new }
 
-module _ (a b : Load) (send : SendSpec) (i j : ℕ) where
-  -- the rules look at the header alone
-  matches-same : (n : ℕ) (rules : List Rule) (at : Option ℕ) → matches_from n (packet_of a send i) rules at ≡ matches_from n (packet_of b send j) rules at
-  matches-same zero rules at = refl
-  matches-same (suc n) rules None = refl
-  matches-same (suc n) rules (Some k) = ap (λ ks. k ∷ ks) (matches-same n rules (next_match (packet_of a send i) rules k))
+-- a packet goes by its way
+module _ (at : Setting) (p q : Pocket) (n x new : KeptNet) (start : ℕ) (packet sent : Packet) (w : Way) (book : RuleBook) (h : IsHoused p n)
+    (way : IsWay start packet w n.book.rules n.table.pipes)
+    (counted : book ≡ record n.book { rules = count_at (w.rule ∷ []) packet 0 n.book.rules })
+    (placed : sent ≡ record packet { place = w.place }) where
+  abbrev behind : KeptNet
+  behind = record n { book = book }
 
-  pub verdict-same : (start : ℕ) (cs : List Counted) → verdict start (packet_of a send i) cs ≡ verdict start (packet_of b send j) cs
-  verdict-same start cs =
-      ap (λ ks. verdict_of_match (option_and_then (slice_get cs) (last_or None ks))) (matches-same (length (the_rules cs)) (the_rules cs) (least_match (packet_of a send i) (the_rules cs) start))
+  by-way : to_pipe at w.number sent (net_of p behind) ≡ pass_rules_from at start packet (net_of p n)
+  by-way =
+      ap (λ s. to_pipe at w.number s (net_of p behind)) placed
+      ∙ ap (λ b. to_pipe at w.number (record packet { place = w.place }) (record (net_of p n) { book = b }))
+      (counted ∙ sym (ap (λ (cs : List Counted). record n.book { rules = cs }) (counted-alone start packet n.book.rules w.rule way.alone)))
+      ∙ ap (λ v. by_verdict at v packet (record (net_of p n) { book = counted_book start packet n.book })) (sym way.verdict)
 
-  pub ready-same : (v : Verdict) (n : KeptNet) → IsReady v (packet_of a send i) n → IsReady v (packet_of b send j) n
-  ready-same OverTheLink n ready = ready
-  ready-same Dropped n ready = ready
-  ready-same (IntoPipe k place) n ready = λ p e.
-      let r : HasRoomAt (packet_of a send i) p = ready p e in record { there = r.there; new = r.new }
+  pub passes-by-way : x ≡ record behind { log = x.log } →
+      x.log.records ≡ n.log.records ++ (if n.trace then option_map_or (arrivals at.now sent) (find_pipe w.number (net_of p behind)) [] else []) →
+      Becomes 0 (enter_pipe at w.number sent (net_of p x)) p q x new →
+      Becomes 0 (pass_rules_from at start packet (net_of p n)) p q n new
+  passes-by-way rest records entered =
+      rebase 0 (pass_rules_from at start packet (net_of p n)) p q behind n new refl refl
+      (shown-as 0 (to_pipe at w.number sent (net_of p behind)) (pass_rules_from at start packet (net_of p n)) p q behind new by-way
+      (arrives at p q behind x new w.number sent (record { each = h.each; count = h.count }) rest records entered))
+
+ready-same : (a b : Load) (send : SendSpec) (i j : ℕ) (v : Verdict) (n : KeptNet) → IsReady v (packet_of a send i) n → IsReady v (packet_of b send j) n
+ready-same a b send i j OverTheLink n ready = ready
+ready-same a b send i j Dropped n ready = ready
+ready-same a b send i j (IntoPipe k place) n ready = λ p e.
+    let r : HasRoomAt (packet_of a send i) p = ready p e in record { there = r.there; new = r.new }
 
 -- a packet of this header that is made is ready
-pub made-ready : (load : Load) (send : SendSpec) (number : ℕ) (n : KeptNet) → CanMake send n →
-    IsReady (verdict_on (packet_of load send number) n) (packet_of load send number) n
-made-ready load send number n ready =
-    subst (λ v. IsReady v (packet_of load send number) n) (verdict-same Plain load send 0 number 0 n.book.rules)
-    (ready-same Plain load send 0 number (verdict_on (plain send) n) n ready)
+pub packet-ready : (load : Load) (send : SendSpec) (number : ℕ) (x : Packet) (n m : KeptNet) → IsRoomy n m → x ≡ packet_of load send number →
+    CanMake send Searched n → CanPass 0 x None m
+packet-ready load send number x n m same e ready =
+    let made : CanPass 0 (packet_of load send number) None m =
+    subst (λ v. IsReady v (packet_of load send number) m)
+    (verdict-alike 0 (plain send) (packet_of load send number) m.book.rules (alike-made Plain load send 0 number))
+    (ready-same Plain load send 0 number (verdict 0 (plain send) m.book.rules) m (as-make n m same send Searched ready)) in
+    subst (λ y. CanPass 0 y None m) (sym e) made
 
-pub packet-ready : (load : Load) (send : SendSpec) (number : ℕ) (x : Packet) (n m : KeptNet) → IsRoomy n m → x ≡ packet_of load send number → CanMake send n →
-    IsReady (verdict_on x m) x m
-packet-ready load send number x n m same e ready = subst (λ y. IsReady (verdict_on y m) y m) (sym e) (made-ready load send number m (as-make n m same send ready))
+pub packet-known : (load : Load) (send : SendSpec) (number line : ℕ) (x : Packet) (n m : KeptNet) → IsRoomy n m → x ≡ packet_of load send number →
+    CanMake send (OnLine line) n → HasWay x line m
+packet-known load send number line x n m same e ready =
+    record { load = load; send = send; number = number; made = e; holds = as-make n m same send (OnLine line) ready }
+
+-- what stands on the line is the packet's way
+pub on-line : (x : Packet) (line : ℕ) (held : Remembered) (n : KeptNet) → AreKnown n.book.rules n.table.pipes n.ways → HasWay x line n →
+    slice_get n.ways line ≡ Some (Some held) → CanGo 0 x held.way n
+on-line x line held n known h there =
+    let same : record { send = h.send; way = h.holds.way } ≡ held = same_Some _ _ (same_Some _ _ (sym h.holds.there ∙ there)) in
+    let way : IsWay 0 (plain h.send) h.holds.way n.book.rules n.table.pipes = known.each line _ h.holds.there in
+    let go : CanGo 0 (packet_of h.load h.send h.number) h.holds.way n =
+    record { way = way-made h.load h.send h.number h.holds.way n.book.rules n.table.pipes way; room = h.holds.room } in
+    subst (λ y. CanGo 0 y held.way n) (sym h.made)
+    (subst (λ (r : Remembered). CanGo 0 (packet_of h.load h.send h.number) r.way n) same go)
+
+-- what was foreseen of a packet that goes on
+pub can-pass : (start : ℕ) (x : Packet) (f : Foreseen) (known : Option Way) (b : RuleBook) (m : KeptNet) → m.book ≡ b →
+    Foresees start x f b.rules → IsReady f.verdict x m →
+    IfSome known (λ w. (s : ℕ) → Foresees s x f b.rules → CanGo s x w m) → CanPass start x known m
+can-pass start x f (Some w) b m book foreseen ready go = go start foreseen
+can-pass start x f None b m book foreseen ready go =
+    subst (λ (c : RuleBook). IsReady (verdict start x c.rules) x m) (sym book)
+    (subst (λ v. IsReady v x m) foreseen.verdict ready)
 
 -- what is held is what the keys name
 held-pipes : PacketsAreNamed → (f : ℕ → Packet) (ps : List KeyedPipe) → sum_by (λ s. length (pipe_packets s)) (seen_pipes f ps) ≡ length (pipe_keys ps)

@@ -1,11 +1,12 @@
 -- A packet leaves the link of `allow`, or a pipe; a packet finishes; a source sends.
-use Rattle.std.proofs.Common.{◌≡◌, ℕ, refl, sym, ap, ◌∙◌, subst, List, [], ◌∷◌, map, Option, Some, None, IsSome, arith}
+use Rattle.std.proofs.Common.{◌≡◌, ℕ, Bool, true, false, cond, refl, sym, ap, ◌∙◌, subst, List, [], ◌∷◌, map, Option, Some, None, IsSome, arith}
 use Rattle.std.specs.Option.{option_map_or}
 use Rattle.emu_model.specs.declared.packets.Packet.{Packet}
-use Rattle.emu_model.specs.declared.records.Record.TheVariants.{PacketFinished}
+use Rattle.emu_model.specs.declared.records.Record.{Record}
+use Rattle.emu_model.specs.declared.records.Record.TheVariants.{PacketFinished, PacketPassed}
 use Rattle.emu_model.specs.Delay.{Line, Leaving, leave, first_item}
 use Rattle.emu_model.specs.declared.commands.Setting.{Setting}
-use Rattle.emu_model.specs.Net.{Net, note, note_all, note_drops, drop_record, find_pipe}
+use Rattle.emu_model.specs.Net.{Net, note, note_all, note_drops, drop_record, find_pipe, deliver, go_on}
 use Rattle.emu_model.specs.Events.{leave_pipe, leave_pipe_some, pipe_exits, pipe_finishes}
 use Rattle.link_core.specs.Lane.{Lane}
 use Rattle.packet_store.specs.Pocket.{Pocket, without}
@@ -13,13 +14,15 @@ use Rattle.pipe_instance.specs.Keyed.{seen_leaving, seen_line}
 use Rattle.pipe_core.specs.Moves.{packet_at, Keeps}
 use Rattle.pipe_core.specs.Steps.{drops_by_codel}
 use Rattle.pipe_core.specs.Views.{ViewsAgree}
-use Rattle.pipe_table.specs.Table.{Table, HasRoomIn, with_pipes, pipe_keys}
+use Rattle.pipe_core.specs.Keyed.{KeyedPipe, seen_pipe}
+use Rattle.std.specs.Prelude.{find, ◌==◌}
+use Rattle.pipe_table.specs.Table.{Table, pipe_of, seen_pipes, HasRoomIn, with_pipes, pipe_keys}
+use Rattle.pipe_table.specs.Places.{HasRoomAtPlace, KeepsPlaces}
 use Rattle.traffic.specs.Kept.{KeptTraffic, with_traffic}
 use Rattle.network.specs.Kept.{KeptNet, net_of, line_keys, IsHoused, Stands}
-use Rattle.network.specs.Ready.{CanLeave}
 use Rattle.network.specs.Changes.{Becomes, Notes}
 use Rattle.network.proofs.Frame.{direct-housed, direct-shown, pipes-housed}
-use Rattle.network.proofs.AsReady.{as-leave}
+use Rattle.network.proofs.AsReady.{IsRoomy}
 use Rattle.network.proofs.Readied.{Readied, from_readied}
 use Rattle.network.proofs.Direct.{leaves, front-there, none-leaves}
 use Rattle.network.proofs.Steps.{shown-as, notes-becomes, follow, pipes-become, rebase, turns-becomes}
@@ -81,6 +84,16 @@ direct-none p n l h none line =
       made = omega arith;
     })
 
+-- a pipe that isn't there isn't seen
+pub none-seen : (f : ℕ → Packet) (k : ℕ) (ps : List KeyedPipe) → pipe_of k ps ≡ None → find (λ p. p.number == k) (seen_pipes f ps) ≡ None
+none-seen f k [] none = refl
+none-seen f k (p ∷ ps) none = go (p.number == k) (none-seen f k ps) none
+  where
+    go : (b : Bool) → (pipe_of k ps ≡ None → find (λ p. p.number == k) (seen_pipes f ps) ≡ None) → cond b (Some p) (pipe_of k ps) ≡ None →
+        cond b (Some (seen_pipe f p)) (find (λ p. p.number == k) (seen_pipes f ps)) ≡ None
+    go true rest e = absurd (cc)
+    go false rest e = rest e
+
 -- a packet leaves a pipe, or none does; a packet finishes
 abbrev pub exits : Setting → ℕ → ℕ → Net → Net
 exits at k j m = option_map_or (pipe_exits at k j m) (find_pipe k m) m
@@ -99,9 +112,10 @@ module _ (at : Setting) (o p q : Pocket) (old n : KeptNet) (t : Table) (k j : �
   }
 
   -- what needed no memory needs none
-  pub exit-leaves : (x : Packet) → ((i : ℕ) (y : Packet) → HasRoomIn i y n.table.pipes → HasRoomIn i y t.pipes) → CanLeave x n → CanLeave x (record n { table = t })
-  exit-leaves x rooms ready =
-      as-leave n (record n { table = t }) (record { roomy = record { rooms = rooms; spare = omega arith; book = refl }; traffic = refl; one_pass = refl }) x ready
+  pub exit-roomy : ((i : ℕ) (y : Packet) → HasRoomIn i y n.table.pipes → HasRoomIn i y t.pipes) →
+      ((size i j : ℕ) → HasRoomAtPlace size i j n.table.pipes → HasRoomAtPlace size i j t.pipes) →
+      KeepsPlaces n.table.pipes t.pipes → IsRoomy n (record n { table = t })
+  exit-roomy rooms rooms_at places = record { rooms = rooms; rooms_at = rooms_at; places = places; spare = omega arith; book = refl; ways = refl }
 
   module _ (gone : Option Packet) (is : exits at k j (net_of p n) ≡ leave_pipe_some at k j gone (with_pipes q t (net_of p n))) where
     pub exit-none : None ≡ gone → Becomes 1 (exits at k j (net_of o old)) o q old (record n { table = t })
@@ -122,6 +136,21 @@ module _ (at : Setting) (o p q : Pocket) (old n : KeptNet) (t : Table) (k j : �
         (shown-as 1 (leave_pipe at k j x (with_pipes q t (net_of p n))) (exits at k j (net_of p n)) p u n new e
         (follow (leave_pipe at k j x) 0 1 1 (with_pipes q t (net_of p n)) p q u n (record n { table = t }) new (omega arith)
         (pipes-become p q n t r.housed keeps seed) b))
+
+-- a packet that left is delivered, or goes on in the rules
+module _ (at : Setting) (k j : ℕ) (x : Packet) (p q : Pocket) (n new : KeptNet) where
+  abbrev leaves-so : Bool → Net
+  leaves-so one = cond one (deliver at x (net_of p n)) (go_on at x (note (PacketPassed at.now x.number k j) (net_of p n)))
+
+  pub delivered-leaves : n.one_pass ≡ true → Becomes 1 (deliver at x (net_of p n)) p q n new → Becomes 1 (leave_pipe at k j x (net_of p n)) p q n new
+  delivered-leaves one b = shown-as 1 (deliver at x (net_of p n)) (leave_pipe at k j x (net_of p n)) p q n new (ap leaves-so (sym one)) b
+
+  pub passed-leaves : (mid : KeptNet) → n.one_pass ≡ false → IsHoused p n → Notes (PacketPassed at.now x.number k j ∷ []) n mid →
+      Becomes 0 (go_on at x (net_of p mid)) p q mid new → Becomes 1 (leave_pipe at k j x (net_of p n)) p q n new
+  passed-leaves mid one h noted b =
+      let rs : List Record = PacketPassed at.now x.number k j ∷ [] in
+      shown-as 1 (go_on at x (note_all rs (net_of p n))) (leave_pipe at k j x (net_of p n)) p q n new (ap leaves-so (sym one))
+      (follow (go_on at x) 0 0 1 (note_all rs (net_of p n)) p p q n mid new (omega arith) (notes-becomes p rs n mid h noted) b)
 
 module _ (p q : Pocket) (n : KeptNet) (t : Table) (k j : ℕ) (h : IsHoused p n)
     (keeps : Keeps p q (pipe_keys n.table.pipes) (pipe_keys t.pipes)) (seed : t.seed ≡ n.table.seed) where

@@ -2,6 +2,7 @@ mod KeyCounts
 mod Frame
 mod Direct
 mod Steps
+mod WayFacts
 mod AsReady
 mod Arriving
 mod Sources
@@ -9,4 +10,5 @@ mod Obeying
 mod Readied
 mod Leaving
 mod DueFacts
+mod Settling
 mod Rehoused

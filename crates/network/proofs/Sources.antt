@@ -1,6 +1,6 @@
 -- What flows and trains do.
 use Rattle.std.proofs.Common.{◌≡◌, ℕ, refl, sym, ap, ◌∙◌, subst, List, Option, Some, None}
-use Rattle.std.specs.Prelude.{Result, Ok, Err, OnOk, OnErr}
+use Rattle.std.specs.Prelude.{Result, Ok, Err, IfOk, OnOk, OnErr}
 use Rattle.emu_model.specs.declared.packets.Load.TheVariants.{Seg}
 use Rattle.emu_model.specs.declared.records.Record.{Record}
 use Rattle.emu_model.specs.declared.sources.SendSpec.{SendSpec}
@@ -10,6 +10,7 @@ use Rattle.traffic.specs.Kept.{KeptTraffic, with_traffic, HasRoomFor}
 use Rattle.traffic.specs.Sends.{reply_send}
 use Rattle.network.specs.Kept.{KeptNet, net_of, line_keys}
 use Rattle.network.specs.Changes.{IsStill, Notes, Turns}
+use Rattle.network.specs.declared.ways.Passage.{Passage}
 use Rattle.network.specs.Ready.{CanMake, CanDeliver}
 use Rattle.network.proofs.Steps.{notes-shown}
 
@@ -20,6 +21,14 @@ on_ok P Q (Err e) f h = h
 pub on_err : {T E : Type 0} (P Q : Type 0) (r : Result T E) → (P → Q) → OnErr r P → OnErr r Q
 on_err P Q (Ok x) f h = h
 on_err P Q (Err e) f h = f h
+
+pub if_ok : {T E : Type 0} (P Q : T → Type 0) (r : Result T E) → ((x : T) → P x → Q x) → IfOk r P → IfOk r Q
+if_ok P Q (Ok x) f h = f x h
+if_ok P Q (Err e) f h = h
+
+pub if_ok_two : {T E : Type 0} (P : Type 0) (Q R : T → Type 0) (r : Result T E) → ((x : T) → P → Q x → R x) → OnOk r P → IfOk r Q → IfOk r R
+if_ok_two P Q R (Ok x) f h k = f x h k
+if_ok_two P Q R (Err e) f h k = k
 
 -- what holds of the one there is
 pub only_one : {A : Type 0} (P : A → Type 0) (x : A) (o : Option A) → Some x ≡ o → P x → (y : A) → o ≡ Some y → P y
@@ -40,20 +49,20 @@ traffic-still n t same = record {
 }
 
 -- a flow that answers with this header
-pub can-segment : (k first : ℕ) (send : SendSpec) (n : KeptNet) (t : KeptTraffic) → n.traffic ≡ t → HasRoomFor k t →
-    ((m : Net) → Some send ≡ reply_send k (with_traffic t m)) → CanMake send n → CanDeliver (Seg k first) n
-can-segment k first send n t is room reply ready =
-    let P : KeptTraffic → Type 0 = λ u. HasRoomFor k u × ((s : SendSpec) → ((m : Net) → reply_send k (with_traffic u m) ≡ Some s) → CanMake s n) in
+pub can-segment : (k first : ℕ) (send : SendSpec) (passage : Passage) (n : KeptNet) (t : KeptTraffic) → n.traffic ≡ t → HasRoomFor k t →
+    ((m : Net) → Some send ≡ reply_send k (with_traffic t m)) → CanMake send passage n → CanDeliver (Seg k first) passage n
+can-segment k first send passage n t is room reply ready =
+    let P : KeptTraffic → Type 0 = λ u. HasRoomFor k u × ((s : SendSpec) → ((m : Net) → reply_send k (with_traffic u m) ≡ Some s) → CanMake s passage n) in
     subst P (sym is) (
       room,
-      (λ s there. only_one (λ x. CanMake x n) send (reply_send k (with_traffic t initial_net)) (reply initial_net) ready s (there initial_net)),
+      (λ s there. only_one (λ x. CanMake x passage n) send (reply_send k (with_traffic t initial_net)) (reply initial_net) ready s (there initial_net)),
     )
 
-pub can-nothing : (k first : ℕ) (n : KeptNet) → HasRoomFor k n.traffic →
-    ((m : Net) → None ≡ reply_send k (with_traffic n.traffic m)) → CanDeliver (Seg k first) n
-can-nothing k first n room reply = (
+pub can-nothing : (k first : ℕ) (passage : Passage) (n : KeptNet) → HasRoomFor k n.traffic →
+    ((m : Net) → None ≡ reply_send k (with_traffic n.traffic m)) → CanDeliver (Seg k first) passage n
+can-nothing k first passage n room reply = (
   room,
-  (λ s there. none_there (λ x. CanMake x n) (reply_send k (with_traffic n.traffic initial_net)) (reply initial_net) s (there initial_net)),
+  (λ s there. none_there (λ x. CanMake x passage n) (reply_send k (with_traffic n.traffic initial_net)) (reply initial_net) s (there initial_net)),
 )
 
 -- a source changed, and records came

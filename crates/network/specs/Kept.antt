@@ -1,5 +1,5 @@
 -- What is kept of an experiment's rules, pipes and sources, and the net that it shows.
-use Rattle.std.specs.Prelude.{◌≡◌, ℕ, ◌*◌, ◌^◌, ◌<◌, ◌≤◌, Bool, List, ◌++◌, map, length}
+use Rattle.std.specs.Prelude.{◌≡◌, ℕ, ◌*◌, ◌^◌, ◌<◌, ◌≤◌, Bool, Option, List, ◌++◌, map, length}
 use Rattle.emu_model.specs.Moments.{IsMoment}
 use Rattle.emu_model.specs.Rules.{RuleBook}
 use Rattle.emu_model.specs.Delay.{Line}
@@ -13,10 +13,11 @@ use Rattle.pipe_core.specs.Moves.{packet_at, found}
 use Rattle.pipe_table.specs.Table.{Table, seen_pipes, pipe_keys}
 use Rattle.record_log.specs.Log.{Log}
 use Rattle.traffic.specs.Kept.{KeptTraffic, states_of}
+use Rattle.network.specs.declared.ways.Remembered.{Remembered}
 
 -- the rules, the pipes, the link of `allow` with its packets' keys, the flows and trains, how many
 -- packets were made, whether one that leaves a pipe is delivered at once, whether packets are traced,
--- and what was recorded
+-- what was recorded, and the ways that are remembered
 pub record KeptNet : Type 0 where
   pub book : RuleBook
   pub table : Table
@@ -26,6 +27,7 @@ pub record KeptNet : Type 0 where
   pub one_pass : Bool
   pub trace : Bool
   pub log : Log
+  pub ways : List (Option Remembered)
 
 -- the net that is shown over an owner's packets
 abbrev pub net_of : Pocket → KeptNet → Net

@@ -1,4 +1,5 @@
 pub mod Kept
 pub mod Changes
+pub mod Ways
 pub mod Ready
 pub mod Due

@@ -1,5 +1,5 @@
 -- What needs no memory, where the shelf has room for a packet.
-use Rattle.std.specs.Prelude.{◌≡◌, ◌<◌, true, false, Some, IsSome}
+use Rattle.std.specs.Prelude.{◌≡◌, ◌≢◌, ℕ, ◌^◌, ◌-◌, ◌<◌, List, Option, Some, None, IsSome, slice_get}
 use Rattle.emu_model.specs.declared.commands.Command.{Command}
 use Rattle.emu_model.specs.declared.commands.Command.TheVariants.{Delete, Stop, OnePass, Trace, End}
 use Rattle.emu_model.specs.declared.packets.Load.{Load}
@@ -9,12 +9,19 @@ use Rattle.emu_model.specs.declared.rules.Verdict.{Verdict}
 use Rattle.emu_model.specs.declared.rules.Verdict.TheVariants.{OverTheLink, Dropped, IntoPipe}
 use Rattle.emu_model.specs.declared.sources.SendSpec.{SendSpec}
 use Rattle.emu_model.specs.Commands.{refusal_of}
-use Rattle.emu_model.specs.Rules.{verdict, start_behind}
+use Rattle.emu_model.specs.Rules.{Counted, verdict, start_behind, the_rules}
+use Rattle.rule_search.specs.declared.search.Foreseen.{Foreseen}
+use Rattle.rule_search.specs.Walk.{CountsAlone}
 use Rattle.emu_model.specs.Net.{Net, packet_of}
 use Rattle.pipe_table.specs.Table.{HasRoomIn}
 use Rattle.traffic.specs.Kept.{with_traffic, HasRoomFor}
 use Rattle.traffic.specs.Sends.{reply_send}
+use Rattle.pipe_table.specs.Places.{HasRoomAtPlace}
+use Rattle.network.specs.declared.ways.Way.{Way}
+use Rattle.network.specs.declared.ways.Passage.{Passage}
+use Rattle.network.specs.declared.ways.Passage.TheVariants.{OnLine, Searched}
 use Rattle.network.specs.Kept.{KeptNet}
+use Rattle.network.specs.Ways.{IsWay, plain}
 
 -- a packet can be handed on by this verdict
 abbrev pub IsReady : Verdict → Packet → KeptNet → Type 0
@@ -22,32 +29,51 @@ IsReady OverTheLink packet n = 0 < n.direct.spare
 IsReady Dropped packet n = Unit {0}
 IsReady (IntoPipe k place) packet n = HasRoomIn k packet n.table.pipes
 
--- what the rules say of a packet, from the first on, and behind its place
-abbrev pub verdict_on : Packet → KeptNet → Verdict
-verdict_on packet n = verdict 0 packet n.book.rules
+-- what was foreseen of a packet, whose search begins at place `start`
+pub record Foresees (start : ℕ) (packet : Packet) (f : Foreseen) (cs : List Counted) : Type 0 where
+  pub verdict : f.verdict ≡ verdict start packet cs
+  pub rule : f.rule ≢ 2 ^ 64 - 1 → CountsAlone start packet (the_rules cs) f.rule
 
-abbrev pub verdict_behind : Packet → KeptNet → Verdict
-verdict_behind packet n = verdict (start_behind packet.place n.book.rules) packet n.book.rules
+-- where the search for a packet that left a pipe begins
+abbrev pub start_after : Packet → KeptNet → ℕ
+start_after packet n = start_behind packet.place n.book.rules
 
--- a packet with this header
-abbrev pub plain : SendSpec → Packet
-plain send = packet_of Plain send 0
+-- a packet can go by its way, where its search begins at place `start`
+pub record CanGo (start : ℕ) (packet : Packet) (w : Way) (n : KeptNet) : Type 0 where
+  pub way : IsWay start packet w n.book.rules n.table.pipes
+  pub room : HasRoomAtPlace packet.size w.pipe w.instance n.table.pipes
+
+-- and where it is known so
+abbrev pub CanPass : ℕ → Packet → Option Way → KeptNet → Type 0
+CanPass start packet (Some w) n = CanGo start packet w n
+CanPass start packet None n = IsReady (verdict start packet n.book.rules) packet n
+
+-- the way of packets with this header is remembered on this line, and there is room on it
+pub record HoldsWay (send : SendSpec) (line : ℕ) (n : KeptNet) : Type 0 where
+  pub way : Way
+  pub there : slice_get n.ways line ≡ Some (Some (record { send = send; way = way }))
+  pub room : HasRoomAtPlace send.size way.pipe way.instance n.table.pipes
+
+-- a packet has the header whose way is remembered on this line
+pub record HasWay (packet : Packet) (line : ℕ) (n : KeptNet) : Type 0 where
+  pub load : Load
+  pub send : SendSpec
+  pub number : ℕ
+  pub made : packet ≡ packet_of load send number
+  pub holds : HoldsWay send line n
 
 -- a packet with this header can be made, and pass the rules
-abbrev pub CanMake : SendSpec → KeptNet → Type 0
-CanMake send n = IsReady (verdict_on (plain send) n) (plain send) n
+abbrev pub CanMake : SendSpec → Passage → KeptNet → Type 0
+CanMake send (OnLine line) n = HoldsWay send line n
+CanMake send Searched n = IsReady (verdict 0 (plain send) n.book.rules) (plain send) n
 
 -- this load can be delivered, and answered
-abbrev pub CanDeliver : Load → KeptNet → Type 0
-CanDeliver Plain n = Unit {0}
-CanDeliver (Seg k first) n = HasRoomFor k n.traffic
-    × ((send : SendSpec) → ((m : Net) → reply_send k (with_traffic n.traffic m) ≡ Some send) → CanMake send n)
-CanDeliver (Ack k upto) n = Unit {0}
-
--- a packet that leaves a pipe can be delivered, or go on in the rules
-pub record CanLeave (packet : Packet) (n : KeptNet) : Type 0 where
-  pub delivered : n.one_pass ≡ true → CanDeliver packet.load n
-  pub goes_on : n.one_pass ≡ false → IsReady (verdict_behind packet n) packet n
+abbrev pub CanDeliver : Load → Passage → KeptNet → Type 0
+CanDeliver Plain passage n = Unit {0}
+CanDeliver (Seg k first) passage n = HasRoomFor k n.traffic
+    × ((send : SendSpec) → ((m : Net) → reply_send k (with_traffic n.traffic m) ≡ Some send) →
+    CanMake send passage n)
+CanDeliver (Ack k upto) passage n = Unit {0}
 
 -- a command that takes no memory but for its records: it is refused, or changes what is there
 abbrev pub TakesNoMemory : Command → Net → Type 0

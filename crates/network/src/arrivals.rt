@@ -1,22 +1,26 @@
 //! How a packet is made, passes the rules, and comes to a pipe or to the link of `allow`.
 
-ghost use Rattle.std.specs.Prelude.{◌≡◌, ℕ, ◌+◌, ◌*◌, ◌^◌, ◌<◌, ◌≤◌, ◌∷◌, ◌++◌, [], if◌then◌else◌, OnOk};
+ghost use Rattle.std.specs.Prelude.{◌≡◌, ℕ, ◌+◌, ◌*◌, ◌^◌, ◌<◌, ◌≤◌, ◌∷◌, ◌++◌, [], if◌then◌else◌, None, IfSome, IfOk, OnOk};
 ghost use Rattle.std.specs.Option.{option_map_or};
 ghost use Rattle.emu_model.specs.Moments.{IsMoment};
 ghost use Rattle.packet_store.specs.Pocket.{Pocket, OthersStay, AllStay};
-ghost use Rattle.emu_model.specs.Net.{arrivals, by_verdict, drop_record, enter_pipe as enters_pipe, find_pipe, go_on as goes_on, make as made_of, make_record, packet_of, pass_rules as passes_rules, to_direct as comes_to_direct, to_pipe as comes_to_pipe};
+ghost use Rattle.emu_model.specs.Net.{arrivals, by_verdict, drop_record, enter_pipe as enters_pipe, find_pipe, go_on as goes_on, make as made_of, make_record, packet_of, pass_rules as passes_rules, pass_rules_from as passes_from, to_direct as comes_to_direct, to_pipe as comes_to_pipe};
 ghost use Rattle.network.specs.Kept.{net_of, IsHoused, Stands};
 ghost use Rattle.network.specs.Changes.{Becomes, IsStill, Notes};
-ghost use Rattle.network.specs.Ready.{IsReady, verdict_on, verdict_behind, CanMake};
+ghost use Rattle.network.specs.Ready.{Foresees, IsReady, CanGo, CanPass, HasWay, start_after, CanMake};
 ghost use Rattle.pipe_table.specs.Table.{HasRoomIn};
+ghost use Rattle.pipe_table.specs.Places.{IsRouted, HasRoomAtPlace, KeepsPlaces};
+ghost use Rattle.emu_model.specs.declared.rules.Verdict.TheVariants.{IntoPipe};
 
 use crate::state::Network;
+use crate::ways::{Passage, Way};
 use emu_model::{
     Delay, DropCause, Load, Packet, PipeNumber, Place, Record, RuleNumber, SendSpec, Setting,
     Verdict,
 };
+use emu_rules::{Foreseen, NO_RULE};
 use packet_store::{Owner, Shelf};
-use pipe_core::keys_say_all;
+use pipe_core::{NO_INSTANCE, keys_say_all};
 use std::alloc::AllocError;
 use traffic::Sending;
 
@@ -49,38 +53,147 @@ fn no_delay() -> Delay
 }
 
 impl Network {
-    // Makes the growths of handing on a packet by this verdict.
+    // Makes the growths of handing on a packet as it was foreseen, and tells its way where it has one.
     #[inline(always)]
     pub(crate) fn arrival_ready<S: Shelf>(
         &mut self,
         shelf: &mut S,
         owner: Owner,
         now: u64,
-        verdict: Verdict,
+        found: Foreseen,
         packet: &Packet,
-    ) -> Result<(), AllocError>
+    ) -> Result<Option<Way>, AllocError>
         ensures still { IsStill self.old self.new }
         ensures rest { self.new
             ≡ record self.old { table = self.new.table; direct = self.new.direct } }
         ensures pockets { AllStay (S.pocket shelf.old) (S.pocket shelf.new) }
         ensures rooms { (o : ℕ) → S.room shelf.old o ≤ S.room shelf.new o }
-        ensures ready { OnOk result (IsReady verdict packet.now self.new) }
+        ensures places { OnOk result (KeepsPlaces self.old.table.pipes self.new.table.pipes) }
+        ensures ready { OnOk result (IsReady found.verdict packet.now self.new) }
+        ensures known { IfOk result (λ known. IfSome known (λ w. (start : ℕ) →
+            Foresees start packet.now found self.old.book.rules →
+            CanGo start packet.now w self.new)) }
     {
+        let verdict = found.verdict;
         match verdict {
-            Verdict::OverTheLink => {
-                self.direct.enter_ready(now, no_delay())?;
-                return Ok(());
-            }
-            Verdict::Dropped => return Ok(()),
-            Verdict::IntoPipe(number, _) => {
-                return self.table.arrive_ready(shelf, owner, now, number, packet);
+            Verdict::OverTheLink => self.direct.enter_ready(now, no_delay())?,
+            Verdict::Dropped => {}
+            Verdict::IntoPipe(number, place) => {
+                return self.pipe_ready(shelf, owner, now, found.rule, number, place, packet);
             }
         }
+        Ok(None)
     }
 
-    // Makes the growths of making a packet with this header.
+    // The same of a packet that comes to a pipe.
+    #[tactic(auto, using(crate::proofs::WayFacts::known_grown))]
+    #[inline(always)]
+    fn pipe_ready<S: Shelf>(
+        &mut self,
+        shelf: &mut S,
+        owner: Owner,
+        now: u64,
+        rule: usize,
+        number: PipeNumber,
+        place: Place,
+        packet: &Packet,
+    ) -> Result<Option<Way>, AllocError>
+        ensures still { IsStill self.old self.new }
+        ensures rest { self.new ≡ record self.old { table = self.new.table } }
+        ensures pockets { AllStay (S.pocket shelf.old) (S.pocket shelf.new) }
+        ensures rooms { (o : ℕ) → S.room shelf.old o ≤ S.room shelf.new o }
+        ensures places { OnOk result (KeepsPlaces self.old.table.pipes self.new.table.pipes) }
+        ensures ready { OnOk result (HasRoomIn number packet.now self.new.table.pipes) }
+        ensures known { IfOk result (λ known. IfSome known (λ w. (start : ℕ) →
+            Foresees start packet.now (record { verdict = IntoPipe number place; rule = rule })
+            self.old.book.rules → CanGo start packet.now w self.new)) }
+    {
+        let Some(pipe) = self.table.place_of(number) else {
+            return Ok(None);
+        };
+        let instance = self.table.route_ready(shelf, owner, now, pipe, packet)?;
+        if rule == NO_RULE || instance == NO_INSTANCE {
+            return Ok(None);
+        }
+        Ok(Some(Way {
+            rule,
+            place,
+            number,
+            pipe,
+            instance,
+        }))
+    }
+
+    // Makes the growths of making a packet with this header, whose way may be remembered on a line.
+    #[tactic(auto, using(crate::proofs::WayFacts::known_grown))]
     #[inline(always)]
     pub(crate) fn make_ready<S: Shelf>(
+        &mut self,
+        shelf: &mut S,
+        owner: Owner,
+        now: u64,
+        line: usize,
+        send: &SendSpec,
+    ) -> Result<Passage, AllocError>
+        requires { line < 512 }
+        ensures still { IsStill self.old self.new }
+        ensures rest { self.new
+            ≡ record self.old {
+              table = self.new.table;
+              direct = self.new.direct;
+              ways = self.new.ways;
+            } }
+        ensures pockets { AllStay (S.pocket shelf.old) (S.pocket shelf.new) }
+        ensures rooms { (o : ℕ) → S.room shelf.old o ≤ S.room shelf.new o }
+        ensures places { OnOk result (KeepsPlaces self.old.table.pipes self.new.table.pipes) }
+        ensures ready { IfOk result (λ passage. CanMake send.now passage self.new) }
+    {
+        let Some(held) = self.ways.recall(line, send) else {
+            return self.make_searched(shelf, owner, now, line, send);
+        };
+        self.table
+            .accept_ready_at(held.way.pipe, held.way.instance, send.size, now)?;
+        Ok(Passage::OnLine(line))
+    }
+
+    // The same where its way isn't remembered.
+    #[tactic(auto, using(crate::proofs::WayFacts::known_grown))]
+    #[inline(never)]
+    fn make_searched<S: Shelf>(
+        &mut self,
+        shelf: &mut S,
+        owner: Owner,
+        now: u64,
+        line: usize,
+        send: &SendSpec,
+    ) -> Result<Passage, AllocError>
+        requires { line < 512 }
+        ensures still { IsStill self.old self.new }
+        ensures rest { self.new
+            ≡ record self.old {
+              table = self.new.table;
+              direct = self.new.direct;
+              ways = self.new.ways;
+            } }
+        ensures pockets { AllStay (S.pocket shelf.old) (S.pocket shelf.new) }
+        ensures rooms { (o : ℕ) → S.room shelf.old o ≤ S.room shelf.new o }
+        ensures places { OnOk result (KeepsPlaces self.old.table.pipes self.new.table.pipes) }
+        ensures ready { IfOk result (λ passage. CanMake send.now passage self.new) }
+    {
+        let packet = packet_of(Load::Plain, send, 0);
+        let found = self.book.foresee_rule(&packet);
+        let known = self.arrival_ready(shelf, owner, now, found, &packet)?;
+        let Some(way) = known else {
+            return Ok(Passage::Searched);
+        };
+        if self.ways.learn(line, send, &way) {
+            return Ok(Passage::OnLine(line));
+        }
+        Ok(Passage::Searched)
+    }
+
+    // The same of a packet whose way isn't to be remembered.
+    pub(crate) fn inject_ready<S: Shelf>(
         &mut self,
         shelf: &mut S,
         owner: Owner,
@@ -92,14 +205,16 @@ impl Network {
             ≡ record self.old { table = self.new.table; direct = self.new.direct } }
         ensures pockets { AllStay (S.pocket shelf.old) (S.pocket shelf.new) }
         ensures rooms { (o : ℕ) → S.room shelf.old o ≤ S.room shelf.new o }
-        ensures ready { OnOk result (CanMake send.now self.new) }
+        ensures ready { OnOk result (CanMake send.now Passage.Searched self.new) }
     {
         let packet = packet_of(Load::Plain, send, 0);
-        let verdict = self.book.foresee(&packet);
-        self.arrival_ready(shelf, owner, now, verdict, &packet)
+        let found = self.book.foresee_rule(&packet);
+        self.arrival_ready(shelf, owner, now, found, &packet)?;
+        Ok(())
     }
 
     // Records that a packet was dropped.
+    #[inline(always)]
     pub(crate) fn drop_packet(&mut self, now: u64, packet: &Packet, cause: DropCause)
         requires { 0 < self.old.log.spare }
         ensures { Notes (drop_record now
@@ -114,6 +229,7 @@ impl Network {
     }
 
     // Records that a packet is made, where packets are traced.
+    #[inline(always)]
     fn note_made(&mut self, now: u64, packet: &Packet)
         requires { 0 < self.old.log.spare }
         ensures { Notes (if self.old.trace then make_record now packet.now ∷ []
@@ -136,6 +252,7 @@ impl Network {
     }
 
     // Records that a packet comes to a pipe, where packets are traced.
+    #[inline(always)]
     fn note_arrival(&mut self, now: u64, number: PipeNumber, packet: &Packet)
         requires { 1 < self.old.log.spare }
         ensures rest { self.new ≡ record self.old { log = self.new.log } }
@@ -152,6 +269,7 @@ impl Network {
     }
 
     // A packet enters the link of `allow`.
+    #[inline(always)]
     fn to_direct<S: Shelf>(&mut self, shelf: &mut S, owner: Owner, now: u64, packet: &Packet)
         requires early { IsMoment now }
         requires housed { IsHoused (S.pocket shelf.old owner) self.old }
@@ -174,6 +292,7 @@ impl Network {
     }
 
     // A packet comes into a pipe.
+    #[tactic(auto, using(crate::proofs::WayFacts::known_grown))]
     #[inline(always)]
     fn enter_pipe<S: Shelf>(
         &mut self,
@@ -229,6 +348,75 @@ impl Network {
         self.enter_pipe(shelf, owner, at, number, packet);
     }
 
+    // A packet comes into a pipe by its way.
+    #[tactic(auto, using(crate::proofs::WayFacts::known_grown))]
+    #[inline(always)]
+    fn enter_by_way<S: Shelf>(
+        &mut self,
+        shelf: &mut S,
+        owner: Owner,
+        at: Setting,
+        way: &Way,
+        packet: &Packet,
+    )
+        requires stands { Stands at (S.pocket shelf.old owner) self.old }
+        requires budget { (S.pocket shelf.old owner).count < (S.pocket shelf.old owner).budget }
+        requires room { 0 < S.room shelf.old owner }
+        requires log { 0 < self.old.log.spare }
+        requires routed { IsRouted way.now.number packet.now way.now.pipe way.now.instance
+            self.old.table.pipes }
+        requires ready { HasRoomAtPlace packet.now.size way.now.pipe way.now.instance
+            self.old.table.pipes }
+        ensures becomes { Becomes 0
+            (enters_pipe at way.now.number packet.now (net_of (S.pocket shelf.old owner) self.old))
+            (S.pocket shelf.old owner) (S.pocket shelf.new owner) self.old self.new }
+        ensures log { self.old.log.spare ≤ self.new.log.spare + 1 }
+        ensures others { OthersStay owner (S.pocket shelf.old) (S.pocket shelf.new) }
+    {
+        let (pipe, instance) = (way.pipe, way.instance);
+        let answer = self
+            .table
+            .arrive_at(pipe, instance, shelf, owner, at.now, packet);
+        match answer {
+            Some(cause) => {
+                self.drop_packet(at.now, packet, cause);
+                return;
+            }
+            None => return,
+        }
+    }
+
+    // A packet passes the rules by its way.
+    #[tactic(auto, using(crate::proofs::WayFacts::known_counted))]
+    #[inline(always)]
+    fn pass_by_way<S: Shelf>(
+        &mut self,
+        shelf: &mut S,
+        owner: Owner,
+        at: Setting,
+        way: &Way,
+        packet: &Packet,
+    )
+        requires stands { Stands at (S.pocket shelf.old owner) self.old }
+        requires budget { (S.pocket shelf.old owner).count < (S.pocket shelf.old owner).budget }
+        requires room { 0 < S.room shelf.old owner }
+        requires log { 2 < self.old.log.spare }
+        requires ready { (start : ℕ) × CanGo start packet.now way.now self.old }
+        ensures becomes { (start : ℕ) → CanGo start packet.now way.now self.old → Becomes 0
+            (passes_from at start packet.now (net_of (S.pocket shelf.old owner) self.old))
+            (S.pocket shelf.old owner) (S.pocket shelf.new owner) self.old self.new }
+        ensures log { self.old.log.spare ≤ self.new.log.spare + 3 }
+        ensures others { OthersStay owner (S.pocket shelf.old) (S.pocket shelf.new) }
+    {
+        self.book.count_at(way.rule, packet);
+        let sent = Packet {
+            place: way.place,
+            ..*packet
+        };
+        self.note_arrival(at.now, way.number, &sent);
+        self.enter_by_way(shelf, owner, at, way, &sent);
+    }
+
     // A packet is handed on by a verdict.
     #[inline(always)]
     fn hand_on<S: Shelf>(
@@ -267,13 +455,43 @@ impl Network {
         }
     }
 
-    // A packet passes the rules from the first on.
+    // A packet whose way is remembered on a line passes the rules from the first on.
+    #[inline(always)]
+    fn pass_on_line<S: Shelf>(
+        &mut self,
+        shelf: &mut S,
+        owner: Owner,
+        at: Setting,
+        line: usize,
+        packet: &Packet,
+    )
+        requires stands { Stands at (S.pocket shelf.old owner) self.old }
+        requires budget { (S.pocket shelf.old owner).count < (S.pocket shelf.old owner).budget }
+        requires room { 0 < S.room shelf.old owner }
+        requires log { 2 < self.old.log.spare }
+        requires ready { HasWay packet.now line self.old }
+        ensures becomes { Becomes 0
+            (passes_rules at packet.now (net_of (S.pocket shelf.old owner) self.old))
+            (S.pocket shelf.old owner) (S.pocket shelf.new owner) self.old self.new }
+        ensures log { self.old.log.spare ≤ self.new.log.spare + 3 }
+        ensures others { OthersStay owner (S.pocket shelf.old) (S.pocket shelf.new) }
+    {
+        let Some(held) = self.ways.at(line) else {
+            unreachable!();
+        };
+        let way = held.way;
+        self.pass_by_way(shelf, owner, at, &way, packet);
+    }
+
+    // A packet passes the rules from the first on, by a search.
+    #[tactic(auto, using(crate::proofs::WayFacts::known_searched))]
+    #[inline(never)]
     fn pass_rules<S: Shelf>(&mut self, shelf: &mut S, owner: Owner, at: Setting, packet: &Packet)
         requires stands { Stands at (S.pocket shelf.old owner) self.old }
         requires budget { (S.pocket shelf.old owner).count < (S.pocket shelf.old owner).budget }
         requires room { 0 < S.room shelf.old owner }
         requires log { 2 < self.old.log.spare }
-        requires ready { IsReady (verdict_on packet.now self.old) packet.now self.old }
+        requires ready { CanPass 0 packet.now None self.old }
         ensures becomes { Becomes 0
             (passes_rules at packet.now (net_of (S.pocket shelf.old owner) self.old))
             (S.pocket shelf.old owner) (S.pocket shelf.new owner) self.old self.new }
@@ -291,12 +509,40 @@ impl Network {
         owner: Owner,
         at: Setting,
         packet: &Packet,
+        known: &Option<Way>,
     )
         requires stands { Stands at (S.pocket shelf.old owner) self.old }
         requires budget { (S.pocket shelf.old owner).count < (S.pocket shelf.old owner).budget }
         requires room { 0 < S.room shelf.old owner }
         requires log { 2 < self.old.log.spare }
-        requires ready { IsReady (verdict_behind packet.now self.old) packet.now self.old }
+        requires ready { CanPass (start_after packet.now self.old) packet.now known.now self.old }
+        ensures becomes { Becomes 0
+            (goes_on at packet.now (net_of (S.pocket shelf.old owner) self.old))
+            (S.pocket shelf.old owner) (S.pocket shelf.new owner) self.old self.new }
+        ensures log { self.old.log.spare ≤ self.new.log.spare + 3 }
+        ensures others { OthersStay owner (S.pocket shelf.old) (S.pocket shelf.new) }
+    {
+        match known {
+            Some(way) => {
+                self.pass_by_way(shelf, owner, at, way, packet);
+                return;
+            }
+            None => {
+                self.search_behind(shelf, owner, at, packet);
+                return;
+            }
+        }
+    }
+
+    // The same by a search.
+    #[tactic(auto, using(crate::proofs::WayFacts::known_searched))]
+    #[inline(never)]
+    fn search_behind<S: Shelf>(&mut self, shelf: &mut S, owner: Owner, at: Setting, packet: &Packet)
+        requires stands { Stands at (S.pocket shelf.old owner) self.old }
+        requires budget { (S.pocket shelf.old owner).count < (S.pocket shelf.old owner).budget }
+        requires room { 0 < S.room shelf.old owner }
+        requires log { 2 < self.old.log.spare }
+        requires ready { CanPass (start_after packet.now self.old) packet.now None self.old }
         ensures becomes { Becomes 0
             (goes_on at packet.now (net_of (S.pocket shelf.old owner) self.old))
             (S.pocket shelf.old owner) (S.pocket shelf.new owner) self.old self.new }
@@ -315,13 +561,14 @@ impl Network {
         owner: Owner,
         at: Setting,
         sending: &Sending,
+        passage: &Passage,
     )
         requires stands { Stands at (S.pocket shelf.old owner) self.old }
         requires made { self.old.made < 2 ^ 63 }
         requires room { (S.pocket shelf.old owner).count < (S.pocket shelf.old owner).budget →
             0 < S.room shelf.old owner }
         requires log { 3 < self.old.log.spare }
-        requires ready { CanMake sending.now.send self.old }
+        requires ready { CanMake sending.now.send passage.now self.old }
         ensures becomes { Becomes 1
             (made_of at sending.now.load sending.now.send
             (net_of (S.pocket shelf.old owner) self.old))
@@ -334,8 +581,16 @@ impl Network {
         self.made += 1;
         self.note_made(at.now, &packet);
         if shelf.count(owner) < at.packet_budget.get() as usize {
-            self.pass_rules(shelf, owner, at, &packet);
-            return;
+            match passage {
+                Passage::OnLine(line) => {
+                    self.pass_on_line(shelf, owner, at, *line, &packet);
+                    return;
+                }
+                Passage::Searched => {
+                    self.pass_rules(shelf, owner, at, &packet);
+                    return;
+                }
+            }
         }
         self.drop_packet(at.now, &packet, DropCause::Budget);
     }

@@ -12,8 +12,8 @@ ghost use Rattle.network.specs.Changes.{Becomes, IsStill, Notes, Obeys};
 ghost use Rattle.network.specs.Ready.{TakesNoMemory};
 ghost use Rattle.pipe_table.specs.Table.{pipe_of};
 
-use crate::events::MOST_RECORDS;
 use crate::state::Network;
+use crate::ways::Passage;
 use emu_model::{
     Command, DropCause, FlowNumber, FlowSpec, Load, PipeConfig, PipeNumber, Record, Refusal, Rule,
     RuleNumber, SendSpec, Setting, TrainSpec,
@@ -52,7 +52,7 @@ impl Network {
             (S.pocket shelf.new owner ≡ S.pocket shelf.old owner) }
         ensures others { OthersStay owner (S.pocket shelf.old) (S.pocket shelf.new) }
     {
-        self.reserve(MOST_RECORDS)?;
+        self.obey_ready()?;
         match *command {
             Command::PipeDelete(pipe) => {
                 return self.delete_pipe(shelf, owner, at, number, pipe);
@@ -102,8 +102,10 @@ impl Network {
     }
 
     // A rule is added.
+    #[tactic(auto, using(crate::proofs::WayFacts::known_none))]
     fn add(&mut self, at: Setting, number: u64, rule: &Rule) -> Result<(), AllocError>
-        requires { 1 < self.old.log.spare }
+        requires log { 1 < self.old.log.spare }
+        requires forgot { self.old.ways ≡ [] }
         ensures ok { OnOk result (Obeys at number (Add rule.now) self.old self.new) }
         ensures room { OnOk result (0 < self.new.log.spare) }
         ensures refused { OnErr result (IsStill self.old self.new) }
@@ -123,8 +125,10 @@ impl Network {
     }
 
     // The rules of a number are deleted.
+    #[tactic(auto, using(crate::proofs::WayFacts::known_none))]
     fn delete(&mut self, at: Setting, number: u64, rule: RuleNumber) -> Result<(), AllocError>
-        requires { 1 < self.old.log.spare }
+        requires log { 1 < self.old.log.spare }
+        requires forgot { self.old.ways ≡ [] }
         ensures ok { OnOk result (Obeys at number (Delete rule) self.old self.new) }
         ensures room { OnOk result (0 < self.new.log.spare) }
         ensures refused { OnErr result (IsStill self.old self.new) }
@@ -143,6 +147,7 @@ impl Network {
     }
 
     // A pipe is configured.
+    #[tactic(auto, using(crate::proofs::WayFacts::known_none))]
     fn configure(
         &mut self,
         at: Setting,
@@ -150,7 +155,8 @@ impl Network {
         pipe: PipeNumber,
         config: &PipeConfig,
     ) -> Result<(), AllocError>
-        requires { 1 < self.old.log.spare }
+        requires log { 1 < self.old.log.spare }
+        requires forgot { self.old.ways ≡ [] }
         ensures ok { OnOk result (Obeys at number (Config pipe config.now) self.old self.new) }
         ensures room { OnOk result (0 < self.new.log.spare) }
         ensures refused { OnErr result (IsStill self.old self.new) }
@@ -172,6 +178,7 @@ impl Network {
     }
 
     // A pipe is deleted, and all that it held is dropped.
+    #[tactic(auto, using(crate::proofs::WayFacts::known_none))]
     fn delete_pipe<S: Shelf>(
         &mut self,
         shelf: &mut S,
@@ -182,6 +189,7 @@ impl Network {
     ) -> Result<(), AllocError>
         requires stands { Stands at (S.pocket shelf.old owner) self.old }
         requires log { 1 < self.old.log.spare }
+        requires forgot { self.old.ways ≡ [] }
         ensures ok { OnOk result
             (Becomes 1
             (obeyed at number (PipeDelete pipe) (net_of (S.pocket shelf.old owner) self.old))
@@ -264,10 +272,10 @@ impl Network {
         ensures others { OthersStay owner (S.pocket shelf.old) (S.pocket shelf.new) }
     {
         shelf.put_ready(owner)?;
-        self.make_ready(shelf, owner, at.now, send)?;
+        self.inject_ready(shelf, owner, at.now, send)?;
         self.done(at.now, number);
         let sending = plain_sending(send);
-        self.make(shelf, owner, at, &sending);
+        self.make(shelf, owner, at, &sending, &Passage::Searched);
         Ok(())
     }
 

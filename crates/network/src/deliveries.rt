@@ -1,16 +1,18 @@
 //! What a delivered packet does.
 
-ghost use Rattle.std.specs.Prelude.{◌≡◌, ℕ, ◌+◌, ◌*◌, ◌^◌, ◌<◌, ◌≤◌, ◌∷◌, [], IsOk, OnOk};
+ghost use Rattle.std.specs.Prelude.{◌≡◌, ℕ, ◌+◌, ◌*◌, ◌^◌, ◌<◌, ◌≤◌, ◌∷◌, [], IsOk, IfOk, OnOk};
 ghost use Rattle.std.specs.Option.{option_map_or};
 ghost use Rattle.emu_model.specs.Moments.{IsMoment};
 ghost use Rattle.emu_model.specs.declared.packets.Load.TheVariants.{Plain, Seg, Ack};
 ghost use Rattle.emu_model.specs.Net.{deliver as delivered, find_flow, take_ack as acknowledged, take_load};
 ghost use Rattle.packet_store.specs.Pocket.{OthersStay, AllStay};
+ghost use Rattle.pipe_table.specs.Places.{KeepsPlaces};
 ghost use Rattle.network.specs.Kept.{net_of, Stands};
 ghost use Rattle.network.specs.Changes.{Becomes, IsStill, Turns};
 ghost use Rattle.network.specs.Ready.{CanDeliver};
 
 use crate::state::Network;
+use crate::ways::{Passage, reply_line_of};
 use emu_model::{FlowNumber, Load, Packet, Record, Setting};
 use packet_store::{Owner, Shelf};
 use std::alloc::AllocError;
@@ -24,22 +26,24 @@ impl Network {
         owner: Owner,
         now: u64,
         load: Load,
-    ) -> Result<(), AllocError>
+    ) -> Result<Passage, AllocError>
         ensures still { IsStill self.old self.new }
         ensures rest { self.new
             ≡ record self.old {
               table = self.new.table;
               direct = self.new.direct;
               traffic = self.new.traffic;
+              ways = self.new.ways;
             } }
         ensures pockets { AllStay (S.pocket shelf.old) (S.pocket shelf.new) }
         ensures rooms { (o : ℕ) → S.room shelf.old o ≤ S.room shelf.new o }
-        ensures ready { OnOk result (CanDeliver load self.new) }
+        ensures places { OnOk result (KeepsPlaces self.old.table.pipes self.new.table.pipes) }
+        ensures ready { IfOk result (λ passage. CanDeliver load passage self.new) }
         ensures plain { load ≡ Plain → IsOk result }
     {
         match load {
-            Load::Plain => return Ok(()),
-            Load::Ack { .. } => return Ok(()),
+            Load::Plain => return Ok(Passage::Searched),
+            Load::Ack { .. } => return Ok(Passage::Searched),
             Load::Seg { flow, first } => {
                 return self.segment_ready(shelf, owner, now, flow, first);
             }
@@ -55,23 +59,25 @@ impl Network {
         now: u64,
         flow: FlowNumber,
         first: u64,
-    ) -> Result<(), AllocError>
+    ) -> Result<Passage, AllocError>
         ensures still { IsStill self.old self.new }
         ensures rest { self.new
             ≡ record self.old {
               table = self.new.table;
               direct = self.new.direct;
               traffic = self.new.traffic;
+              ways = self.new.ways;
             } }
         ensures pockets { AllStay (S.pocket shelf.old) (S.pocket shelf.new) }
         ensures rooms { (o : ℕ) → S.room shelf.old o ≤ S.room shelf.new o }
-        ensures ready { OnOk result (CanDeliver (Seg flow first) self.new) }
+        ensures places { OnOk result (KeepsPlaces self.old.table.pipes self.new.table.pipes) }
+        ensures ready { IfOk result (λ passage. CanDeliver (Seg flow first) passage self.new) }
     {
         self.traffic.take_ready(flow, first)?;
         let Some(send) = self.traffic.reply(flow) else {
-            return Ok(());
+            return Ok(Passage::Searched);
         };
-        self.make_ready(shelf, owner, now, &send)
+        self.make_ready(shelf, owner, now, reply_line_of(flow), &send)
     }
 
     // A packet is delivered.
@@ -82,12 +88,13 @@ impl Network {
         owner: Owner,
         at: Setting,
         packet: &Packet,
+        passage: &Passage,
     )
         requires stands { Stands at (S.pocket shelf.old owner) self.old }
         requires made { self.old.made < 2 ^ 63 }
         requires room { 0 < S.room shelf.old owner }
         requires log { 4 < self.old.log.spare }
-        requires ready { CanDeliver packet.now.load self.old }
+        requires ready { CanDeliver packet.now.load passage.now self.old }
         ensures becomes { Becomes 1
             (delivered at packet.now (net_of (S.pocket shelf.old owner) self.old))
             (S.pocket shelf.old owner) (S.pocket shelf.new owner) self.old self.new }
@@ -99,17 +106,24 @@ impl Network {
             packet: packet.number,
             load: packet.load,
         });
-        self.take_load(shelf, owner, at, packet.load);
+        self.take_load(shelf, owner, at, packet.load, passage);
     }
 
     // What a delivered load does.
     #[inline(always)]
-    fn take_load<S: Shelf>(&mut self, shelf: &mut S, owner: Owner, at: Setting, load: Load)
+    fn take_load<S: Shelf>(
+        &mut self,
+        shelf: &mut S,
+        owner: Owner,
+        at: Setting,
+        load: Load,
+        passage: &Passage,
+    )
         requires stands { Stands at (S.pocket shelf.old owner) self.old }
         requires made { self.old.made < 2 ^ 63 }
         requires room { 0 < S.room shelf.old owner }
         requires log { 3 < self.old.log.spare }
-        requires ready { CanDeliver load self.old }
+        requires ready { CanDeliver load passage.now self.old }
         ensures becomes { Becomes 1 (take_load at load (net_of (S.pocket shelf.old owner) self.old))
             (S.pocket shelf.old owner) (S.pocket shelf.new owner) self.old self.new }
         ensures log { self.old.log.spare ≤ self.new.log.spare + 4 }
@@ -118,7 +132,7 @@ impl Network {
         match load {
             Load::Plain => return,
             Load::Seg { flow, first } => {
-                self.take_segment(shelf, owner, at, flow, first);
+                self.take_segment(shelf, owner, at, flow, first, passage);
                 return;
             }
             Load::Ack { flow, upto } => {
@@ -137,12 +151,13 @@ impl Network {
         at: Setting,
         flow: FlowNumber,
         first: u64,
+        passage: &Passage,
     )
         requires stands { Stands at (S.pocket shelf.old owner) self.old }
         requires made { self.old.made < 2 ^ 63 }
         requires room { 0 < S.room shelf.old owner }
         requires log { 3 < self.old.log.spare }
-        requires ready { CanDeliver (Seg flow first) self.old }
+        requires ready { CanDeliver (Seg flow first) passage.now self.old }
         ensures becomes { Becomes 1
             (take_load at (Seg flow first) (net_of (S.pocket shelf.old owner) self.old))
             (S.pocket shelf.old owner) (S.pocket shelf.new owner) self.old self.new }
@@ -152,7 +167,7 @@ impl Network {
         let answer = self.traffic.take(flow, first);
         match answer {
             Some(sending) => {
-                self.make(shelf, owner, at, &sending);
+                self.make(shelf, owner, at, &sending, passage);
                 return;
             }
             None => return,
@@ -160,6 +175,7 @@ impl Network {
     }
 
     // A flow's sender takes an acknowledgement.
+    #[inline(always)]
     fn take_ack(&mut self, now: u64, flow: FlowNumber, upto: u64)
         requires early { IsMoment now }
         requires log { 0 < self.old.log.spare }

@@ -11,6 +11,7 @@ ghost use Rattle.network.specs.Changes.{Notes};
 ghost use Rattle.network.specs.Due.{IsDue};
 
 use crate::state::Network;
+use due_index::DueNumber;
 use emu_model::{Counters, Due, Record, Source};
 use pipe_core::keys_say_all;
 use std::alloc::AllocError;
@@ -29,7 +30,24 @@ impl Network {
         self.traffic.earliest(clock, best)
     }
 
+    /// The same. Only what is kept of timers changes, which nothing shows: where nothing changes else, the next call finds
+    /// the least at once.
+    #[inline(always)]
+    pub fn settled_earliest(&mut self, clock: u64, best: Due) -> Due
+        ensures least { (p : Pocket) →
+            result ≡ best_of is_before best (dues_of clock (net_of p self.old)) }
+        ensures moment { result.moment ≤ best.moment }
+        ensures due { IsDue best self.old → IsDue result self.old }
+        ensures same { self.new ≡ self.old }
+    {
+        let first = DueNumber::at(best.moment, best.source);
+        let direct = DueNumber::of(self.direct_due());
+        let least = self.table.earliest_number(first.or_earlier(direct));
+        self.traffic.settled_earliest(clock, least).some()
+    }
+
     // The due of the link of `allow`, where something is on its way there.
+    #[inline(always)]
     fn direct_due(&self) -> Option<Due>
         ensures dues { (p : Pocket) →
             option_to_list result ≡ line_dues 0 (net_of p self.now).direct }
@@ -107,6 +125,15 @@ impl Network {
             held,
             drops: self.log.drops(),
         }
+    }
+
+    /// What was recorded is forgotten; its room stays.
+    pub fn forget_records(&mut self)
+        ensures rest { self.new ≡ record self.old { log = self.new.log } }
+        ensures records { self.new.log.records ≡ [] }
+        ensures room { self.old.log.spare ≤ self.new.log.spare }
+    {
+        self.log.clear();
     }
 
     /// What was recorded, as a `Vec`. Takes no memory.

@@ -1,24 +1,26 @@
 //! The events but the next command: exits, finishes, expiries and emissions.
 
-ghost use Rattle.std.specs.Prelude.{◌≡◌, ◌+◌, ◌*◌, ◌/◌, ◌%◌, ◌^◌, ◌<◌, ◌≤◌, ◌∷◌, [], Some, None, true, IsOk, OnOk, OnErr, IfSome, OnSome, option_and_then, map, length};
+ghost use Rattle.std.specs.Prelude.{◌≡◌, ◌+◌, ◌*◌, ◌/◌, ◌%◌, ◌^◌, ◌<◌, ◌≤◌, ◌∷◌, [], ℕ, Some, None, true, false, IsOk, IfOk, OnOk, OnErr, IfSome, OnSome, option_and_then, map, length};
 ghost use Rattle.std.specs.Option.{option_map_or};
 ghost use Rattle.emu_model.specs.Moments.{IsMoment};
 ghost use Rattle.emu_model.specs.declared.sources.Class.TheVariants.{Expiry};
 ghost use Rattle.emu_model.specs.declared.packets.Load.TheVariants.{Plain};
 ghost use Rattle.emu_model.specs.Delay.{first_item, leave};
 ghost use Rattle.emu_model.specs.Net.{Net, drop_record, find_flow, find_pipe};
-ghost use Rattle.emu_model.specs.Events.{direct_exit as exits_direct, emission as emitted, event_of, expire_flow, flying_in, leave_pipe as leaves_pipe, pipe_exits, pipe_finishes};
+ghost use Rattle.emu_model.specs.Events.{direct_exit as exits_direct, emission as emitted, event_of, expire_flow, flying_in, pipe_exits, pipe_finishes};
 ghost use Rattle.packet_store.specs.Pocket.{OthersStay, AllStay};
 ghost use Rattle.network.specs.Kept.{net_of, IsHoused, Stands};
 ghost use Rattle.network.specs.Changes.{Becomes, IsStill, Notes, Turns};
-ghost use Rattle.network.specs.Ready.{CanMake, CanDeliver, CanLeave};
+ghost use Rattle.network.specs.Ready.{CanDeliver, CanPass, start_after};
 ghost use Rattle.network.specs.Due.{IsDue};
 ghost use Rattle.pipe_table.specs.Table.{IsFinishing};
+ghost use Rattle.pipe_table.specs.Places.{StandsAt, KeepsPlaces};
 ghost use Rattle.traffic.specs.Kept.{with_traffic};
 ghost use Rattle.traffic.specs.Sends.{IsEmitting, next_send};
 
 use crate::state::Network;
-use emu_model::{Class, DropCause, Due, FlowNumber, Packet, PipeNumber, Record, SendSpec, Setting};
+use crate::ways::{Passage, Way, line_of};
+use emu_model::{Class, DropCause, Due, FlowNumber, Packet, PipeNumber, Record, Setting};
 use packet_store::{Owner, Shelf};
 use pipe_core::keys_say_all;
 use std::alloc::AllocError;
@@ -31,6 +33,7 @@ pub(crate) const MOST_RECORDS: usize = 6;
 impl Network {
     /// The event of something that is due now, as `earliest` told. Each growth comes first: refused,
     /// only room has changed. After it there is room for one record more.
+    #[inline(always)]
     pub fn event<S: Shelf>(
         &mut self,
         shelf: &mut S,
@@ -103,7 +106,7 @@ impl Network {
         shelf: &mut S,
         owner: Owner,
         now: u64,
-    ) -> Result<(), AllocError>
+    ) -> Result<Passage, AllocError>
         requires { IsHoused (S.pocket shelf.old owner) self.old }
         ensures still { IsStill self.old self.new }
         ensures rest { self.new
@@ -111,15 +114,16 @@ impl Network {
               table = self.new.table;
               direct = self.new.direct;
               traffic = self.new.traffic;
+              ways = self.new.ways;
             } }
         ensures pockets { AllStay (S.pocket shelf.old) (S.pocket shelf.new) }
-        ensures ready { OnOk result
-            ((p : Packet) →
+        ensures ready { IfOk result
+            (λ passage. (p : Packet) →
             first_item (net_of (S.pocket shelf.old owner) self.old).direct.flight ≡ Some p →
-            CanDeliver p.load self.new) }
+            CanDeliver p.load passage self.new) }
     {
         let Some(packet) = self.direct_front(shelf, owner) else {
-            return Ok(());
+            return Ok(Passage::Searched);
         };
         self.deliver_ready(shelf, owner, now, packet.load)
     }
@@ -149,6 +153,7 @@ impl Network {
     }
 
     // The first packet under way leaves the link of `allow`, and is delivered.
+    #[inline(never)]
     fn direct_exit<S: Shelf>(
         &mut self,
         shelf: &mut S,
@@ -167,110 +172,16 @@ impl Network {
             (S.pocket shelf.new owner ≡ S.pocket shelf.old owner) }
         ensures others { OthersStay owner (S.pocket shelf.old) (S.pocket shelf.new) }
     {
-        self.direct_ready(shelf, owner, at.now)?;
+        let passage = self.direct_ready(shelf, owner, at.now)?;
         let Some(packet) = self.leave_direct(shelf, owner) else {
             return Ok(());
         };
-        self.deliver(shelf, owner, at, &packet);
+        self.deliver(shelf, owner, at, &packet, &passage);
         Ok(())
     }
 
-    // Makes the growths of a packet that leaves a pipe.
-    fn leave_ready<S: Shelf>(
-        &mut self,
-        shelf: &mut S,
-        owner: Owner,
-        now: u64,
-        packet: &Packet,
-    ) -> Result<(), AllocError>
-        ensures still { IsStill self.old self.new }
-        ensures rest { self.new
-            ≡ record self.old {
-              table = self.new.table;
-              direct = self.new.direct;
-              traffic = self.new.traffic;
-            } }
-        ensures pockets { AllStay (S.pocket shelf.old) (S.pocket shelf.new) }
-        ensures ready { OnOk result (CanLeave packet.now self.new) }
-        ensures plain { self.old.one_pass ≡ true → packet.now.load ≡ Plain → IsOk result }
-    {
-        if self.one_pass {
-            return self.deliver_ready(shelf, owner, now, packet.load);
-        }
-        let verdict = self.book.foresee_after(packet.place, packet);
-        self.arrival_ready(shelf, owner, now, verdict, packet)
-    }
-
-    // Makes the growths of an exit of a pipe.
-    fn exit_ready<S: Shelf>(
-        &mut self,
-        shelf: &mut S,
-        owner: Owner,
-        now: u64,
-        pipe: PipeNumber,
-        instance: u8,
-    ) -> Result<(), AllocError>
-        requires { IsHoused (S.pocket shelf.old owner) self.old }
-        ensures still { IsStill self.old self.new }
-        ensures rest { self.new
-            ≡ record self.old {
-              table = self.new.table;
-              direct = self.new.direct;
-              traffic = self.new.traffic;
-            } }
-        ensures pockets { AllStay (S.pocket shelf.old) (S.pocket shelf.new) }
-        ensures ready { OnOk result
-            ((p : Packet) →
-            option_and_then (flying_in instance)
-            (find_pipe pipe (net_of (S.pocket shelf.old owner) self.old)) ≡ Some p →
-            CanLeave p self.new) }
-        ensures plain { self.old.one_pass ≡ true → ((p : Packet) →
-            option_and_then (flying_in instance)
-            (find_pipe pipe (net_of (S.pocket shelf.old owner) self.old)) ≡ Some p →
-            p.load ≡ Plain) → IsOk result }
-    {
-        let Some(packet) = self.table.front(shelf, owner, pipe, instance) else {
-            return Ok(());
-        };
-        self.leave_ready(shelf, owner, now, &packet)
-    }
-
-    // A packet has left an instance of a pipe: it is delivered, or goes on in the rules.
-    fn leave_pipe<S: Shelf>(
-        &mut self,
-        shelf: &mut S,
-        owner: Owner,
-        at: Setting,
-        pipe: PipeNumber,
-        instance: u8,
-        packet: &Packet,
-    )
-        requires stands { Stands at (S.pocket shelf.old owner) self.old }
-        requires made { self.old.made < 2 ^ 63 }
-        requires budget { (S.pocket shelf.old owner).count < (S.pocket shelf.old owner).budget }
-        requires room { 0 < S.room shelf.old owner }
-        requires log { 4 < self.old.log.spare }
-        requires ready { CanLeave packet.now self.old }
-        ensures becomes { Becomes 1
-            (leaves_pipe at pipe instance packet.now (net_of (S.pocket shelf.old owner) self.old))
-            (S.pocket shelf.old owner) (S.pocket shelf.new owner) self.old self.new }
-        ensures log { self.old.log.spare ≤ self.new.log.spare + 5 }
-        ensures others { OthersStay owner (S.pocket shelf.old) (S.pocket shelf.new) }
-    {
-        if self.one_pass {
-            self.deliver(shelf, owner, at, packet);
-            return;
-        }
-        self.note(&Record::PacketPassed {
-            moment: at.now,
-            packet: packet.number,
-            pipe,
-            instance,
-        });
-        self.go_on(shelf, owner, at, packet);
-    }
-
     // The first packet under way leaves an instance of a pipe.
+    #[inline(always)]
     fn pipe_exit<S: Shelf>(
         &mut self,
         shelf: &mut S,
@@ -296,17 +207,192 @@ impl Network {
             (S.pocket shelf.new owner ≡ S.pocket shelf.old owner) }
         ensures others { OthersStay owner (S.pocket shelf.old) (S.pocket shelf.new) }
     {
-        self.exit_ready(shelf, owner, at.now, pipe, instance)?;
-        let gone = self.table.exit(shelf, owner, pipe, instance);
-        let Some(packet) = gone else {
+        let Some(place) = self.table.place_of(pipe) else {
+            self.exit_nothing(shelf, owner, at, pipe, instance);
             return Ok(());
         };
-        self.leave_pipe(shelf, owner, at, pipe, instance, &packet);
+        if self.one_pass {
+            return self.deliver_front(shelf, owner, at, pipe, place, instance);
+        }
+        self.pass_front(shelf, owner, at, pipe, place, instance)
+    }
+
+    // Nothing leaves an instance in which nothing is on its way.
+    #[tactic(auto, using(crate::proofs::WayFacts::known_grown))]
+    #[inline(never)]
+    fn exit_nothing<S: Shelf>(
+        &mut self,
+        shelf: &mut S,
+        owner: Owner,
+        at: Setting,
+        pipe: PipeNumber,
+        instance: u8,
+    )
+        requires stands { Stands at (S.pocket shelf.old owner) self.old }
+        requires none { option_and_then (flying_in instance)
+            (find_pipe pipe (net_of (S.pocket shelf.old owner) self.old)) ≡ None }
+        ensures becomes { let n = net_of (S.pocket shelf.old owner) self.old in
+            Becomes 1 (option_map_or (pipe_exits at pipe instance n) (find_pipe pipe n) n)
+            (S.pocket shelf.old owner) (S.pocket shelf.new owner) self.old self.new }
+        ensures log { self.new.log ≡ self.old.log }
+        ensures others { OthersStay owner (S.pocket shelf.old) (S.pocket shelf.new) }
+    {
+        let _none = self.table.exit(shelf, owner, pipe, instance);
+    }
+
+    // The same of a pipe that stands at a place, where the packet is delivered.
+    #[tactic(auto, using(crate::proofs::WayFacts::known_grown))]
+    #[inline(always)]
+    fn deliver_front<S: Shelf>(
+        &mut self,
+        shelf: &mut S,
+        owner: Owner,
+        at: Setting,
+        pipe: PipeNumber,
+        place: usize,
+        instance: u8,
+    ) -> Result<(), AllocError>
+        requires stands { Stands at (S.pocket shelf.old owner) self.old }
+        requires made { self.old.made < 2 ^ 63 }
+        requires log { 5 < self.old.log.spare }
+        requires place { StandsAt pipe place self.old.table.pipes }
+        requires one_pass { self.old.one_pass ≡ true }
+        ensures ok { let n = net_of (S.pocket shelf.old owner) self.old in
+            OnOk result
+            (Becomes 1 (option_map_or (pipe_exits at pipe instance n) (find_pipe pipe n) n)
+            (S.pocket shelf.old owner) (S.pocket shelf.new owner) self.old self.new) }
+        ensures room { OnOk result (0 < self.new.log.spare) }
+        ensures refused { OnErr result (IsStill self.old self.new) }
+        ensures plain { ((p : Packet) →
+            option_and_then (flying_in instance)
+            (find_pipe pipe (net_of (S.pocket shelf.old owner) self.old)) ≡ Some p →
+            p.load ≡ Plain) → IsOk result }
+        ensures refused_pocket { OnErr result
+            (S.pocket shelf.new owner ≡ S.pocket shelf.old owner) }
+        ensures others { OthersStay owner (S.pocket shelf.old) (S.pocket shelf.new) }
+    {
+        let index = usize::from(instance);
+        let Some(packet) = self.table.front_at(place, index, shelf, owner) else {
+            self.exit_nothing(shelf, owner, at, pipe, instance);
+            return Ok(());
+        };
+        let passage = self.deliver_ready(shelf, owner, at.now, packet.load)?;
+        let _gone = self.table.exit_at(place, index, shelf, owner);
+        self.deliver(shelf, owner, at, &packet, &passage);
+        Ok(())
+    }
+
+    // Makes the growths of a packet that goes on in the rules, and tells its way where it has one.
+    fn pass_ready<S: Shelf>(
+        &mut self,
+        shelf: &mut S,
+        owner: Owner,
+        now: u64,
+        packet: &Packet,
+    ) -> Result<Option<Way>, AllocError>
+        ensures still { IsStill self.old self.new }
+        ensures rest { self.new
+            ≡ record self.old { table = self.new.table; direct = self.new.direct } }
+        ensures pockets { AllStay (S.pocket shelf.old) (S.pocket shelf.new) }
+        ensures rooms { (o : ℕ) → S.room shelf.old o ≤ S.room shelf.new o }
+        ensures places { OnOk result (KeepsPlaces self.old.table.pipes self.new.table.pipes) }
+        ensures pass { IfOk result (λ known.
+            CanPass (start_after packet.now self.new) packet.now known self.new) }
+    {
+        let found = self.book.foresee_rule_after(packet.place, packet);
+        self.arrival_ready(shelf, owner, now, found, packet)
+    }
+
+    // The same where the packet goes on in the rules.
+    #[tactic(auto, using(crate::proofs::WayFacts::known_grown))]
+    #[inline(never)]
+    fn pass_front<S: Shelf>(
+        &mut self,
+        shelf: &mut S,
+        owner: Owner,
+        at: Setting,
+        pipe: PipeNumber,
+        place: usize,
+        instance: u8,
+    ) -> Result<(), AllocError>
+        requires stands { Stands at (S.pocket shelf.old owner) self.old }
+        requires made { self.old.made < 2 ^ 63 }
+        requires log { 5 < self.old.log.spare }
+        requires place { StandsAt pipe place self.old.table.pipes }
+        requires one_pass { self.old.one_pass ≡ false }
+        ensures ok { let n = net_of (S.pocket shelf.old owner) self.old in
+            OnOk result
+            (Becomes 1 (option_map_or (pipe_exits at pipe instance n) (find_pipe pipe n) n)
+            (S.pocket shelf.old owner) (S.pocket shelf.new owner) self.old self.new) }
+        ensures room { OnOk result (0 < self.new.log.spare) }
+        ensures refused { OnErr result (IsStill self.old self.new) }
+        ensures refused_pocket { OnErr result
+            (S.pocket shelf.new owner ≡ S.pocket shelf.old owner) }
+        ensures others { OthersStay owner (S.pocket shelf.old) (S.pocket shelf.new) }
+    {
+        let index = usize::from(instance);
+        let Some(packet) = self.table.front_at(place, index, shelf, owner) else {
+            self.exit_nothing(shelf, owner, at, pipe, instance);
+            return Ok(());
+        };
+        let known = self.pass_ready(shelf, owner, at.now, &packet)?;
+        let _gone = self.table.exit_at(place, index, shelf, owner);
+        self.note(&Record::PacketPassed {
+            moment: at.now,
+            packet: packet.number,
+            pipe,
+            instance,
+        });
+        self.go_on(shelf, owner, at, &packet, &known);
         Ok(())
     }
 
     // The packet in service in an instance of a pipe finishes.
+    #[tactic(auto, using(crate::proofs::WayFacts::known_grown))]
+    #[inline(always)]
     fn pipe_finish<S: Shelf>(
+        &mut self,
+        shelf: &mut S,
+        owner: Owner,
+        at: Setting,
+        pipe: PipeNumber,
+        instance: u8,
+    ) -> Result<(), AllocError>
+        requires stands { Stands at (S.pocket shelf.old owner) self.old }
+        requires log { 2 < self.old.log.spare }
+        requires due { IsFinishing pipe instance at.now self.old.table.pipes }
+        ensures ok { let n = net_of (S.pocket shelf.old owner) self.old in
+            OnOk result
+            (Becomes 0 (option_map_or (pipe_finishes at pipe instance n) (find_pipe pipe n) n)
+            (S.pocket shelf.old owner) (S.pocket shelf.new owner) self.old self.new) }
+        ensures room { OnOk result (0 < self.new.log.spare) }
+        ensures refused { OnErr result (IsStill self.old self.new) }
+        ensures refused_pocket { OnErr result
+            (S.pocket shelf.new owner ≡ S.pocket shelf.old owner) }
+        ensures others { OthersStay owner (S.pocket shelf.old) (S.pocket shelf.new) }
+    {
+        let Some(place) = self.table.place_of(pipe) else {
+            unreachable!();
+        };
+        let index = usize::from(instance);
+        if !self.table.drops_none_at(place, index, at.now) {
+            return self.finish_dropping(shelf, owner, at, pipe, instance);
+        }
+        let packet = self
+            .table
+            .finish_plainly_at(place, index, shelf, owner, at.now)?;
+        self.note(&Record::PacketFinished {
+            moment: at.now,
+            packet,
+            pipe,
+            instance,
+        });
+        Ok(())
+    }
+
+    // The same where CoDel may drop.
+    #[inline(never)]
+    fn finish_dropping<S: Shelf>(
         &mut self,
         shelf: &mut S,
         owner: Owner,
@@ -333,6 +419,7 @@ impl Network {
     }
 
     // The same, with a list for what CoDel drops.
+    #[tactic(auto, using(crate::proofs::WayFacts::known_grown))]
     fn finish_into<S: Shelf>(
         &mut self,
         shelf: &mut S,
@@ -380,6 +467,7 @@ impl Network {
     }
 
     // A flow's timer came due.
+    #[inline(never)]
     fn expire(&mut self, at: Setting, flow: FlowNumber)
         requires early { IsMoment at.now }
         requires log { 0 < self.old.log.spare }
@@ -402,34 +490,8 @@ impl Network {
         }
     }
 
-    // Makes the growths of a packet that a source sends.
-    fn emission_ready<S: Shelf>(
-        &mut self,
-        shelf: &mut S,
-        owner: Owner,
-        now: u64,
-        source: FlowNumber,
-    ) -> Result<(), AllocError>
-        ensures still { IsStill self.old self.new }
-        ensures rest { self.new
-            ≡ record self.old { table = self.new.table; direct = self.new.direct } }
-        ensures pockets { AllStay (S.pocket shelf.old) (S.pocket shelf.new) }
-        ensures room { OnOk result
-            ((S.pocket shelf.old owner).count < (S.pocket shelf.old owner).budget →
-            0 < S.room shelf.new owner) }
-        ensures ready { OnOk result
-            ((send : SendSpec) →
-            ((m : Net) → next_send source (with_traffic self.old.traffic m) ≡ Some send) →
-            CanMake send self.new) }
-    {
-        shelf.put_ready(owner)?;
-        let Some(send) = self.traffic.next_send(source) else {
-            return Ok(());
-        };
-        self.make_ready(shelf, owner, now, &send)
-    }
-
     // A source sends a packet.
+    #[inline(always)]
     fn emission<S: Shelf>(
         &mut self,
         shelf: &mut S,
@@ -450,12 +512,14 @@ impl Network {
             (S.pocket shelf.new owner ≡ S.pocket shelf.old owner) }
         ensures others { OthersStay owner (S.pocket shelf.old) (S.pocket shelf.new) }
     {
-        self.emission_ready(shelf, owner, at.now, source)?;
-        let answer = self.traffic.emit(at.now, source);
-        let Some(sending) = answer else {
+        shelf.put_ready(owner)?;
+        let Some(found) = self.traffic.find(source) else {
             return Ok(());
         };
-        self.make(shelf, owner, at, &sending);
+        let send = self.traffic.header_at(&found);
+        let passage = self.make_ready(shelf, owner, at.now, line_of(source), &send)?;
+        let sending = self.traffic.emit_at(at.now, &found);
+        self.make(shelf, owner, at, &sending, &passage);
         Ok(())
     }
 }

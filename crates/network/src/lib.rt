@@ -10,6 +10,8 @@ mod events;
 mod laws;
 mod rehousing;
 mod state;
+mod ways;
 
 pub use laws::still_is_housed;
 pub use state::Network;
+pub use ways::{Passage, Remembered, Way, Ways};

@@ -6,6 +6,8 @@ ghost use Rattle.packet_store.specs.Pocket.{Pocket};
 ghost use Rattle.network.specs.Kept.{net_of, net_keys};
 ghost use Rattle.network.specs.Changes.{IsStill, Notes};
 
+use crate::events::MOST_RECORDS;
+use crate::ways::Ways;
 use emu_model::{Packet, Record};
 use emu_rules::RuleList;
 use link_core::DelayLine;
@@ -31,10 +33,13 @@ pub struct Network {
     pub(crate) log: RecordLog,
     // Room for what CoDel drops at a finish.
     pub(crate) drops: Vec<Packet>,
+    // The ways of sources' packets.
+    pub(crate) ways: Ways,
 }
 
 impl Model for Network {
     ghost use Rattle.network.specs.Kept.{KeptNet};
+    ghost use Rattle.network.specs.Ways.{AreKnown};
 
     ghost Value = { KeptNet };
 
@@ -47,7 +52,10 @@ impl Model for Network {
       one_pass = n.one_pass;
       trace = n.trace;
       log = n.log;
+      ways = n.ways;
     } };
+
+    ghost invariant = { λ n. AreKnown n.book.rules n.table.pipes n.ways };
 }
 
 impl Network {
@@ -71,6 +79,7 @@ impl Network {
             trace: false,
             log: RecordLog::new(alloc),
             drops: Vec::new(alloc),
+            ways: Ways::new(alloc),
         })
     }
 
@@ -95,6 +104,22 @@ impl Network {
         ensures succeeds { additional ≤ self.old.log.spare → IsOk result }
     {
         self.log.reserve(additional)?;
+        Ok(())
+    }
+
+    // Makes room for the records of a command, and forgets the ways, which may be others after it.
+    #[tactic(auto, using(crate::proofs::WayFacts::known_none))]
+    pub(crate) fn obey_ready(&mut self) -> Result<(), AllocError>
+        ensures rest { self.new
+            ≡ record self.old { log = self.new.log; ways = self.new.ways } }
+        ensures records { self.new.log.records ≡ self.old.log.records }
+        ensures still { IsStill self.old self.new }
+        ensures ready { OnOk result (6 ≤ self.new.log.spare) }
+        ensures forgot { OnOk result (self.new.ways ≡ []) }
+        ensures succeeds { 6 ≤ self.old.log.spare → IsOk result }
+    {
+        self.reserve(MOST_RECORDS)?;
+        self.ways.clear();
         Ok(())
     }
 

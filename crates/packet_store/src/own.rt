@@ -1,41 +1,37 @@
 //! A shelf of one owner.
-ghost use Rattle.std.specs.Prelude.{◌≡◌, ℕ, ◌≤◌, ◌-◌, ◌⊎◌, ◌↔◌, OnOk, IsOk, IsTrue};
+ghost use Rattle.std.specs.Prelude.{◌≡◌, ℕ, ◌+◌, ◌-◌, ◌≤◌, ◌⊎◌, ◌↔◌, OnOk, IsOk, IsTrue};
 ghost use Rattle.packet_store.specs.Pocket.{empty_pocket};
-ghost use Rattle.packet_store.specs.Own.{own_pocket, pocket_of_own, own_room};
+ghost use Rattle.packet_store.specs.Own.{own_pocket, pocket_of_own, own_room, vacancies};
 
 use crate::{Key, Owner, PutError, Shelf};
 use emu_model::{Packet, PacketBudget};
-use slab::Slab;
 use std::alloc::{AllocError, Global};
 use std::marker::Model;
-
-#[derive(Clone, Copy)]
-struct Stored {
-    packet: Packet,
-}
 
 /// The packets of owner 0, within its budget. Every other owner's budget is 0.
 #[derive(Drop)]
 pub struct OwnShelf {
-    slab: Slab<Stored>,
+    places: Vec<Option<Packet>>,
+    // The places where nothing stands, the one that became free last at the end. There is room for all of them.
+    free: Vec<usize>,
     budget: usize,
 }
 
 impl Model for OwnShelf {
-    ghost use Rattle.std.specs.Prelude.{◌-◌, ◌≤◌, count_by, is_some};
-    ghost use Rattle.slab.specs.Slab.{slab_len};
-    ghost use Rattle.packet_store.specs.Own.{Own};
+    ghost use Rattle.std.specs.Prelude.{◌+◌, ◌-◌, ◌≤◌, count_by, is_some, vec_len, vec_capacity};
+    ghost use Rattle.packet_store.specs.Own.{Own, AreFree};
 
     ghost Value = { Own };
 
     ghost view = { λ s. record {
-      slots = s.slab.slots;
+      slots = s.places.items;
       budget = s.budget;
-      spare = s.slab.capacity - slab_len s.slab;
+      spare = vec_capacity s.places - vec_len s.places + vec_len s.free;
     } };
 
-    ghost invariant = { λ s. (slab_len s.slab ≤ s.slab.capacity)
-        × (count_by is_some s.slab.slots ≤ s.budget) };
+    ghost invariant = { λ s. AreFree s.places.items s.free.items
+        × (count_by is_some s.places.items ≤ s.budget)
+        × (vec_capacity s.places ≤ vec_capacity s.free) };
 }
 
 impl OwnShelf {
@@ -44,7 +40,8 @@ impl OwnShelf {
         ensures own { own_pocket result ≡ empty_pocket budget }
     {
         OwnShelf {
-            slab: Slab::new(alloc),
+            places: Vec::new(alloc),
+            free: Vec::new(alloc),
             budget: budget.get() as usize,
         }
     }
@@ -58,8 +55,39 @@ impl OwnShelf {
         ensures room { own_room self.old 0 ≤ own_room self.new 0 }
         ensures succeeds { additional ≤ own_room self.old 0 → IsOk result }
     {
-        let left = self.budget.saturating_sub(self.slab.len());
-        self.slab.reserve(additional.min(left))
+        let left = self.budget.saturating_sub(self.held());
+        let wanted = additional.min(left).saturating_sub(self.free.len());
+        self.grow(wanted)
+    }
+
+    // How many packets stand there.
+    #[inline(always)]
+    fn held(&self) -> usize
+        ensures count { result ≡ (own_pocket self.now).count }
+        ensures within { result ≤ (own_pocket self.now).budget }
+    {
+        self.places.len() - self.free.len()
+    }
+
+    // Makes so many places more, and room for all places where nothing may stand.
+    #[inline(never)]
+    fn grow(&mut self, additional: usize) -> Result<(), AllocError>
+        ensures same { self.new ≡ record self.old { spare = self.new.spare } }
+        ensures grows { self.old.spare ≤ self.new.spare }
+        ensures ready { OnOk result (additional + vacancies self.old.slots ≤ self.new.spare) }
+        ensures succeeds { additional + vacancies self.old.slots ≤ self.old.spare → IsOk result }
+    {
+        if additional <= self.places.capacity() - self.places.len() {
+            return Ok(());
+        }
+        // More places than a number can count are more than memory has.
+        let Some(least) = self.places.len().checked_add(additional) else {
+            return Err(AllocError);
+        };
+        // Room for free places comes first, so that each place of the packets has one at all times.
+        let places = least.max(self.places.capacity().saturating_mul(2));
+        self.free.reserve_exact(places - self.free.len())?;
+        self.places.reserve_exact(places - self.places.len())
     }
 
     // The owner holds its budget.
@@ -67,7 +95,7 @@ impl OwnShelf {
         ensures { IsTrue result ↔
             ((pocket_of_own self.now owner).budget ≤ (pocket_of_own self.now owner).count) }
     {
-        owner != 0 || self.budget <= self.slab.len()
+        owner != 0 || self.budget <= self.held()
     }
 }
 
@@ -78,10 +106,13 @@ impl Shelf for OwnShelf {
 
     #[inline(always)]
     fn put_ready(&mut self, owner: Owner) -> Result<(), AllocError> {
+        if !self.free.is_empty() || self.places.len() < self.places.capacity() {
+            return Ok(());
+        }
         if self.is_full(owner) {
             return Ok(());
         }
-        self.slab.reserve(1)
+        self.grow(1)
     }
 
     #[inline(always)]
@@ -89,34 +120,39 @@ impl Shelf for OwnShelf {
         if self.is_full(owner) {
             return Err(PutError::OverBudget);
         }
-        if self.slab.reserve(1).is_err() {
+        if let Some(place) = self.free.pop() {
+            self.places[place] = Some(packet);
+            return Ok(Key { place });
+        }
+        if self.places.len() == self.places.capacity() && self.grow(1).is_err() {
             return Err(PutError::NoMemory);
         }
-        let place = self.slab.insert_reserved(Stored { packet });
+        let place = self.places.len();
+        self.places.push_reserved(Some(packet));
         Ok(Key { place })
     }
 
     #[inline(always)]
     fn look(&self, owner: Owner, key: Key) -> Option<Packet> {
-        match self.slab.get(key.place) {
-            Some(stored) if owner == 0 => Some(stored.packet),
-            _ => None,
-        }
-    }
-
-    #[inline(always)]
-    fn take(&mut self, owner: Owner, key: Key) -> Option<Packet> {
         if owner != 0 {
             return None;
         }
-        match self.slab.try_remove(key.place) {
-            Some(stored) => Some(stored.packet),
+        match self.places.get(key.place) {
+            Some(packet) => *packet,
             None => None,
         }
     }
 
     #[inline(always)]
+    fn take(&mut self, owner: Owner, key: Key) -> Option<Packet> {
+        let packet = self.look(owner, key)?;
+        self.places[key.place] = None;
+        self.free.push_reserved(key.place);
+        Some(packet)
+    }
+
+    #[inline(always)]
     fn count(&self, owner: Owner) -> usize {
-        if owner == 0 { self.slab.len() } else { 0 }
+        if owner == 0 { self.held() } else { 0 }
     }
 }

@@ -78,6 +78,10 @@ pub on_err : {T E : Type 0} {A B : Type 0} (r : Result T E) → (A → B) → On
 on_err (Ok t) h a = a
 on_err (Err e) h a = h a
 
+pub on_any_err : {T E : Type 0} {A : Type 0} (r : Result T E) → A → OnErr r A
+on_any_err (Ok t) a = tt
+on_any_err (Err e) a = a
+
 module _ (k : ℕ) (old : KeyedPipe) (x y : Slot) (at : IsPlace k old.slots x) (p q : Pocket) where
   pub finish_view : (now : ℕ) (packet : Packet) (drops : List Packet) → AreNamed p (keys_of old.slots) →
       Finishes old.config now packet drops p q x y →

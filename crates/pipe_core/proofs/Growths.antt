@@ -1,14 +1,14 @@
 -- An instance whose queue alone has grown.
 use Rattle.std.proofs.Common.{◌≡◌, ℕ, ◌<◌, ◌≤◌, true, refl, sym, ap, ◌∙◌, subst, List, [], ◌∷◌, length, Some, None, IsSome, set, position, arith}
-use Rattle.std.specs.Prelude.{Result, Ok, Err, OnOk, OnErr, IsOk, slice_get, unwrap_or}
+use Rattle.std.specs.Prelude.{Result, Ok, Err, OnOk, OnErr, IsOk, slice_get}
 use Rattle.emu_model.specs.declared.packets.Packet.{Packet}
 use Rattle.std.proofs.lemmas.List.{length-map}
-use Rattle.emu_model.specs.FlowIds.{FlowId, flow_id, same_flow, instance_of}
+use Rattle.emu_model.specs.FlowIds.{FlowId, flow_id, same_flow}
 use Rattle.emu_model.specs.DropTail.{accepts}
 use Rattle.pipe_instance.specs.Keyed.{KeyedInstance, seen_instance, keys_in}
 use Rattle.pipe_core.specs.declared.slot.Slot.{Slot}
 use Rattle.pipe_core.specs.Keyed.{KeyedPipe, ids_of}
-use Rattle.pipe_core.specs.Steps.{HasRoom, HasRoomAtSlot, HasRoomAt, IsGrown, IsSamePlace}
+use Rattle.pipe_core.specs.Steps.{HasRoom, HasRoomAt, IsGrown, IsSamePlace}
 use Rattle.pipe_core.proofs.Makings.{made_next, made_few}
 use Rattle.pipe_core.proofs.InstancePlaces.{IsPlace, seen_same, keys_same, room_same, room_here}
 
@@ -58,35 +58,22 @@ pub not_refused : {T E : Type 0} {A B : Type 0} (r : Result T E) (m n : ℕ) →
 not_refused (Ok x) m n h room = refl
 not_refused (Err e) m n h room = absurd (omega (arith, room h.0 h.1, h.2))
 
--- where the packet's instance has room
-pub ready_known : {T E : Type 0} (r : Result T E) (packet : Packet) (new : KeyedPipe) (k : ℕ) →
-    instance_of (ids_of new.slots) (flow_id new.config.mask packet) ≡ Some k → k < length new.slots →
-    OnOk r (HasRoomAtSlot packet.size k new) → OnOk r (HasRoomAt packet new)
-ready_known r packet new k looks within room =
-    on_ok r (λ h. record {
-      there = λ j is.
-          let same : k ≡ j = ap (λ o. unwrap_or o k) (sym looks ∙ is) in
-          subst (λ m. HasRoomAtSlot packet.size m new) same h;
-      new = λ is.
-          let same : k ≡ length new.slots = ap (λ o. unwrap_or o k) (sym looks ∙ is) in absurd (omega arith);
-    }) room
-
 beyond : (ss : List Slot) (s : Slot) → slice_get ss (length ss) ≡ Some s → ⊥
 beyond [] s e = absurd (cc)
 beyond (t ∷ ss) s e = beyond ss s e
 
 -- where it has none yet, and one can be made
-pub ready_new : {T E : Type 0} (r : Result T E) (packet : Packet) (new : KeyedPipe) →
+pub room_new : (packet : Packet) (new : KeyedPipe) →
     position (same_flow (flow_id new.config.mask packet)) (ids_of new.slots) ≡ None →
-    OnOk r (length new.slots < 256 → 0 < new.spare) → OnOk r (HasRoomAt packet new)
-ready_new r packet new unknown room =
+    (length new.slots < 256 → 0 < new.spare) → HasRoomAt packet new
+room_new packet new unknown room =
     let ids : List FlowId = ids_of new.slots in
     let id : FlowId = flow_id new.config.mask packet in
     let many : length ids ≡ length new.slots = length-map new.slots (λ (t : Slot). t.id) in
-    on_ok r (λ h. record {
+    record {
       there = λ j is s e.
           let last : j ≡ length new.slots = made_next ids id j unknown is ∙ many in
           absurd (beyond new.slots s ((λ t. slice_get new.slots (sym last t)) ∙ e));
       new = λ is.
-          let few : length new.slots < 256 = omega (arith, made_few ids id (length new.slots) unknown is, many) in h few;
-    }) room
+          let few : length new.slots < 256 = omega (arith, made_few ids id (length new.slots) unknown is, many) in room few;
+    }

@@ -133,6 +133,15 @@ module _ (k : ℕ) (slots : List Slot) (x : Slot) (at : IsPlace k slots x) where
             (ap (λ ids. instance_of ids (flow_id config.mask packet)) (sym e) ∙ is ∙ ap (λ m. Some m) n);
       }
 
+  -- no instance loses its room
+  pub slot_rooms : (y : Slot) → ((size : ℕ) → HasRoom size x.instance → HasRoom size y.instance) → (size j : ℕ) →
+      ((s : Slot) → slice_get slots j ≡ Some s → HasRoom size s.instance) →
+      (s : Slot) → slice_get (set slots k y) j ≡ Some s → HasRoom size s.instance
+  slot_rooms y moves size j h =
+      subst (λ ss. (s : Slot) → slice_get ss j ≡ Some s → HasRoom size s.instance) (sym (at.becomes y))
+      (room-change size at.before at.behind x y (moves size) j
+      (subst (λ ss. (s : Slot) → slice_get ss j ≡ Some s → HasRoom size s.instance) at.was h))
+
   pub room_here : (size : ℕ) (y : Slot) → HasRoom size y.instance → (s : Slot) → slice_get (set slots k y) k ≡ Some s → HasRoom size s.instance
   room_here size y h s e =
       let same : y ≡ s = ap (λ o. unwrap_or o y) (sym (get-place at.before at.behind y) ∙ (λ t. slice_get (sym (at.becomes y) t) (sym at.place t)) ∙ e) in

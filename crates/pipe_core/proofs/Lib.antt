@@ -13,4 +13,6 @@ mod Halves
 mod SlotMoves
 mod Rehousings
 mod DueLeaves
+mod MaskFacts
+mod Busy
 pub mod CallerLemmas

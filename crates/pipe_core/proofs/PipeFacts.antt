@@ -223,7 +223,7 @@ pub finish-seen : (f : ℕ → Packet) (busy : Option (InService ℕ)) →
 finish-seen f None = refl
 finish-seen f (Some s) = refl
 
-is_some-seen : (f : ℕ → Packet) (busy : Option (InService ℕ)) → is_some (option_map (seen_service f) busy) ≡ is_some busy
+pub is_some-seen : (f : ℕ → Packet) (busy : Option (InService ℕ)) → is_some (option_map (seen_service f) busy) ≡ is_some busy
 is_some-seen f None = refl
 is_some-seen f (Some s) = refl
 

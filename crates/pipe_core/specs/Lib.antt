@@ -4,3 +4,4 @@ pub mod Steps
 pub mod Views
 pub mod Rehousing
 pub mod Leaves
+pub mod Masks

@@ -12,6 +12,7 @@ use Rattle.emu_model.specs.Delay.{first_item, leave}
 use Rattle.emu_model.specs.DropTail.{accepts}
 use Rattle.emu_model.specs.Pipes.{dequeue, Drop, drawn_one, instance_arrive, instance_finish}
 use Rattle.packet_store.specs.Pocket.{Pocket}
+use Rattle.queue_disc.specs.Queues.{is_plain}
 use Rattle.pipe_instance.specs.Keyed.{KeyedInstance, KeyedQueue, keys_in}
 use Rattle.pipe_instance.specs.Turns.{configured}
 use Rattle.pipe_core.specs.declared.slot.Slot.{Slot}
@@ -44,6 +45,12 @@ pub record HasRoomAt (packet : Packet) (p : KeyedPipe) : Type 0 where
       HasRoomAtSlot packet.size k p
   pub new : instance_of (ids_of p.slots) (flow_id p.config.mask packet) ≡ Some (length p.slots) → 0 < p.spare
 
+-- the packet's instance k is there, and it can come to it without memory
+pub record HasInstance (k : ℕ) (packet : Packet) (p : KeyedPipe) : Type 0 where
+  pub inside : k < length p.slots
+  pub its : instance_of (ids_of p.slots) (flow_id p.config.mask packet) ≡ Some k
+  pub ready : HasRoomAtSlot packet.size k p
+
 -- only room has grown
 pub record IsGrown (old new : KeyedPipe) : Type 0 where
   pub shown : (f : ℕ → Packet) → seen_pipe f new ≡ seen_pipe f old
@@ -68,6 +75,17 @@ pub record IsFree (now capacity : ℕ) (i : KeyedInstance) : Type 0 where
 -- a finish of instance k needs no memory
 abbrev pub IsFreeAt : ℕ → ℕ → ℕ → KeyedPipe → Type 0
 IsFreeAt k now capacity p = (s : Slot) → slice_get p.slots k ≡ Some s → IsFree now capacity s.instance
+
+-- the line of instance k has room
+abbrev pub HasLineRoomAt : ℕ → KeyedPipe → Type 0
+HasLineRoomAt k p = (s : Slot) → slice_get p.slots k ≡ Some s → 0 < s.instance.lane.spare
+
+-- a finish at this moment drops nothing for sure
+abbrev pub IsPlain : ℕ → Slot → Type 0
+IsPlain now s = is_plain s.instance.queue.discipline now s.instance.queue.waiting ≡ true
+
+abbrev pub IsPlainAt : ℕ → ℕ → KeyedPipe → Type 0
+IsPlainAt k now p = (s : Slot) → slice_get p.slots k ≡ Some s → IsPlain now s
 
 -- the same instance of the same pipe
 pub record IsSamePlace (old new : Slot) : Type 0 where

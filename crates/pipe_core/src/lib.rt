@@ -8,6 +8,6 @@ mod slot;
 mod takes;
 
 pub use laws::keys_say_all;
-pub use pipe::Pipe;
+pub use pipe::{NO_INSTANCE, Pipe};
 pub use pipe_instance::{InstanceDues, Shown};
 pub use rehouse::rehouse_line;

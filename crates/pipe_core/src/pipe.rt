@@ -1,7 +1,8 @@
 //! A pipe: its configuration, and its instances by flow identifier.
 
-ghost use Rattle.std.specs.Prelude.{◌≡◌, ℕ, ◌+◌, ◌-◌, ◌*◌, ◌^◌, ◌<◌, ◌≤◌, false, [], map, length, slice_get, Some, None, option_map, option_and_then, IfSome, OnSome, IfNone, IfOk, OnOk, OnErr, IsOk, vec_capacity};
+ghost use Rattle.std.specs.Prelude.{◌≡◌, ◌≢◌, ℕ, ◌+◌, ◌-◌, ◌*◌, ◌^◌, ◌<◌, ◌≤◌, ◌↔◌, true, false, [], map, length, position, slice_get, slice_set, Some, None, is_some, unwrap_or, option_map, option_and_then, IfSome, OnSome, IfNone, IfOk, OnOk, OnErr, IsOk, IsTrue, vec_capacity};
 ghost use Rattle.std.specs.List.{list_any, All};
+ghost use Rattle.emu_model.specs.declared.packets.Packet.{Packet};
 ghost use Rattle.emu_model.specs.Moments.{IsMoment};
 ghost use Rattle.emu_model.specs.FlowIds.{same_flow, flow_id, instance_of};
 ghost use Rattle.emu_model.specs.Delay.{first_exit};
@@ -10,11 +11,12 @@ ghost use Rattle.emu_model.specs.Events.{flying_in, served_in};
 ghost use Rattle.emu_model.specs.Commands.{mask_refusal};
 ghost use Rattle.packet_store.specs.Pocket.{OthersStay, AllStay};
 ghost use Rattle.pipe_instance.specs.Keyed.{IsTuned};
+ghost use Rattle.pipe_core.specs.Masks.{IsUnder, IsZero, KeepsIds};
 ghost use Rattle.pipe_core.specs.Moves.{AreNamed, Keeps};
 ghost use Rattle.pipe_core.specs.Keyed.{seen_pipe, view, shown_of, ids_of, keys_of};
 ghost use Rattle.pipe_core.specs.Leaves.{instance_number as number_of, slot_due, pipe_due};
 ghost use Rattle.pipe_core.specs.Rehousing.{Rehouses};
-ghost use Rattle.pipe_core.specs.Steps.{drops_of, drops_by_codel, IsGrown, HasRoomAt, HasRoomAtSlot, IsFreeAt, ArrivesAt, configured_slot};
+ghost use Rattle.pipe_core.specs.Steps.{drops_of, drops_by_codel, IsGrown, HasRoomAt, HasRoomAtSlot, HasInstance, HasLineRoomAt, IsFreeAt, IsPlainAt, ArrivesAt, configured_slot};
 
 use crate::rehouse::rehouse_all;
 use crate::slot::Slot;
@@ -38,12 +40,15 @@ pub struct Pipe {
     ids: Instances,
     slots: Vec<Slot>,
     dues: DueIndex,
+    // All packets have one identifier.
+    unmasked: bool,
 }
 
 impl Model for Pipe {
     ghost use Rattle.std.specs.Prelude.{◌-◌, min, vec_len, vec_capacity};
     ghost use Rattle.pipe_core.specs.Keyed.{KeyedPipe, IsPipe};
     ghost use Rattle.pipe_core.specs.Leaves.{AreLeaves};
+    ghost use Rattle.pipe_core.specs.Masks.{IsMasked};
 
     ghost Value = { KeyedPipe };
 
@@ -56,7 +61,8 @@ impl Model for Pipe {
     } };
 
     ghost invariant = { λ p. IsPipe p.config p.seed p.number p.ids.ids p.slots.items
-        × AreLeaves p.slots.items p.dues };
+        × AreLeaves p.slots.items p.dues
+        × IsMasked p.unmasked p.config.mask p.ids.ids };
 }
 
 impl Pipe {
@@ -81,6 +87,7 @@ impl Pipe {
             ids,
             slots,
             dues,
+            unmasked: is_zero(&config.mask),
         }
     }
 
@@ -124,6 +131,16 @@ impl Pipe {
     /// What it has due first of all exits and finishes; None where nothing is due. Tells the ranges of
     /// its number and of how many instances it has.
     pub fn least(&self) -> DueNumber
+        ensures due { (f : ℕ → Packet) → result ≡ pipe_due f self.now }
+        ensures number { (1 ≤ self.now.number) × (self.now.number ≤ 65535) }
+        ensures few { length self.now.slots ≤ 256 }
+    {
+        self.least_number()
+    }
+
+    /// The same as one number.
+    #[inline(always)]
+    pub fn least_number(&self) -> DueNumber
         ensures due { (f : ℕ → Packet) → result ≡ pipe_due f self.now }
         ensures number { (1 ≤ self.now.number) × (self.now.number ≤ 65535) }
         ensures few { length self.now.slots ≤ 256 }
@@ -183,17 +200,70 @@ impl Pipe {
         ensures succeeds { 0 < S.room shelf.old owner → HasRoomAt packet.now self.old →
             IsOk result }
     {
-        shelf.put_ready(owner)?;
-        let id = self.config.mask.apply(packet);
-        match self.ids.find(id) {
-            Some(index) => self.accept_ready(index as usize, packet.size, now),
-            None => self.make_ready(id),
-        }
+        self.route_ready(shelf, owner, now, packet)?;
+        Ok(())
     }
 
-    // Makes the growth that an instance needs to accept a packet of this size.
+    /// The same, and the place of the packet's instance where there is one, else `NO_INSTANCE`.
     #[inline(always)]
-    fn accept_ready(&mut self, index: usize, size: Size, now: u64) -> Result<(), AllocError>
+    pub fn route_ready<S: Shelf>(
+        &mut self,
+        shelf: &mut S,
+        owner: Owner,
+        now: u64,
+        packet: &Packet,
+    ) -> Result<usize, AllocError>
+        ensures grown { IsGrown self.old self.new }
+        ensures pockets { AllStay (S.pocket shelf.old) (S.pocket shelf.new) }
+        ensures rooms { (o : ℕ) → S.room shelf.old o ≤ S.room shelf.new o }
+        ensures room { OnOk result
+            ((S.pocket shelf.old owner).count < (S.pocket shelf.old owner).budget →
+            0 < S.room shelf.new owner) }
+        ensures ready { OnOk result (HasRoomAt packet.now self.new) }
+        ensures succeeds { 0 < S.room shelf.old owner → HasRoomAt packet.now self.old →
+            IsOk result }
+        ensures place { IfOk result (λ k. k ≡ unwrap_or
+            (position (same_flow (flow_id self.old.config.mask packet.now))
+            (ids_of self.old.slots)) NO_INSTANCE) }
+        ensures known { IfOk result (λ k. k ≢ NO_INSTANCE → HasInstance k packet.now self.new) }
+    {
+        shelf.put_ready(owner)?;
+        let Some(index) = self.place_for(packet) else {
+            let id = self.config.mask.apply(packet);
+            self.make_ready(id)?;
+            return Ok(NO_INSTANCE);
+        };
+        self.accept_ready(index, packet.size, now)?;
+        Ok(index)
+    }
+
+    // The place of a packet's instance, where it is there.
+    #[inline(always)]
+    fn place_for(&self, packet: &Packet) -> Option<usize>
+        ensures { result ≡ position (same_flow (flow_id self.now.config.mask packet.now))
+            (ids_of self.now.slots) }
+    {
+        if self.has_one() {
+            return Some(0);
+        }
+        let id = self.config.mask.apply(packet);
+        let index = self.ids.find(id)?;
+        Some(index as usize)
+    }
+
+    // There is one instance, which is every packet's.
+    #[inline(always)]
+    fn has_one(&self) -> bool
+        ensures { IsTrue result → (packet : Packet) →
+            position (same_flow (flow_id self.now.config.mask packet)) (ids_of self.now.slots)
+            ≡ Some 0 }
+    {
+        self.unmasked && self.slots.len() == 1
+    }
+
+    /// Makes the growth that an instance needs to accept a packet of this size.
+    #[inline(always)]
+    pub fn accept_ready(&mut self, index: usize, size: Size, now: u64) -> Result<(), AllocError>
         requires { index < length self.old.slots }
         ensures grown { IsGrown self.old self.new }
         ensures ids { ids_of self.new.slots ≡ ids_of self.old.slots }
@@ -226,8 +296,9 @@ impl Pipe {
     // The number of the identifier's instance, which is made where it did not come before. None where
     // there are 256 others. There is room for it.
     fn find_or_make(&mut self, id: FlowId) -> Option<usize>
-        requires { instance_of (ids_of self.old.slots) id ≡ Some (length self.old.slots) →
+        requires room { instance_of (ids_of self.old.slots) id ≡ Some (length self.old.slots) →
             0 < self.old.spare }
+        requires its { IsUnder self.old.config.mask id }
         ensures number { result ≡ instance_of (ids_of self.old.slots) id }
         ensures made { IfSome result
             (λ k. (f : ℕ → Packet) →
@@ -239,6 +310,7 @@ impl Pipe {
         ensures same { self.new
             ≡ record self.old { slots = self.new.slots; spare = self.new.spare } }
         ensures none { IfNone result (self.new.slots ≡ self.old.slots) }
+        ensures ids { KeepsIds self.old.slots self.new.slots }
     {
         if let Some(index) = self.ids.find(id) {
             return Some(index as usize);
@@ -254,9 +326,9 @@ impl Pipe {
         Some(index as usize)
     }
 
-    // A packet comes to an instance.
+    /// A packet comes to its instance, which is there.
     #[inline(always)]
-    fn arrive_at<S: Shelf>(
+    pub fn arrive_at<S: Shelf>(
         &mut self,
         index: usize,
         shelf: &mut S,
@@ -271,11 +343,27 @@ impl Pipe {
         requires ready { HasRoomAtSlot packet.now.size index self.old }
         ensures came { ArrivesAt index now packet.now result (S.pocket shelf.old owner)
             (S.pocket shelf.new owner) self.old self.new }
+        ensures arrived { instance_of (ids_of self.old.slots)
+            (flow_id self.old.config.mask packet.now) ≡ Some index →
+            AreNamed (S.pocket shelf.old owner) (keys_of self.old.slots) →
+            pipe_arrive self.old.seed now packet.now (view (S.pocket shelf.old owner) self.old)
+            ≡ record {
+              state = view (S.pocket shelf.new owner) self.new;
+              dropped = drops_of packet.now result;
+            } }
+        ensures keys { Keeps (S.pocket shelf.old owner) (S.pocket shelf.new owner)
+            (keys_of self.old.slots) (keys_of self.new.slots) }
+        ensures same { self.new ≡ record self.old { slots = self.new.slots } }
+        ensures ids { ids_of self.new.slots ≡ ids_of self.old.slots }
+        ensures busy { (f : ℕ → Packet) →
+            is_some (served_in index (seen_pipe f self.old)) ≡ true →
+            pipe_due f self.new ≡ pipe_due f self.old }
         ensures others { OthersStay owner (S.pocket shelf.old) (S.pocket shelf.new) }
     {
         let slot = &mut self.slots[index];
+        let was_busy = slot.instance.is_busy();
         let answer = slot.arrive(shelf, owner, now, packet, &self.config);
-        self.dues.set(index, slot.due(self.number, index as u8));
+        set_unless(was_busy, &mut self.dues, index, slot, self.number);
         answer
     }
 
@@ -304,6 +392,7 @@ impl Pipe {
             (keys_of self.old.slots) (keys_of self.new.slots) }
         ensures same { self.new
             ≡ record self.old { slots = self.new.slots; spare = self.new.spare } }
+        ensures ids { KeepsIds self.old.slots self.new.slots }
         ensures others { OthersStay owner (S.pocket shelf.old) (S.pocket shelf.new) }
     {
         let id = self.config.mask.apply(packet);
@@ -342,6 +431,7 @@ impl Pipe {
         ensures keys { Keeps (S.pocket shelf.old owner) (S.pocket shelf.new owner)
             (keys_of self.old.slots) (keys_of self.new.slots) }
         ensures same { self.new ≡ record self.old { slots = self.new.slots } }
+        ensures ids { ids_of self.new.slots ≡ ids_of self.old.slots }
         ensures others { OthersStay owner (S.pocket shelf.old) (S.pocket shelf.new) }
         ensures refused { OnErr result (IsGrown self.old self.new) }
         ensures refused_pocket { OnErr result
@@ -352,9 +442,90 @@ impl Pipe {
         ensures succeeds { IsFreeAt index now (vec_capacity drops.old) self.old → IsOk result }
         ensures capacity { vec_capacity drops.old ≤ vec_capacity drops.new }
     {
-        let config = self.config;
         let slot = &mut self.slots[index];
-        let finished = slot.finish(shelf, owner, now, &config, drops);
+        let finished = slot.finish(shelf, owner, now, &self.config, drops);
+        self.dues.set(index, slot.due(self.number, index as u8));
+        finished
+    }
+
+    /// Whether a packet is in service in an instance.
+    #[inline(always)]
+    pub fn is_busy(&self, index: usize) -> bool
+        requires { index < length self.now.slots }
+        ensures { (f : ℕ → Packet) →
+            result ≡ is_some (served_in index (seen_pipe f self.now)) }
+    {
+        let slot = &self.slots[index];
+        slot.instance.is_busy()
+    }
+
+    /// A finish of an instance at this moment (ns) drops nothing for sure.
+    #[inline(always)]
+    pub fn drops_none(&self, index: usize, now: u64) -> bool
+        requires { index < length self.now.slots }
+        ensures { IsTrue result ↔ IsPlainAt index now self.now }
+    {
+        let slot = &self.slots[index];
+        slot.instance.drops_none(now)
+    }
+
+    /// The same as `finish`, at a moment (ns) at which nothing is dropped, as `drops_none` told: the number of the packet
+    /// that finished.
+    #[inline(always)]
+    pub fn finish_plainly<S: Shelf>(
+        &mut self,
+        shelf: &S,
+        owner: Owner,
+        index: usize,
+        now: u64,
+    ) -> Result<u64, AllocError>
+        requires early { IsMoment now }
+        requires due { option_map (λ s. s.period.finish)
+            (served_in index (view (S.pocket shelf.now owner) self.old)) ≡ Some now }
+        requires named { AreNamed (S.pocket shelf.now owner) (keys_of self.old.slots) }
+        requires plain { IsPlainAt index now self.old }
+        ensures served { IfOk result (λ number. option_map (λ s. s.item.number)
+            (served_in index (view (S.pocket shelf.now owner) self.old)) ≡ Some number) }
+        ensures ok { OnOk result (pipe_finish now index (view (S.pocket shelf.now owner) self.old)
+            ≡ record { state = view (S.pocket shelf.now owner) self.new; dropped = [] }) }
+        ensures keys { Keeps (S.pocket shelf.now owner) (S.pocket shelf.now owner)
+            (keys_of self.old.slots) (keys_of self.new.slots) }
+        ensures same { self.new ≡ record self.old { slots = self.new.slots } }
+        ensures ids { ids_of self.new.slots ≡ ids_of self.old.slots }
+        ensures refused { OnErr result (IsGrown self.old self.new) }
+        ensures succeeds { HasLineRoomAt index self.old → IsOk result }
+    {
+        let packet = self.finish_kept(shelf, owner, index, now)?;
+        Ok(packet.number)
+    }
+
+    // The same, and the packet.
+    #[inline(always)]
+    fn finish_kept<S: Shelf>(
+        &mut self,
+        shelf: &S,
+        owner: Owner,
+        index: usize,
+        now: u64,
+    ) -> Result<Packet, AllocError>
+        requires early { IsMoment now }
+        requires due { option_map (λ s. s.period.finish)
+            (served_in index (view (S.pocket shelf.now owner) self.old)) ≡ Some now }
+        requires named { AreNamed (S.pocket shelf.now owner) (keys_of self.old.slots) }
+        requires plain { IsPlainAt index now self.old }
+        ensures served { IfOk result (λ packet. option_map (λ s. s.item)
+            (served_in index (view (S.pocket shelf.now owner) self.old)) ≡ Some packet) }
+        ensures ok { OnOk result (pipe_finish now index (view (S.pocket shelf.now owner) self.old)
+            ≡ record { state = view (S.pocket shelf.now owner) self.new; dropped = [] }) }
+        ensures keys { Keeps (S.pocket shelf.now owner) (S.pocket shelf.now owner)
+            (keys_of self.old.slots) (keys_of self.new.slots) }
+        ensures same { self.new ≡ record self.old { slots = self.new.slots } }
+        ensures ids { ids_of self.new.slots ≡ ids_of self.old.slots }
+        ensures refused { OnErr result (IsGrown self.old self.new) }
+        ensures succeeds { HasLineRoomAt index self.old → IsOk result }
+    {
+        let slot = &mut self.slots[index];
+        let finished = slot.finish_plainly(shelf, owner, now, &self.config);
         self.dues.set(index, slot.due(self.number, index as u8));
         finished
     }
@@ -382,7 +553,10 @@ impl Pipe {
         ensures keys { Keeps (S.pocket shelf.old owner) (S.pocket shelf.new owner)
             (keys_of self.old.slots) (keys_of self.new.slots) }
         ensures same { self.new ≡ record self.old { slots = self.new.slots } }
+        ensures ids { ids_of self.new.slots ≡ ids_of self.old.slots }
         ensures ready { (p : Packet) → HasRoomAt p self.old → HasRoomAt p self.new }
+        ensures ready_at { (size k : ℕ) → HasRoomAtSlot size k self.old →
+            HasRoomAtSlot size k self.new }
         ensures freed { OnSome result (0 < S.room shelf.new owner) }
         ensures below { OnSome result
             ((S.pocket shelf.new owner).count < (S.pocket shelf.new owner).budget) }
@@ -410,6 +584,7 @@ impl Pipe {
         }
         configure_all(&mut self.slots, &self.config, &config);
         index_all(&self.slots, self.number, &mut self.dues);
+        self.unmasked = is_zero(&config.mask);
         self.config = config;
         None
     }
@@ -482,6 +657,31 @@ impl Pipe {
             held = held.checked_add(slot.held()?)?;
         }
         Some(held)
+    }
+}
+
+/// A packet's instance is still to be made, or there is none for it.
+pub const NO_INSTANCE: usize = usize::MAX;
+
+// No bit of a packet tells its flow.
+fn is_zero(mask: &Mask) -> bool
+    ensures { IsTrue result ↔ IsZero mask.now }
+{
+    mask.proto == 0 && mask.src == 0 && mask.dst == 0 && mask.sport == 0 && mask.dport == 0
+}
+
+// What is due of an instance is set anew, unless it's the same for sure.
+#[inline(always)]
+fn set_unless(same: bool, dues: &mut DueIndex, index: usize, slot: &Slot, number: PipeNumber)
+    requires inside { index < length dues.old.leaves }
+    requires few { index < 256 }
+    requires numbered { number * 256 + index ≡ number_of slot.now }
+    requires same { IsTrue same → slice_get dues.old.leaves index ≡ Some (slot_due slot.now) }
+    ensures { dues.new
+        ≡ record dues.old { leaves = slice_set dues.old.leaves index (slot_due slot.now) } }
+{
+    if !same {
+        dues.set(index, slot.due(number, index as u8));
     }
 }
 

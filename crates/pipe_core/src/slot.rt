@@ -1,16 +1,16 @@
 //! One instance of a pipe beside its flow identifier, and what a packet does there.
 
-ghost use Rattle.std.specs.Prelude.{◌≡◌, ◌+◌, ◌-◌, ◌*◌, ◌^◌, ◌<◌, ◌≤◌, Some, None, length, option_map, IfSome, OnSome, IfOk, OnErr, IsOk, vec_capacity};
+ghost use Rattle.std.specs.Prelude.{◌≡◌, ◌+◌, ◌-◌, ◌*◌, ◌^◌, ◌<◌, ◌≤◌, [], Some, None, length, option_map, IfSome, OnSome, IfOk, OnErr, IsOk, vec_capacity};
 ghost use Rattle.emu_model.specs.Moments.{IsMoment};
 ghost use Rattle.pipe_instance.specs.Keyed.{IsTuned, keys_in};
-ghost use Rattle.pipe_core.specs.Steps.{Arrives, Exits, Finishes, HasRoom, IsFree, most_dropped};
+ghost use Rattle.pipe_core.specs.Steps.{Arrives, Exits, Finishes, HasRoom, IsFree, IsPlain, most_dropped};
 ghost use Rattle.emu_model.specs.Delay.{first_item};
 ghost use Rattle.packet_store.specs.Pocket.{OthersStay};
 ghost use Rattle.pipe_core.specs.Keyed.{seen_slot};
 ghost use Rattle.pipe_core.specs.Leaves.{instance_number, slot_due};
 ghost use Rattle.pipe_core.specs.Moves.{packet_at, AreNamed};
 
-use crate::takes::take_dropped;
+use crate::takes::{clear_for, take_dropped};
 use due_index::DueNumber;
 use emu_model::{Discipline, DropCause, Packet, PipeConfig, PipeNumber, Source};
 use flow_mask::FlowId;
@@ -100,14 +100,44 @@ impl Slot {
         ensures succeeds { IsFree now (vec_capacity drops.old) self.old.instance → IsOk result }
         ensures capacity { vec_capacity drops.old ≤ vec_capacity drops.new }
     {
-        drops.clear();
         let most = self.most_dropped(config);
-        drops.reserve(most)?;
+        clear_for(most, drops)?;
         let done = self.instance.finish(now, config.delay)?;
         let Some(packet) = shelf.look(owner, done.key) else {
             unreachable!();
         };
         take_dropped(done.dropped.as_slice(), shelf, owner, drops);
+        Ok(packet)
+    }
+
+    /// The same where nothing is dropped: the packet that finished.
+    #[inline(always)]
+    pub(crate) fn finish_plainly<S: Shelf>(
+        &mut self,
+        shelf: &S,
+        owner: Owner,
+        now: u64,
+        config: &PipeConfig,
+    ) -> Result<Packet, AllocError>
+        requires early { IsMoment now }
+        requires tuned { IsTuned config.now self.old.instance }
+        requires due { option_map (λ s. s.period.finish) self.old.instance.service.busy ≡ Some now }
+        requires named { AreNamed (S.pocket shelf.now owner) (keys_in self.old.instance) }
+        requires plain { IsPlain now self.old }
+        ensures finished { IfOk result
+            (λ packet. Finishes config.now now packet [] (S.pocket shelf.now owner)
+            (S.pocket shelf.now owner) self.old self.new) }
+        ensures refused { OnErr result (self.new ≡ record self.old {
+          instance = record self.old.instance {
+            lane = record self.old.instance.lane { spare = self.new.instance.lane.spare };
+          };
+        }) }
+        ensures succeeds { 0 < self.old.instance.lane.spare → IsOk result }
+    {
+        let key = self.instance.finish_plainly(now, config.delay)?;
+        let Some(packet) = shelf.look(owner, key) else {
+            unreachable!();
+        };
         Ok(packet)
     }
 
@@ -122,7 +152,7 @@ impl Slot {
             Discipline::ControlledDelay {
                 target: _,
                 interval: _,
-            } => self.instance.shown().waiting as usize,
+            } => self.instance.waiting(),
         }
     }
 

@@ -1,6 +1,6 @@
 //! Packets that are taken from a shelf by their keys.
 
-ghost use Rattle.std.specs.Prelude.{◌≡◌, ◌+◌, ◌≤◌, ◌++◌, [], map, length, vec_len, vec_capacity};
+ghost use Rattle.std.specs.Prelude.{◌≡◌, ◌+◌, ◌≤◌, ◌++◌, [], map, length, OnOk, IsOk, vec_len, vec_capacity};
 ghost use Rattle.packet_store.specs.Pocket.{OthersStay};
 ghost use Rattle.pipe_core.specs.Moves.{AreNamed, Taking};
 ghost use Rattle.pipe_core.specs.Keyed.{keys_of};
@@ -10,9 +10,48 @@ use emu_model::Packet;
 use packet_store::{Key, Owner, Shelf};
 use pipe_instance::Leftovers;
 use queue_disc::Waiting;
+use std::alloc::AllocError;
+
+/// Empties a list, and makes room in it for so many.
+#[inline(always)]
+pub(crate) fn clear_for(most: usize, drops: &mut Vec<Packet>) -> Result<(), AllocError>
+    ensures items { drops.new.items ≡ [] }
+    ensures len { vec_len drops.new ≡ 0 }
+    ensures room { OnOk result (most ≤ vec_capacity drops.new) }
+    ensures capacity { vec_capacity drops.old ≤ vec_capacity drops.new }
+    ensures succeeds { most ≤ vec_capacity drops.old → IsOk result }
+{
+    drops.clear();
+    if most <= drops.capacity() {
+        return Ok(());
+    }
+    drops.reserve(most)
+}
 
 /// Takes the packets of what was dropped, to the end of a list that has room for them.
+#[inline(always)]
 pub(crate) fn take_dropped<S: Shelf>(
+    dropped: &[Waiting<Key>],
+    shelf: &mut S,
+    owner: Owner,
+    drops: &mut Vec<Packet>,
+)
+    requires named { AreNamed (S.pocket shelf.old owner) (map (λ w. w.item) dropped.now) }
+    requires room { vec_len drops.old + length dropped.now ≤ vec_capacity drops.old }
+    ensures capacity { vec_capacity drops.new ≡ vec_capacity drops.old }
+    ensures taken { Taking (S.pocket shelf.old owner) (S.pocket shelf.new owner)
+        (map (λ w. w.item) dropped.now) [] drops.old.items drops.new.items }
+    ensures others { OthersStay owner (S.pocket shelf.old) (S.pocket shelf.new) }
+{
+    // Mostly nothing was.
+    if dropped.is_empty() {
+        return;
+    }
+    take_each(dropped, shelf, owner, drops);
+}
+
+// Takes them one by one.
+fn take_each<S: Shelf>(
     dropped: &[Waiting<Key>],
     shelf: &mut S,
     owner: Owner,

@@ -391,3 +391,28 @@ place-fits k ps = subst (λ j. j ≤ length ps) (place-is k ps) (go ps)
   where
     go : (xs : List KeyedPipe) → place k xs ≤ length xs
     go xs = place-within k xs
+
+-- a finish that was made and dropped nothing, over the table as it is seen
+module _ (p : Pocket) (ps : List KeyedPipe) (i : ℕ) (x : KeyedPipe) (seed : ℕ) (t : Table) (whole_is : t ≡ record { seed = seed; pipes = ps })
+    (read : x ≡ get_or ps i x) (agree : ViewsAgree) (y : KeyedPipe) (named : AreNamed p (pipe_keys ps)) (keeps : Keeps p p (keys_of x.slots) (keys_of y.slots)) where
+  pub finish-plain : {E : Type 0} (j now : ℕ) (r : Result ℕ E) →
+      IfOk r (λ number. option_map (λ (s : InService Packet). s.item.number) (served_in j (view p x)) ≡ Some number) →
+      OnOk r (pipe_finish now j (view p x) ≡ record { state = view p y; dropped = [] }) →
+      IfOk r (λ number. (k : ℕ) → Some i ≡ position (has_number k) t.pipes → (at : Setting) (n : Net) → at.now ≡ now → (let m = with_pipes p t n in
+      option_map_or (pipe_finishes at k j m) (find_pipe k m) m)
+      ≡ note_drops now [] (with_pipes p (record { seed = seed; pipes = set ps i y }) (note (PacketFinished now number k j) n)))
+  finish-plain j now (Err x) served done = tt
+  finish-plain j now (Ok number) served done = λ k stands at n same.
+      let here : Some i ≡ position (has_number k) ps = subst (λ (u : Table). Some i ≡ position (has_number k) u.pipes) whole_is stands in
+      go k here at n same (served_in j (view p x)) refl served
+    where
+      go : (k : ℕ) → Some i ≡ position (has_number k) ps → (at : Setting) (n : Net) → at.now ≡ now → (o : Option (InService Packet)) → served_in j (view p x) ≡ o →
+          option_map (λ (s : InService Packet). s.item.number) o ≡ Some number → (let m = with_pipes p t n in
+          option_map_or (pipe_finishes at k j m) (find_pipe k m) m)
+          ≡ note_drops now [] (with_pipes p (record { seed = seed; pipes = set ps i y }) (note (PacketFinished now number k j) n))
+      go k here at n same None is e = absurd (cc)
+      go k here at n same (Some s) is e =
+          let told : s.item.number ≡ number = cc in
+          finish-ok k i ps x here read agree p p y named keeps {E = Unit {0}} j now seed t whole_is [] (Ok s.item)
+          (ap (option_map (λ (s : InService Packet). s.item)) is) done at n same
+          ∙ (λ z. note_drops now [] (with_pipes p (record { seed = seed; pipes = set ps i y }) (note (PacketFinished now (told z) k j) n)))

@@ -1,6 +1,7 @@
 -- The index of pipes, as they change, and its least.
 use Rattle.std.proofs.Common.{◌≡◌, ℕ, ◌+◌, ◌*◌, ◌<◌, ◌≤◌, refl, sym, ap, ◌∙◌, subst, List, [], ◌∷◌, ◌++◌, length, map, take, get_or, set, Option, Some, None, arith, get_or-set_same}
-use Rattle.std.specs.Prelude.{option_map, option_to_list, flat_map}
+use Rattle.std.specs.Prelude.{option_map, option_to_list, flat_map, slice_get}
+use Rattle.std.proofs.lemmas.Option.{slice_get-map}
 use Rattle.std.specs.List.{All, best_of}
 use Rattle.std.proofs.lemmas.List.{map-append, map-set, length-map, take_more}
 use Rattle.std.proofs.lemmas.List.Elements.{All-nil, All-cons, All-head, All-tail, All-set, All-push}
@@ -38,7 +39,7 @@ module _ (f g : ℕ → Packet) where
       (λ t. option_to_list (option_map (due Exit n) (exit t)) ++ option_to_list
       (finish t) ++ dues-alike (n + 1) ss t)
 
-  leaf-alike : (p : KeyedPipe) → leaf_of (seen_pipe f p) ≡ leaf_of (seen_pipe g p)
+  pub leaf-alike : (p : KeyedPipe) → leaf_of (seen_pipe f p) ≡ leaf_of (seen_pipe g p)
   leaf-alike p = ap least_of (dues-alike (p.number * 256) p.slots)
 
   leaves-alike : (ps : List KeyedPipe) →
@@ -98,6 +99,24 @@ indexed-set ps i y w x z d h l read is number few e = λ f.
           (h f).fit;
     })
 
+-- the same, by the pipe itself
+pub indexed-put : (ps : List KeyedPipe) (i : ℕ) (y : KeyedPipe) (x z : Places) → AreIndexed ps x →
+    i < length ps → IsPipeNumber y.number → length y.slots ≤ 256 →
+    ((f : ℕ → Packet) → z ≡ record x { leaves = set x.leaves i (leaf_of (seen_pipe f y)) }) →
+    AreIndexed (set ps i y) z
+indexed-put ps i y x z h l number few e =
+    let f : ℕ → Packet = λ k. some_packet in
+    indexed-set ps i y y x z (leaf_of (seen_pipe f y)) h l (sym (get_or-set_same ps i y y l)) (λ g. leaf-alike f g y) number few (e f)
+
+-- what is due of a pipe stands at its place
+pub indexed-there : (ps : List KeyedPipe) (i : ℕ) (x y : KeyedPipe) (z : Places) → AreIndexed ps z →
+    slice_get ps i ≡ Some x → ((f : ℕ → Packet) → leaf_of (seen_pipe f y) ≡ leaf_of (seen_pipe f x)) →
+    (f : ℕ → Packet) → slice_get z.leaves i ≡ Some (leaf_of (seen_pipe f y))
+indexed-there ps i x y z h there same f =
+    ap (λ l. slice_get l i) (h f).leaves ∙ slice_get-map leaf_of (seen_pipes f ps) i
+    ∙ ap (option_map leaf_of) (slice_get-map (seen_pipe f) ps i ∙ ap (option_map (seen_pipe f)) there)
+    ∙ ap (λ d. Some d) (sym (same f))
+
 -- no pipes yet, and one more
 pub indexed-none : (x : Places) → x.leaves ≡ [] → AreIndexed [] x
 indexed-none x e = λ f. record { leaves = e; fit = All-nil IsFit }
@@ -136,3 +155,14 @@ least-is ps x best r o h e is f =
     is ∙ best_of-same best (option_to_list o) (flat_map pipe_dues (seen_pipes f ps))
     (least_all-option o ∙ e ∙ least_of-leaf x.leaves ∙ ap least_leaf (h f).leaves
     ∙ sym (all-leaf (seen_pipes f ps)))
+
+-- the least of a due that may be there and all dues
+pub number-least : (ps : List KeyedPipe) (x : Places) (best o r : Option Due) → AreIndexed ps x →
+    o ≡ least_of (dues_in x.leaves) → r ≡ lesser best o → (f : ℕ → Packet) →
+    r ≡ least_of (option_to_list best ++ flat_map pipe_dues (seen_pipes f ps))
+number-least ps x best o r h e is f =
+    let all : List Due = flat_map pipe_dues (seen_pipes f ps) in
+    let rest : o ≡ least_all all =
+    e ∙ least_of-leaf x.leaves ∙ ap least_leaf (h f).leaves ∙ sym (all-leaf (seen_pipes f ps)) in
+    is ∙ (λ t. lesser (sym (least_all-option best) t) (rest t)) ∙ sym (least_all-append (option_to_list best) all)
+    ∙ sym (least_of-all (option_to_list best ++ all))

@@ -9,4 +9,5 @@ mod LineFacts
 mod Moving
 mod Indexes
 mod Reaching
+mod PlaceFacts
 pub mod CallerLemmas

@@ -1,22 +1,25 @@
 -- What holds of a due and of all dues of pipes holds of the least.
-use Rattle.std.proofs.Common.{◌≡◌, ℕ, zero, suc, ◌+◌, ◌*◌, ◌<◌, ◌≤◌, Bool, true, false, cond, refl, sym, ap, ◌∙◌, subst, List, [], ◌∷◌, ◌++◌, length, map, take, get_or, ◌⊎◌, inl, inr, Option, Some, None, arith}
-use Rattle.std.specs.Prelude.{option_and_then, option_map, option_to_list, slice_get, flat_map}
+use Rattle.std.proofs.Common.{◌≡◌, ℕ, zero, suc, ◌+◌, ◌*◌, ◌<◌, ◌≤◌, Bool, true, false, nat_lt, nat_eq, cond, refl, sym, ap, ◌∙◌, subst, List, [], ◌∷◌, ◌++◌, length, map, take, get_or, ◌⊎◌, inl, inr, Option, Some, None, arith}
+use Rattle.std.specs.Prelude.{◌&&◌, ◌||◌, IfSome, option_and_then, option_map, option_to_list, unwrap_or, slice_get, flat_map}
+use Rattle.std.proofs.lemmas.Bool.Decides.{nat_tests}
+use Rattle.due_index.specs.Least.{least_of, lesser}
+use Rattle.due_index.proofs.CallerLemmas.{least_of-all, least_all-append, least_all-option}
 use Rattle.std.specs.List.{All, best_of}
 use Rattle.std.proofs.Math.ListN.{get_or-map}
 use Rattle.std.proofs.lemmas.List.{length-map, get_or_default, take_all}
 use Rattle.std.proofs.lemmas.Option.{slice_get-map}
 use Rattle.emu_model.specs.declared.packets.Packet.{Packet}
 use Rattle.emu_model.specs.declared.sources.Due.{Due}
-use Rattle.emu_model.specs.declared.sources.Class.TheVariants.{Exit, Finish}
+use Rattle.emu_model.specs.declared.sources.Class.TheVariants.{Exit, Finish, Emission}
 use Rattle.emu_model.specs.Delay.{first_exit}
-use Rattle.emu_model.specs.Dues.{due, is_before, instances_dues, pipe_dues}
+use Rattle.emu_model.specs.Dues.{due, rank, is_before, instances_dues, pipe_dues}
 use Rattle.emu_model.specs.Events.{served_in}
 use Rattle.emu_model.specs.Pipes.{Instance, InService}
 use Rattle.pipe_core.specs.declared.slot.Slot.{Slot}
 use Rattle.pipe_core.specs.Moves.{some_packet}
 use Rattle.pipe_core.specs.Keyed.{KeyedPipe, seen_slot, seen_pipe}
 use Rattle.pipe_core.proofs.CallerLemmas.{first_exit-seen, finish-seen}
-use Rattle.pipe_table.specs.Table.{pipe_of, seen_pipes, IsPipeNumber, IsTable}
+use Rattle.pipe_table.specs.Table.{pipe_of, seen_pipes, IsPipeNumber, IsTable, IsFinishDue, IsPiped}
 use Rattle.pipe_table.specs.Reach.{Reaches, instance_dues}
 use Rattle.pipe_table.specs.Leaves.{IsFit}
 use Rattle.pipe_table.proofs.DueFacts.{Reaches-none, Reaches-then, Reaches-by, Reaches-at, instances-more, instances-all, pipes-more, standing}
@@ -178,3 +181,48 @@ reach_least seed (p ∷ ps) best last table fit is =
     let r = reach_all seed (p ∷ ps) best table fit p in
     subst (Reaches (p ∷ ps) (λ f. flat_map pipe_dues (seen_pipes f (p ∷ ps))) best)
     (r.1.least (λ k. some_packet) ∙ sym (is (λ k. some_packet))) r.1
+
+-- the same where no due comes first: one that is later than the least, and says nothing, does
+late : Due → Due
+late d = record { moment = d.moment + 1; source = record { class = Emission; number = 0 } }
+
+late-after : (d : Due) → is_before d (late d) ≡ true
+unfolding late
+late-after d =
+    let sooner : nat_lt d.moment (d.moment + 1) ≡ true = grind (arith, nat_tests) in
+    ap (λ (t : Bool). t || (nat_eq d.moment (d.moment + 1)
+    && (nat_lt (rank d.source.class) (rank Emission)
+    || (nat_eq (rank d.source.class) (rank Emission) && nat_lt d.source.number 0)))) sooner
+
+late-least : (d : Due) (all : List Due) → Some d ≡ least_of all → d ≡ best_of is_before (late d) all
+late-least d all e =
+    let both : Some (best_of is_before (late d) all) ≡ Some (cond (is_before d (late d)) d (late d)) =
+    least_of-all (late d ∷ all) ∙ least_all-append (late d ∷ []) all
+    ∙ (λ t. lesser (least_all-option (Some (late d)) t) ((sym (least_of-all all) ∙ sym e) t)) in
+    sym (ap (λ o. unwrap_or o d) (both ∙ ap (λ (t : Bool). Some (cond t d (late d))) (late-after d)))
+
+late-says : (ps : List KeyedPipe) (d : Due) → IsFinishDue (late d) ps × IsPiped (late d)
+unfolding late
+late-says ps d = ((λ e. absurd (cc)), ((λ e. absurd (cc)), (λ e. absurd (cc))))
+
+module _ (seed : ℕ) (ps : List KeyedPipe) (table : IsTable seed 0 ps) (fit : (f : ℕ → Packet) → All IsFit (seen_pipes f ps)) where
+  number-reaches : (best result : Option Due) →
+      ((f : ℕ → Packet) → result ≡ least_of (option_to_list best ++ flat_map pipe_dues (seen_pipes f ps))) →
+      (IfSome best (λ d. IsFinishDue d ps) → IfSome result (λ d. IsFinishDue d ps)) × (IfSome best IsPiped → IfSome result IsPiped)
+  number-reaches None None is = ((λ h. tt), (λ h. tt))
+  number-reaches None (Some d) is =
+      let r = reach_least seed ps (late d) d table fit (λ f. late-least d (flat_map pipe_dues (seen_pipes f ps)) (is f)) in
+      let says = late-says ps d in ((λ h. r.finishing says.0), (λ h. r.piped says.1))
+  number-reaches (Some b) None is = let no = is (λ k. some_packet) in absurd (cc)
+  number-reaches (Some b) (Some d) is =
+      let r = reach_least seed ps b d table fit (λ f. ap (λ o. unwrap_or o d) (is f)) in (r.finishing, r.piped)
+
+  pub number-finishing : (best result : Option Due) →
+      ((f : ℕ → Packet) → result ≡ least_of (option_to_list best ++ flat_map pipe_dues (seen_pipes f ps))) →
+      IfSome best (λ d. IsFinishDue d ps) → IfSome result (λ d. IsFinishDue d ps)
+  number-finishing best result is = (number-reaches best result is).0
+
+  pub number-piped : (best result : Option Due) →
+      ((f : ℕ → Packet) → result ≡ least_of (option_to_list best ++ flat_map pipe_dues (seen_pipes f ps))) →
+      IfSome best IsPiped → IfSome result IsPiped
+  number-piped best result is = (number-reaches best result is).1

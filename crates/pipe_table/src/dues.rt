@@ -1,20 +1,22 @@
 //! What is due first among the pipes.
 
-ghost use Rattle.std.specs.Prelude.{◌≡◌, ℕ, ◌+◌, ◌*◌, ◌<◌, ◌≤◌, ◌++◌, ◌⊎◌, List, length, Some, option_map, option_and_then, option_to_list, flat_map, slice_get, vec_len, vec_capacity, OnOk, OnErr};
+ghost use Rattle.std.specs.Prelude.{◌≡◌, ℕ, ◌+◌, ◌*◌, ◌<◌, ◌≤◌, ◌++◌, ◌⊎◌, List, length, Some, option_map, option_and_then, option_to_list, flat_map, slice_get, slice_set, IsTrue, IfSome, vec_len, vec_capacity, OnOk, OnErr};
 ghost use Rattle.std.specs.List.{best_of, sum_by};
 ghost use Rattle.emu_model.specs.declared.packets.Packet.{Packet};
 ghost use Rattle.emu_model.specs.Delay.{first_exit};
 ghost use Rattle.emu_model.specs.Dues.{due, is_before, pipe_dues, line_dues, service_dues};
+ghost use Rattle.due_index.specs.Least.{least_of};
 ghost use Rattle.emu_model.specs.Events.{served_in};
 ghost use Rattle.emu_model.specs.Net.{Net};
 ghost use Rattle.packet_store.specs.Pocket.{Pocket};
 ghost use Rattle.pipe_core.specs.Keyed.{KeyedPipe, seen_pipe};
+ghost use Rattle.pipe_core.specs.Leaves.{pipe_due};
 ghost use Rattle.pipe_table.specs.Table.{with_pipes, pipe_of, IsFinishDue, IsPiped};
 ghost use Rattle.pipe_table.specs.Leaves.{AreIndexed};
 ghost use Rattle.pipe_table.specs.Reach.{instance_dues};
 
 use crate::PipeTable;
-use due_index::DueIndex;
+use due_index::{DueIndex, DueNumber};
 use emu_model::{Due, Source};
 use pipe_core::Pipe;
 use std::alloc::AllocError;
@@ -27,6 +29,25 @@ pub(crate) fn index_all(pipes: &[Pipe], dues: &mut DueIndex)
     dues.clear();
     for pipe in pipes {
         dues.push(pipe.least());
+    }
+}
+
+/// What is due of a pipe is set anew, unless it's the same for sure. Tells the ranges of its number and of how many
+/// instances it has.
+#[inline(always)]
+pub(crate) fn set_unless(same: bool, dues: &mut DueIndex, place: usize, pipe: &Pipe)
+    requires inside { place < length dues.old.leaves }
+    requires same { IsTrue same →
+        (f : ℕ → Packet) → slice_get dues.old.leaves place ≡ Some (pipe_due f pipe.now) }
+    ensures set { (f : ℕ → Packet) → dues.new
+        ≡ record dues.old { leaves = slice_set dues.old.leaves place (pipe_due f pipe.now) } }
+    ensures number { (1 ≤ pipe.now.number) × (pipe.now.number ≤ 65535) }
+    ensures few { length pipe.now.slots ≤ 256 }
+{
+    let _number = pipe.number().get();
+    let _instances = pipe.instances();
+    if !same {
+        dues.set(place, pipe.least_number());
     }
 }
 
@@ -83,6 +104,18 @@ impl PipeTable {
         ensures piped { IsPiped best → IsPiped result }
     {
         best.or_earlier(self.dues.least().due())
+    }
+
+    /// The same as one number.
+    #[inline(always)]
+    pub fn earliest_number(&self, best: DueNumber) -> DueNumber
+        ensures least { (p : Pocket) (n : Net) → result
+            ≡ least_of (option_to_list best ++ flat_map pipe_dues (with_pipes p self.now n).pipes) }
+        ensures finishing { IfSome best (λ d. IsFinishDue d self.now.pipes) →
+            IfSome result (λ d. IsFinishDue d self.now.pipes) }
+        ensures piped { IfSome best IsPiped → IfSome result IsPiped }
+    {
+        best.or_earlier(self.dues.least())
     }
 
     /// Appends the dues of all pipes, pipe by pipe and instance by instance, or leaves `dues` as it

@@ -4,6 +4,7 @@
 mod arrivals;
 mod dues;
 mod lines;
+mod places;
 mod rehousing;
 mod table;
 

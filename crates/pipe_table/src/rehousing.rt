@@ -5,6 +5,7 @@ ghost use Rattle.emu_model.specs.Net.{Net};
 ghost use Rattle.packet_store.specs.Pocket.{OthersStay};
 ghost use Rattle.pipe_core.specs.Moves.{AreNamed, packet_at};
 ghost use Rattle.pipe_core.specs.Rehousing.{Rehouses};
+ghost use Rattle.pipe_table.specs.Places.{KeepsPlaces};
 ghost use Rattle.pipe_table.specs.Table.{seen_pipes, with_pipes, pipe_keys, IsTable};
 
 use crate::PipeTable;
@@ -32,6 +33,7 @@ impl PipeTable {
             (T.pocket to.old other) (T.pocket to.new other) (pipe_keys self.old.pipes)
             (pipe_keys self.new.pipes) }
         ensures seed { self.new.seed ≡ self.old.seed }
+        ensures places { KeepsPlaces self.old.pipes self.new.pipes }
         ensures room { T.room to.old other
             ≤ T.room to.new other + length (pipe_keys self.old.pipes) }
         ensures others_from { OthersStay owner (S.pocket from.old) (S.pocket from.new) }

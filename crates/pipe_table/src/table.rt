@@ -1,8 +1,9 @@
 //! The table: pipes by number, and what a packet, a finish, an exit or a command does there.
 
-ghost use Rattle.std.specs.Prelude.{◌≡◌, ℕ, ◌+◌, ◌*◌, ◌^◌, ◌<◌, ◌≤◌, [], None, option_map, option_and_then, position, is_some, IsSome, OnSome, OnOk, OnErr, IsOk, IfOk, MatchResult, Err, length, vec_capacity};
+ghost use Rattle.std.specs.Prelude.{◌≡◌, ◌≢◌, ℕ, ◌+◌, ◌*◌, ◌^◌, ◌<◌, ◌≤◌, ◌↔◌, [], Some, None, option_map, option_and_then, unwrap_or, position, is_some, IsSome, IsTrue, OnSome, OnOk, OnErr, IsOk, IfOk, MatchResult, Err, length, slice_get, vec_capacity};
 ghost use Rattle.std.specs.List.{position_or_len};
 ghost use Rattle.std.specs.Option.{option_map_or};
+ghost use Rattle.emu_model.specs.FlowIds.{flow_id, same_flow};
 ghost use Rattle.emu_model.specs.Moments.{IsMoment};
 ghost use Rattle.emu_model.specs.declared.commands.Setting.{Setting};
 ghost use Rattle.emu_model.specs.Net.{Net, find_pipe, note, note_drops, enter_pipe};
@@ -10,15 +11,19 @@ ghost use Rattle.emu_model.specs.declared.records.Record.TheVariants.{PacketFini
 ghost use Rattle.emu_model.specs.Commands.{config_refusal, configure as configured, new_pipe, new_pipe_refusal, delete_pipe};
 ghost use Rattle.emu_model.specs.Events.{flying_in, leave_pipe_some, pipe_exits, pipe_finishes};
 ghost use Rattle.packet_store.specs.Pocket.{Pocket, OthersStay, AllStay};
+ghost use Rattle.pipe_core.specs.Keyed.{KeyedPipe, ids_of};
 ghost use Rattle.pipe_core.specs.Moves.{AreNamed, Keeps};
 ghost use Rattle.pipe_core.specs.Steps.{drops_of, drops_by_codel};
 ghost use Rattle.pipe_table.specs.Table.{with_pipes, pipe_keys, pipe_of, has_number, HasRoomIn, HasGrown, IsFinishing, IsFreeIn, is_above, drops_by_deletion, refusal_in};
+ghost use Rattle.pipe_table.specs.Places.{StandsAt, IsInside, IsRouted, HasRoomAtPlace, HasLineRoomIn, IsPlainIn, KeepsPlaces};
 
-use crate::dues::index_all;
+use crate::dues::{index_all, set_unless};
+use crate::places::lead_all;
 use due_index::DueIndex;
-use emu_model::{DropCause, Packet, PipeConfig, PipeNumber, Refusal};
+use emu_model::{DropCause, Packet, PipeConfig, PipeNumber, Refusal, Size};
+use number_table::NumberTable;
 use packet_store::{Owner, Shelf};
-use pipe_core::{Pipe, keys_say_all};
+use pipe_core::{NO_INSTANCE, Pipe, keys_say_all};
 use std::alloc::{AllocError, Global};
 use std::marker::Model;
 
@@ -29,6 +34,8 @@ pub struct PipeTable {
     seed: u64,
     pub(crate) pipes: Vec<Pipe>,
     pub(crate) dues: DueIndex,
+    // For each number that a pipe has or had, the place where it stands or stood.
+    places: NumberTable,
 }
 
 /// Why a pipe was not configured.
@@ -42,13 +49,16 @@ impl Model for PipeTable {
     ghost use Rattle.std.specs.Prelude.{◌≤◌, length};
     ghost use Rattle.pipe_table.specs.Table.{Table, IsTable};
     ghost use Rattle.pipe_table.specs.Leaves.{AreIndexed};
+    ghost use Rattle.pipe_table.specs.Places.{AreLed};
 
     ghost Value = { Table };
 
     ghost view = { λ t. record { seed = t.seed; pipes = t.pipes.items } };
 
+    // A number of no pipe leads nowhere, past the end or to a pipe of another number.
     ghost invariant = { λ t. (IsTable t.seed 0 t.pipes.items × (length t.pipes.items ≤ 64))
-        × AreIndexed t.pipes.items t.dues };
+        × AreIndexed t.pipes.items t.dues
+        × AreLed t.pipes.items t.places };
 }
 
 impl PipeTable {
@@ -62,15 +72,221 @@ impl PipeTable {
             seed,
             pipes: Vec::new(alloc),
             dues: DueIndex::new(alloc),
+            places: NumberTable::new(alloc),
         }
     }
 
-    // The place of a pipe in the list.
+    /// The place of a pipe in the list. Walks nothing.
     #[inline(always)]
-    pub(crate) fn place_of(&self, number: PipeNumber) -> Option<usize>
+    pub fn place_of(&self, number: PipeNumber) -> Option<usize>
         ensures { result ≡ position (has_number number) self.now.pipes }
     {
-        self.pipes.iter().position(|pipe| pipe.number() == number)
+        let place = self.places.get(number.get())?;
+        let pipe = self.pipes.get(place)?;
+        if pipe.number().get() == number.get() {
+            return Some(place);
+        }
+        None
+    }
+
+    /// Makes the growths of an arrival at the pipe at a place, and tells its instance where there is one, else
+    /// `NO_INSTANCE`.
+    #[inline(always)]
+    pub fn route_ready<S: Shelf>(
+        &mut self,
+        shelf: &mut S,
+        owner: Owner,
+        now: u64,
+        place: usize,
+        packet: &Packet,
+    ) -> Result<usize, AllocError>
+        requires { (k : ℕ) × StandsAt k place self.old.pipes }
+        ensures seed { self.new.seed ≡ self.old.seed }
+        ensures grown { HasGrown self.old.pipes self.new.pipes }
+        ensures places { KeepsPlaces self.old.pipes self.new.pipes }
+        ensures pockets { AllStay (S.pocket shelf.old) (S.pocket shelf.new) }
+        ensures rooms { (o : ℕ) → S.room shelf.old o ≤ S.room shelf.new o }
+        ensures room { OnOk result
+            ((S.pocket shelf.old owner).count < (S.pocket shelf.old owner).budget →
+            0 < S.room shelf.new owner) }
+        ensures ready { OnOk result
+            ((k : ℕ) → StandsAt k place self.old.pipes →
+            HasRoomIn k packet.now self.new.pipes) }
+        ensures succeeds { (k : ℕ) → StandsAt k place self.old.pipes →
+            0 < S.room shelf.old owner → HasRoomIn k packet.now self.old.pipes → IsOk result }
+        ensures place { IfOk result
+            (λ j. (p : KeyedPipe) → slice_get self.old.pipes place ≡ Some p →
+            j ≡ unwrap_or (position (same_flow (flow_id p.config.mask packet.now))
+            (ids_of p.slots)) NO_INSTANCE) }
+        ensures known { IfOk result
+            (λ j. j ≢ NO_INSTANCE → (k : ℕ) → StandsAt k place self.old.pipes →
+            IsRouted k packet.now place j self.new.pipes
+            × HasRoomAtPlace packet.now.size place j self.new.pipes) }
+    {
+        self.pipes[place].route_ready(shelf, owner, now, packet)
+    }
+
+    /// Makes the growth of an arrival at an instance, by their places.
+    #[inline(always)]
+    pub fn accept_ready_at(
+        &mut self,
+        place: usize,
+        instance: usize,
+        size: Size,
+        now: u64,
+    ) -> Result<(), AllocError>
+        requires { IsInside place instance self.old.pipes }
+        ensures seed { self.new.seed ≡ self.old.seed }
+        ensures grown { HasGrown self.old.pipes self.new.pipes }
+        ensures places { KeepsPlaces self.old.pipes self.new.pipes }
+        ensures ready { OnOk result (HasRoomAtPlace size place instance self.new.pipes) }
+        ensures succeeds { HasRoomAtPlace size place instance self.old.pipes → IsOk result }
+    {
+        self.pipes[place].accept_ready(instance, size, now)
+    }
+
+    /// A packet comes to its instance, by the places of pipe and instance.
+    #[inline(always)]
+    pub fn arrive_at<S: Shelf>(
+        &mut self,
+        place: usize,
+        instance: usize,
+        shelf: &mut S,
+        owner: Owner,
+        now: u64,
+        packet: &Packet,
+    ) -> Option<DropCause>
+        requires early { IsMoment now }
+        requires route { (k : ℕ) × IsRouted k packet.now place instance self.old.pipes }
+        requires named { AreNamed (S.pocket shelf.old owner) (pipe_keys self.old.pipes) }
+        requires budget { (S.pocket shelf.old owner).count < (S.pocket shelf.old owner).budget }
+        requires room { 0 < S.room shelf.old owner }
+        requires ready { HasRoomAtPlace packet.now.size place instance self.old.pipes }
+        ensures seed { self.new.seed ≡ self.old.seed }
+        ensures arrived { (k : ℕ) → StandsAt k place self.old.pipes → (at : Setting) (n : Net) →
+            at.seed ≡ self.old.seed → at.now ≡ now →
+            enter_pipe at k packet.now (with_pipes (S.pocket shelf.old owner) self.old n)
+            ≡ note_drops now (drops_of packet.now result)
+            (with_pipes (S.pocket shelf.new owner) self.new n) }
+        ensures keys { Keeps (S.pocket shelf.old owner) (S.pocket shelf.new owner)
+            (pipe_keys self.old.pipes) (pipe_keys self.new.pipes) }
+        ensures places { KeepsPlaces self.old.pipes self.new.pipes }
+        ensures others { OthersStay owner (S.pocket shelf.old) (S.pocket shelf.new) }
+    {
+        keys_say_all();
+        let pipe = &mut self.pipes[place];
+        let was_busy = pipe.is_busy(instance);
+        let answer = pipe.arrive_at(instance, shelf, owner, now, packet);
+        set_unless(was_busy, &mut self.dues, place, pipe);
+        answer
+    }
+
+    /// A finish of an instance at this moment (ns) drops nothing for sure, by the places of pipe and instance.
+    #[inline(always)]
+    pub fn drops_none_at(&self, place: usize, instance: usize, now: u64) -> bool
+        requires { IsInside place instance self.now.pipes }
+        ensures { IsTrue result ↔ IsPlainIn place instance now self.now.pipes }
+    {
+        self.pipes[place].drops_none(instance, now)
+    }
+
+    /// The same as `finish`, where nothing is dropped, as `drops_none_at` told: the number of the packet that finished.
+    #[inline(always)]
+    pub fn finish_plainly_at<S: Shelf>(
+        &mut self,
+        place: usize,
+        instance: usize,
+        shelf: &S,
+        owner: Owner,
+        now: u64,
+    ) -> Result<u64, AllocError>
+        requires early { IsMoment now }
+        requires due { (k : ℕ) × StandsAt k place self.old.pipes
+            × IsFinishing k instance now self.old.pipes }
+        requires named { AreNamed (S.pocket shelf.now owner) (pipe_keys self.old.pipes) }
+        requires plain { IsPlainIn place instance now self.old.pipes }
+        ensures seed { self.new.seed ≡ self.old.seed }
+        ensures ok { IfOk result
+            (λ number. (k : ℕ) → StandsAt k place self.old.pipes → (at : Setting) (n : Net) →
+            at.now ≡ now →
+            let m = with_pipes (S.pocket shelf.now owner) self.old n in
+            option_map_or (pipe_finishes at k instance m) (find_pipe k m) m
+            ≡ note_drops now []
+            (with_pipes (S.pocket shelf.now owner) self.new
+            (note (PacketFinished now number k instance) n))) }
+        ensures keys { Keeps (S.pocket shelf.now owner) (S.pocket shelf.now owner)
+            (pipe_keys self.old.pipes) (pipe_keys self.new.pipes) }
+        ensures places { KeepsPlaces self.old.pipes self.new.pipes }
+        ensures refused { OnErr result (HasGrown self.old.pipes self.new.pipes) }
+        ensures succeeds { HasLineRoomIn place instance self.old.pipes → IsOk result }
+    {
+        keys_say_all();
+        let pipe = &mut self.pipes[place];
+        let finished = pipe.finish_plainly(shelf, owner, instance, now);
+        set_unless(false, &mut self.dues, place, pipe);
+        finished
+    }
+
+    /// The packet that `exit_at` would give.
+    #[inline(always)]
+    pub fn front_at<S: Shelf>(
+        &self,
+        place: usize,
+        instance: usize,
+        shelf: &S,
+        owner: Owner,
+    ) -> Option<Packet>
+        requires there { (k : ℕ) × StandsAt k place self.now.pipes }
+        requires named { AreNamed (S.pocket shelf.now owner) (pipe_keys self.now.pipes) }
+        ensures packet { (k : ℕ) → StandsAt k place self.now.pipes → (n : Net) →
+            result ≡ option_and_then (flying_in instance)
+            (find_pipe k (with_pipes (S.pocket shelf.now owner) self.now n)) }
+        ensures inside { OnSome result (IsInside place instance self.now.pipes) }
+    {
+        let pipe = &self.pipes[place];
+        if pipe.instances() <= instance {
+            return None;
+        }
+        pipe.front(shelf, owner, instance)
+    }
+
+    /// The packet that leaves first in an instance goes, by the places of pipe and instance, which are there.
+    #[inline(always)]
+    pub fn exit_at<S: Shelf>(
+        &mut self,
+        place: usize,
+        instance: usize,
+        shelf: &mut S,
+        owner: Owner,
+    ) -> Option<Packet>
+        requires inside { IsInside place instance self.old.pipes }
+        requires named { AreNamed (S.pocket shelf.old owner) (pipe_keys self.old.pipes) }
+        ensures seed { self.new.seed ≡ self.old.seed }
+        ensures gone { (k : ℕ) → StandsAt k place self.old.pipes → (at : Setting) (n : Net) →
+            let m = with_pipes (S.pocket shelf.old owner) self.old n in
+            option_map_or (pipe_exits at k instance m) (find_pipe k m) m
+            ≡ leave_pipe_some at k instance result
+            (with_pipes (S.pocket shelf.new owner) self.new n) }
+        ensures packet { (k : ℕ) → StandsAt k place self.old.pipes → (n : Net) →
+            result ≡ option_and_then (flying_in instance)
+            (find_pipe k (with_pipes (S.pocket shelf.old owner) self.old n)) }
+        ensures keys { Keeps (S.pocket shelf.old owner) (S.pocket shelf.new owner)
+            (pipe_keys self.old.pipes) (pipe_keys self.new.pipes) }
+        ensures places { KeepsPlaces self.old.pipes self.new.pipes }
+        ensures ready { (k : ℕ) (p : Packet) → HasRoomIn k p self.old.pipes →
+            HasRoomIn k p self.new.pipes }
+        ensures ready_at { (size i j : ℕ) → HasRoomAtPlace size i j self.old.pipes →
+            HasRoomAtPlace size i j self.new.pipes }
+        ensures freed { OnSome result (0 < S.room shelf.new owner) }
+        ensures below { OnSome result
+            ((S.pocket shelf.new owner).count < (S.pocket shelf.new owner).budget) }
+        ensures others { OthersStay owner (S.pocket shelf.old) (S.pocket shelf.new) }
+    {
+        keys_say_all();
+        let pipe = &mut self.pipes[place];
+        let packet = pipe.exit(shelf, owner, instance);
+        set_unless(false, &mut self.dues, place, pipe);
+        packet
     }
 
     /// There is a pipe of this number.
@@ -96,6 +312,7 @@ impl PipeTable {
     ) -> Result<(), AllocError>
         ensures seed { self.new.seed ≡ self.old.seed }
         ensures grown { HasGrown self.old.pipes self.new.pipes }
+        ensures places { KeepsPlaces self.old.pipes self.new.pipes }
         ensures pockets { AllStay (S.pocket shelf.old) (S.pocket shelf.new) }
         ensures rooms { (o : ℕ) → S.room shelf.old o ≤ S.room shelf.new o }
         ensures room { OnOk result
@@ -109,7 +326,8 @@ impl PipeTable {
         let Some(place) = self.place_of(number) else {
             return Ok(());
         };
-        self.pipes[place].arrive_ready(shelf, owner, now, packet)
+        self.route_ready(shelf, owner, now, place, packet)?;
+        Ok(())
     }
 
     /// A packet is handed to a pipe at the moment `now` (ns): None where it is taken in, else why it is
@@ -134,6 +352,7 @@ impl PipeTable {
             (with_pipes (S.pocket shelf.new owner) self.new n) }
         ensures keys { Keeps (S.pocket shelf.old owner) (S.pocket shelf.new owner)
             (pipe_keys self.old.pipes) (pipe_keys self.new.pipes) }
+        ensures places { KeepsPlaces self.old.pipes self.new.pipes }
         ensures others { OthersStay owner (S.pocket shelf.old) (S.pocket shelf.new) }
     {
         keys_say_all();
@@ -161,12 +380,7 @@ impl PipeTable {
         let Some(place) = self.place_of(number) else {
             return None;
         };
-        let pipe = &self.pipes[place];
-        let index = instance as usize;
-        if pipe.instances() <= index {
-            return None;
-        }
-        pipe.front(shelf, owner, index)
+        self.front_at(place, instance as usize, shelf, owner)
     }
 
     /// The packet that leaves first in an instance goes: it is taken from the shelf. None where there is
@@ -190,8 +404,11 @@ impl PipeTable {
             (find_pipe number (with_pipes (S.pocket shelf.old owner) self.old n)) }
         ensures keys { Keeps (S.pocket shelf.old owner) (S.pocket shelf.new owner)
             (pipe_keys self.old.pipes) (pipe_keys self.new.pipes) }
+        ensures places { KeepsPlaces self.old.pipes self.new.pipes }
         ensures ready { (k : ℕ) (p : Packet) → HasRoomIn k p self.old.pipes →
             HasRoomIn k p self.new.pipes }
+        ensures ready_at { (size i j : ℕ) → HasRoomAtPlace size i j self.old.pipes →
+            HasRoomAtPlace size i j self.new.pipes }
         ensures freed { OnSome result (0 < S.room shelf.new owner) }
         ensures below { OnSome result
             ((S.pocket shelf.new owner).count < (S.pocket shelf.new owner).budget) }
@@ -236,6 +453,7 @@ impl PipeTable {
             (note (PacketFinished now packet.number number instance) n))) }
         ensures keys { Keeps (S.pocket shelf.old owner) (S.pocket shelf.new owner)
             (pipe_keys self.old.pipes) (pipe_keys self.new.pipes) }
+        ensures places { KeepsPlaces self.old.pipes self.new.pipes }
         ensures others { OthersStay owner (S.pocket shelf.old) (S.pocket shelf.new) }
         ensures count { OnOk result
             ((S.pocket shelf.new owner).count + length drops.new.items
@@ -310,12 +528,16 @@ impl PipeTable {
         let Ok(()) = self.dues.push_ready() else {
             return Err(ConfigureError::NoMemory);
         };
+        let Ok(()) = self.places.ready(number.get()) else {
+            return Err(ConfigureError::NoMemory);
+        };
         let place = self.place_behind(number);
         let pipe = Pipe::new(self.alloc, self.seed, number, *config);
         let Ok(()) = self.pipes.insert(place, pipe) else {
             unreachable!();
         };
         index_all(&self.pipes, &mut self.dues);
+        lead_all(&self.pipes, &mut self.places);
         Ok(())
     }
 
@@ -378,6 +600,7 @@ impl PipeTable {
         let gone = self.pipes[place].delete(shelf, owner)?;
         self.pipes.remove(place);
         index_all(&self.pipes, &mut self.dues);
+        lead_all(&self.pipes, &mut self.places);
         Ok(Some(gone))
     }
 }

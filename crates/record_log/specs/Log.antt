@@ -1,5 +1,5 @@
 -- What was recorded, and what its counts are.
-use Rattle.std.specs.Prelude.{ℕ, List, [], ◌∷◌, map, count_by, ◌+◌, ◌-◌, slice_set, slice_index_or}
+use Rattle.std.specs.Prelude.{ℕ, List, map, count_by, ◌+◌, ◌-◌, slice_set, slice_index_or}
 use Rattle.emu_model.specs.declared.records.Record.{Record}
 use Rattle.emu_model.specs.declared.records.DropCause.{DropCause}
 use Rattle.emu_model.specs.Net.{is_delivery, drops_of, cause_number, all_causes}

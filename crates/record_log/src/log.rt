@@ -31,12 +31,12 @@ impl Model for RecordLog {
         × (l.drops ≡ all_drops_of l.records.items) };
 }
 
-// The counts with one more for a cause.
-fn with_one(drops: [u64; 8], cause: DropCause) -> [u64; 8]
-    requires { (k : ℕ) → slice_index_or drops k 0 < 2 ^ 63 }
-    ensures { result ≡ with_drop drops cause }
+// One more was dropped for a cause.
+#[inline(always)]
+fn count_drop(drops: &mut [u64; 8], cause: DropCause)
+    requires { (k : ℕ) → slice_index_or drops.old k 0 < 2 ^ 63 }
+    ensures { drops.new ≡ with_drop drops.old cause }
 {
-    let mut drops = drops;
     match cause {
         DropCause::Denied => drops[0] += 1,
         DropCause::NoPipe => drops[1] += 1,
@@ -47,7 +47,6 @@ fn with_one(drops: [u64; 8], cause: DropCause) -> [u64; 8]
         DropCause::Deleted => drops[6] += 1,
         DropCause::Budget => drops[7] += 1,
     }
-    drops
 }
 
 // How many records there is room for once there is any, so that the first few don't grow the list step by step.
@@ -89,12 +88,22 @@ impl RecordLog {
     {
         match entry {
             Record::PacketDelivered { .. } => self.delivered += 1,
-            Record::PacketDropped { cause, .. } => self.drops = with_one(self.drops, *cause),
+            Record::PacketDropped { cause, .. } => count_drop(&mut self.drops, *cause),
             _ => {}
         }
         let Ok(()) = self.records.extend_from_slice(slice::from_ref(entry)) else {
             unreachable!();
         };
+    }
+
+    /// No records any more; their room stays.
+    pub fn clear(&mut self)
+        ensures records { self.new.records ≡ [] }
+        ensures room { self.old.spare ≤ self.new.spare }
+    {
+        self.records.clear();
+        self.delivered = 0;
+        self.drops = [0; 8];
     }
 
     /// The records in their order.

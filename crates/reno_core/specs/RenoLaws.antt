@@ -1,6 +1,6 @@
 -- Laws of Reno in its own words, over the definitions alone: what holds of a sender after any
 -- history, and of a receiver whatever comes.
-use Rattle.std.specs.Prelude.{◌≡◌, ℕ, ◌+◌, ◌*◌, ◌^◌, ◌<◌, ◌≤◌, ⊤, true, false, Some, List, [], ◌∷◌, ◌==◌, if◌then◌else◌, count_by}
+use Rattle.std.specs.Prelude.{◌≡◌, ℕ, ◌+◌, ◌*◌, ◌^◌, ◌≤◌, ⊤, true, false, Some, List, [], ◌∷◌, ◌==◌, if◌then◌else◌, count_by}
 use Rattle.emu_model.specs.Moments.{IsMoment}
 use Rattle.emu_model.specs.declared.sources.FlowSpec.{FlowSpec}
 use Rattle.emu_model.specs.declared.sources.Timing.TheVariants.{Adaptive}

@@ -1,5 +1,5 @@
 -- What holds of every sender.
-use Rattle.std.specs.Prelude.{◌≡◌, ℕ, ◌*◌, ◌%◌, ◌^◌, ◌<◌, ◌≤◌, ⊤, Option, Some, None, true}
+use Rattle.std.specs.Prelude.{◌≡◌, ℕ, ◌*◌, ◌%◌, ◌<◌, ◌≤◌, ⊤, Option, Some, None, true}
 use Rattle.emu_model.specs.Moments.{IsMoment}
 use Rattle.emu_model.specs.declared.sources.FlowSpec.{FlowSpec}
 use Rattle.emu_model.specs.Reno.{Sender, Sample, Estimate, total_bytes, initial_rto, most_rto, greatest_word}

@@ -115,8 +115,28 @@ fn is_full(in_order: u64, others: &VecDeque<u64>) -> bool
 
 // Takes out of `others` what follows in order on the first `count` segments, and answers how many
 // came in order then.
+#[inline(always)]
+fn absorb(smss: u64, count: u64, others: &mut VecDeque<u64>) -> u64
+    requires least { 1 ≤ smss }
+    requires most { smss ≤ 1460 }
+    requires few { count + length others.old.items ≤ most_segments }
+    requires rises { Rises others.old.items }
+    requires apart { IsApart smss count others.old.items }
+    ensures came { filled smss result others.new.items ≡ filled smss count others.old.items }
+    ensures kept { IsKept smss result others.new.items }
+    ensures total { result + length others.new.items ≡ count + length others.old.items }
+    ensures grows { count ≤ result }
+    ensures capacity { deque_capacity others.new ≡ deque_capacity others.old }
+{
+    if others.is_empty() {
+        return count;
+    }
+    absorb_some(smss, count, others)
+}
+
+// The same where something may stand past a gap.
 #[inline(never)]
-fn absorb(smss: u64, mut count: u64, others: &mut VecDeque<u64>) -> u64
+fn absorb_some(smss: u64, mut count: u64, others: &mut VecDeque<u64>) -> u64
     requires least { 1 ≤ smss }
     requires most { smss ≤ 1460 }
     requires few { count + length others.old.items ≤ most_segments }

@@ -47,6 +47,14 @@ impl Sender {
         self.flow
     }
 
+    /// The same, which stays here.
+    #[inline(always)]
+    pub fn flow_ref(&self) -> &FlowSpec
+        ensures flow { result.now ≡ self.now.flow }
+    {
+        &self.flow
+    }
+
     /// Takes an acknowledgement of all bytes below `upto` at the moment `now`.
     #[inline(always)]
     pub fn ack(&mut self, now: u64, upto: u64)

@@ -1,50 +1,92 @@
--- Bytes from the middle of a list on, after a part of it was written over.
-use Rattle.std.proofs.Common.{◌≡◌, ℕ, ◌+◌, ◌-◌, ◌/◌, ◌%◌, ◌^◌, ◌<◌, ◌≤◌, List, length, take, drop, ◌++◌, arith, sym, ap, ◌∙◌, append_assoc}
-use Rattle.std.proofs.lemmas.List.{drop-drop, drop_at, drop-append-le, length-take-le}
+-- The digits of a moment, as they are kept.
+use Rattle.std.proofs.Common.{◌≡◌, ℕ, ◌+◌, ◌-◌, ◌*◌, ◌/◌, ◌%◌, ◌^◌, ◌<◌, ◌≤◌, List, length, take, drop, ◌++◌, arith, sym, ap, ◌∙◌, append_assoc}
+use Rattle.std.proofs.lemmas.List.{take_at, take-take, drop-drop, drop-take, drop-append-le, length-take-le}
 use Rattle.std.specs.Prelude.{decimal}
-use Rattle.report.specs.Words.{pair_of}
+use Rattle.report.specs.Words.{eight_of}
+use Rattle.report.specs.Alike.{AreAlike}
 use Rattle.report.proofs.Pairs.{decimal_eight}
-use borrow.Rule.Slice.PartMut.{put_mid, post_of}
+use Rattle.report.proofs.Behind.{first_put}
+use Rattle.report.proofs.Taken.{take_further}
 
-pub drop_within :
-    (a n s : ℕ) (old new : List ℕ)
-    → a ≤ length old
-    → length new ≡ n
-    → s ≤ n
-    → drop (a + s) (put_mid a n old new) ≡ drop s new ++ drop (a + n) old
-drop_within a n s old new inside long few =
-    sym (drop-drop s a (put_mid a n old new))
-    ∙ ap (drop s) (drop_at (take a old) (new ++ post_of a n old) a (length-take-le a old inside))
-    ∙ drop-append-le s new (post_of a n old) (omega arith)
-    ∙ ap (λ l. drop s new ++ l) (drop-drop n a old)
+-- what stands in front of eight digits stays
+pub front_stays :
+    (old new eight : List ℕ)
+    → 16 ≤ length old
+    → take 24 new ≡ take 16 old ++ eight
+    → take 16 new ≡ take 16 old
+front_stays old new eight long put =
+    sym (take-take 16 24 new (omega arith))
+    ∙ ap (take 16) put
+    ∙ take_at (take 16 old) eight 16 (length-take-le 16 old long)
 
--- The last eight digits of a moment behind those that were kept.
-pub moment_put :
-    (end moment least start : ℕ) (old late early kept : List ℕ)
-    → moment < 2 ^ 64
-    → 100000000 ≤ least
-    → least % 100000000 ≡ 0
-    → least ≤ moment
-    → moment - least < 100000000
-    → 24 ≤ end
-    → end ≤ length early
-    → length kept ≡ 16
-    → start ≤ 16
-    → drop start kept ≡ decimal (least / 100000000)
-    → drop (end - 4) late
-    ≡ pair_of ((moment - least) % 10000 / 100)
-    ++ (pair_of ((moment - least) % 10000 % 100) ++ drop (end - 4 + 4) old)
-    → drop (end - 8) early
-    ≡ pair_of ((moment - least) / 10000 / 100)
-    ++ (pair_of ((moment - least) / 10000 % 100) ++ drop (end - 8 + 4) late)
-    → drop (end - 24 + start) (put_mid (end - 24) (end - 8 - (end - 24)) early kept)
-    ≡ decimal moment ++ drop end old
-moment_put end moment least start old late early kept fits low whole from near room inside sixteen few digits four_late four_early =
-    let a : end - 24 + (end - 8 - (end - 24)) ≡ end - 8 = omega arith in
-    let b : end - 8 + 4 ≡ end - 4 = omega arith in
-    let e : end - 4 + 4 ≡ end = omega arith in
-    let written =
-    drop_within (end - 24) (end - 8 - (end - 24)) start early kept (omega arith) (omega arith) (omega arith)
+pub alike_stays :
+    (first last base start : ℕ) (old new : List ℕ)
+    → new ≡ old
+    → AreAlike first last base start old
+    → AreAlike first last base start new
+alike_stays first last base start old new same alike m from to =
+    let a = alike m from to in
+    (a.0, a.1, a.2 ∙ ap (λ l. drop start (l ++ eight_of (m - base))) (sym same))
+
+-- a copy of the digits, eight by eight, where what it has too much is written over
+pub kept_put :
+    (old first second third digits dec : List ℕ) (at start : ℕ)
+    → at + 24 ≤ length old
+    → start ≤ 23
+    → take (at + 8) first ≡ take at old ++ take 8 (drop start digits)
+    → take (at + 8 + 8) second ≡ take (at + 8) first ++ take 8 (drop (start + 8) digits)
+    → take (at + 16 + 8) third ≡ take (at + 16) second ++ take 8 (drop (start + 16) digits)
+    → dec ≡ drop start (take 24 digits)
+    → take (at + (24 - start)) third ≡ take at old ++ dec
+kept_put old first second third digits dec at start inside few one two three is =
+    let bytes = drop start digits in
+    let e : at + 8 + 8 ≡ at + 16 = omega arith in
+    let f : at + 16 + 8 ≡ at + 24 = omega arith in
+    let pair : take 16 bytes ≡ take 8 bytes ++ take 8 (drop (start + 8) digits) =
+    take_further bytes 8 8 ∙ ap (λ l. take 8 bytes ++ take 8 l) (drop-drop 8 start digits)
     in
-    let eight = decimal_eight moment least fits low whole from near in
-    rw (written, a, digits, four_early, b, four_late, e, eight) (simp append_assoc)
+    let all : take 24 bytes ≡ take 16 bytes ++ take 8 (drop (start + 16) digits) =
+    take_further bytes 16 8 ∙ ap (λ l. take 16 bytes ++ take 8 l) (drop-drop 16 start digits)
+    in
+    let put : take (at + 24) third ≡ take at old ++ take 24 bytes =
+    ap (λ n. take n third) (sym f)
+    ∙ three
+    ∙ ap (λ n. take n second ++ take 8 (drop (start + 16) digits)) (sym e)
+    ∙ rw (two, one, all, pair) (simp append_assoc)
+    in
+    let split : start + (24 - start) ≡ 24 = omega arith in
+    let cut : drop start (take 24 digits) ≡ take (24 - start) bytes =
+    ap (λ n. drop start (take n digits)) (sym split) ∙ drop-take start (24 - start) digits
+    in
+    first_put old third (take 24 bytes) at 24 (24 - start) (omega arith) (omega arith) put
+    ∙ ap (λ l. take at old ++ l) (take-take (24 - start) 24 bytes (omega arith) ∙ sym cut ∙ sym is)
+
+-- moments of nine digits or more, behind the digits before their last eight
+pub alike_long :
+    (high last start : ℕ) (digits tail : List ℕ)
+    → 1 ≤ high
+    → last < 2 ^ 64
+    → last ≤ high * 100000000 + 99999999
+    → 16 ≤ length digits
+    → start + length (decimal high) ≡ 16
+    → drop start digits ≡ decimal high ++ tail
+    → AreAlike (high * 100000000) last (high * 100000000) start (take 16 digits)
+alike_long high last start digits tail low fits near long ends written m from to =
+    let split : start + (16 - start) ≡ 16 = omega arith in
+    let front : drop start (take 16 digits) ≡ decimal high =
+    ap (λ n. drop start (take n digits)) (sym split)
+    ∙ drop-take start (16 - start) digits
+    ∙ ap (take (16 - start)) written
+    ∙ take_at (decimal high) tail (16 - start) (omega arith)
+    in
+    let h : m / 100000000 ≡ high = omega arith in
+    let e : m % 100000000 ≡ m - high * 100000000 = omega arith in
+    let sixteen : length (take 16 digits) ≡ 16 = length-take-le 16 digits long in
+    let eight = eight_of (m - high * 100000000) in
+    let whole : drop start (take 16 digits ++ eight) ≡ decimal high ++ eight =
+    drop-append-le start (take 16 digits) eight (omega arith) ∙ ap (λ l. l ++ eight) front
+    in (
+      omega arith,
+      omega arith,
+      decimal_eight m (omega arith) (omega arith) ∙ rw (h, e) (sym whole),
+    )

@@ -2,6 +2,7 @@ mod Examples
 pub mod Decimals
 pub mod DigitsMore
 pub mod Pairs
+pub mod Behind
+pub mod Short
 pub mod Kept
-pub mod Made
 pub mod Taken

@@ -1,9 +1,9 @@
--- The table of the numbers below 100, and the last eight digits of a number.
-use Rattle.std.proofs.Common.{◌≡◌, ℕ, zero, suc, ◌+◌, ◌-◌, ◌*◌, ◌/◌, ◌%◌, ◌^◌, ◌<◌, ◌≤◌, Bool, true, ◌&&◌, T, eqb, ◌++◌, get_or, refl, inl, inr, arith, eq-zero-or-pos, eqb→eq, append_assoc}
+-- The table of the numbers below 100, and numbers by two, four and eight digits.
+use Rattle.std.proofs.Common.{◌≡◌, ℕ, zero, suc, ◌+◌, ◌-◌, ◌*◌, ◌/◌, ◌%◌, ◌^◌, ◌<◌, ◌≤◌, Bool, true, ◌&&◌, T, eqb, ◌++◌, get_or, inl, inr, arith, eq-zero-or-pos, eqb→eq, append_assoc}
 use Rattle.std.specs.Prelude.{decimal}
 use lib.Ieee.Fits.{and_l, and_r}
 use Rattle.itoa.proofs.Decimal.{decimal_four}
-use Rattle.report.specs.Words.{pair_of}
+use Rattle.report.specs.Words.{eight_of}
 use Rattle.report.specs.declared.digits.TheConstants.{PAIRS}
 
 abbrev are_pairs : ℕ → Bool
@@ -34,18 +34,12 @@ pairs_at p h = below 100 p tt h
 
 -- the digits before the last eight, and these, four and four
 pub decimal_eight :
-    (moment least : ℕ)
-    → moment < 2 ^ 64
-    → 100000000 ≤ least
-    → least % 100000000 ≡ 0
-    → least ≤ moment
-    → moment - least < 100000000
-    → decimal moment
-    ≡ decimal (least / 100000000)
-    ++ ((pair_of ((moment - least) / 10000 / 100) ++ pair_of ((moment - least) / 10000 % 100))
-    ++ (pair_of ((moment - least) % 10000 / 100) ++ pair_of ((moment - least) % 10000 % 100)))
-decimal_eight moment least fits low whole from near =
-    let a : moment / 10000 / 10000 ≡ least / 100000000 = omega arith in
-    let b : moment / 10000 % 10000 ≡ (moment - least) / 10000 = omega arith in
-    let c : moment % 10000 ≡ (moment - least) % 10000 = omega arith in
-    rw (decimal_four moment (omega arith) fits, decimal_four (moment / 10000) (omega arith) (omega arith), append_assoc, a, b, c) refl
+    (n : ℕ)
+    → n < 2 ^ 64
+    → 100000000 ≤ n
+    → decimal n ≡ decimal (n / 100000000) ++ eight_of (n % 100000000)
+decimal_eight n fits low =
+    let a : n / 10000 / 10000 ≡ n / 100000000 = omega arith in
+    let b : n / 10000 % 10000 ≡ n % 100000000 / 10000 = omega arith in
+    let c : n % 10000 ≡ n % 100000000 % 10000 = omega arith in
+    rw (decimal_four n (omega arith) fits, decimal_four (n / 10000) (omega arith) (omega arith), a, b, c) (simp append_assoc)

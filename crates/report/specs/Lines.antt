@@ -104,6 +104,18 @@ abbrev pub report_of : List ℕ → List Record → Counters → List ℕ
 report_of name records counters =
     heading_of name ++ flat_map line_of records ++ counters_of counters
 
+-- what a packet, a sender or a command that was done did, of which there are many
+abbrev pub is_event : Record → Bool
+is_event (CommandDone moment command) = true
+is_event (PacketArrived moment packet pipe instance) = true
+is_event (PacketFinished moment packet pipe instance) = true
+is_event (PacketDelivered moment packet load) = true
+is_event (PacketPassed moment packet pipe instance) = true
+is_event (PacketDropped moment packet load cause) = true
+is_event (AckTaken moment flow cwnd ssthresh) = true
+is_event (TimerExpired moment flow cwnd ssthresh) = true
+is_event _ = false
+
 abbrev pub is_rule_line : Record → Bool
 is_rule_line (RuleLine rule packets bytes) = true
 is_rule_line _ = false

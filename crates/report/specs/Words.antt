@@ -31,6 +31,12 @@ places base (suc count) n =
 abbrev pub pair_of : ℕ → List ℕ
 pair_of n = (48 + n / 10) ∷ (48 + n % 10) ∷ []
 
+-- the eight digits of a number below 100000000, zeros in front
+abbrev pub eight_of : ℕ → List ℕ
+eight_of n =
+    (pair_of (n / 10000 / 100) ++ pair_of (n / 10000 % 100))
+    ++ (pair_of (n % 10000 / 100) ++ pair_of (n % 10000 % 100))
+
 -- N.I, the pipe and the instance
 abbrev pub instance_name : ℕ → ℕ → List ℕ
 instance_name pipe instance = decimal pipe ++ codes "." ++ decimal instance

@@ -1,9 +1,7 @@
-//! Numbers in decimal digits, two at a time, each put before what stands from `end` on.
+//! Numbers in decimal digits, two at a time, each put behind what stands before a place.
 
-ghost use Rattle.std.specs.Prelude.{◌≡◌, ◌+◌, ◌/◌, ◌%◌, ◌<◌, ◌≤◌, ◌++◌, length, decimal, drop};
-ghost use Rattle.report.specs.Words.{pair_of};
-
-use itoa::write_digits;
+ghost use Rattle.std.specs.Prelude.{◌≡◌, ◌+◌, ◌/◌, ◌%◌, ◌<◌, ◌≤◌, ◌++◌, decimal, length, take};
+ghost use Rattle.report.specs.Words.{pair_of, eight_of};
 
 // Each number below 100, in two digits.
 static PAIRS: [u8; 200] =
@@ -16,7 +14,7 @@ pub const EIGHT_DIGITS: u64 = 100_000_000;
 #[inline(always)]
 fn put_pair(text: &mut [u8], at: usize, pair: u32)
     requires { (pair < 100) × (at + 2 ≤ length text.old) }
-    ensures { drop at text.new ≡ pair_of pair ++ drop (at + 2) text.old }
+    ensures { take (at + 2) text.new ≡ take at text.old ++ pair_of pair }
 {
     let from = pair as usize * 2;
     let (tens, ones) = (PAIRS[from], PAIRS[from + 1]);
@@ -24,85 +22,135 @@ fn put_pair(text: &mut [u8], at: usize, pair: u32)
     text[at + 1] = ones;
 }
 
-/// Puts four digits.
+// The first two of four digits.
 #[inline(always)]
-pub fn put_four(text: &mut [u8], at: usize, four: u32)
-    requires { (four < 10000) × (at + 4 ≤ length text.old) }
-    ensures { drop at text.new
-        ≡ pair_of (four / 100) ++ (pair_of (four % 100) ++ drop (at + 4) text.old) }
+fn hundreds(four: u32) -> u32
+    requires { four < 10000 }
+    ensures { result ≡ four / 100 }
 {
-    put_pair(text, at + 2, four % 100);
-    put_pair(text, at, four / 100);
+    (four * 5243) >> 19
 }
 
-// Puts a number of one digit or two, and returns where it begins.
+// Puts four digits.
 #[inline(always)]
-fn put_first(text: &mut [u8], end: usize, number: u32) -> usize
-    requires { (number < 100) × ((2 ≤ end) × (end ≤ length text.old)) }
-    ensures start { (end ≤ result + 2) × (result ≤ end) }
-    ensures items { drop result text.new ≡ decimal number ++ drop end text.old }
+fn put_four(text: &mut [u8], at: usize, four: u32)
+    requires { (four < 10000) × (at + 4 ≤ length text.old) }
+    ensures { take (at + 4) text.new
+        ≡ take at text.old ++ (pair_of (four / 100) ++ pair_of (four % 100)) }
+{
+    let high = hundreds(four);
+    put_pair(text, at, high);
+    put_pair(text, at + 2, four - high * 100);
+}
+
+/// Puts eight digits, zeros in front.
+#[inline(always)]
+pub fn put_eight(text: &mut [u8], at: usize, eight: u32)
+    requires { (eight < 100000000) × (at + 8 ≤ length text.old) }
+    ensures { take (at + 8) text.new ≡ take at text.old ++ eight_of eight }
+{
+    let high = eight / 10_000;
+    put_four(text, at, high);
+    put_four(text, at + 4, eight - high * 10_000);
+}
+
+// Puts a number of one digit or two, and returns where it ends.
+#[inline(always)]
+fn put_first(text: &mut [u8], at: usize, number: u32) -> usize
+    requires { (number < 100) × (at + 2 ≤ length text.old) }
+    ensures end { (at ≤ result) × (result ≤ at + 2) }
+    ensures items { take result text.new ≡ take at text.old ++ decimal number }
 {
     if number < 10 {
-        text[end - 1] = b'0' + number as u8;
-        return end - 1;
+        text[at] = b'0' + number as u8;
+        return at + 1;
     }
-    put_pair(text, end - 2, number);
-    end - 2
+    put_pair(text, at, number);
+    at + 2
 }
 
-// Puts a number of up to four digits, and returns where it begins.
+// Puts a number of up to four digits, and returns where it ends.
 #[inline(always)]
-fn put_short(text: &mut [u8], end: usize, number: u32) -> usize
-    requires { (number < 10000) × ((4 ≤ end) × (end ≤ length text.old)) }
-    ensures start { (end ≤ result + 4) × (result ≤ end) }
-    ensures items { drop result text.new ≡ decimal number ++ drop end text.old }
+fn put_short(text: &mut [u8], at: usize, number: u32) -> usize
+    requires { (number < 10000) × (at + 4 ≤ length text.old) }
+    ensures end { (at ≤ result) × (result ≤ at + 4) }
+    ensures items { take result text.new ≡ take at text.old ++ decimal number }
 {
     if number < 100 {
-        return put_first(text, end, number);
+        return put_first(text, at, number);
     }
-    put_pair(text, end - 2, number % 100);
-    put_first(text, end - 2, number / 100)
+    let high = hundreds(number);
+    let end = put_first(text, at, high);
+    put_pair(text, end, number - high * 100);
+    end + 2
 }
 
-// Puts a number of up to eight digits, and returns where it begins.
+// Puts a number of up to eight digits, and returns where it ends.
 #[inline(always)]
-fn put_eight(text: &mut [u8], end: usize, number: u32) -> usize
-    requires { (number < 100000000) × ((8 ≤ end) × (end ≤ length text.old)) }
-    ensures start { (end ≤ result + 8) × (result ≤ end) }
-    ensures items { drop result text.new ≡ decimal number ++ drop end text.old }
+fn put_middle(text: &mut [u8], at: usize, number: u32) -> usize
+    requires { (number < 100000000) × (at + 8 ≤ length text.old) }
+    ensures end { (at ≤ result) × (result ≤ at + 8) }
+    ensures items { take result text.new ≡ take at text.old ++ decimal number }
 {
     if number < 10_000 {
-        return put_short(text, end, number);
+        return put_short(text, at, number);
     }
-    put_four(text, end - 4, number % 10_000);
-    put_short(text, end - 4, number / 10_000)
+    let high = number / 10_000;
+    let end = put_short(text, at, high);
+    put_four(text, end, number - high * 10_000);
+    end + 4
 }
 
-// Puts a number of two digits or more, and returns where it begins.
-#[tactic(auto, using(crate::proofs::Decimals::at_most_twenty))]
-#[inline(always)]
-fn put_long(text: &mut [u8], end: usize, number: u64) -> usize
-    requires { (20 ≤ end) × (end ≤ length text.old) }
-    ensures start { (end ≤ result + 20) × (result ≤ end) }
-    ensures items { drop result text.new ≡ decimal number ++ drop end text.old }
+// Puts a number of up to twelve digits, and returns where it ends.
+fn put_high(text: &mut [u8], at: usize, number: u64) -> usize
+    requires { (number < 1000000000000) × (at + 12 ≤ length text.old) }
+    ensures end { (at ≤ result) × (result ≤ at + 12) }
+    ensures items { take result text.new ≡ take at text.old ++ decimal number }
 {
     if number < EIGHT_DIGITS {
-        return put_eight(text, end, number as u32);
+        return put_middle(text, at, number as u32);
     }
-    write_digits(number, text, end)
+    let end = put_short(text, at, (number / EIGHT_DIGITS) as u32);
+    put_eight(text, end, (number % EIGHT_DIGITS) as u32);
+    end + 8
 }
 
-/// Puts a number, and returns where it begins.
-#[inline(always)]
-pub fn put_number(text: &mut [u8], end: usize, number: u64) -> usize
-    requires { (20 ≤ end) × (end ≤ length text.old) }
-    ensures start { (end ≤ result + 20) × (result ≤ end) }
-    ensures items { drop result text.new ≡ decimal number ++ drop end text.old }
+// Puts a number of nine digits or more, and returns where it ends.
+#[cold]
+#[inline(never)]
+fn put_long(text: &mut [u8], at: usize, number: u64) -> usize
+    requires { (100000000 ≤ number) × (at + 20 ≤ length text.old) }
+    ensures end { (at ≤ result) × (result ≤ at + 20) }
+    ensures items { take result text.new ≡ take at text.old ++ decimal number }
 {
-    // Half of all numbers are a flow, a pipe or an instance of one digit.
-    if number < 10 {
-        text[end - 1] = b'0' + number as u8;
-        return end - 1;
+    let end = put_high(text, at, number / EIGHT_DIGITS);
+    put_eight(text, end, (number % EIGHT_DIGITS) as u32);
+    end + 8
+}
+
+/// Puts a number, and returns where it ends.
+#[inline(always)]
+pub fn put_number(text: &mut [u8], at: usize, number: u64) -> usize
+    requires { at + 20 ≤ length text.old }
+    ensures end { (at ≤ result) × (result ≤ at + 20) }
+    ensures items { take result text.new ≡ take at text.old ++ decimal number }
+{
+    if number < EIGHT_DIGITS {
+        return put_middle(text, at, number as u32);
     }
-    put_long(text, end, number)
+    put_long(text, at, number)
+}
+
+/// Puts a number that mostly has one digit, as a flow, a pipe or an instance, and returns where it ends.
+#[inline(always)]
+pub fn put_small(text: &mut [u8], at: usize, number: u64) -> usize
+    requires { at + 20 ≤ length text.old }
+    ensures end { (at ≤ result) × (result ≤ at + 20) }
+    ensures items { take result text.new ≡ take at text.old ++ decimal number }
+{
+    if number < 10 {
+        text[at] = b'0' + number as u8;
+        return at + 1;
+    }
+    put_number(text, at, number)
 }

@@ -1,9 +1,10 @@
 //! The text of a report, and of the listings in it (our choice).
 #![tactic(auto)]
 
+mod clock;
 mod digits;
-mod event;
-mod event_lines;
+mod events;
+mod forward;
 mod lines;
 mod moments;
 mod pieces;

@@ -1,64 +1,34 @@
-//! The lines of many records. Those of events are made in one array, from the last to the first, and
-//! appended together, so that what an append costs isn't paid for each line.
+//! The lines of many records. Those of events are made on one page and appended together, so that what an append
+//! costs isn't paid for each line.
 
-ghost use Rattle.std.specs.Prelude.{◌≡◌, ◌+◌, ◌*◌, ◌<◌, ◌≤◌, ◌++◌, length, take, drop, vec_len, vec_capacity, IfSome, IfOk, IsOk, OnOk, OnErr};
+ghost use Rattle.std.specs.Prelude.{◌≡◌, ◌+◌, ◌*◌, ◌<◌, ◌≤◌, ◌++◌, length, take, vec_len, vec_capacity, IfOk, IsOk, OnOk, OnErr};
 ghost use Rattle.std.specs.List.{flat_map};
 ghost use Rattle.report.specs.Lines.{line_of};
 ghost use Rattle.report.specs.Room.{spare};
 
-use crate::event::{LINES, ROOM};
-use crate::event_lines::put_line;
+use crate::events::put_line;
 use crate::lines::write_record;
-use crate::moments::Moments;
+use crate::moments::{FULL, Moments};
 use emu_model::Record;
 use std::alloc::AllocError;
 
-// Whether `put_line` puts the line of such a record.
-fn is_event(line: &Record) -> bool {
-    match line {
-        Record::CommandDone { .. }
-        | Record::PacketArrived { .. }
-        | Record::PacketFinished { .. }
-        | Record::PacketDelivered { .. }
-        | Record::PacketPassed { .. }
-        | Record::PacketDropped { .. }
-        | Record::AckTaken { .. }
-        | Record::TimerExpired { .. } => true,
-        _ => false,
-    }
-}
-
-// How many records are made together: the events that stand in front, up to `LINES`, or the first
-// record alone.
-fn run_length(records: &[Record]) -> usize
-    requires { 0 < length records.now }
-    ensures { (0 < result) × ((result ≤ length records.now) × (result ≤ 32)) }
+// Puts the lines of the events in front on the page, until it is full; says of how many, and where they end.
+fn put_lines(moments: &mut Moments, records: &[Record]) -> (usize, usize)
+    ensures count { result.0 ≤ length records.now }
+    ensures end { (result.1 ≤ 4224) × (result.1 ≤ 128 * result.0) }
+    ensures items { take result.1 moments.new.page ≡ flat_map line_of (take result.0 records.now) }
 {
-    let most = records.len().min(LINES);
-    for count in 0..most {
-        if !is_event(&records[count]) {
-            return count.max(1);
-        }
+    let mut count = 0;
+    let mut end = 0;
+    while count < records.len() && end < FULL {
+        let (clock, page) = (&mut moments.clock, &mut moments.page);
+        let Some(next) = put_line(clock, page, end, &records[count]) else {
+            return (count, end);
+        };
+        end = next;
+        count += 1;
     }
-    most
-}
-
-// Puts the lines of events at the array's end, and returns where they begin; `None` where a record
-// is none.
-fn put_lines(moments: &mut Moments, records: &[Record]) -> Option<usize>
-    requires { length records.now ≤ 32 }
-    ensures { IfSome result
-        (λ start. (4096 ≤ start + 128 * length records.now)
-        × ((start ≤ 4096) × (drop start moments.new.text ≡ flat_map line_of records.now))) }
-{
-    let mut left = records.len();
-    let mut start = ROOM;
-    while left > 0 {
-        left -= 1;
-        let (leading, text) = (&mut moments.leading, &mut moments.text);
-        start = put_line(leading, text, start, &records[left])?;
-    }
-    Some(start)
+    (count, end)
 }
 
 // Appends the lines of the first records, and says of how many; `AllocError` leaves the text as it
@@ -78,13 +48,13 @@ fn append_run(
     ensures capacity { vec_capacity out.old ≤ vec_capacity out.new }
     ensures succeeds { 400 * length records.now ≤ spare out.old → IsOk result }
 {
-    let run = &records[..run_length(records)];
-    let Some(start) = put_lines(moments, run) else {
+    let (count, end) = put_lines(moments, records);
+    if count == 0 {
         write_record(out, moments, &records[0])?;
         return Ok(1);
-    };
-    out.extend_from_slice(&moments.text[start..])?;
-    Ok(run.len())
+    }
+    out.extend_from_slice(&moments.page[..end])?;
+    Ok(count)
 }
 
 // Appends the lines of records; `AllocError` leaves of them what was appended by then.

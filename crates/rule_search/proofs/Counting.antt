@@ -32,12 +32,12 @@ get_or-count_at ks p i (c ∷ cs) (suc n) d h =
     get_or-count_at ks p (i + 1) cs n d (omega (arith, h))
     ∙ ap (λ k. cond (list_any (at_place k) ks) (count_packet p (get_or cs n d)) (get_or cs n d)) (let e : i + 1 + n ≡ i + suc n = omega arith in e)
 
-count_at-none : (p : Packet) (i : ℕ) (cs : List Counted) → count_at [] p i cs ≡ cs
+pub count_at-none : (p : Packet) (i : ℕ) (cs : List Counted) → count_at [] p i cs ≡ cs
 count_at-none p i [] = refl
 count_at-none p i (c ∷ cs) = ap (λ rest. c ∷ rest) (count_at-none p (i + 1) cs)
 
 -- a place that isn't among the others can be counted first
-count_at-first : (k : ℕ) (ks : List ℕ) (p : Packet) (cs : List Counted) (c : Counted) → slice_get cs k ≡ Some c → list_any (at_place k) ks ≡ false → count_at (k ∷ ks) p 0 cs ≡ count_at ks p 0 (set cs k (count_packet p c))
+pub count_at-first : (k : ℕ) (ks : List ℕ) (p : Packet) (cs : List Counted) (c : Counted) → slice_get cs k ≡ Some c → list_any (at_place k) ks ≡ false → count_at (k ∷ ks) p 0 cs ≡ count_at ks p 0 (set cs k (count_packet p c))
 count_at-first k ks p cs c there fresh =
     let xs = count_at (k ∷ ks) p 0 cs in
     let new = set cs k (count_packet p c) in

@@ -1,3 +1,5 @@
 pub mod Walking
 pub mod Counting
 pub mod JumpOrder
+pub mod Alone
+pub mod CallerLemmas

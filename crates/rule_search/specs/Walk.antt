@@ -5,7 +5,8 @@ use Rattle.emu_model.specs.declared.rules.Action.TheVariants.{Allow, Deny, Count
 use Rattle.emu_model.specs.declared.rules.Rule.{Rule}
 use Rattle.emu_model.specs.declared.rules.Verdict.{Verdict}
 use Rattle.emu_model.specs.declared.rules.Verdict.TheVariants.{OverTheLink, Dropped, IntoPipe}
-use Rattle.emu_model.specs.Rules.{Counted, place_of, goes_on, action_at}
+use Rattle.emu_model.specs.declared.packets.Packet.{Packet}
+use Rattle.emu_model.specs.Rules.{Counted, place_of, goes_on, action_at, matched_places}
 
 -- the verdict of a rule that ends the search
 abbrev pub decision : Action → Counted → Option Verdict
@@ -44,3 +45,16 @@ pub record AreJumps (rules : List Rule) (jumps : List ℕ) : Type 0 where
 pub record IsOrdered (rules : List Counted) : Type 0 where
   pub ascends : Ascends rules
   pub forward : All (λ c. GoesForward c.rule.number c.rule.action) rules
+
+-- in a search for the packet that begins at place `start` the rule at place k matches, and no other
+pub record CountsAlone (start : ℕ) (p : Packet) (rules : List Rule) (k : ℕ) : Type 0 where
+  pub within : k < length rules
+  pub places : matched_places start p rules ≡ k ∷ []
+
+-- two packets are the same in all that a rule looks at
+pub record IsAlike (p q : Packet) : Type 0 where
+  pub proto : p.proto ≡ q.proto
+  pub src : p.src ≡ q.src
+  pub sport : p.sport ≡ q.sport
+  pub dst : p.dst ≡ q.dst
+  pub dport : p.dport ≡ q.dport

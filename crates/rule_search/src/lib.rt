@@ -9,7 +9,10 @@ mod search;
 
 pub use counted::{CountedRule, target_of};
 pub use memory::SearchMemory;
-pub use search::{aim, first_behind, first_from, judge, judge_and_count, judge_by_memory};
+pub use search::{
+    Foreseen, NO_RULE, aim, count_at, first_behind, first_from, foresee, judge, judge_and_count,
+    judge_by_memory,
+};
 
 #[cfg(test)]
 mod tests;

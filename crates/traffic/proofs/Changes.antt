@@ -44,7 +44,7 @@ put_states k fs i g place e =
     ∙ replace_first-map (λ (f : KeptFlow). f.state) (λ h. h.number == k) g fs
     ∙ ap states_of (replace_place (has_number k) g fs i place)
 
-same_states : (fs : List KeptFlow) (i : ℕ) (f g : KeptFlow) → f ≡ get_or fs i f → g.state ≡ f.state →
+pub same_states : (fs : List KeptFlow) (i : ℕ) (f g : KeptFlow) → f ≡ get_or fs i f → g.state ≡ f.state →
     states_of (set fs i g) ≡ states_of fs
 same_states fs i f g at e =
     let state = λ (f : KeptFlow). f.state in

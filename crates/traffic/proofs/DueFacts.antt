@@ -1,6 +1,7 @@
 -- The least of many dues, and what holds of each due of a flow or a train.
 use Rattle.std.proofs.Common.{◌≡◌, ℕ, ◌+◌, ◌*◌, ◌<◌, ◌≤◌, Bool, true, false, ◌==◌, cond, List, [], ◌∷◌, ◌++◌, length, get_or, drop, map, refl, sym, ◌∙◌, ap, subst, arith, inl, inr}
-use Rattle.std.specs.Prelude.{Option, Some, None, option_map, option_to_list}
+use Rattle.std.specs.Prelude.{Option, Some, None, IfSome, option_map, option_to_list}
+use Rattle.due_index.specs.Least.{least_of}
 use Rattle.std.specs.List.{All, best_of, flat_map}
 use Rattle.std.proofs.Math.ListN.{get_or-map}
 use Rattle.std.proofs.lemmas.List.{at_drop_more, at_drop_all, append_assoc, append-nil, get_or_default, length-map}
@@ -99,7 +100,7 @@ flow_alone fs ts i f h l at n =
     find-map (λ (f : KeptFlow). f.state) (λ s. s.number == k) fs
     ∙ ap (option_map (λ (f : KeptFlow). f.state)) (find_place (has_number k) fs i f place at)
 
-flow_is_no_train : (fs : List KeptFlow) (ts : List TrainState) (i : ℕ) (f : KeptFlow) → IsSound fs ts → i < length fs → f ≡ get_or fs i f →
+pub flow_is_no_train : (fs : List KeptFlow) (ts : List TrainState) (i : ℕ) (f : KeptFlow) → IsSound fs ts → i < length fs → f ≡ get_or fs i f →
     (n : Net) → find_train f.state.number (with_traffic (kept fs ts) n) ≡ None
 flow_is_no_train fs ts i f h l at n =
     let k = f.state.number in
@@ -202,3 +203,14 @@ module _ (clock : ℕ) (t : KeptTraffic) (fs : List KeptFlow) (ts : List TrainSt
   pub moment_is : (b d : Due) → ((n : Net) → d ≡ best_of is_before b (source_dues clock (with_traffic t n))) → d.moment ≤ b.moment
   moment_is b d e =
       subst (λ (x : Due). x.moment ≤ b.moment) (sym (e initial_net)) (best_of_moment b (source_dues clock (with_traffic t initial_net)))
+
+-- what the least of a due that may be there and of others has, where the due has what it takes
+pub least_has : (C Q : Due → Type 0) (best r : Option Due) (ds : List Due) → r ≡ least_of (option_to_list best ++ ds) →
+    ((b : Due) → C b → Q (best_of is_before b ds)) → IfSome best (λ b. C b → IfSome r Q)
+least_has C Q None r ds e f = tt
+least_has C Q (Some b) r ds e f = λ h. subst (λ o. IfSome o Q) (sym e) (f b h)
+
+pub least_moment : (best r : Option Due) (ds : List Due) → r ≡ least_of (option_to_list best ++ ds) →
+    IfSome best (λ b. IfSome r (λ d. d.moment ≤ b.moment))
+least_moment None r ds e = tt
+least_moment (Some b) r ds e = subst (λ o. IfSome o (λ d. d.moment ≤ b.moment)) (sym e) (best_of_moment b ds)

@@ -1,22 +1,22 @@
 -- What the index of flows and trains comes to.
-use Rattle.std.proofs.Common.{◌≡◌, ℕ, ◌+◌, ◌*◌, ◌<◌, Bool, true, false, ◌&&◌, ◌||◌, nat_lt, cond, List, [], ◌∷◌, ◌++◌, length, get_or, map, set, refl, sym, ap, ◌∙◌, arith, eq-eqb}
+use Rattle.std.proofs.Common.{◌≡◌, ℕ, ◌+◌, ◌*◌, ◌<◌, ◌≤◌, Bool, true, false, ◌&&◌, ◌||◌, ◌==◌, nat_lt, cond, List, [], ◌∷◌, ◌++◌, length, get_or, take, map, refl, sym, ap, subst, ◌∙◌, arith, eq-eqb, inl, inr}
 use Rattle.std.specs.Prelude.{Option, Some, None, option_map, option_to_list}
-use Rattle.std.specs.List.{best_of, flat_map}
-use Rattle.std.proofs.lemmas.Bool.{le-ltb}
-use Rattle.std.proofs.Math.ListN.{get_or-map}
-use Rattle.std.proofs.lemmas.List.{length-map, map-set, set-get_or}
-use Rattle.std.proofs.lemmas.List.Sums.{fold-append}
+use Rattle.std.specs.List.{flat_map}
+use Rattle.std.proofs.lemmas.Bool.{le-ltb, ltb-true, ltb-false, cases_Bool, cases_eq, ne_eqb, both_ways}
+use Rattle.std.proofs.lemmas.List.{length-map, map-append, take_all, take_more}
 use Rattle.emu_model.specs.declared.sources.Due.{Due}
 use Rattle.emu_model.specs.declared.sources.Class.TheVariants.{Expiry, Emission}
 use Rattle.emu_model.specs.Reno.{may_emit}
 use Rattle.emu_model.specs.Net.{FlowState, TrainState}
 use Rattle.emu_model.specs.Dues.{is_before, due, flow_dues, train_dues}
 use Rattle.due_index.specs.Least.{dues_in, least_of, lesser}
-use Rattle.due_index.proofs.CallerLemmas.{least_all, least_all-append, least_all-option, least_leaf, least_of-leaf, best_of-same, lesser-swap}
+use Rattle.due_index.proofs.CallerLemmas.{least_all, least_all-append, least_all-option, least_leaf, least_leaf-dues, least_of-all, least_of-leaf, lesser-assoc, lesser-comm, lesser-none, lesser-swap}
 use Rattle.traffic.specs.declared.index.SourceIndex.{SourceIndex}
 use Rattle.traffic.specs.Kept.{KeptFlow}
 use Rattle.traffic.specs.Sends.{may_send, has_left}
-use Rattle.traffic.specs.Leaves.{expiry_due, emission_due, packet_due, AreIndexed, HasFlowAt}
+use Rattle.traffic.specs.Leaves.{expiry_due, emission_due, packet_due, is_sending, sends_due, IsRight, AreIndexed, HasFlowAt}
+use Rattle.traffic.proofs.Timers.{told_length, is_expiry, no_timer_first}
+use Rattle.traffic.specs.Numbers.{is_in, HasEntry}
 use Rattle.traffic.proofs.DueFacts.{kept_dues}
 
 -- the least of a flow's dues
@@ -107,91 +107,202 @@ segments_least clock (f ∷ fs) =
     by true k = refl
     by false k = refl
 
-abbrev at_clock : ℕ → Due → Due
-at_clock clock d = record d { moment = clock }
+-- the least of the numbers of flows that may send
+abbrev Tells : Option ℕ → (ℕ → Bool) → Type 0
+Tells None p = (j : ℕ) → p j ≡ false
+Tells (Some m) p = (p m ≡ true) × ((j : ℕ) → p j ≡ true → m ≤ j)
 
-segments_later : (clock : ℕ) (fs : List KeptFlow) →
-    option_map (at_clock clock) (least_leaf (map (λ f. emission_due 0 f.state) fs))
-    ≡ least_leaf (map (λ f. emission_due clock f.state) fs)
-segments_later clock fs =
-    ap (option_map (at_clock clock)) (segments_least 0 fs)
-    ∙ by (least_number (map sending_number fs))
-    ∙ sym (segments_least clock fs)
-  where
-    by : (o : Option ℕ) →
-        option_map (at_clock clock) (option_map (segment 0) o) ≡ option_map (segment clock) o
-    by None = refl
-    by (Some k) = refl
+same_tells : (o q : Option ℕ) (p : ℕ → Bool) → Tells o p → Tells q p → o ≡ q
+same_tells None None p h k = refl
+same_tells None (Some n) p h k = absurd (both_ways _ (h n) k.0)
+same_tells (Some m) None p h k = absurd (both_ways _ (k m) h.0)
+same_tells (Some m) (Some n) p h k =
+    let one = h.1 n k.0 in
+    let other = k.1 m h.0 in
+    let e : m ≡ n = omega (arith, one, other) in
+    ap Some e
 
--- one after the other
-pub least_by_index : (clock : ℕ) (fs : List KeptFlow) (ts : List TrainState) (x : SourceIndex)
-    (b b1 b2 b3 : Due)
-    (timer segment later packet : Option Due) → AreIndexed fs ts x →
-    timer ≡ least_of (dues_in x.timers.leaves) → segment ≡ least_of (dues_in x.segments.leaves) →
-    packet ≡ least_of (dues_in x.packets.leaves) → later ≡ option_map (at_clock clock) segment →
-    b1 ≡ best_of is_before b (option_to_list timer) →
-    b2 ≡ best_of is_before b1 (option_to_list later) →
-    b3 ≡ best_of is_before b2 (option_to_list packet) →
-    b3 ≡ best_of is_before b (flat_map (kept_dues clock) fs ++ flat_map train_dues ts)
-least_by_index clock fs ts x b b1 b2 b3 timer segment later packet h e1 e2 e3 moved f1 f2 f3 =
-    let step = λ (b x : Due). cond (is_before x b) x b in
-    let ds = option_to_list timer ++ option_to_list later ++ option_to_list packet in
-    let timers : timer ≡ least_leaf (map (λ f. expiry_due f.state) fs) =
-    e1 ∙ least_of-leaf x.timers.leaves ∙ ap least_leaf h.timers in
-    let segments : later ≡ least_leaf (map (λ f. emission_due clock f.state) fs) =
-    moved ∙ ap (option_map (at_clock clock)) (e2 ∙ least_of-leaf x.segments.leaves
-    ∙ ap least_leaf h.segments)
-    ∙ segments_later clock fs in
+abbrev joined : Bool → ℕ → (ℕ → Bool) → ℕ → Bool
+joined may k p j = (k == j && may) || p j
+
+never : (b c : Bool) → ((b && false) || c) ≡ c
+never true c = refl
+never false c = refl
+
+always : (b c : Bool) → b ≡ true → ((b && true) || c) ≡ true
+always true c e = refl
+always false c e = absurd (cc)
+
+own_or : (b c : Bool) → ((b && true) || c) ≡ true → (b ≡ false → c ≡ true)
+own_or true c e f = absurd (cc)
+own_or false c e f = e
+
+later_or : (b c : Bool) → c ≡ true → ((b && true) || c) ≡ true
+later_or true c e = refl
+later_or false c e = e
+
+joins : (may : Bool) (k : ℕ) (q : Option ℕ) (p : ℕ → Bool) → Tells q p →
+    Tells (lesser_number (cond may (Some k) None) q) (joined may k p)
+joins false k q p h =
+    let same : p ≡ joined false k p = λ t j. sym (never (k == j) (p j)) t in
+    subst (Tells q) same h
+joins true k None p h = (
+  always (k == k) (p k) (eq-eqb k k refl),
+  λ j e. elim (cases_eq k j) [
+    | inl same ↦ let le : k ≤ j = omega (arith, same) in le
+    | inr ne ↦ absurd (both_ways _ (h j) (own_or (k == j) (p j) e (ne_eqb k j ne)))
+  ],
+)
+joins true k (Some m) p h = elim (cases_Bool (nat_lt m k)) [
+  | inl t ↦
+      let below = ltb-true m k t in
+      let all : Tells (Some m) (joined true k p) = (
+        later_or (k == m) (p m) h.0,
+        λ j e. elim (cases_eq k j) [
+          | inl same ↦ let le : m ≤ j = omega (arith, below, same) in le
+          | inr ne ↦ h.1 j (own_or (k == j) (p j) e (ne_eqb k j ne))
+        ],
+      ) in
+      subst (λ b. Tells (Some (cond b m k)) (joined true k p)) (sym t) all
+  | inr f ↦
+      let above = ltb-false m k f in
+      let all : Tells (Some k) (joined true k p) = (
+        always (k == k) (p k) (eq-eqb k k refl),
+        λ j e. elim (cases_eq k j) [
+          | inl same ↦ let le : k ≤ j = omega (arith, same) in le
+          | inr ne ↦
+              let rest = h.1 j (own_or (k == j) (p j) e (ne_eqb k j ne)) in
+              let le : k ≤ j = omega (arith, above, rest) in le
+        ],
+      ) in
+      subst (λ b. Tells (Some (cond b m k)) (joined true k p)) (sym f) all
+]
+
+least_tells : (fs : List KeptFlow) → Tells (least_number (map sending_number fs)) (λ j. is_sending j fs)
+least_tells [] = λ j. refl
+least_tells (f ∷ fs) =
+    joins (may_send f.state) f.state.number (least_number (map sending_number fs)) (λ j. is_sending j fs) (least_tells fs)
+
+-- what may be sent now, from the least number that may
+first_sends : (clock : ℕ) (fs : List KeptFlow) (o : Option ℕ) → Tells o (λ j. is_sending j fs) →
+    option_map (segment clock) o ≡ least_leaf (map (λ f. emission_due clock f.state) fs)
+first_sends clock fs o h =
+    ap (option_map (segment clock)) (same_tells o _ _ h (least_tells fs)) ∙ sym (segments_least clock fs)
+
+sends_least : (clock : ℕ) (fs : List KeptFlow) (ts : List TrainState) →
+    least_of (sends_due clock fs ts)
+    ≡ lesser (least_leaf (map (λ f. emission_due clock f.state) fs)) (least_leaf (map packet_due ts))
+sends_least clock fs ts =
+    let es = map (λ (f : KeptFlow). emission_due clock f.state) fs in
+    let ps = map packet_due ts in
+    least_of-all (dues_in es ++ dues_in ps)
+    ∙ least_all-append (dues_in es) (dues_in ps)
+    ∙ (λ t. lesser (least_leaf-dues es t) (least_leaf-dues ps t))
+
+moved : (a b c : Option Due) → lesser (lesser a b) c ≡ lesser a (lesser c b)
+moved a b c = lesser-assoc a b c ∙ ap (lesser a) (lesser-comm b c)
+
+-- the least of what may be sent and a due, by the index
+pub sending_is : (clock : ℕ) (fs : List KeptFlow) (ts : List TrainState) (x : SourceIndex) (best packet : Option Due)
+    (o : Option ℕ) → AreIndexed fs ts x → packet ≡ least_of (dues_in x.packets.leaves) → Tells o (is_in x.ready) →
+    lesser (lesser best packet) (option_map (segment clock) o) ≡ lesser best (least_of (sends_due clock fs ts))
+sending_is clock fs ts x best packet o h e tells =
+    let same : is_in x.ready ≡ (λ j. is_sending j fs) = λ t j. h.sending j t in
+    let sends = first_sends clock fs o (subst (Tells o) same tells) in
     let packets : packet ≡ least_leaf (map packet_due ts) =
-    e3 ∙ least_of-leaf x.packets.leaves ∙ ap least_leaf h.packets in
-    let all : b3 ≡ best_of is_before b ds =
-    f3 ∙ ap (λ c. best_of is_before c (option_to_list packet)) (f2
-    ∙ ap (λ c. best_of is_before c (option_to_list later)) f1
-    ∙ sym (fold-append step b (option_to_list timer) (option_to_list later)))
-    ∙ sym (fold-append step b (option_to_list timer ++ option_to_list later)
-    (option_to_list packet)) in
-    let one : least_all ds ≡ lesser (lesser timer later) packet =
-    least_all-append (option_to_list timer ++ option_to_list later) (option_to_list packet)
-    ∙ ap (λ o. lesser o (least_all (option_to_list packet)))
-    (least_all-append (option_to_list timer) (option_to_list later)
-    ∙ (λ t. lesser (least_all-option timer t) (least_all-option later t)))
-    ∙ ap (lesser (lesser timer later)) (least_all-option packet) in
-    let other : least_all (flat_map (kept_dues clock) fs ++ flat_map train_dues ts)
-    ≡ lesser (lesser timer later) packet =
-    least_all-append (flat_map (kept_dues clock) fs) (flat_map train_dues ts)
-    ∙ (λ t. lesser ((flows_least clock fs ∙ (λ s. lesser (sym timers s) (sym segments s))) t)
-    ((trains_least ts ∙ sym packets) t)) in
-    all ∙ best_of-same b ds (flat_map (kept_dues clock) fs ++ flat_map train_dues ts) (one
-    ∙ sym other)
+    e ∙ least_of-leaf x.packets.leaves ∙ ap least_leaf h.packets in
+    (λ t. lesser (lesser best (packets t)) (sends t))
+    ∙ moved best (least_leaf (map packet_due ts)) (least_leaf (map (λ f. emission_due clock f.state) fs))
+    ∙ ap (lesser best) (sym (sends_least clock fs ts))
+
+pub tells_none : (p : ℕ → Bool) → ((k : ℕ) → p k ≡ false) → Tells None p
+tells_none p h = h
+
+pub tells_some : (p : ℕ → Bool) (m : ℕ) → p m ≡ true → ((j : ℕ) → p j ≡ true → m ≤ j) → Tells (Some m) p
+tells_some p m here least = (here, least)
+
+-- the timers by themselves beside the rest
+abbrev pub timers_of : List KeptFlow → List (Option Due)
+timers_of fs = map (λ f. expiry_due f.state) fs
+
+-- a due, the first timer and what may be sent come to the least of all
+pub all_least : (clock : ℕ) (fs : List KeptFlow) (ts : List TrainState) (best : Option Due) →
+    lesser (lesser best (least_leaf (timers_of fs))) (least_of (sends_due clock fs ts))
+    ≡ least_of (option_to_list best ++ (flat_map (kept_dues clock) fs ++ flat_map train_dues ts))
+all_least clock fs ts best =
+    let x = least_leaf (timers_of fs) in
+    let e = least_leaf (map (λ (f : KeptFlow). emission_due clock f.state) fs) in
+    let p = least_leaf (map packet_due ts) in
+    let flows = flat_map (kept_dues clock) fs in
+    let trains = flat_map train_dues ts in
+    ap (lesser (lesser best x)) (sends_least clock fs ts)
+    ∙ lesser-assoc best x (lesser e p)
+    ∙ ap (lesser best) (sym (lesser-assoc x e p)
+    ∙ (λ t. lesser (sym (flows_least clock fs) t) (sym (trains_least ts) t))
+    ∙ sym (least_all-append flows trains))
+    ∙ ap (λ o. lesser o (least_all (flows ++ trains))) (sym (least_all-option best))
+    ∙ sym (least_all-append (option_to_list best) (flows ++ trains))
+    ∙ sym (least_of-all (option_to_list best ++ (flows ++ trains)))
+
+-- the least by the index: where it is no timer, and where the first timer is told right
+pub bound_exact : (clock : ℕ) (fs : List KeptFlow) (ts : List TrainState) (x : SourceIndex) (best b : Option Due) →
+    AreIndexed fs ts x →
+    b ≡ lesser (lesser best (least_of (dues_in x.timers.leaves))) (least_of (sends_due clock fs ts)) →
+    is_expiry b ≡ false →
+    b ≡ least_of (option_to_list best ++ (flat_map (kept_dues clock) fs ++ flat_map train_dues ts))
+bound_exact clock fs ts x best b h e no_timer =
+    let os = x.timers.leaves in
+    let sends = least_of (sends_due clock fs ts) in
+    let told : b ≡ lesser (lesser best (least_leaf os)) sends =
+    e ∙ ap (λ o. lesser (lesser best o) sends) (least_of-leaf os) in
+    told ∙ no_timer_first os fs best sends h.timers (ap is_expiry (sym told) ∙ no_timer) ∙ all_least clock fs ts best
+
+pub bound_right : (clock : ℕ) (fs : List KeptFlow) (ts : List TrainState) (x : SourceIndex) (best b : Option Due) →
+    IsRight x.timers.leaves fs →
+    b ≡ lesser (lesser best (least_of (dues_in x.timers.leaves))) (least_of (sends_due clock fs ts)) →
+    b ≡ least_of (option_to_list best ++ (flat_map (kept_dues clock) fs ++ flat_map train_dues ts))
+bound_right clock fs ts x best b right e =
+    let sends = least_of (sends_due clock fs ts) in
+    e ∙ ap (λ o. lesser (lesser best o) sends) (right ∙ least_of-leaf (timers_of fs)) ∙ all_least clock fs ts best
+
+least-push : (os : List (Option Due)) (o : Option Due) → least_leaf (os ++ o ∷ []) ≡ lesser (least_leaf os) o
+least-push [] o = lesser-none o
+least-push (x ∷ os) o = ap (lesser x) (least-push os o) ∙ sym (lesser-assoc x (least_leaf os) o)
+
+-- one timer more
+pub walk_more : (fs : List KeptFlow) (i : ℕ) (f : KeptFlow) (start best next timer : Option Due) → i < length fs →
+    f ≡ get_or fs i f → timer ≡ expiry_due f.state → next ≡ lesser best timer →
+    best ≡ lesser start (least_leaf (timers_of (take i fs))) →
+    next ≡ lesser start (least_leaf (timers_of (take (i + 1) fs)))
+walk_more fs i f start best next timer l at e step h =
+    let more : timers_of (take (i + 1) fs) ≡ timers_of (take i fs) ++ expiry_due f.state ∷ [] =
+    ap timers_of (take_more fs i f l) ∙ map-append (λ (f : KeptFlow). expiry_due f.state) (take i fs) (get_or fs i f ∷ [])
+    ∙ ap (λ (f : KeptFlow). timers_of (take i fs) ++ expiry_due f.state ∷ []) (sym at) in
+    step ∙ (λ t. lesser (h t) (e t))
+    ∙ lesser-assoc start (least_leaf (timers_of (take i fs))) (expiry_due f.state)
+    ∙ ap (lesser start) (sym (least-push (timers_of (take i fs)) (expiry_due f.state)) ∙ ap least_leaf (sym more))
+
+-- all timers
+pub walk_all : (clock : ℕ) (fs : List KeptFlow) (ts : List TrainState) (i : ℕ) (best start last : Option Due) → length fs ≤ i →
+    start ≡ lesser best (least_of (sends_due clock fs ts)) →
+    last ≡ lesser start (least_leaf (timers_of (take i fs))) →
+    last ≡ least_of (option_to_list best ++ (flat_map (kept_dues clock) fs ++ flat_map train_dues ts))
+walk_all clock fs ts i best start last l e h =
+    let sends = least_of (sends_due clock fs ts) in
+    let x = least_leaf (timers_of fs) in
+    h ∙ (λ t. lesser (e t) (least_leaf (timers_of (take_all i fs l t))))
+    ∙ lesser-assoc best sends x ∙ ap (lesser best) (lesser-comm sends x) ∙ sym (lesser-assoc best x sends)
+    ∙ all_least clock fs ts best
 
 -- a place of a flow, and of a train, in the index
-pub flow_indexed : (fs : List KeptFlow) (ts : List TrainState) (x : SourceIndex) (i : ℕ) →
-    AreIndexed fs ts x → i < length fs →
-    HasFlowAt i x
-flow_indexed fs ts x i h l = (
-  omega (arith, l, ap length h.timers, length-map fs (λ (f : KeptFlow). expiry_due f.state)),
-  omega (arith, l, ap length h.segments, length-map fs (λ (f : KeptFlow). emission_due 0 f.state)),
+pub flow_indexed : (fs : List KeptFlow) (ts : List TrainState) (x : SourceIndex) (i k : ℕ) (f : KeptFlow) →
+    AreIndexed fs ts x → i < length fs → f ≡ get_or fs i f → k ≡ f.state.number → HasFlowAt i k x
+flow_indexed fs ts x i k f h l at e = (
+  let long = told_length x.timers.leaves fs h.timers in omega (arith, l, long),
+  subst (λ k. HasEntry k x.ready) (ap (λ (f : KeptFlow). f.state.number) (sym at) ∙ sym e) (h.entries i f l),
 )
 
 pub train_indexed : (fs : List KeptFlow) (ts : List TrainState) (x : SourceIndex) (i : ℕ) →
     AreIndexed fs ts x → i < length ts →
     i < length x.packets.leaves
 train_indexed fs ts x i h l = omega (arith, l, ap length h.packets, length-map ts packet_due)
-
--- a flow of which nothing that is due has changed
-pub flow_as_before : (fs : List KeptFlow) (ts : List TrainState) (x : SourceIndex) (i : ℕ)
-    (f g : KeptFlow) → AreIndexed fs ts x →
-    f ≡ get_or fs i f → expiry_due g.state ≡ expiry_due f.state →
-    emission_due 0 g.state ≡ emission_due 0 f.state →
-    AreIndexed (set fs i g) ts x
-flow_as_before fs ts x i f g h at timer segment = record {
-  timers = h.timers ∙ sym (same (λ (f : KeptFlow). expiry_due f.state) timer);
-  segments = h.segments ∙ sym (same (λ (f : KeptFlow). emission_due 0 f.state) segment);
-  packets = h.packets;
-}
-  where
-    same : (leaf : KeptFlow → Option Due) → leaf g ≡ leaf f → map leaf (set fs i g) ≡ map leaf fs
-    same leaf e =
-        map-set leaf fs i g
-        ∙ ap (set (map leaf fs) i) (e ∙ ap leaf at ∙ sym (get_or-map leaf fs i f))
-        ∙ set-get_or (map leaf fs) i (leaf f)

@@ -3,5 +3,10 @@ pub mod Changes
 pub mod Beginnings
 pub mod Sendings
 pub mod DueFacts
+pub mod Timers
+pub mod Telling
+pub mod Flows
 pub mod Indexes
 pub mod Tables
+pub mod Bits
+pub mod Standing

@@ -1,5 +1,5 @@
 -- What is kept of the flows and trains of an experiment, and a net that stands with them.
-use Rattle.std.specs.Prelude.{◌≡◌, ◌≢◌, ℕ, ◌+◌, ◌*◌, ◌^◌, ◌<◌, ◌≤◌, true, false, ◌==◌, nat_lt, None, List, [], map, length, find, All, AllPairs}
+use Rattle.std.specs.Prelude.{◌≡◌, ◌≢◌, ℕ, ◌+◌, ◌≤◌, true, false, ◌==◌, nat_lt, None, List, [], map, length, find, All, AllPairs}
 use Rattle.std.specs.Option.{option_map_or}
 use Rattle.emu_model.specs.Moments.{IsMoment}
 use Rattle.emu_model.specs.declared.sources.FlowSpec.{FlowSpec}

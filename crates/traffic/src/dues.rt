@@ -5,16 +5,6 @@ ghost use Rattle.std.specs.Prelude.{◌≡◌, ◌+◌, ◌≤◌, ◌++◌, opt
 use due_index::DueNumber;
 use emu_model::Due;
 
-/// The same at another moment (ns), where there is one.
-pub(crate) fn at_moment(moment: u64, due: DueNumber) -> Option<Due>
-    ensures { result ≡ option_map (λ (d : Due). record d { moment = moment }) due }
-{
-    match due.due() {
-        Some(due) => Some(Due { moment, ..due }),
-        None => None,
-    }
-}
-
 /// Appends a due, where there is one.
 pub(crate) fn append(dues: &mut Vec<Due>, due: DueNumber)
     requires { vec_len dues.old + 1 ≤ vec_capacity dues.old }

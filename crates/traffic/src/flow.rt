@@ -69,6 +69,14 @@ impl Flow {
         }
     }
 
+    /// Its number.
+    #[inline(always)]
+    pub(crate) fn number(&self) -> FlowNumber
+        ensures { result ≡ self.now.state.number }
+    {
+        self.number
+    }
+
     /// Its sender sends no more, and takes no acknowledgement.
     pub(crate) fn stop(&mut self)
         ensures { self.new ≡ record self.old { state = record self.old.state { stopped = true } } }
@@ -81,7 +89,7 @@ impl Flow {
     pub(crate) fn send(&self) -> SendSpec
         ensures { result ≡ data_send self.now.state.flow }
     {
-        let flow = self.sender.flow();
+        let flow = self.sender.flow_ref();
         let Some(size) = Size::new(flow.smss.get() + HEADER) else {
             unreachable!()
         };
@@ -95,12 +103,23 @@ impl Flow {
         }
     }
 
+    /// The bytes of its segments with their headers.
+    #[inline(always)]
+    pub(crate) fn size(&self) -> Size
+        ensures { result ≡ (data_send self.now.state.flow).size }
+    {
+        let Some(size) = Size::new(self.sender.flow_ref().smss.get() + HEADER) else {
+            unreachable!()
+        };
+        size
+    }
+
     /// The header of its acknowledgements.
     #[inline(always)]
     pub(crate) fn reply(&self) -> SendSpec
         ensures { result ≡ ack_send self.now.state.flow }
     {
-        let flow = self.sender.flow();
+        let flow = self.sender.flow_ref();
         let Some(size) = Size::new(HEADER) else {
             unreachable!()
         };
@@ -184,6 +203,7 @@ impl Flow {
         ensures ignored { IfNone result ((n : Net) → acknowledged now upto n self.old.state ≡ n) }
         ensures same { IfNone result (self.new ≡ self.old) }
         ensures number { self.new.state.number ≡ self.old.state.number }
+        ensures header { self.new.state.flow ≡ self.old.state.flow }
     {
         if !self.stopped {
             self.sender.ack(now, upto);
@@ -218,6 +238,25 @@ impl Flow {
             cwnd: self.sender.cwnd(),
             ssthresh: self.sender.ssthresh(),
         }
+    }
+
+    /// Its timer.
+    #[inline(always)]
+    pub(crate) fn timer(&self) -> DueNumber
+        ensures { result ≡ expiry_due self.now.state }
+    {
+        if self.stopped {
+            return DueNumber::none();
+        }
+        DueNumber::at_some(self.sender.due(), Source::expiry(self.number))
+    }
+
+    /// A segment may be sent now.
+    #[inline(always)]
+    pub(crate) fn may_send(&self) -> bool
+        ensures { result ≡ may_send self.now.state }
+    {
+        !self.stopped && self.sender.may_emit()
     }
 
     /// What it has due, where the last event was at the moment `clock`.

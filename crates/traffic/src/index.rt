@@ -1,26 +1,48 @@
 //! What is due of each flow and each train, so that the least of it is found without a walk.
 
-ghost use Rattle.std.specs.Prelude.{◌≡◌, ◌<◌, ◌++◌, ◌∷◌, [], List, length, flat_map, slice_set, OnOk};
-ghost use Rattle.std.specs.List.{best_of};
+ghost use Rattle.std.specs.Prelude.{◌≡◌, ◌↔◌, ◌<◌, ◌++◌, ◌∷◌, [], List, length, map, flat_map, option_to_list, slice_index_or, slice_set, IfNone, IfSome, IsTrue, None, OnOk};
 ghost use Rattle.emu_model.specs.Net.{TrainState};
-ghost use Rattle.emu_model.specs.Dues.{is_before, flow_dues, train_dues};
-ghost use Rattle.traffic.specs.Kept.{KeptFlow};
-ghost use Rattle.traffic.specs.Leaves.{AreIndexed, HasFlowAt, HasFlowRoom};
+ghost use Rattle.emu_model.specs.Dues.{flow_dues, train_dues};
+ghost use Rattle.due_index.specs.Least.{lesser, least_of, dues_in};
+ghost use Rattle.traffic.specs.Kept.{KeptFlow, AreDifferent};
+ghost use Rattle.traffic.specs.Numbers.{IsWhole};
+ghost use Rattle.traffic.specs.Leaves.{AreIndexed, AreTold, AreFound, IsRight, IsEarlyAt, HasFlowAt, HasFlowRoom, sends_due};
 
-use crate::dues::at_moment;
 use crate::flow::Flow;
+use crate::numbers::NumberSet;
 use crate::train::Train;
-use due_index::DueIndex;
-use emu_model::Due;
+use due_index::{DueIndex, DueNumber};
+use emu_model::{Class, Source};
+use number_table::NumberTable;
 use std::alloc::{AllocError, Global};
 
-/// The timers of flows, the segments that they may send, as if the clock stood at 0, and the packets
-/// of trains, each by the place of its source.
+/// The timers of flows, each told late: what stands there for a flow is its due or comes before it, so that
+/// only a timer that is set to come earlier changes the tree. The numbers of the flows that may send a
+/// segment. The packets of trains. Timers and packets by the place of their source.
 #[derive(Drop)]
 pub(crate) struct SourceIndex {
     timers: DueIndex,
-    segments: DueIndex,
+    ready: NumberSet,
     packets: DueIndex,
+}
+
+// They are the same.
+fn is_same(first: DueNumber, second: DueNumber) -> bool
+    ensures { IsTrue result ↔ (first ≡ second) }
+{
+    first == second
+}
+
+// A timer is told late at a place: it changes what stands there only where it comes before that.
+#[inline(always)]
+fn tell(timers: &mut DueIndex, place: usize, timer: DueNumber)
+    requires { place < length timers.old.leaves }
+    ensures { timers.new.leaves ≡ slice_set timers.old.leaves place
+        (lesser (slice_index_or timers.old.leaves place None) timer) }
+{
+    if timer.is_before(timers.at(place)) {
+        timers.set(place, timer);
+    }
 }
 
 impl SourceIndex {
@@ -30,19 +52,19 @@ impl SourceIndex {
     {
         SourceIndex {
             timers: DueIndex::new(alloc),
-            segments: DueIndex::new(alloc),
+            ready: NumberSet::new(alloc),
             packets: DueIndex::new(alloc),
         }
     }
 
     /// Makes the growth of one `add_flow`. Only room grows, also where it is refused.
-    pub(crate) fn flow_ready(&mut self) -> Result<(), AllocError>
+    pub(crate) fn flow_ready(&mut self, number: u16) -> Result<(), AllocError>
         ensures same { (fs : List KeptFlow) (ts : List TrainState) → AreIndexed fs ts self.old →
             AreIndexed fs ts self.new }
-        ensures ready { OnOk result (HasFlowRoom self.new) }
+        ensures ready { OnOk result (HasFlowRoom number self.new) }
     {
-        self.timers.push_ready()?;
-        self.segments.push_ready()
+        self.ready.ready(number)?;
+        self.timers.push_ready()
     }
 
     /// Makes the growth of one `add_train`. Only room grows, also where it is refused.
@@ -56,13 +78,12 @@ impl SourceIndex {
 
     /// One flow more, behind all others.
     pub(crate) fn add_flow(&mut self, flow: &Flow)
-        requires { HasFlowRoom self.old }
+        requires { HasFlowRoom flow.now.state.number self.old }
         ensures { (fs : List KeptFlow) (ts : List TrainState) → AreIndexed fs ts self.old →
             AreIndexed (fs ++ flow.now ∷ []) ts self.new }
     {
-        let dues = flow.dues(0);
-        self.timers.push(dues.expiry);
-        self.segments.push(dues.emission);
+        self.timers.push(flow.timer());
+        self.ready.add(flow.number().get(), flow.may_send());
     }
 
     /// One train more, behind all others.
@@ -74,16 +95,17 @@ impl SourceIndex {
         self.packets.push(train.due());
     }
 
-    /// A flow has changed.
+    /// A flow has changed, but for its number.
     #[inline(always)]
     pub(crate) fn set_flow(&mut self, place: usize, flow: &Flow)
-        requires { HasFlowAt place self.old }
-        ensures { (fs : List KeptFlow) (ts : List TrainState) → AreIndexed fs ts self.old →
+        requires { HasFlowAt place flow.now.state.number self.old }
+        ensures { (fs : List KeptFlow) (ts : List TrainState) (f : KeptFlow) →
+            AreIndexed fs ts self.old → AreDifferent (map (λ f. f.state.number) fs) →
+            f ≡ slice_index_or fs place f → flow.now.state.number ≡ f.state.number →
             AreIndexed (slice_set fs place flow.now) ts self.new }
     {
-        let dues = flow.dues(0);
-        self.timers.set(place, dues.expiry);
-        self.segments.set(place, dues.emission);
+        tell(&mut self.timers, place, flow.timer());
+        self.ready.set(flow.number().get(), flow.may_send());
     }
 
     /// A train has changed.
@@ -96,15 +118,137 @@ impl SourceIndex {
         self.packets.set(place, train.due());
     }
 
-    /// The least of a due and those of all flows and trains, where the last event was at the moment
-    /// `clock`.
-    pub(crate) fn earliest(&self, clock: u64, best: Due) -> Due
-        ensures { (fs : List KeptFlow) (ts : List TrainState) → AreIndexed fs ts self.now →
-            result ≡ best_of is_before best
-            (flat_map (λ f. flow_dues clock f.state) fs ++ flat_map train_dues ts) }
+    /// The place of a flow whose timer is told as the first and is due later; None where none is.
+    fn told_early(&self, flows: &[Flow], places: &NumberTable) -> Option<usize>
+        requires told { AreTold self.now.timers.leaves flows.now }
+        requires flows { AreFound flows.now places.now }
+        ensures right { IfNone result (IsRight self.now.timers.leaves flows.now) }
+        ensures early { IfSome result (λ i. IsEarlyAt i self.now.timers.leaves flows.now) }
     {
-        let best = best.or_earlier(self.timers.least().due());
-        let best = best.or_earlier(at_moment(clock, self.segments.least()));
-        best.or_earlier(self.packets.least().due())
+        let told = self.timers.least();
+        if told.is_none() {
+            return None;
+        }
+        let Some(flow) = told.flow() else {
+            return None;
+        };
+        let Some(place) = places.get(flow.get()) else {
+            return None;
+        };
+        if is_same(flows[place].timer(), told) {
+            return None;
+        }
+        Some(place)
+    }
+
+    /// The first timer is told right from now on.
+    #[inline(never)]
+    fn settle(&mut self, flows: &[Flow], places: &NumberTable)
+        requires told { AreTold self.old.timers.leaves flows.now }
+        requires flows { AreFound flows.now places.now }
+        ensures told { AreTold self.new.timers.leaves flows.now }
+        ensures rest { self.new ≡ record self.old { timers = self.new.timers } }
+        ensures right { IsRight self.new.timers.leaves flows.now }
+    {
+        'telling: loop {
+            let Some(place) = self.told_early(flows, places) else {
+                return;
+            };
+            self.timers.set(place, flows[place].timer());
+        }
+    }
+
+    /// The least of a due and what may be sent, where the last event was at the moment `clock`.
+    #[inline(always)]
+    fn sending(&self, clock: u64, best: DueNumber) -> DueNumber
+        requires { IsWhole self.now.ready }
+        ensures { (fs : List KeptFlow) (ts : List TrainState) → AreIndexed fs ts self.now →
+            result ≡ lesser best (least_of (sends_due clock fs ts)) }
+    {
+        let best = best.or_earlier(self.packets.least());
+        match self.ready.first() {
+            Some(number) => {
+                let class = Class::Emission;
+                best.or_earlier(DueNumber::at(clock, Source { class, number }))
+            }
+            None => best,
+        }
+    }
+
+    /// The same, and the timers as they are told.
+    #[inline(always)]
+    fn bound(&self, clock: u64, best: DueNumber) -> DueNumber
+        requires { IsWhole self.now.ready }
+        ensures { (fs : List KeptFlow) (ts : List TrainState) → AreIndexed fs ts self.now →
+            result ≡ lesser (lesser best (least_of (dues_in self.now.timers.leaves)))
+            (least_of (sends_due clock fs ts)) }
+    {
+        self.sending(clock, best.or_earlier(self.timers.least()))
+    }
+
+    /// The least of a due and those of all flows and trains, where the last event was at the moment
+    /// `clock`: these are the flows, and the places by their numbers.
+    pub(crate) fn earliest(
+        &self,
+        flows: &[Flow],
+        places: &NumberTable,
+        clock: u64,
+        best: DueNumber,
+    ) -> DueNumber
+        requires told { AreTold self.now.timers.leaves flows.now }
+        requires whole { IsWhole self.now.ready }
+        requires flows { AreFound flows.now places.now }
+        ensures { (ts : List TrainState) → AreIndexed flows.now ts self.now →
+            result ≡ least_of (option_to_list best
+            ++ (flat_map (λ f. flow_dues clock f.state) flows.now ++ flat_map train_dues ts)) }
+    {
+        let bound = self.bound(clock, best);
+        if !bound.is_expiry() {
+            return bound;
+        }
+        match self.told_early(flows, places) {
+            Some(_) => self.earliest_by_walk(flows, clock, best),
+            None => bound,
+        }
+    }
+
+    // The same; each timer is looked at.
+    fn earliest_by_walk(&self, flows: &[Flow], clock: u64, best: DueNumber) -> DueNumber
+        requires { IsWhole self.now.ready }
+        ensures { (ts : List TrainState) → AreIndexed flows.now ts self.now →
+            result ≡ least_of (option_to_list best
+            ++ (flat_map (λ f. flow_dues clock f.state) flows.now ++ flat_map train_dues ts)) }
+    {
+        let mut best = self.sending(clock, best);
+        for flow in flows {
+            best = best.or_earlier(flow.timer());
+        }
+        best
+    }
+
+    /// The same; a timer that comes first is told right from then on.
+    #[inline(always)]
+    pub(crate) fn settled_earliest(
+        &mut self,
+        flows: &[Flow],
+        places: &NumberTable,
+        clock: u64,
+        best: DueNumber,
+    ) -> DueNumber
+        requires told { AreTold self.old.timers.leaves flows.now }
+        requires whole { IsWhole self.old.ready }
+        requires flows { AreFound flows.now places.now }
+        ensures least { (ts : List TrainState) → AreIndexed flows.now ts self.old →
+            result ≡ least_of (option_to_list best
+            ++ (flat_map (λ f. flow_dues clock f.state) flows.now ++ flat_map train_dues ts)) }
+        ensures indexed { (ts : List TrainState) → AreIndexed flows.now ts self.old →
+            AreIndexed flows.now ts self.new }
+    {
+        let bound = self.bound(clock, best);
+        if !bound.is_expiry() {
+            return bound;
+        }
+        self.settle(flows, places);
+        self.bound(clock, best)
     }
 }

@@ -5,9 +5,10 @@
 mod dues;
 mod flow;
 mod index;
+mod numbers;
 mod sends;
 mod sources;
 mod train;
 
 pub use sends::{Sending, Window};
-pub use sources::Traffic;
+pub use sources::{SourcePlace, Traffic};

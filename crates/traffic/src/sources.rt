@@ -1,16 +1,18 @@
 //! All flows and trains.
 
-ghost use Rattle.std.specs.Prelude.{◌≡◌, ℕ, ◌+◌, ◌*◌, ◌^◌, ◌<◌, ◌≤◌, ◌++◌, [], is_some, option_map, position, ◌==◌, length, vec_len, vec_capacity, IfNone, IsOk, OnOk, OnErr};
+ghost use Rattle.std.specs.Prelude.{◌≡◌, ℕ, ◌+◌, ◌*◌, ◌^◌, ◌<◌, ◌≤◌, ◌++◌, [], is_some, option_map, option_to_list, position, ◌==◌, length, vec_len, vec_capacity, IfNone, IfSome, IsOk, OnOk, OnErr};
 ghost use Rattle.std.specs.Option.{option_map_or};
 ghost use Rattle.std.specs.List.{best_of};
 ghost use Rattle.emu_model.specs.Moments.{IsMoment};
 ghost use Rattle.emu_model.specs.declared.records.Record.TheVariants.{AckTaken, TimerExpired};
 ghost use Rattle.emu_model.specs.declared.commands.Setting.{Setting};
-ghost use Rattle.emu_model.specs.Net.{Net, find_flow, make, note, take_segment, take_ack as acknowledged};
+ghost use Rattle.emu_model.specs.Net.{Net, find_flow, make, note, ack_send, take_segment, take_ack as acknowledged};
 ghost use Rattle.emu_model.specs.Commands.{is_in_use, source_refusal, start_flow as with_flow, start_train as with_train, stop_flow};
 ghost use Rattle.emu_model.specs.Dues.{is_before};
 ghost use Rattle.emu_model.specs.Events.{emission, expire_flow};
 ghost use Rattle.traffic.specs.Kept.{with_traffic, IsFree, HasRoomFor};
+ghost use Rattle.due_index.specs.Least.{least_of};
+ghost use Rattle.traffic.specs.Standing.{flow_place, source_place, IsThere, MaySendAt, MayTakeAt, heads_of, send_at, reply_at};
 ghost use Rattle.traffic.specs.Sends.{IsEmitting, IsAllowed, IsNumbered, next_send, reply_send, source_dues};
 
 use crate::dues::append;
@@ -18,13 +20,21 @@ use crate::flow::Flow;
 use crate::index::SourceIndex;
 use crate::sends::{Sending, Window};
 use crate::train::Train;
-use emu_model::{Class, Due, FlowNumber, FlowSpec, Refusal, SendSpec, TrainSpec};
+use due_index::DueNumber;
+use emu_model::{Class, Due, FlowNumber, FlowSpec, Refusal, SendSpec, Size, TrainSpec};
 use number_table::NumberTable;
 use std::alloc::{AllocError, Global};
 use std::marker::Model;
 
 /// How many flows and trains there may be.
 const MOST_SOURCES: usize = 256;
+
+/// Where a source stands among the flows or among the trains.
+#[derive(Clone, Copy)]
+pub enum SourcePlace {
+    Flow(usize),
+    Train(usize),
+}
 
 /// All flows and trains of one experiment. No two have one number. A contract sees them as those of
 /// a net, whatever else that net holds, and how many segments each receiver takes without memory.
@@ -101,7 +111,7 @@ impl Traffic {
     {
         self.flows.reserve(1)?;
         self.flow_places.ready(number.get())?;
-        self.index.flow_ready()?;
+        self.index.flow_ready(number.get())?;
         let flow = Flow::new(self.alloc, number, flow);
         self.index.add_flow(&flow);
         self.flow_places.set(number.get(), self.flows.len());
@@ -173,6 +183,7 @@ impl Traffic {
             (with_traffic self.new n) }
         ensures header { (n : Net) →
             option_map (λ s. s.send) result ≡ next_send number (with_traffic self.old n) }
+        ensures heads { heads_of self.new ≡ heads_of self.old }
     {
         if let Some(place) = self.train_place(number) {
             let train = &mut self.trains[place];
@@ -208,6 +219,7 @@ impl Traffic {
         ensures others { (k : ℕ) → HasRoomFor k self.old → HasRoomFor k self.new }
         ensures succeeds { HasRoomFor number self.old → IsOk result }
         ensures same { (n : Net) → with_traffic self.new n ≡ with_traffic self.old n }
+        ensures heads { heads_of self.new ≡ heads_of self.old }
     {
         let Some(place) = self.flow_place(number) else {
             return Ok(());
@@ -227,6 +239,7 @@ impl Traffic {
             (with_traffic self.new n) }
         ensures header { (n : Net) →
             option_map (λ s. s.send) result ≡ reply_send number (with_traffic self.old n) }
+        ensures heads { heads_of self.new ≡ heads_of self.old }
     {
         let Some(place) = self.flow_place(number) else {
             return None;
@@ -240,11 +253,12 @@ impl Traffic {
     #[inline(always)]
     pub fn take_ack(&mut self, now: u64, number: FlowNumber, upto: u64) -> Option<Window>
         requires early { IsMoment now }
-        ensures { (n : Net) → let m = with_traffic self.old n in
+        ensures taken { (n : Net) → let m = with_traffic self.old n in
             option_map_or (acknowledged now upto m) (find_flow number m) m
             ≡ option_map_or
             (λ w. note (AckTaken now number w.cwnd w.ssthresh) (with_traffic self.new n)) result
             (with_traffic self.new n) }
+        ensures heads { heads_of self.new ≡ heads_of self.old }
     {
         let Some(place) = self.flow_place(number) else {
             return None;
@@ -258,11 +272,13 @@ impl Traffic {
     /// A flow's timer came due: its sender's windows after it; None where there is no such flow.
     pub fn expire(&mut self, now: u64, number: FlowNumber) -> Option<Window>
         requires early { IsMoment now }
-        ensures { (at : Setting) (n : Net) → at.now ≡ now → let m = with_traffic self.old n in
+        ensures expired { (at : Setting) (n : Net) → at.now ≡ now →
+            let m = with_traffic self.old n in
             option_map_or (expire_flow at m) (find_flow number m) m
             ≡ option_map_or
             (λ w. note (TimerExpired now number w.cwnd w.ssthresh)
             (with_traffic self.new n)) result (with_traffic self.new n) }
+        ensures heads { heads_of self.new ≡ heads_of self.old }
     {
         let Some(place) = self.flow_place(number) else {
             return None;
@@ -282,7 +298,27 @@ impl Traffic {
         ensures allowed { IsAllowed self.now best → IsAllowed self.now result }
         ensures numbered { IsNumbered best → IsNumbered result }
     {
-        self.index.earliest(clock, best)
+        let first = DueNumber::at(best.moment, best.source);
+        let least = self
+            .index
+            .earliest(&self.flows, &self.flow_places, clock, first);
+        least.some()
+    }
+
+    /// The same as one number, which may be none. Only what is kept of timers changes, which nothing shows: where
+    /// nothing changes else, the next call finds the least at once.
+    #[inline(always)]
+    pub fn settled_earliest(&mut self, clock: u64, best: DueNumber) -> DueNumber
+        ensures least { (n : Net) → result ≡ least_of (option_to_list best
+            ++ source_dues clock (with_traffic self.old n)) }
+        ensures moment { IfSome best (λ b. IfSome result (λ d. d.moment ≤ b.moment)) }
+        ensures allowed { IfSome best (λ b. IsAllowed self.old b →
+            IfSome result (IsAllowed self.old)) }
+        ensures numbered { IfSome best (λ b. IsNumbered b → IfSome result IsNumbered) }
+        ensures same { self.new ≡ self.old }
+    {
+        self.index
+            .settled_earliest(&self.flows, &self.flow_places, clock, best)
     }
 
     /// Appends the dues of all flows and trains, or leaves `dues` as it was: that only where it has no room for two of
@@ -306,6 +342,135 @@ impl Traffic {
             append(dues, train.due());
         }
         Ok(())
+    }
+
+    /// The bytes of each acknowledgement (our choice).
+    #[inline(always)]
+    pub fn reply_size() -> Size
+        ensures { (f : FlowSpec) → result ≡ (ack_send f).size }
+    {
+        Size::new(40).unwrap()
+    }
+
+    /// Where the source of this number stands; None where there is none.
+    #[inline(always)]
+    pub fn find(&self, number: FlowNumber) -> Option<SourcePlace>
+        ensures place { result ≡ source_place number self.now }
+        ensures there { IfSome result (λ p. IsThere p self.now) }
+        ensures header { IfSome result (λ p. (n : Net) →
+            next_send number (with_traffic self.now n) ≡ send_at p (heads_of self.now)) }
+        ensures none { IfNone result
+            ((n : Net) → next_send number (with_traffic self.now n) ≡ None) }
+        ensures still { IfNone result ((at : Setting) (n : Net) →
+            emission at number (with_traffic self.now n) ≡ with_traffic self.now n) }
+    {
+        let _ = &self.alloc;
+        if let Some(place) = self.flow_place(number) {
+            return Some(SourcePlace::Flow(place));
+        }
+        match self.train_place(number) {
+            Some(place) => Some(SourcePlace::Train(place)),
+            None => None,
+        }
+    }
+
+    /// The bytes of what `emit_at` sends there.
+    #[inline(always)]
+    pub fn size_at(&self, source: &SourcePlace) -> Size
+        requires { IsThere source.now self.now }
+        ensures { (k : ℕ) (n : Net) → source_place k self.now ≡ Some source.now →
+            option_map (λ s. s.size) (next_send k (with_traffic self.now n)) ≡ Some result }
+    {
+        match source {
+            SourcePlace::Flow(place) => self.flows[*place].size(),
+            SourcePlace::Train(place) => self.trains[*place].send().size,
+        }
+    }
+
+    /// The header of what is sent from there.
+    #[inline(always)]
+    pub fn header_at(&self, source: &SourcePlace) -> SendSpec
+        requires { IsThere source.now self.now }
+        ensures { (k : ℕ) (n : Net) → source_place k self.now ≡ Some source.now →
+            next_send k (with_traffic self.now n) ≡ Some result }
+    {
+        match source {
+            SourcePlace::Flow(place) => self.flows[*place].send(),
+            SourcePlace::Train(place) => self.trains[*place].send(),
+        }
+    }
+
+    /// What is sent from there, which may send.
+    #[inline(always)]
+    pub fn emit_at(&mut self, now: u64, source: &SourcePlace) -> Sending
+        requires early { IsMoment now }
+        requires may { MaySendAt source.now self.old }
+        ensures emission { (at : Setting) (k : ℕ) (n : Net) → at.now ≡ now →
+            source_place k self.old ≡ Some source.now →
+            emission at k (with_traffic self.old n)
+            ≡ make at result.load result.send (with_traffic self.new n) }
+        ensures header { (k : ℕ) (n : Net) → source_place k self.old ≡ Some source.now →
+            next_send k (with_traffic self.old n) ≡ Some result.send }
+        ensures heads { heads_of self.new ≡ heads_of self.old }
+    {
+        match source {
+            SourcePlace::Flow(place) => {
+                let flow = &mut self.flows[*place];
+                let sending = flow.emit(now);
+                self.index.set_flow(*place, flow);
+                sending
+            }
+            SourcePlace::Train(place) => {
+                let train = &mut self.trains[*place];
+                let sending = train.emit();
+                self.index.set_train(*place, train);
+                sending
+            }
+        }
+    }
+
+    /// Where the flow of this number stands.
+    #[inline(always)]
+    pub fn flow_at(&self, number: FlowNumber) -> Option<usize>
+        ensures place { result ≡ flow_place number self.now }
+        ensures there { IfSome result (λ i. i < length self.now.flows) }
+        ensures header { IfSome result (λ i. (n : Net) →
+            reply_send number (with_traffic self.now n) ≡ reply_at i (heads_of self.now)) }
+        ensures none { IfNone result
+            ((n : Net) → find_flow number (with_traffic self.now n) ≡ None) }
+    {
+        let _ = &self.alloc;
+        self.flow_place(number)
+    }
+
+    /// `take_ready` of the flow at a place.
+    #[inline(always)]
+    pub fn take_ready_at(&mut self, place: usize, first: u64) -> Result<(), AllocError>
+        requires { place < length self.old.flows }
+        ensures ready { (k : ℕ) → flow_place k self.old ≡ Some place →
+            OnOk result (HasRoomFor k self.new) }
+        ensures others { (k : ℕ) → HasRoomFor k self.old → HasRoomFor k self.new }
+        ensures succeeds { (k : ℕ) → flow_place k self.old ≡ Some place →
+            HasRoomFor k self.old → IsOk result }
+        ensures same { (n : Net) → with_traffic self.new n ≡ with_traffic self.old n }
+        ensures heads { heads_of self.new ≡ heads_of self.old }
+    {
+        self.flows[place].take_ready(first)
+    }
+
+    /// `take` of the flow at a place.
+    #[inline(always)]
+    pub fn take_at(&mut self, place: usize, first: u64) -> Sending
+        requires { MayTakeAt place self.old }
+        ensures taken { (at : Setting) (k : ℕ) (n : Net) → flow_place k self.old ≡ Some place →
+            let m = with_traffic self.old n in
+            option_map_or (take_segment at first m) (find_flow k m) m
+            ≡ make at result.load result.send (with_traffic self.new n) }
+        ensures header { (k : ℕ) (n : Net) → flow_place k self.old ≡ Some place →
+            reply_send k (with_traffic self.old n) ≡ Some result.send }
+        ensures heads { heads_of self.new ≡ heads_of self.old }
+    {
+        self.flows[place].take(first)
     }
 
     /// There is a flow or a train of this number.

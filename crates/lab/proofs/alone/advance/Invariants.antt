@@ -1,12 +1,13 @@
-use Rattle.std.proofs.Common.{◌≡◌, ◌-◌, None}
+use Rattle.std.proofs.Common.{◌≡◌, ◌-◌, ℕ, List, None}
 use Rattle.packet_store.specs.Own.{own_pocket}
-use Rattle.experiment.specs.Kept.{IsHousedIn, IsAlone}
+use Rattle.experiment.specs.Kept.{IsHousedIn}
+use Rattle.lab.specs.Telling.{IsTold}
 use Rattle.lab.proofs.alone.advance.Given as goal
 
 abbrev pub invariant-loop-experiment : goal.invariant-loop-experiment
 invariant-loop-experiment g l = record {
   housed : IsHousedIn (own_pocket l.shelf) l.experiment;
-  alone : IsAlone (own_pocket l.initial.shelf) l.initial.experiment → IsAlone (own_pocket l.shelf) l.experiment;
+  told : (head : List ℕ) → IsTold head l.initial.telling (own_pocket l.initial.shelf) l.initial.experiment → IsTold head l.telling (own_pocket l.shelf) l.experiment;
   spec : l.experiment.spec ≡ l.initial.experiment.spec;
   consumed : l.experiment.consumed ≡ l.initial.experiment.consumed;
   going : l.initial.experiment.ending ≡ None → l.experiment.ending ≡ None;

@@ -1,13 +1,14 @@
 use Rattle.std.proofs.Common.{refl, ap, ◌∙◌, ◌+◌, arith, drop, inl, inr, Err}
 use Rattle.std.specs.Prelude.{is_some}
 use Rattle.packet_store.specs.Own.{own_pocket}
+use Rattle.lab.proofs.Tellings.{told-step}
 use Rattle.lab.proofs.Turns.{early, not-before, one-more, goes-on, has-ended, played-all, is-none, is-some, drop-end}
 use Rattle.lab.proofs.alone.play.Goals as goal
 
 pub loop-command-init : goal.loop-command-init
 loop-command-init g c = record {
   housed = c.requires.housed;
-  alone = λ a. a;
+  told = λ head h. h;
   spec = refl;
   consumed = c.requires.new.consumed;
   ending = c.requires.new.ending;
@@ -18,8 +19,14 @@ loop-command-init g c = record {
 pub apply-requires : goal.apply-requires
 apply-requires g c = early c.args.commands.now c.loop-command.command-index c.command-item.result c.requires.in_order c.loop-command-test.true c.command-item.is
 
-pub advance-requires : goal.advance-requires
-advance-requires g c = c.apply.ensures.housed _ c.loop-command.invariant.housed
+pub advance-requires-clause-housed : goal.advance-requires-clause-housed
+advance-requires-clause-housed g c = c.apply.ensures.housed _ c.loop-command.invariant.housed
+
+pub advance-requires-clause-told : goal.advance-requires-clause-told
+advance-requires-clause-told g c =
+    let p = own_pocket c.loop-command.shelf in
+    let head = c.requires.told.0 in
+    (head, told-step head c.loop-command.telling p p c.loop-command.experiment c.apply.new.self (c.loop-command.invariant.told head c.requires.told.1) (λ earlier. c.apply.ensures.after earlier p))
 
 pub loop-command-preserved : goal.loop-command-preserved
 loop-command-preserved g c =
@@ -29,7 +36,8 @@ loop-command-preserved g c =
     let ending = ap (λ o. o) (is-none c.advance.new.experiment.ending c.is_some.result c.if-is_some.false (c.is_some.ensures ∙ ap is_some c.ending.ensures)) in
     record {
       housed = moved.housed;
-      alone = λ a. moved.alone (c.apply.ensures.alone (own_pocket c.loop-command.shelf) (inv.alone a));
+      told = λ head h. moved.told head (told-step head c.loop-command.telling (own_pocket c.loop-command.shelf) (own_pocket c.loop-command.shelf) c.loop-command.experiment c.apply.new.self (inv.told head h)
+          (λ earlier. c.apply.ensures.after earlier (own_pocket c.loop-command.shelf)));
       spec = moved.spec ∙ ap (λ e. e.spec) put ∙ inv.spec;
       consumed = moved.consumed ∙ ap (λ e. e.consumed) put ∙ one-more c.args.commands.now c.loop-command.experiment.consumed c.loop-command.command-index c.command-item.result c.loop-command-test.true c.command-item.is inv.consumed;
       ending = ending;
@@ -42,7 +50,7 @@ returns-after-loop-command g c =
     let inv = c.loop-command.invariant in
     record {
       housed = inv.housed;
-      alone = inv.alone;
+      told = inv.told;
       spec = inv.spec;
       rest = drop c.loop-command.command-index c.args.commands.now;
       all = played-all c.args.commands.now c.loop-command.experiment.consumed c.loop-command.command-index inv.consumed;
@@ -58,7 +66,8 @@ returns-then-is_some g c =
     let ended = is-some c.advance.new.experiment.ending c.is_some.result c.if-is_some.true (c.is_some.ensures ∙ ap is_some c.ending.ensures) in
     record {
       housed = moved.housed;
-      alone = λ a. moved.alone (c.apply.ensures.alone (own_pocket c.loop-command.shelf) (inv.alone a));
+      told = λ head h. moved.told head (told-step head c.loop-command.telling (own_pocket c.loop-command.shelf) (own_pocket c.loop-command.shelf) c.loop-command.experiment c.apply.new.self (inv.told head h)
+          (λ earlier. c.apply.ensures.after earlier (own_pocket c.loop-command.shelf)));
       spec = moved.spec ∙ ap (λ e. e.spec) put ∙ inv.spec;
       rest = drop (c.loop-command.command-index + 1) c.args.commands.now;
       all = played-all c.args.commands.now c.advance.new.experiment.consumed (c.loop-command.command-index + 1) (

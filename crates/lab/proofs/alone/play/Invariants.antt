@@ -1,12 +1,13 @@
-use Rattle.std.proofs.Common.{◌≡◌, ◌≤◌, None, take}
+use Rattle.std.proofs.Common.{◌≡◌, ◌≤◌, ℕ, List, None, take}
 use Rattle.packet_store.specs.Own.{own_pocket}
-use Rattle.experiment.specs.Kept.{IsHousedIn, IsAlone}
+use Rattle.experiment.specs.Kept.{IsHousedIn}
+use Rattle.lab.specs.Telling.{IsTold}
 use Rattle.lab.proofs.alone.play.Given as goal
 
 abbrev pub invariant-loop-command : goal.invariant-loop-command
 invariant-loop-command g l = record {
   housed : IsHousedIn (own_pocket l.shelf) l.experiment;
-  alone : IsAlone (own_pocket l.initial.shelf) l.initial.experiment → IsAlone (own_pocket l.shelf) l.experiment;
+  told : (head : List ℕ) → IsTold head l.initial.telling (own_pocket l.initial.shelf) l.initial.experiment → IsTold head l.telling (own_pocket l.shelf) l.experiment;
   spec : l.experiment.spec ≡ l.initial.experiment.spec;
   consumed : l.experiment.consumed ≡ take l.command-index l.commands;
   ending : l.experiment.ending ≡ None;

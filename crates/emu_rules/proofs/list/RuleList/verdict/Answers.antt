@@ -1,4 +1,4 @@
-use Rattle.std.proofs.Common.{◌≡◌, ◌∙◌, sym, subst, ap}
+use Rattle.std.proofs.Common.{◌∙◌, sym, subst, ap}
 use Rattle.std.proofs.lemmas.List.{with_items_is}
 use Rattle.emu_model.specs.Rules.{the_rules, matched_places, counted_rules}
 use Rattle.rule_search.specs.Findings.{IsTrueOf}

@@ -1,23 +1,43 @@
 use Rattle.emu_model.specs.Net.{make as made_of}
 use Rattle.network.specs.Kept.{KeptNet, net_of, Stands}
+use Rattle.network.specs.declared.ways.Passage.{Passage}
 use Rattle.network.specs.Ready.{CanMake}
 use Rattle.std.proofs.Common.{refl, sym, subst}
 use Rattle.network.specs.contracts.state.Network.{the_view}
 use Rattle.network.proofs.Steps.{at_view, from_view}
 use Rattle.std.proofs.Common.{arith}
-use Rattle.network.proofs.AsReady.{IsRoomy}
-use Rattle.network.proofs.Arriving.{packet-ready, made-passes, made-dropped}
+use Rattle.network.proofs.AsReady.{IsRoomy, roomy-same}
+use Rattle.network.proofs.Arriving.{packet-ready, packet-known, made-passes, made-dropped}
 use Rattle.network.proofs.state.Network.make.Goals as goal
+
+pub pass_on_line-requires-clause-ready : goal.pass_on_line-requires-clause-ready
+pass_on_line-requires-clause-ready g c =
+    let n = the_view c.self.inside in
+    packet-known c.args.sending.now.load c.args.sending.now.send c.self.inside.made c.in-OnLine.line c.packet_of-packet.result n c.note_made.new.self
+    (subst (λ (m : KeptNet). IsRoomy n m) (sym c.note_made.ensures.rest) (roomy-same n _ refl (omega arith) refl refl)) c.packet_of-packet.ensures
+    (subst (λ (w : Passage). CanMake c.args.sending.now.send w n) c.in-OnLine.is
+    (at_view (CanMake c.args.sending.now.send c.args.passage.now) _ _ c.self.view_is c.requires.ready))
 
 pub pass_rules-requires-clause-ready : goal.pass_rules-requires-clause-ready
 pass_rules-requires-clause-ready g c =
-    packet-ready c.args.sending.now.load c.args.sending.now.send c.self.inside.made c.packet_of-packet.result (the_view c.self.inside) c.note_made.new.self
-    (subst (λ (m : KeptNet). IsRoomy (the_view c.self.inside) m) (sym c.note_made.ensures.rest)
-    (record { rooms = λ k x h. h; spare = omega arith; book = refl })) c.packet_of-packet.ensures
-    (at_view (CanMake c.args.sending.now.send) _ _ c.self.view_is c.requires.ready)
+    let n = the_view c.self.inside in
+    packet-ready c.args.sending.now.load c.args.sending.now.send c.self.inside.made c.packet_of-packet.result n c.note_made.new.self
+    (subst (λ (m : KeptNet). IsRoomy n m) (sym c.note_made.ensures.rest) (roomy-same n _ refl (omega arith) refl refl)) c.packet_of-packet.ensures
+    (subst (λ (w : Passage). CanMake c.args.sending.now.send w n) c.in-Searched.is
+    (at_view (CanMake c.args.sending.now.send c.args.passage.now) _ _ c.self.view_is c.requires.ready))
 
-pub returns-then-count-get-clause-becomes : goal.returns-then-count-get-clause-becomes
-returns-then-count-get-clause-becomes g c =
+pub returns-in-OnLine-clause-becomes : goal.returns-in-OnLine-clause-becomes
+returns-in-OnLine-clause-becomes g c =
+    let p = g.S.Shelf.pocket c.args.shelf.now c.args.owner in
+    let n = the_view c.self.inside in
+    let stands : Stands c.args.at p n = at_view (Stands c.args.at p) _ _ c.self.view_is c.requires.stands in
+    from_view 1 (λ m. made_of c.args.at c.args.sending.now.load c.args.sending.now.send (net_of p m)) p _ _ _ _ c.self.view_is
+    (made-passes c.keys_say_all.ensures.packets c.args.at p n c.args.sending.now.load c.args.sending.now.send c.packet_of-packet.result
+    stands.housed c.packet_of-packet.ensures _ _ _ c.note_made.ensures
+    (omega (arith, c.if-count-get.true, c.count.ensures.value, c.get.ensures.value)) c.pass_on_line.ensures.becomes)
+
+pub returns-in-Searched-clause-becomes : goal.returns-in-Searched-clause-becomes
+returns-in-Searched-clause-becomes g c =
     let p = g.S.Shelf.pocket c.args.shelf.now c.args.owner in
     let n = the_view c.self.inside in
     let stands : Stands c.args.at p n = at_view (Stands c.args.at p) _ _ c.self.view_is c.requires.stands in

@@ -1,41 +1,22 @@
-use Rattle.std.proofs.Common.{sym, ap, ◌∙◌, subst}
-use Rattle.std.specs.Prelude.{option_and_then}
-use Rattle.emu_model.specs.Net.{Net, find_pipe}
+use Rattle.std.proofs.Common.{◌≡◌, ℕ, Bool, true, false, refl, sym, ap, ◌∙◌, subst, cond, List, [], ◌∷◌, Some, None}
+use Rattle.std.specs.Prelude.{option_and_then, find}
+use Rattle.emu_model.specs.declared.packets.Packet.{Packet}
+use Rattle.emu_model.specs.Net.{find_pipe}
 use Rattle.emu_model.specs.Events.{flying_in}
+use Rattle.pipe_core.specs.Moves.{packet_at}
+use Rattle.pipe_core.specs.Keyed.{KeyedPipe}
+use Rattle.pipe_table.specs.Table.{has_number, pipe_of, seen_pipes}
+use Rattle.pipe_table.proofs.CallerLemmas.{position-none}
 use Rattle.network.specs.contracts.state.Network.{the_view}
 use Rattle.network.specs.Kept.{KeptNet, net_of}
-use Rattle.network.specs.Ready.{CanLeave}
-use Rattle.network.proofs.Leaving.{exit-leaves, exit-none, exit-some, exit-stands}
-use Rattle.network.proofs.Readied.{readied}
-use Rattle.network.proofs.Frame.{pipes-named}
+use Rattle.network.proofs.Leaving.{none-seen}
 use Rattle.network.proofs.state.Network.pipe_exit.Goals as goal
 
-pub exit-gone-requires : goal.exit-gone-requires
-exit-gone-requires g c =
-    let r = readied c.requires.stands.housed c.exit_ready.ensures.still (c.exit_ready.ensures.pockets c.args.owner) c.self.view_is in
-    record { named = pipes-named _ _ r.housed }
-
-pub returns-in_default-clause-ok : goal.returns-in_default-clause-ok
-returns-in_default-clause-ok g c =
-    let r = readied c.requires.stands.housed c.exit_ready.ensures.still (c.exit_ready.ensures.pockets c.args.owner) c.self.view_is in
-    exit-none c.args.at _ _ _ _ _ c.exit-gone.new.self c.args.pipe c.args.instance r c.exit-gone.ensures.keys c.exit-gone.ensures.seed _
-    (c.exit-gone.ensures.gone c.args.at (net_of (g.S.Shelf.pocket c.exit_ready.new.shelf c.args.owner) (the_view c.self.inside))) (sym c.in_default.is)
-
-pub leave_pipe-requires-clause-stands : goal.leave_pipe-requires-clause-stands
-leave_pipe-requires-clause-stands g c =
-    let r = readied c.requires.stands.housed c.exit_ready.ensures.still (c.exit_ready.ensures.pockets c.args.owner) c.self.view_is in
-    exit-stands c.args.at _ _ _ _ _ c.exit-gone.new.self c.args.pipe c.args.instance r c.exit-gone.ensures.keys c.exit-gone.ensures.seed c.requires.stands
-
-pub leave_pipe-requires-clause-ready : goal.leave_pipe-requires-clause-ready
-leave_pipe-requires-clause-ready g c =
-    let r = readied c.requires.stands.housed c.exit_ready.ensures.still (c.exit_ready.ensures.pockets c.args.owner) c.self.view_is in
-    exit-leaves c.args.at _ _ _ _ _ c.exit-gone.new.self c.args.pipe c.args.instance r c.exit-gone.ensures.keys c.exit-gone.ensures.seed c.in-Some.packet c.exit-gone.ensures.ready
-    (subst (λ (m : KeptNet). CanLeave c.in-Some.packet m) (sym c.self.view_is) (c.in_ok-exit_ready.ensures.ready c.in-Some.packet
-    (ap (λ (m : Net). option_and_then (flying_in c.args.instance) (find_pipe c.args.pipe m)) (sym r.shown)
-    ∙ sym (c.exit-gone.ensures.packet (net_of (g.S.Shelf.pocket c.exit_ready.new.shelf c.args.owner) (the_view c.self.inside))) ∙ c.in-Some.is)))
-
-pub returns-clause-ok : goal.returns-clause-ok
-returns-clause-ok g c =
-    let r = readied c.requires.stands.housed c.exit_ready.ensures.still (c.exit_ready.ensures.pockets c.args.owner) c.self.view_is in
-    exit-some c.args.at _ _ _ _ _ c.exit-gone.new.self c.args.pipe c.args.instance r c.exit-gone.ensures.keys c.exit-gone.ensures.seed _
-    (c.exit-gone.ensures.gone c.args.at (net_of (g.S.Shelf.pocket c.exit_ready.new.shelf c.args.owner) (the_view c.self.inside))) c.in-Some.packet (sym c.in-Some.is) _ _ c.leave_pipe.ensures.becomes
+pub exit_nothing-requires-clause-none : goal.exit_nothing-requires-clause-none
+exit_nothing-requires-clause-none g c =
+    let p = g.S.Shelf.pocket c.args.shelf.now c.args.owner in
+    let n = the_view c.self.inside in
+    let none : find_pipe c.args.pipe (net_of p n) ≡ None =
+    none-seen (packet_at p.find) c.args.pipe n.table.pipes (position-none (has_number c.args.pipe) n.table.pipes c.in_default.ensures) in
+    ap (λ (m : KeptNet). option_and_then (flying_in c.args.instance) (find_pipe c.args.pipe (net_of p m))) (sym c.self.view_is)
+    ∙ ap (option_and_then (flying_in c.args.instance)) none

@@ -2,9 +2,10 @@ use Rattle.std.proofs.Common.{sym, ap, ◌∙◌}
 use Rattle.emu_model.specs.declared.packets.Load.TheVariants.{Seg}
 use Rattle.network.specs.contracts.state.Network.{the_view}
 use Rattle.network.specs.Kept.{KeptNet}
+use Rattle.network.specs.declared.ways.Passage.TheVariants.{Searched}
 use Rattle.network.specs.Ready.{CanMake, CanDeliver}
 use Rattle.network.proofs.Steps.{still_view, still-then}
-use Rattle.network.proofs.Sources.{on_ok, traffic-still, can-segment, can-nothing}
+use Rattle.network.proofs.Sources.{if_ok, traffic-still, can-segment, can-nothing}
 use Rattle.network.proofs.state.Network.segment_ready.Goals as goal
 
 pub returns-in_err-take_ready-clause-still : goal.returns-in_err-take_ready-clause-still
@@ -17,7 +18,7 @@ returns-in_default-clause-still g c =
 
 pub returns-in_default-clause-ready : goal.returns-in_default-clause-ready
 returns-in_default-clause-ready g c =
-    can-nothing c.args.flow c.args.first (record (the_view c.self.inside) { traffic = c.take_ready.new.self }) c.in_ok-take_ready.ensures.ready (λ m. sym c.in_default.is ∙ c.reply.ensures m)
+    can-nothing c.args.flow c.args.first Searched (record (the_view c.self.inside) { traffic = c.take_ready.new.self }) c.in_ok-take_ready.ensures.ready (λ m. sym c.in_default.is ∙ c.reply.ensures m)
 
 pub returns-clause-still : goal.returns-clause-still
 returns-clause-still g c =
@@ -25,6 +26,6 @@ returns-clause-still g c =
 
 pub returns-clause-ready : goal.returns-clause-ready
 returns-clause-ready g c =
-    on_ok (CanMake c.in-Some.send c.make_ready.new.self) (CanDeliver (Seg c.args.flow c.args.first) c.make_ready.new.self) c.make_ready.result
-    (can-segment c.args.flow c.args.first c.in-Some.send c.make_ready.new.self c.take_ready.new.self (ap (λ (m : KeptNet). m.traffic) c.make_ready.ensures.rest)
+    if_ok (λ passage. CanMake c.in-Some.send passage c.make_ready.new.self) (λ passage. CanDeliver (Seg c.args.flow c.args.first) passage c.make_ready.new.self) c.make_ready.result
+    (λ passage. can-segment c.args.flow c.args.first c.in-Some.send passage c.make_ready.new.self c.take_ready.new.self (ap (λ (m : KeptNet). m.traffic) c.make_ready.ensures.rest)
     c.in_ok-take_ready.ensures.ready c.in-Some.ensures) c.make_ready.ensures.ready

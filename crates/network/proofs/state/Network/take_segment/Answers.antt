@@ -4,17 +4,17 @@ use Rattle.emu_model.specs.Net.{take_load}
 use Rattle.network.specs.contracts.state.Network.{the_view}
 use Rattle.network.specs.Kept.{net_of, Stands}
 use Rattle.network.specs.Ready.{CanDeliver}
-use Rattle.network.proofs.AsReady.{as-make}
+use Rattle.network.proofs.AsReady.{as-make, roomy-same}
 use Rattle.network.proofs.Steps.{at_view, from_view}
 use Rattle.network.proofs.Leaving.{sent-one, sent-none}
 use Rattle.network.proofs.state.Network.take_segment.Goals as goal
 
 pub make-requires-clause-ready : goal.make-requires-clause-ready
 make-requires-clause-ready g c =
-    let p = g.S.Shelf.pocket c.args.shelf.now c.args.owner in
     let n = the_view c.self.inside in
-    as-make n (record n { traffic = c.take-answer.new.self }) (record { rooms = λ k x h. h; spare = omega arith; book = refl }) c.in-Some.sending.send
-    ((at_view (CanDeliver (Seg c.args.flow c.args.first)) n _ c.self.view_is c.requires.ready).1 c.in-Some.sending.send (λ m. sym (c.in-Some.ensures.header m)))
+    let send = c.in-Some.sending.send in
+    as-make n (record n { traffic = c.take-answer.new.self }) (roomy-same n _ refl (omega arith) refl refl) send c.args.passage.now
+    ((at_view (CanDeliver (Seg c.args.flow c.args.first) c.args.passage.now) n _ c.self.view_is c.requires.ready).1 send (λ m. sym (c.in-Some.ensures.header m)))
 
 pub returns-in-Some-clause-becomes : goal.returns-in-Some-clause-becomes
 returns-in-Some-clause-becomes g c =

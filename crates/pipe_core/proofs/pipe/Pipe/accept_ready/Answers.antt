@@ -21,6 +21,7 @@ invariant_of-self c =
       pipe_at k s.slots.items x at s.config s.seed s.number s.ids.ids y (grown_place x.id x.instance j j.queue.capacity c.accept_ready.ensures.same) c.self.invariant.0,
       leaves_same s.slots.items k x y s.dues c.index_mut-slot.ensures.value
           (λ t. slot_due (record { id = x.id; instance = c.accept_ready.ensures.same t })) c.self.invariant.1,
+      c.self.invariant.2,
     )
 
 pub returns-clause-grown : goal.returns-clause-grown

@@ -2,6 +2,7 @@ use Rattle.std.proofs.Common.{◌≡◌, ap, ◌∙◌}
 use Rattle.emu_model.specs.FlowIds.{flow_id}
 use Rattle.packet_store.specs.Pocket.{Pocket}
 use Rattle.pipe_core.specs.Keyed.{KeyedPipe}
+use Rattle.pipe_core.proofs.MaskFacts.{keeps-then}
 use Rattle.pipe_core.proofs.Arrivals.{arrive_none, arrive_some, arrive_keys}
 use Rattle.pipe_core.proofs.pipe.Pipe.arrive.Goals as goal
 
@@ -31,3 +32,16 @@ returns-clause-keys g c =
     let q : Pocket = g.S.Shelf.pocket c.arrive_at.new.shelf c.args.owner in
     arrive_keys c.args.now c.in-Some.index c.args.packet.now c.arrive_at.result p q c.args.self.now c.find_or_make.new.self c.arrive_at.new.self
     c.apply-id.result c.find_or_make.ensures.same c.arrive_at.ensures.came c.find_or_make.ensures.keys
+
+pub find_or_make-requires-clause-its : goal.find_or_make-requires-clause-its
+find_or_make-requires-clause-its g c = (
+  c.args.packet.now,
+  c.apply-id.ensures ∙ ap (λ (z : KeyedPipe). flow_id z.config.mask c.args.packet.now) c.self.view_is,
+)
+
+pub returns-clause-ids : goal.returns-clause-ids
+returns-clause-ids g c =
+    keeps-then c.args.self.now.slots c.find_or_make.new.self.slots c.arrive_at.new.self.slots c.find_or_make.ensures.ids c.arrive_at.ensures.ids
+
+pub returns-in_default-clause-ids : goal.returns-in_default-clause-ids
+returns-in_default-clause-ids g c = c.find_or_make.ensures.ids

@@ -1,6 +1,8 @@
-use Rattle.std.proofs.Common.{◌≡◌, ℕ, ◌+◌, ◌*◌, List, ◌++◌, map, take, drop, length, sym, ap, ◌∙◌, subst, arith}
+use Rattle.std.proofs.Common.{◌≡◌, ℕ, nat_eq, true, ◌+◌, ◌*◌, List, ◌++◌, map, take, drop, length, sym, ap, ◌∙◌, subst, arith}
 use Rattle.std.specs.List.{All}
+use Rattle.std.proofs.lemmas.Bool.Decides.{nat_tests}
 use Rattle.std.proofs.lemmas.List.{length-map}
+use Rattle.pipe_core.proofs.MaskFacts.{no-ids, masked-none, masked-same}
 use Rattle.pipe_instance.specs.Keyed.{IsTuned}
 use Rattle.pipe_core.specs.declared.slot.Slot.{Slot}
 use Rattle.pipe_core.specs.Keyed.{KeyedPipe, seen_slot, keys_of, IsPipe}
@@ -11,6 +13,7 @@ use Rattle.std.specs.Prelude.{slice_get}
 use Rattle.pipe_core.specs.Leaves.{slot_due}
 use Rattle.pipe_core.proofs.DueLeaves.{numbers_at}
 use Rattle.pipe_core.proofs.pipe.Pipe.configure.Goals as goal
+use Rattle.pipe_core.proofs.pipe.Pipe.configure.Goals.{else-not-is_empty-via-then-not-is_empty+else-ne, else-not-is_empty-via-else-not-is_empty}
 
 now_all : (f : Slot → Slot) (n : ℕ) (items seen new : List Slot) → n ≡ length items → seen ≡ items → new ≡ map f seen →
     take n (new ++ drop (length new) items) ≡ map f items
@@ -32,6 +35,16 @@ invariant_of-self c =
           (sym (now_all f s.slots.len s.slots.items c.deref_mut.result.now c.configure_all.new.slots (omega (arith, s.slots.ok.0)) c.deref_mut.ensures.value c.configure_all.ensures))
           (IsPipe-configured s.config c.args.config s.seed s.number s.ids.ids s.slots.items c.self.invariant.0),
       ap (λ (p : Places). p.leaves) c.index_all.ensures ∙ ap (map slot_due) c.deref.ensures.value,
+      elim c.else-not-is_empty.branch [
+        | else-not-is_empty-via-then-not-is_empty+else-ne w ↦
+            masked-same s.unmasked c.is_zero-self-inside.result s.config.mask c.args.config.mask s.ids.ids c.self.invariant.2
+            c.is_zero-self-inside.ensures.0 (sym w.ne.ensures ∙ w.if-ne.false)
+        | else-not-is_empty-via-else-not-is_empty w ↦
+            masked-none c.is_zero-self-inside.result c.args.config.mask s.ids.ids c.is_zero-self-inside.ensures.0
+            (no-ids s.ids.ids (let none : nat_eq s.slots.len 0 ≡ true = sym c.is_empty.ensures ∙ w.if-not-is_empty.false in
+            let few : s.slots.len ≡ 0 = grind (arith, nat_tests, none) in
+            omega (arith, few, s.slots.ok.0, ap length c.self.invariant.0.ids_are, length-map s.slots.items (λ (t : Slot). t.id))))
+      ],
     )
 
 pub returns-clause-done : goal.returns-clause-done

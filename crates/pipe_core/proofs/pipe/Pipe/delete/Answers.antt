@@ -7,6 +7,7 @@ use Rattle.pipe_core.specs.Keyed.{keys_of}
 use Rattle.pipe_core.proofs.PipeFacts.{IsPipe-none, packets-named, keys_of-nil}
 use Rattle.pipe_core.proofs.TakeFacts.{all_taken, all_came, keeps_none}
 use Rattle.pipe_core.specs.Leaves.{slot_due}
+use Rattle.pipe_core.proofs.MaskFacts.{masked-none}
 use Rattle.pipe_core.proofs.pipe.Pipe.delete.Goals as goal
 
 pub invariant_of-self : goal.invariant_of-self
@@ -16,6 +17,7 @@ invariant_of-self g c =
     ap (λ (v : Vec Slot Global). v.items) c.replace-slots.ensures.after ∙ c.new-vacant.ensures.items in (
       IsPipe-none s.config s.seed s.number c.new.result.ids c.replace-slots.new.dest.items c.new.ensures none,
       c.clear.ensures.leaves ∙ ap (map slot_due) (sym none),
+      masked-none s.unmasked s.config.mask c.new.result.ids c.self.invariant.2.zero c.new.ensures,
     )
 
 pub returns-clause-gone : goal.returns-clause-gone

@@ -1,10 +1,10 @@
-use Rattle.std.proofs.Common.{◌≡◌, ℕ, ◌-◌, set, sym, subst, ap, vec_len, vec_capacity}
+use Rattle.std.proofs.Common.{◌≡◌, ◌∙◌, ℕ, ◌-◌, set, sym, subst, ap, vec_len, vec_capacity}
 use Rattle.std.specs.Prelude.{min}
 use Rattle.pipe_instance.specs.Keyed.{KeyedInstance}
 use Rattle.pipe_core.specs.declared.slot.Slot.{Slot}
-use Rattle.pipe_core.specs.Keyed.{KeyedPipe}
+use Rattle.pipe_core.specs.Keyed.{KeyedPipe, ids_of}
 use Rattle.pipe_core.specs.Steps.{HasRoom, HasRoomAt}
-use Rattle.pipe_core.proofs.InstancePlaces.{place_inside, named_inside, named_at, pipe_at, keeps_at, exit_packet, exit_view, room_same, slot_at}
+use Rattle.pipe_core.proofs.InstancePlaces.{place_inside, named_inside, named_at, pipe_at, keeps_at, exit_packet, exit_view, room_same, slot_rooms, ids_same, slot_at}
 use Rattle.pipe_core.proofs.DueLeaves.{leaves_set, number_at}
 use Rattle.due_index.specs.Places.{Places}
 use Rattle.emu_model.specs.declared.packets.Packet.{Packet}
@@ -27,6 +27,7 @@ invariant_of-self g c =
       pipe_at _ _ _ at s.config s.seed s.number s.ids.ids c.exit-packet.new.self c.exit-packet.ensures.left.place c.self.invariant.0,
       leaves_set s.slots.items c.args.index c.exit-packet.new.self s.dues c.set.new.self c.due.result c.self.invariant.1
           c.due.ensures c.set.ensures,
+      c.self.invariant.2,
     )
 
 pub returns-clause-packet : goal.returns-clause-packet
@@ -75,3 +76,16 @@ due-requires g c =
     let at = place_inside c.self.view_is c.requires.inside c.index_mut-slot.ensures.value in
     number_at s.config s.seed s.number _ _ c.exit-packet.new.self
     (slot_at _ _ _ at s.config s.seed s.number s.ids.ids c.self.invariant.0) c.exit-packet.ensures.left.place
+
+pub returns-clause-ids : goal.returns-clause-ids
+returns-clause-ids g c =
+    let at = place_inside c.self.view_is c.requires.inside c.index_mut-slot.ensures.value in
+    ids_same _ _ _ at c.exit-packet.new.self c.exit-packet.ensures.left.place.id ∙ ap (λ (z : KeyedPipe). ids_of z.slots) c.self.view_is
+
+pub returns-clause-ready_at : goal.returns-clause-ready_at
+returns-clause-ready_at g c =
+    let s = c.self.inside in
+    let at = place_inside c.self.view_is c.requires.inside c.index_mut-slot.ensures.value in
+    let left = c.exit-packet.ensures.left in
+    rw (← c.self.view_is) (slot_rooms _ _ _ at c.exit-packet.new.self
+    (λ size h. kept_room size c.index_mut-slot.result.now.instance c.exit-packet.new.self.instance left.queue left.service h))

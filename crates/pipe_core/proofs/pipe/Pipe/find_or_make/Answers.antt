@@ -6,6 +6,8 @@ use Rattle.pipe_core.specs.declared.slot.Slot.{Slot}
 use Rattle.pipe_core.specs.Keyed.{KeyedPipe, seen_pipe, keys_of, IsPipe}
 use Rattle.pipe_core.proofs.Makings.{made_next, made_few, IsPipe-push, with_new, new_room, keys-push}
 use Rattle.pipe_core.specs.Leaves.{AreLeaves}
+use Rattle.pipe_core.specs.Masks.{IsUnder, KeepsIds}
+use Rattle.pipe_core.proofs.MaskFacts.{masked-more, keeps-push}
 use Rattle.pipe_core.proofs.DueLeaves.{leaves_push}
 use Rattle.pipe_core.proofs.pipe.Pipe.find_or_make.Goals as goal
 
@@ -33,6 +35,9 @@ invariant_of-self-2 c =
           (leaves_push s.slots.items c.args.id i s.dues c.push.new.self (s.dues.spare - 1) c.self.invariant.1
           c.new-instance.ensures.opening
           (c.push.ensures ∙ ap (λ d. record { leaves = s.dues.leaves ++ d ∷ []; spare = s.dues.spare - 1 }) c.none.ensures)),
+      masked-more s.unmasked s.config.mask s.ids.ids c.find_or_make.new.self.ids c.args.id c.self.invariant.2
+          (sym c.in_default.ensures.found) c.in-Ok.ensures.made
+          (subst (λ (z : KeyedPipe). IsUnder z.config.mask c.args.id) (sym c.self.view_is) c.requires.its),
     )
 
 pub returns-clause-made : goal.returns-clause-made
@@ -71,3 +76,10 @@ returns-clause-keys c =
     let last : c.in-Ok.index ≡ length s.slots.items = made_next s.ids.ids c.args.id c.in-Ok.index unknown number ∙ many in
     ap keys_of c.push_reserved.ensures.items ∙ keys-push s.slots.items new c.new-instance.ensures.keys
     ∙ ap (λ (z : KeyedPipe). keys_of z.slots) c.self.view_is
+
+pub returns-clause-ids : goal.returns-clause-ids
+returns-clause-ids c =
+    let s = c.self.inside in
+    let new : Slot = record { id = c.args.id; instance = c.new-instance.result } in
+    subst (λ (z : KeyedPipe). KeepsIds z.slots c.push_reserved.new.self.items) c.self.view_is
+    (keeps-push s.slots.items c.push_reserved.new.self.items new c.push_reserved.ensures.items)

@@ -1,11 +1,11 @@
-use Rattle.std.proofs.Common.{ℕ, ◌-◌, List, set, sym, ap, subst, vec_len, vec_capacity}
+use Rattle.std.proofs.Common.{ℕ, ◌-◌, ◌∙◌, List, set, sym, ap, subst, vec_len, vec_capacity}
 use Rattle.std.specs.Prelude.{min, OnErr}
 use Rattle.emu_model.specs.declared.pipes.PipeConfig.{PipeConfig}
 use Rattle.packet_store.specs.Pocket.{Pocket}
 use Rattle.pipe_core.specs.declared.slot.Slot.{Slot}
-use Rattle.pipe_core.specs.Keyed.{KeyedPipe}
+use Rattle.pipe_core.specs.Keyed.{KeyedPipe, ids_of}
 use Rattle.pipe_core.specs.Steps.{IsFreeAt, IsGrown}
-use Rattle.pipe_core.proofs.InstancePlaces.{named_inside, slot_at, pipe_at, named_at, keeps_at, get_at}
+use Rattle.pipe_core.proofs.InstancePlaces.{named_inside, slot_at, pipe_at, named_at, keeps_at, get_at, ids_same}
 use Rattle.pipe_core.proofs.FinishViews.{within_due, place_due, due_at, finish_place, finish_keeps, finish_view, served_view, refused_grown, on_ok_by, if_ok_by, on_err}
 use Rattle.pipe_core.proofs.DueLeaves.{leaves_set, leaves_within, number_at}
 use Rattle.due_index.specs.Places.{Places}
@@ -34,6 +34,7 @@ invariant_of-self g c =
           (finish_place s.config c.args.now y.instance.lane.spare c.finish-finished.new.drops.items _ _ _ y c.finish-finished.result c.finish-finished.ensures.finished c.finish-finished.ensures.refused) c.self.invariant.0,
       leaves_set s.slots.items c.args.index y s.dues c.set.new.self c.due.result c.self.invariant.1
           c.due.ensures c.set.ensures,
+      c.self.invariant.2,
     )
 
 abbrev inside_of : PipeConfig → ℕ → ℕ → List Slot → ℕ → KeyedPipe
@@ -102,3 +103,12 @@ pub set-requires : goal.set-requires
 set-requires g c =
     let s = c.self.inside in
     leaves_within s.slots.items s.dues c.args.index c.self.invariant.1 (within_due (g.S.Shelf.pocket c.args.shelf.now c.args.owner) c.args.index c.self.view_is c.requires.due)
+
+pub returns-clause-ids : goal.returns-clause-ids
+returns-clause-ids g c =
+    let s = c.self.inside in
+    let y : Slot = c.finish-finished.new.self in
+    let at = place_due (g.S.Shelf.pocket c.args.shelf.now c.args.owner) c.args.index c.self.view_is c.requires.due c.index_mut-slot.ensures.value in
+    ids_same _ _ _ at y
+    (finish_place s.config c.args.now y.instance.lane.spare c.finish-finished.new.drops.items _ _ _ y c.finish-finished.result c.finish-finished.ensures.finished c.finish-finished.ensures.refused).id
+    ∙ ap (λ (z : KeyedPipe). ids_of z.slots) c.self.view_is

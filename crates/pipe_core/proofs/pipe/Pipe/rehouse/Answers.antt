@@ -21,6 +21,7 @@ invariant_of-self g c =
       subst (IsPipe s.config s.seed s.number s.ids.ids) (sym whole)
           (IsPipe-blank s.config s.seed s.number s.ids.ids items new blanks c.self.invariant.0),
       subst (λ ss. AreLeaves ss s.dues) (sym whole) (leaves_blank items new s.dues blanks c.self.invariant.1),
+      c.self.invariant.2,
     )
 
 pub returns-clause-shown : goal.returns-clause-shown

@@ -1,4 +1,4 @@
-use Rattle.std.proofs.Common.{◌≡◌, ℕ, ◌≤◌, List, [], map, length, sym, ap, ◌∙◌, subst, arith}
+use Rattle.std.proofs.Common.{◌≡◌, ℕ, ◌≤◌, List, [], map, length, sym, ap, subst, arith}
 use Rattle.emu_model.specs.DropTail.{Waiting}
 use Rattle.emu_model.specs.declared.packets.Packet.{Packet}
 use Rattle.packet_store.specs.Pocket.{Pocket}
@@ -29,9 +29,8 @@ take_dropped-requires-clause-room g c =
       arith,
       within,
       ap length c.as_slice.ensures.value,
-      c.reserve.ensures.len,
-      c.clear.ensures.len,
-      c.in_ok-reserve.ensures.ok,
+      c.clear_for.ensures.len,
+      c.in_ok-clear_for.ensures.room,
       c.most_dropped-most.ensures,
     )
 
@@ -41,7 +40,7 @@ returns-clause-finished g c =
     let q : Pocket = g.S.Shelf.pocket c.take_dropped.new.shelf c.args.owner in
     let dropped : List (Waiting ℕ) = c.in_ok-done.done.dropped.items in
     let drops : List Packet = c.take_dropped.new.drops.items in
-    let none : c.reserve.new.self.items ≡ [] = c.reserve.ensures.items ∙ c.clear.ensures.items in
+    let none : c.clear_for.new.drops.items ≡ [] = c.clear_for.ensures.items in
     let taking : Taking p q (map (λ (w : Waiting ℕ). w.item) dropped) [] [] drops =
     subst (λ (ws : List (Waiting ℕ)). Taking p q (map (λ w. w.item) ws) [] [] drops) c.as_slice.ensures.value
     (subst (λ (l : List Packet). Taking p q (map (λ (w : Waiting ℕ). w.item) c.as_slice.result.now) [] l drops) none c.take_dropped.ensures.taken) in

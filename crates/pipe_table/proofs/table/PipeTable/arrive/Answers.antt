@@ -7,6 +7,7 @@ use Rattle.pipe_table.proofs.NetFacts.{arrive-nowhere}
 use Rattle.pipe_table.proofs.At.{sound-at, pipe-at, named-at, keys-at, seed-at, arrive-at}
 use Rattle.pipe_table.proofs.Splits.{position-within}
 use Rattle.pipe_table.proofs.Indexes.{indexed-set, indexed-within}
+use Rattle.pipe_table.proofs.PlaceFacts.{led-set, kept-set, kept-none}
 use Rattle.pipe_table.proofs.table.PipeTable.arrive.Goals as goal
 
 pub returns-in_default-clause-arrived : goal.returns-in_default-clause-arrived
@@ -35,6 +36,9 @@ invariant_of-self g c = (
   indexed-set c.self.inside.pipes.items c.in-Some.place c.arrive-answer.new.self c.index.result.now c.self.inside.dues c.set.new.self
       c.least.result c.self.invariant.1 (position-within (has_number c.args.number) c.self.inside.pipes.items c.in-Some.place c.index_mut.result.now (rw (← c.self.view_is) at c.in-Some.ensures))
       c.index.ensures c.least.ensures.due c.least.ensures.number c.least.ensures.few c.set.ensures,
+  led-set c.self.inside.pipes.items c.in-Some.place c.index_mut.result.now c.arrive-answer.new.self c.self.inside.places
+      (position-within (has_number c.args.number) c.self.inside.pipes.items c.in-Some.place c.index_mut.result.now (rw (← c.self.view_is) at c.in-Some.ensures))
+      c.index_mut.ensures.value (ap (λ (p : KeyedPipe). p.number) c.arrive-answer.ensures.same) c.self.invariant.2,
 )
 
 pub returns-clause-arrived : goal.returns-clause-arrived
@@ -53,3 +57,13 @@ pub set-requires : goal.set-requires
 set-requires g c =
     indexed-within c.self.inside.pipes.items c.self.inside.dues c.in-Some.place c.self.invariant.1
     (position-within (has_number c.args.number) c.self.inside.pipes.items c.in-Some.place c.index_mut.result.now (rw (← c.self.view_is) at c.in-Some.ensures))
+
+pub returns-clause-places : goal.returns-clause-places
+returns-clause-places g c =
+    rw (← c.self.view_is) (kept-set c.self.inside.pipes.items c.in-Some.place c.index_mut.result.now c.arrive-answer.new.self
+    (position-within (has_number c.args.number) c.self.inside.pipes.items c.in-Some.place c.index_mut.result.now (rw (← c.self.view_is) at c.in-Some.ensures))
+    c.index_mut.ensures.value (ap (λ (p : KeyedPipe). p.number) c.arrive-answer.ensures.same) (ap (λ (p : KeyedPipe). p.config.mask) c.arrive-answer.ensures.same)
+    c.arrive-answer.ensures.ids)
+
+pub returns-in_default-clause-places : goal.returns-in_default-clause-places
+returns-in_default-clause-places g c = kept-none c.args.self.now.pipes

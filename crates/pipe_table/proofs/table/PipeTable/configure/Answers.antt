@@ -6,6 +6,7 @@ use Rattle.pipe_table.proofs.Splits.{position-none}
 use Rattle.pipe_table.proofs.At.{sound-at, configure-at, refusal-at, configure-none, refusal-none, ok-by, match-by, keys-set}
 use Rattle.pipe_table.proofs.Splits.{position-within}
 use Rattle.pipe_table.proofs.Indexes.{indexed-set, indexed-within}
+use Rattle.pipe_table.proofs.PlaceFacts.{led-set}
 use Rattle.pipe_table.proofs.table.PipeTable.configure.Goals as goal
 
 pub make-requires : goal.make-requires
@@ -38,6 +39,9 @@ invariant_of-self-2 c = (
   indexed-set c.self.inside.pipes.items c.in-Some.place c.configure.new.self c.index.result.now c.self.inside.dues c.set.new.self
       c.least.result c.self.invariant.1 (position-within (has_number c.args.number) c.self.inside.pipes.items c.in-Some.place c.index_mut.result.now (rw (← c.self.view_is) at c.in-Some.ensures))
       c.index.ensures c.least.ensures.due c.least.ensures.number c.least.ensures.few c.set.ensures,
+  led-set c.self.inside.pipes.items c.in-Some.place c.index_mut.result.now c.configure.new.self c.self.inside.places
+      (position-within (has_number c.args.number) c.self.inside.pipes.items c.in-Some.place c.index_mut.result.now (rw (← c.self.view_is) at c.in-Some.ensures))
+      c.index_mut.ensures.value (ap (λ (s : PipeState). s.number) (c.in_default-configure.ensures.done (λ k. some_packet))) c.self.invariant.2,
 )
 
 pub returns-clause-ok : goal.returns-clause-ok

@@ -1,14 +1,17 @@
-use Rattle.std.proofs.Common.{refl, sym, ap, ◌∙◌, subst, IsSome, arith}
+use Rattle.std.proofs.Common.{length, refl, sym, ap, ◌∙◌, subst, IsSome, arith}
 use Rattle.std.specs.Prelude.{is_some}
 use Rattle.std.proofs.lemmas.List.{append-nil}
 use Rattle.std.specs.Option.{option_map_or}
 use Rattle.emu_model.specs.Commands.{delete_pipe}
 use Rattle.pipe_core.specs.Keyed.{KeyedPipe}
-use Rattle.pipe_table.specs.Table.{with_pipes, pipe_of, has_number}
+use Rattle.pipe_table.specs.Table.{with_pipes, pipe_of, has_number, IsTable}
 use Rattle.pipe_table.proofs.Splits.{position-none}
 use Rattle.pipe_table.proofs.NetFacts.{find-none, find-some}
 use Rattle.pipe_table.proofs.At.{on_any_err, sound-by, sound-removed, delete-at, count-at, keys-removed, pipe-at, named-at}
+use Rattle.std.specs.Prelude.{slice_get}
 use Rattle.pipe_table.specs.Leaves.{AreIndexed}
+use Rattle.pipe_table.specs.Places.{AreLed}
+use Rattle.pipe_table.proofs.PlaceFacts.{entries-remove}
 use Rattle.pipe_table.proofs.Indexes.{indexed-long}
 use Rattle.pipe_table.proofs.table.PipeTable.delete.Goals as goal
 
@@ -33,6 +36,7 @@ pub invariant_of-self-2 : goal.invariant_of-self-2
 invariant_of-self-2 g c = (
   sound-by c.self.inside.seed (sym c.remove.ensures.items) (sound-removed c.args.number c.in-Some.place c.self.inside.pipes.items c.index_mut.result.now (rw (← c.self.view_is) at c.in-Some.ensures) c.index_mut.ensures.value c.self.inside.seed c.delete.new.self c.self.invariant.0),
   subst (λ ps. AreIndexed ps c.index_all.new.dues) c.deref.ensures.value c.index_all.ensures,
+  subst (λ ps. AreLed ps c.lead_all.new.places) c.deref-2.ensures.value c.lead_all.ensures,
 )
 
 pub returns-clause-ok : goal.returns-clause-ok
@@ -73,3 +77,19 @@ index_all-requires g c =
       indexed-long c.self.inside.pipes.items c.self.inside.dues c.self.invariant.1,
       c.self.inside.pipes.ok.0,
     )
+
+pub lead_all-requires-clause-few : goal.lead_all-requires-clause-few
+lead_all-requires-clause-few g c =
+    omega (arith, ap (λ l. length l) (c.deref-2.ensures.value ∙ c.remove.ensures.items), (sound-removed c.args.number c.in-Some.place c.self.inside.pipes.items c.index_mut.result.now (rw (← c.self.view_is) at c.in-Some.ensures) c.index_mut.ensures.value c.self.inside.seed c.delete.new.self c.self.invariant.0).1)
+
+pub lead_all-requires-clause-sorted : goal.lead_all-requires-clause-sorted
+lead_all-requires-clause-sorted g c = (
+  c.self.inside.seed,
+  subst (IsTable c.self.inside.seed 0) (sym (c.deref-2.ensures.value ∙ c.remove.ensures.items)) (sound-removed c.args.number c.in-Some.place c.self.inside.pipes.items c.index_mut.result.now (rw (← c.self.view_is) at c.in-Some.ensures) c.index_mut.ensures.value c.self.inside.seed c.delete.new.self c.self.invariant.0).0,
+)
+
+pub lead_all-requires-clause-entries : goal.lead_all-requires-clause-entries
+lead_all-requires-clause-entries g c = λ i q e.
+    entries-remove c.args.number c.in-Some.place c.self.inside.pipes.items c.index_mut.result.now (rw (← c.self.view_is) at c.in-Some.ensures) c.index_mut.ensures.value c.delete.new.self
+    c.self.inside.places c.self.invariant.2 i q
+    (ap (λ l. slice_get l i) (sym (c.deref-2.ensures.value ∙ c.remove.ensures.items)) ∙ e)

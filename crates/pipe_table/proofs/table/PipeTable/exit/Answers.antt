@@ -9,6 +9,8 @@ use Rattle.pipe_table.proofs.NetFacts.{find-none, find-some}
 use Rattle.pipe_table.proofs.At.{sound-at, set-same, flying-beyond, exit-beyond, Keeps-same, pipe-at, named-at, keys-at, ready-at, exit-at}
 use Rattle.pipe_table.proofs.Splits.{position-within}
 use Rattle.pipe_table.proofs.Indexes.{indexed-set, indexed-within}
+use Rattle.pipe_core.proofs.CallerLemmas.{keeps-same}
+use Rattle.pipe_table.proofs.PlaceFacts.{led-set, kept-set, kept-none, rooms-set}
 use Rattle.pipe_table.proofs.table.PipeTable.exit.Goals as goal
 
 pub returns-in_default-clause-gone : goal.returns-in_default-clause-gone
@@ -53,6 +55,9 @@ invariant_of-self g c = (
   indexed-set c.self.inside.pipes.items c.in-Some.place c.exit-packet.new.self c.index-2.result.now c.self.inside.dues c.set.new.self
       c.least.result c.self.invariant.1 (position-within (has_number c.args.number) c.self.inside.pipes.items c.in-Some.place c.index_mut.result.now (rw (← c.self.view_is) at c.in-Some.ensures))
       c.index-2.ensures c.least.ensures.due c.least.ensures.number c.least.ensures.few c.set.ensures,
+  led-set c.self.inside.pipes.items c.in-Some.place c.index_mut.result.now c.exit-packet.new.self c.self.inside.places
+      (position-within (has_number c.args.number) c.self.inside.pipes.items c.in-Some.place c.index_mut.result.now (rw (← c.self.view_is) at c.in-Some.ensures))
+      c.index_mut.ensures.value (ap (λ (p : KeyedPipe). p.number) c.exit-packet.ensures.same) c.self.invariant.2,
 )
 
 pub returns-clause-gone : goal.returns-clause-gone
@@ -81,3 +86,22 @@ pub set-requires : goal.set-requires
 set-requires g c =
     indexed-within c.self.inside.pipes.items c.self.inside.dues c.in-Some.place c.self.invariant.1
     (position-within (has_number c.args.number) c.self.inside.pipes.items c.in-Some.place c.index_mut.result.now (rw (← c.self.view_is) at c.in-Some.ensures))
+
+pub returns-clause-places : goal.returns-clause-places
+returns-clause-places g c =
+    rw (← c.self.view_is) (kept-set c.self.inside.pipes.items c.in-Some.place c.index_mut.result.now c.exit-packet.new.self
+    (position-within (has_number c.args.number) c.self.inside.pipes.items c.in-Some.place c.index_mut.result.now (rw (← c.self.view_is) at c.in-Some.ensures))
+    c.index_mut.ensures.value (ap (λ (p : KeyedPipe). p.number) c.exit-packet.ensures.same) (ap (λ (p : KeyedPipe). p.config.mask) c.exit-packet.ensures.same)
+    (keeps-same c.index_mut.result.now.slots c.exit-packet.new.self.slots c.exit-packet.ensures.ids))
+
+pub returns-clause-ready_at : goal.returns-clause-ready_at
+returns-clause-ready_at g c =
+    rw (← c.self.view_is) (rooms-set c.self.inside.pipes.items c.in-Some.place c.index_mut.result.now c.exit-packet.new.self
+    (position-within (has_number c.args.number) c.self.inside.pipes.items c.in-Some.place c.index_mut.result.now (rw (← c.self.view_is) at c.in-Some.ensures))
+    c.index_mut.ensures.value c.exit-packet.ensures.ready_at)
+
+pub returns-in_default-clause-places : goal.returns-in_default-clause-places
+returns-in_default-clause-places g c = kept-none c.args.self.now.pipes
+
+pub returns-then-instances-index-clause-places : goal.returns-then-instances-index-clause-places
+returns-then-instances-index-clause-places g c = rw (← c.self.view_is) (kept-none c.self.inside.pipes.items)

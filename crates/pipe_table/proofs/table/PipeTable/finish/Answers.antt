@@ -6,6 +6,8 @@ use Rattle.pipe_table.proofs.Splits.{position-none}
 use Rattle.pipe_table.proofs.At.{sound-at, not-finishing, finishing-at, finish-ok, grown-set, err-by, pipe-at, named-at, keys-at}
 use Rattle.pipe_table.proofs.Splits.{position-within}
 use Rattle.pipe_table.proofs.Indexes.{indexed-set, indexed-within}
+use Rattle.pipe_core.proofs.CallerLemmas.{keeps-same}
+use Rattle.pipe_table.proofs.PlaceFacts.{led-set, kept-set}
 use Rattle.pipe_table.proofs.table.PipeTable.finish.Goals as goal
 
 pub unreachable-requires : goal.unreachable-requires
@@ -29,6 +31,9 @@ invariant_of-self g c = (
   indexed-set c.self.inside.pipes.items c.in-Some.place c.finish-finished.new.self c.index.result.now c.self.inside.dues c.set.new.self
       c.least.result c.self.invariant.1 (position-within (has_number c.args.number) c.self.inside.pipes.items c.in-Some.place c.index_mut.result.now (rw (← c.self.view_is) at c.in-Some.ensures))
       c.index.ensures c.least.ensures.due c.least.ensures.number c.least.ensures.few c.set.ensures,
+  led-set c.self.inside.pipes.items c.in-Some.place c.index_mut.result.now c.finish-finished.new.self c.self.inside.places
+      (position-within (has_number c.args.number) c.self.inside.pipes.items c.in-Some.place c.index_mut.result.now (rw (← c.self.view_is) at c.in-Some.ensures))
+      c.index_mut.ensures.value (ap (λ (p : KeyedPipe). p.number) c.finish-finished.ensures.same) c.self.invariant.2,
 )
 
 pub returns-clause-ok : goal.returns-clause-ok
@@ -54,3 +59,10 @@ pub set-requires : goal.set-requires
 set-requires g c =
     indexed-within c.self.inside.pipes.items c.self.inside.dues c.in-Some.place c.self.invariant.1
     (position-within (has_number c.args.number) c.self.inside.pipes.items c.in-Some.place c.index_mut.result.now (rw (← c.self.view_is) at c.in-Some.ensures))
+
+pub returns-clause-places : goal.returns-clause-places
+returns-clause-places g c =
+    rw (← c.self.view_is) (kept-set c.self.inside.pipes.items c.in-Some.place c.index_mut.result.now c.finish-finished.new.self
+    (position-within (has_number c.args.number) c.self.inside.pipes.items c.in-Some.place c.index_mut.result.now (rw (← c.self.view_is) at c.in-Some.ensures))
+    c.index_mut.ensures.value (ap (λ (p : KeyedPipe). p.number) c.finish-finished.ensures.same) (ap (λ (p : KeyedPipe). p.config.mask) c.finish-finished.ensures.same)
+    (keeps-same c.index_mut.result.now.slots c.finish-finished.new.self.slots c.finish-finished.ensures.ids))

@@ -2,9 +2,12 @@ use Rattle.std.proofs.Common.{length, sym, ap, ◌∙◌, subst, arith}
 use Rattle.std.specs.List.{insert, position_or_len}
 use Rattle.pipe_core.specs.Moves.{packet_at}
 use Rattle.pipe_core.specs.Keyed.{KeyedPipe, seen_pipe}
-use Rattle.pipe_table.specs.Table.{is_above}
+use Rattle.pipe_table.specs.Table.{is_above, IsTable}
 use Rattle.pipe_table.proofs.At.{sound-by, sound-insert, place-fits, keys-insert, new-is}
+use Rattle.std.specs.Prelude.{slice_get}
 use Rattle.pipe_table.specs.Leaves.{AreIndexed}
+use Rattle.pipe_table.specs.Places.{AreLed}
+use Rattle.pipe_table.proofs.PlaceFacts.{entries-insert}
 use Rattle.pipe_table.proofs.Indexes.{indexed-long}
 use Rattle.pipe_table.proofs.table.PipeTable.make.Goals as goal
 
@@ -19,6 +22,7 @@ invariant_of-self-3 c = (
       (ap (λ (p : KeyedPipe). p.seed) c.new-pipe.ensures) (ap (λ (p : KeyedPipe). p.number) c.new-pipe.ensures) (rw (← c.self.view_is) at c.requires) c.self.invariant.0
       (omega (arith, c.if-len-ge-MOST_PIPES.false, c.len.ensures, c.self.inside.pipes.ok.0))),
   subst (λ ps. AreIndexed ps c.index_all.new.dues) c.deref.ensures.value c.index_all.ensures,
+  subst (λ ps. AreLed ps c.lead_all.new.places) c.deref-2.ensures.value c.lead_all.ensures,
 )
 
 pub returns-clause-ok : goal.returns-clause-ok
@@ -44,3 +48,28 @@ index_all-requires c =
       indexed-long c.self.inside.pipes.items c.self.inside.dues c.self.invariant.1,
       c.self.inside.pipes.ok.0,
     )
+
+pub lead_all-requires-clause-few : goal.lead_all-requires-clause-few
+lead_all-requires-clause-few c =
+    omega (
+      arith,
+      ap (λ l. length l) (c.deref-2.ensures.value ∙ (c.in-Ok-insert.ensures.items ∙ (λ z. insert (c.reserve.ensures.items z) ((c.place_behind-place.ensures ∙ ap (position_or_len (is_above c.args.number)) c.reserve.ensures.items) z) c.new-pipe.result))),
+      (sound-insert c.self.inside.seed c.args.number c.new-pipe.result c.self.inside.pipes.items
+          (ap (λ (p : KeyedPipe). p.seed) c.new-pipe.ensures) (ap (λ (p : KeyedPipe). p.number) c.new-pipe.ensures) (rw (← c.self.view_is) at c.requires) c.self.invariant.0
+          (omega (arith, c.if-len-ge-MOST_PIPES.false, c.len.ensures, c.self.inside.pipes.ok.0))).1,
+    )
+
+pub lead_all-requires-clause-sorted : goal.lead_all-requires-clause-sorted
+lead_all-requires-clause-sorted c = (
+  c.self.inside.seed,
+  subst (IsTable c.self.inside.seed 0) (sym (c.deref-2.ensures.value ∙ (c.in-Ok-insert.ensures.items ∙ (λ z. insert (c.reserve.ensures.items z) ((c.place_behind-place.ensures ∙ ap (position_or_len (is_above c.args.number)) c.reserve.ensures.items) z) c.new-pipe.result))))
+      (sound-insert c.self.inside.seed c.args.number c.new-pipe.result c.self.inside.pipes.items
+      (ap (λ (p : KeyedPipe). p.seed) c.new-pipe.ensures) (ap (λ (p : KeyedPipe). p.number) c.new-pipe.ensures) (rw (← c.self.view_is) at c.requires) c.self.invariant.0
+      (omega (arith, c.if-len-ge-MOST_PIPES.false, c.len.ensures, c.self.inside.pipes.ok.0))).0,
+)
+
+pub lead_all-requires-clause-entries : goal.lead_all-requires-clause-entries
+lead_all-requires-clause-entries c = λ i q e.
+    entries-insert c.args.number c.new-pipe.result c.self.inside.pipes.items c.self.inside.places c.ready.new.self c.self.invariant.2
+    c.ready.ensures.grows (omega (arith, c.in-Ok-ready.ensures.ready, c.get.ensures.value)) (ap (λ (p : KeyedPipe). p.number) c.new-pipe.ensures) i q
+    (ap (λ l. slice_get l i) (sym (c.deref-2.ensures.value ∙ (c.in-Ok-insert.ensures.items ∙ (λ z. insert (c.reserve.ensures.items z) ((c.place_behind-place.ensures ∙ ap (position_or_len (is_above c.args.number)) c.reserve.ensures.items) z) c.new-pipe.result)))) ∙ e)

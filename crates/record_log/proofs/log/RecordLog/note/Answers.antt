@@ -14,7 +14,7 @@ invariant_of-self c = elim c.match-entry.branch [
   | in-PacketDropped w ↦
       let rs = c.self.inside.records.items in
       rw (c.in-Ok.ensures.items, c.from_ref.ensures.value, w.self-inside-is, w.in-PacketDropped.is)
-      ((c.self.invariant.0 ∙ sym (other-count is_delivery rs _ refl)), (w.with_one-self-inside.ensures ∙ ap (λ ns. with_drop ns w.in-PacketDropped.cause) c.self.invariant.1 ∙ sym (drop-push rs _ _ _ w.in-PacketDropped.cause)))
+      ((c.self.invariant.0 ∙ sym (other-count is_delivery rs _ refl)), (w.count_drop.ensures ∙ ap (λ ns. with_drop ns w.in-PacketDropped.cause) c.self.invariant.1 ∙ sym (drop-push rs _ _ _ w.in-PacketDropped.cause)))
   | in_default w ↦
       let rs = c.self.inside.records.items in
       rw (c.in-Ok.ensures.items, c.from_ref.ensures.value, w.self-inside-is)

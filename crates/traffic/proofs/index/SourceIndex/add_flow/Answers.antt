@@ -1,19 +1,15 @@
-use Rattle.std.proofs.Common.{[], ◌∷◌, ◌++◌, sym, ◌∙◌, ap}
-use Rattle.std.proofs.lemmas.List.{map-append}
+use Rattle.std.proofs.Common.{[], ◌∷◌, ◌++◌, refl, ◌||◌, ◌&&◌, ◌==◌, ◌∙◌, ap}
 use Rattle.due_index.specs.Places.{Places}
-use Rattle.traffic.specs.Kept.{KeptFlow}
-use Rattle.traffic.specs.Leaves.{expiry_due, emission_due}
+use Rattle.traffic.specs.Numbers.{is_in}
+use Rattle.traffic.proofs.Flows.{indexed_more}
 use Rattle.traffic.proofs.index.SourceIndex.add_flow.Goals as goal
 
 pub returns : goal.returns
 returns c = λ fs ts h.
     let g = c.args.flow.now in
-    record {
-      timers = ap (λ (p : Places). p.leaves) c.push.ensures
-          ∙ (λ t. h.timers t ++ c.dues-dues.ensures.expiry t ∷ [])
-          ∙ sym (map-append (λ (f : KeptFlow). expiry_due f.state) fs (g ∷ []));
-      segments = ap (λ (p : Places). p.leaves) c.push-2.ensures
-          ∙ (λ t. h.segments t ++ c.dues-dues.ensures.emission t ∷ [])
-          ∙ sym (map-append (λ (f : KeptFlow). emission_due 0 f.state) fs (g ∷ []));
-      packets = h.packets;
-    }
+    let x = c.args.self.now in
+    let number = c.get.ensures.value ∙ c.number.ensures in
+    indexed_more fs ts x _ g h c.requires.1
+    (ap (λ (p : Places). p.leaves) c.push.ensures ∙ ap (λ o. x.timers.leaves ++ o ∷ []) c.timer.ensures)
+    (λ k. c.add.ensures.adds k ∙ (λ t. (number t == k && c.may_send.ensures t) || is_in x.ready k))
+    (c.add.ensures.whole h.whole) c.add.ensures.entries refl

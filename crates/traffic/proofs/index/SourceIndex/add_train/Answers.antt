@@ -7,7 +7,9 @@ use Rattle.traffic.proofs.index.SourceIndex.add_train.Goals as goal
 pub returns : goal.returns
 returns c = λ fs ts h. record {
   timers = h.timers;
-  segments = h.segments;
+  whole = h.whole;
+  sending = h.sending;
+  entries = h.entries;
   packets = ap (λ (p : Places). p.leaves) c.push.ensures
       ∙ (λ t. h.packets t ++ c.due.ensures.due t ∷ [])
       ∙ sym (map-append packet_due ts (c.args.train.now ∷ []));

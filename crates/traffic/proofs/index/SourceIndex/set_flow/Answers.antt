@@ -1,20 +1,19 @@
-use Rattle.std.proofs.Common.{set, sym, ◌∙◌, ap}
-use Rattle.std.proofs.lemmas.List.{map-set}
-use Rattle.due_index.specs.Places.{Places}
-use Rattle.traffic.specs.Kept.{KeptFlow}
-use Rattle.traffic.specs.Leaves.{expiry_due, emission_due}
+use Rattle.std.proofs.Common.{set, get_or, refl, cond, ◌<◌, ◌==◌, length, ◌∙◌, ap, arith}
+use Rattle.std.specs.Prelude.{None}
+use Rattle.due_index.specs.Least.{lesser}
+use Rattle.traffic.specs.Numbers.{is_in}
+use Rattle.traffic.proofs.Timers.{told_length}
+use Rattle.traffic.proofs.Flows.{indexed_changed}
 use Rattle.traffic.proofs.index.SourceIndex.set_flow.Goals as goal
 
 pub returns : goal.returns
-returns c = λ fs ts h.
-    let i = c.args.place in
+returns c = λ fs ts f h different at e.
     let g = c.args.flow.now in
-    record {
-      timers = ap (λ (p : Places). p.leaves) c.set.ensures
-          ∙ (λ t. set (h.timers t) i (c.dues-dues.ensures.expiry t))
-          ∙ sym (map-set (λ (f : KeptFlow). expiry_due f.state) fs i g);
-      segments = ap (λ (p : Places). p.leaves) c.set-2.ensures
-          ∙ (λ t. set (h.segments t) i (c.dues-dues.ensures.emission t))
-          ∙ sym (map-set (λ (f : KeptFlow). emission_due 0 f.state) fs i g);
-      packets = h.packets;
-    }
+    let x = c.args.self.now in
+    let i = c.args.place in
+    let number = c.get.ensures.value ∙ c.number.ensures in
+    let within : i < length fs = omega (arith, c.requires.0, told_length x.timers.leaves fs h.timers) in
+    indexed_changed fs ts x _ i f g h different within at e
+    (c.tell.ensures ∙ ap (λ o. set x.timers.leaves i (lesser (get_or x.timers.leaves i None) o)) c.timer.ensures)
+    (λ k. c.set.ensures.sets k ∙ (λ t. cond (k == number t) (c.may_send.ensures t) (is_in x.ready k)))
+    (c.set.ensures.whole h.whole) c.set.ensures.entries refl

@@ -7,7 +7,9 @@ use Rattle.traffic.proofs.index.SourceIndex.set_train.Goals as goal
 pub returns : goal.returns
 returns c = λ fs ts h. record {
   timers = h.timers;
-  segments = h.segments;
+  whole = h.whole;
+  sending = h.sending;
+  entries = h.entries;
   packets = ap (λ (p : Places). p.leaves) c.set.ensures
       ∙ (λ t. set (h.packets t) c.args.place (c.due.ensures.due t))
       ∙ sym (map-set packet_due ts c.args.place c.args.train.now);

@@ -12,6 +12,7 @@ use Rattle.traffic.proofs.Changes.{train_at, no_train, sound_train}
 use Rattle.traffic.proofs.Sendings.{send_by_train, send_by_flow, send_by_none, emission_by_train, emission_by_flow, emission_by_none, emitting_by_train, emitting_by_flow}
 use Rattle.traffic.proofs.Indexes.{flow_indexed, train_indexed}
 use Rattle.traffic.proofs.Tables.{leads_changed}
+use Rattle.traffic.proofs.Standing.{flow_heads, train_heads}
 use Rattle.traffic.proofs.sources.Traffic.emit.Goals as goal
 
 pub emit-sending-requires : goal.emit-sending-requires
@@ -81,7 +82,8 @@ emit-sending-requires-2-clause-may c =
 pub invariant_of-self-2 : goal.invariant_of-self-2
 invariant_of-self-2 c = (
   sound_flow c.self.inside.flows.items c.self.inside.trains.items _ c.index_mut-flow.result.now c.emit-sending-2.new.self c.self.invariant.0 c.index_mut-flow.ensures.value (ap (λ (g : KeptFlow). g.state.number) c.emit-sending-2.ensures.flow),
-  c.set_flow.ensures c.self.inside.flows.items c.self.inside.trains.items c.self.invariant.1,
+  c.set_flow.ensures c.self.inside.flows.items c.self.inside.trains.items c.index_mut-flow.result.now c.self.invariant.1
+      c.self.invariant.0.flows c.index_mut-flow.ensures.value (ap (λ (g : KeptFlow). g.state.number) c.emit-sending-2.ensures.flow),
   leads_changed (λ (f : KeptFlow). f.state.number) c.self.inside.flows.items c.self.inside.flow_places c.in-Some-flow_place.place c.index_mut-flow.result.now c.emit-sending-2.new.self c.self.invariant.2 c.index_mut-flow.ensures.value (ap (λ (g : KeptFlow). g.state.number) c.emit-sending-2.ensures.flow),
   c.self.invariant.3,
 )
@@ -120,7 +122,7 @@ set_flow-requires c =
     let f = c.index_mut-flow.result.now in
     let at = flow_at c.args.number c.args.self.now fs ts c.in-Some-flow_place.place f c.self.view_is
     (sym c.in-Some-flow_place.is ∙ c.flow_place.ensures) c.index_mut-flow.ensures.value in
-    flow_indexed fs ts c.self.inside.index c.in-Some-flow_place.place c.self.invariant.1 at.within
+    flow_indexed fs ts c.self.inside.index c.in-Some-flow_place.place c.emit-sending-2.new.self.state.number f c.self.invariant.1 at.within c.index_mut-flow.ensures.value (ap (λ (g : KeptFlow). g.state.number) c.emit-sending-2.ensures.flow)
 
 pub set_train-requires : goal.set_train-requires
 set_train-requires c =
@@ -130,3 +132,14 @@ set_train-requires c =
     let at = train_at c.args.number c.args.self.now fs ts c.in-Some.place u c.self.view_is
     (sym c.in-Some.is ∙ c.train_place.ensures) c.index_mut-train.ensures.value in
     train_indexed fs ts c.self.inside.index c.in-Some.place c.self.invariant.1 at.within
+
+pub returns-clause-heads : goal.returns-clause-heads
+returns-clause-heads c =
+    flow_heads c.args.self.now c.self.inside.flows.items c.self.inside.trains.items _ c.index_mut-flow.result.now c.emit-sending-2.new.self
+    c.self.view_is c.index_mut-flow.ensures.value (ap (λ (g : KeptFlow). g.state.number) c.emit-sending-2.ensures.flow) (ap (λ (g : KeptFlow). g.state.flow) c.emit-sending-2.ensures.flow)
+
+pub returns-in-Some-clause-heads : goal.returns-in-Some-clause-heads
+returns-in-Some-clause-heads c =
+    train_heads c.args.self.now c.self.inside.flows.items c.self.inside.trains.items _ c.index_mut-train.result.now c.emit-sending.new.self
+    c.self.view_is c.index_mut-train.ensures.value (ap (λ (u : TrainState). u.number) c.emit-sending.ensures.train)
+    (ap (λ (u : TrainState). u.train) c.emit-sending.ensures.train)

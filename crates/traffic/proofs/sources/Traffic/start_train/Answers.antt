@@ -1,5 +1,5 @@
 use Rattle.std.proofs.Common.{◌≡◌, sym, ◌∙◌, ap, subst}
-use Rattle.std.proofs.Common.{◌<◌, ◌==◌, length}
+use Rattle.std.proofs.Common.{◌<◌, ◌==◌, List, length}
 use Rattle.std.specs.Prelude.{None, position}
 use Rattle.emu_model.specs.Net.{TrainState}
 use Rattle.std.proofs.Common.{◌≤◌, ◌++◌, [], ◌∷◌, arith}
@@ -33,4 +33,15 @@ invariant_of-self-2 c =
       c.self.invariant.2,
       leads_on number ts c.push_reserved.new.self.items c.ready.new.self c.set.new.self c.get-2.result c.len.result c.new-train.result
           is c.set.ensures table none entry last (named ∙ sym c.get-2.ensures.value),
+    )
+
+pub invariant_of-self-in_err-train_ready : goal.invariant_of-self-in_err-train_ready
+invariant_of-self-in_err-train_ready c =
+    let fs = c.self.inside.flows.items in
+    let ts = c.self.inside.trains.items in
+    let items = sym c.in_ok-reserve.ensures.items in (
+      subst (λ ts. IsSound fs ts) items c.self.invariant.0,
+      subst (λ ts. AreIndexed fs ts c.train_ready.new.self) items (c.train_ready.ensures.same fs ts c.self.invariant.1),
+      c.self.invariant.2,
+      λ k. c.ready.ensures.same k ∙ c.self.invariant.3 k ∙ ap (λ (ts : List TrainState). position (λ u. u.number == k) ts) items,
     )

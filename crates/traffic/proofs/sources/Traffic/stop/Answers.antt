@@ -16,7 +16,8 @@ returns-in_default c = λ n.
 pub invariant_of-self : goal.invariant_of-self
 invariant_of-self c = (
   sound_flow c.self.inside.flows.items c.self.inside.trains.items _ c.index_mut-flow.result.now c.stop.new.self c.self.invariant.0 c.index_mut-flow.ensures.value (ap (λ (g : KeptFlow). g.state.number) c.stop.ensures),
-  c.set_flow.ensures c.self.inside.flows.items c.self.inside.trains.items c.self.invariant.1,
+  c.set_flow.ensures c.self.inside.flows.items c.self.inside.trains.items c.index_mut-flow.result.now c.self.invariant.1
+      c.self.invariant.0.flows c.index_mut-flow.ensures.value (ap (λ (g : KeptFlow). g.state.number) c.stop.ensures),
   leads_changed (λ (f : KeptFlow). f.state.number) c.self.inside.flows.items c.self.inside.flow_places c.in-Some.place c.index_mut-flow.result.now c.stop.new.self c.self.invariant.2 c.index_mut-flow.ensures.value (ap (λ (g : KeptFlow). g.state.number) c.stop.ensures),
   c.self.invariant.3,
 )
@@ -40,4 +41,4 @@ set_flow-requires c =
     let f = c.index_mut-flow.result.now in
     let at = flow_at c.args.number c.args.self.now fs ts c.in-Some.place f c.self.view_is
     (sym c.in-Some.is ∙ c.flow_place.ensures) c.index_mut-flow.ensures.value in
-    flow_indexed fs ts c.self.inside.index c.in-Some.place c.self.invariant.1 at.within
+    flow_indexed fs ts c.self.inside.index c.in-Some.place c.stop.new.self.state.number f c.self.invariant.1 at.within c.index_mut-flow.ensures.value (ap (λ (g : KeptFlow). g.state.number) c.stop.ensures)

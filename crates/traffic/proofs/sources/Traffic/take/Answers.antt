@@ -8,9 +8,11 @@ use Rattle.emu_model.specs.Net.{FlowState, put_flow, make, ack_send, take_segmen
 use Rattle.traffic.specs.declared.sends.Sending.{Sending}
 use Rattle.traffic.specs.Kept.{KeptFlow, with_traffic}
 use Rattle.traffic.proofs.Changes.{kept, flow_at, no_flow, sound_flow}
-use Rattle.traffic.specs.Leaves.{expiry_due, emission_due}
-use Rattle.traffic.proofs.Indexes.{flow_as_before}
+use Rattle.traffic.specs.Leaves.{expiry_due}
+use Rattle.traffic.specs.Sends.{may_send}
+use Rattle.traffic.proofs.Flows.{flow_as_before}
 use Rattle.traffic.proofs.Tables.{leads_changed}
+use Rattle.traffic.proofs.Standing.{flow_heads}
 use Rattle.traffic.proofs.sources.Traffic.take.Goals as goal
 
 pub returns-in_default-clause-taken : goal.returns-in_default-clause-taken
@@ -33,9 +35,11 @@ take-requires c =
 pub invariant_of-self : goal.invariant_of-self
 invariant_of-self c = (
   sound_flow c.self.inside.flows.items c.self.inside.trains.items _ c.index_mut-flow.result.now c.take.new.self c.self.invariant.0 c.index_mut-flow.ensures.value (ap (λ (s : FlowState). s.number) c.take.ensures.flow),
-  flow_as_before c.self.inside.flows.items c.self.inside.trains.items c.self.inside.index c.in-Some.place
-      c.index_mut-flow.result.now c.take.new.self c.self.invariant.1 c.index_mut-flow.ensures.value
-      (ap expiry_due c.take.ensures.flow) (ap (emission_due 0) c.take.ensures.flow),
+  (let at = flow_at c.args.number c.args.self.now c.self.inside.flows.items c.self.inside.trains.items c.in-Some.place
+      c.index_mut-flow.result.now c.self.view_is (sym c.in-Some.is ∙ c.flow_place.ensures) c.index_mut-flow.ensures.value in
+      flow_as_before c.self.inside.flows.items c.self.inside.trains.items c.self.inside.index c.in-Some.place
+      c.index_mut-flow.result.now c.take.new.self c.self.invariant.1 at.within c.index_mut-flow.ensures.value
+      (ap expiry_due c.take.ensures.flow) (ap may_send c.take.ensures.flow) (ap (λ (s : FlowState). s.number) c.take.ensures.flow)),
   leads_changed (λ (f : KeptFlow). f.state.number) c.self.inside.flows.items c.self.inside.flow_places c.in-Some.place c.index_mut-flow.result.now c.take.new.self c.self.invariant.2 c.index_mut-flow.ensures.value (ap (λ (s : FlowState). s.number) c.take.ensures.flow),
   c.self.invariant.3,
 )
@@ -63,3 +67,8 @@ returns-clause-header c = λ n.
     let f = c.index_mut-flow.result.now in
     let at = flow_at c.args.number c.args.self.now fs ts c.in-Some.place f c.self.view_is (sym c.in-Some.is ∙ c.flow_place.ensures) c.index_mut-flow.ensures.value in
     ap (λ (s : Sending). Some s.send) c.take.ensures.result ∙ sym (ap (option_map (λ (f : FlowState). ack_send f.flow)) (at.found n))
+
+pub returns-clause-heads : goal.returns-clause-heads
+returns-clause-heads c =
+    flow_heads c.args.self.now c.self.inside.flows.items c.self.inside.trains.items _ c.index_mut-flow.result.now c.take.new.self
+    c.self.view_is c.index_mut-flow.ensures.value (ap (λ (s : FlowState). s.number) c.take.ensures.flow) (ap (λ (s : FlowState). s.flow) c.take.ensures.flow)

@@ -9,6 +9,7 @@ use Rattle.traffic.specs.Kept.{KeptFlow, KeptTraffic, with_traffic}
 use Rattle.traffic.proofs.Changes.{kept, IsFlowAt, flow_at, no_flow, sound_flow}
 use Rattle.traffic.proofs.Indexes.{flow_indexed}
 use Rattle.traffic.proofs.Tables.{leads_changed}
+use Rattle.traffic.proofs.Standing.{flow_heads}
 use Rattle.traffic.proofs.sources.Traffic.take_ack.Goals as goal
 
 -- what an acknowledgement leaves, taken or not
@@ -26,21 +27,22 @@ taken_at {k} {t} {fs} {ts} {i} {f} at g now upto (Some w) number taken ignored s
 taken_at {k} {t} {fs} {ts} {i} {f} at g now upto None number taken ignored same n =
     ignored (with_traffic t n) ∙ sym (at.still g n (ap (λ (g : KeptFlow). g.state) same))
 
-pub returns-in_default : goal.returns-in_default
-returns-in_default c = λ n.
+pub returns-in_default-clause-taken : goal.returns-in_default-clause-taken
+returns-in_default-clause-taken c = λ n.
     let m = with_traffic c.args.self.now n in
     ap (λ o. option_map_or (acknowledged c.args.now c.args.upto m) o m) (no_flow c.args.number c.args.self.now (sym c.in_default.is ∙ c.flow_place.ensures) n)
 
 pub invariant_of-self : goal.invariant_of-self
 invariant_of-self c = (
   sound_flow c.self.inside.flows.items c.self.inside.trains.items _ c.index_mut-flow.result.now c.take_ack-window.new.self c.self.invariant.0 c.index_mut-flow.ensures.value (c.take_ack-window.ensures.number),
-  c.set_flow.ensures c.self.inside.flows.items c.self.inside.trains.items c.self.invariant.1,
+  c.set_flow.ensures c.self.inside.flows.items c.self.inside.trains.items c.index_mut-flow.result.now c.self.invariant.1
+      c.self.invariant.0.flows c.index_mut-flow.ensures.value c.take_ack-window.ensures.number,
   leads_changed (λ (f : KeptFlow). f.state.number) c.self.inside.flows.items c.self.inside.flow_places c.in-Some.place c.index_mut-flow.result.now c.take_ack-window.new.self c.self.invariant.2 c.index_mut-flow.ensures.value (c.take_ack-window.ensures.number),
   c.self.invariant.3,
 )
 
-pub returns : goal.returns
-returns c = λ n.
+pub returns-clause-taken : goal.returns-clause-taken
+returns-clause-taken c = λ n.
     let fs = c.self.inside.flows.items in
     let ts = c.self.inside.trains.items in
     let f = c.index_mut-flow.result.now in
@@ -56,4 +58,9 @@ set_flow-requires c =
     let f = c.index_mut-flow.result.now in
     let at = flow_at c.args.number c.args.self.now fs ts c.in-Some.place f c.self.view_is
     (sym c.in-Some.is ∙ c.flow_place.ensures) c.index_mut-flow.ensures.value in
-    flow_indexed fs ts c.self.inside.index c.in-Some.place c.self.invariant.1 at.within
+    flow_indexed fs ts c.self.inside.index c.in-Some.place c.take_ack-window.new.self.state.number f c.self.invariant.1 at.within c.index_mut-flow.ensures.value c.take_ack-window.ensures.number
+
+pub returns-clause-heads : goal.returns-clause-heads
+returns-clause-heads c =
+    flow_heads c.args.self.now c.self.inside.flows.items c.self.inside.trains.items _ c.index_mut-flow.result.now c.take_ack-window.new.self
+    c.self.view_is c.index_mut-flow.ensures.value c.take_ack-window.ensures.number c.take_ack-window.ensures.header

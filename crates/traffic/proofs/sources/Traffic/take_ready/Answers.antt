@@ -6,9 +6,11 @@ use Rattle.traffic.specs.Kept.{KeptFlow, HasRoomFor}
 use Rattle.traffic.proofs.Changes.{flow_at, no_first, room_kept, sound_flow}
 use Rattle.std.specs.Prelude.{Result, Ok, Err}
 use Rattle.std.proofs.lemmas.Bool.{lt-ltb}
-use Rattle.traffic.specs.Leaves.{expiry_due, emission_due}
-use Rattle.traffic.proofs.Indexes.{flow_as_before}
+use Rattle.traffic.specs.Leaves.{expiry_due}
+use Rattle.traffic.specs.Sends.{may_send}
+use Rattle.traffic.proofs.Flows.{flow_as_before}
 use Rattle.traffic.proofs.Tables.{leads_changed}
+use Rattle.traffic.proofs.Standing.{flow_heads}
 use Rattle.traffic.proofs.sources.Traffic.take_ready.Goals as goal
 
 on_ok : {T E : Type 0} (P Q : Type 0) (r : Result T E) → (P → Q) → OnOk r P → OnOk r Q
@@ -26,9 +28,11 @@ returns-in_default-clause-ready c =
 pub invariant_of-self : goal.invariant_of-self
 invariant_of-self c = (
   sound_flow c.self.inside.flows.items c.self.inside.trains.items _ c.index_mut-flow.result.now c.take_ready.new.self c.self.invariant.0 c.index_mut-flow.ensures.value (ap (λ (s : FlowState). s.number) c.take_ready.ensures.state),
-  flow_as_before c.self.inside.flows.items c.self.inside.trains.items c.self.inside.index c.in-Some.place
-      c.index_mut-flow.result.now c.take_ready.new.self c.self.invariant.1 c.index_mut-flow.ensures.value
-      (ap expiry_due c.take_ready.ensures.state) (ap (emission_due 0) c.take_ready.ensures.state),
+  (let at = flow_at c.args.number c.args.self.now c.self.inside.flows.items c.self.inside.trains.items c.in-Some.place
+      c.index_mut-flow.result.now c.self.view_is (sym c.in-Some.is ∙ c.flow_place.ensures) c.index_mut-flow.ensures.value in
+      flow_as_before c.self.inside.flows.items c.self.inside.trains.items c.self.inside.index c.in-Some.place
+      c.index_mut-flow.result.now c.take_ready.new.self c.self.invariant.1 at.within c.index_mut-flow.ensures.value
+      (ap expiry_due c.take_ready.ensures.state) (ap may_send c.take_ready.ensures.state) (ap (λ (s : FlowState). s.number) c.take_ready.ensures.state)),
   leads_changed (λ (f : KeptFlow). f.state.number) c.self.inside.flows.items c.self.inside.flow_places c.in-Some.place c.index_mut-flow.result.now c.take_ready.new.self c.self.invariant.2 c.index_mut-flow.ensures.value (ap (λ (s : FlowState). s.number) c.take_ready.ensures.state),
   c.self.invariant.3,
 )
@@ -67,3 +71,8 @@ returns-clause-succeeds c room =
     let at = flow_at c.args.number c.args.self.now fs ts c.in-Some.place f c.self.view_is (sym c.in-Some.is ∙ c.flow_place.ensures) c.index_mut-flow.ensures.value in
     unrefused c.take_ready.result f.room c.take_ready.ensures.refused
     (sym (ap (λ o. option_map_or (λ (f : KeptFlow). nat_lt 0 f.room) o true) at.first) ∙ room)
+
+pub returns-clause-heads : goal.returns-clause-heads
+returns-clause-heads c =
+    flow_heads c.args.self.now c.self.inside.flows.items c.self.inside.trains.items _ c.index_mut-flow.result.now c.take_ready.new.self
+    c.self.view_is c.index_mut-flow.ensures.value (ap (λ (s : FlowState). s.number) c.take_ready.ensures.state) (ap (λ (s : FlowState). s.flow) c.take_ready.ensures.state)

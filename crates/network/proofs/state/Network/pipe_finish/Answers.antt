@@ -1,0 +1,47 @@
+use Rattle.std.proofs.Common.{◌≡◌, ℕ, refl, sym, ap, ◌∙◌, subst, []}
+use Rattle.emu_model.specs.declared.records.Record.TheVariants.{PacketFinished}
+use Rattle.emu_model.specs.Net.{note, note_drops}
+use Rattle.pipe_table.specs.Table.{has_number, IsFinishing, with_pipes}
+use Rattle.pipe_table.specs.Places.{IsInside}
+use Rattle.pipe_table.proofs.CallerLemmas.{position-none, not-finishing, finishing-inside}
+use Rattle.network.specs.contracts.state.Network.{the_view}
+use Rattle.network.specs.Kept.{KeptNet, net_of, Stands}
+use Rattle.network.proofs.Steps.{at_view, from_view, notes-nil}
+use Rattle.network.proofs.Frame.{pipes-named}
+use Rattle.network.proofs.Leaving.{finishes, finished}
+use Rattle.network.proofs.state.Network.pipe_finish.Goals as goal
+
+pub unreachable-requires : goal.unreachable-requires
+unreachable-requires g c =
+    let n = the_view c.self.inside in
+    not-finishing c.args.pipe c.args.instance c.args.at.now n.table.pipes
+    (position-none (has_number c.args.pipe) n.table.pipes c.in_default.ensures)
+    (at_view (λ m. IsFinishing c.args.pipe c.args.instance c.args.at.now m.table.pipes) n _ c.self.view_is c.requires.due)
+
+pub drops_none_at-requires : goal.drops_none_at-requires
+drops_none_at-requires g c =
+    let n = the_view c.self.inside in
+    subst (λ (j : ℕ). IsInside c.in-Some.place j n.table.pipes) (sym c.from-index.ensures)
+    (finishing-inside c.args.pipe c.in-Some.place c.args.instance c.args.at.now n.table.pipes c.in-Some.ensures
+    (at_view (λ m. IsFinishing c.args.pipe c.args.instance c.args.at.now m.table.pipes) n _ c.self.view_is c.requires.due))
+
+pub finish_plainly_at-requires-clause-named : goal.finish_plainly_at-requires-clause-named
+finish_plainly_at-requires-clause-named g c =
+    let p = g.S.Shelf.pocket c.args.shelf.now c.args.owner in
+    let n = the_view c.self.inside in
+    pipes-named p n (at_view (Stands c.args.at p) n _ c.self.view_is c.requires.stands).housed
+
+pub returns-clause-ok : goal.returns-clause-ok
+returns-clause-ok g c =
+    let p = g.S.Shelf.pocket c.args.shelf.now c.args.owner in
+    let n = the_view c.self.inside in
+    let stands : Stands c.args.at p n = at_view (Stands c.args.at p) n _ c.self.view_is c.requires.stands in
+    let k = c.args.pipe in
+    let table = c.finish_plainly_at.new.self in
+    let number = c.in_ok-packet.packet in
+    let done = subst (λ (j : ℕ). finishes c.args.at k j (net_of p n)
+    ≡ note_drops c.args.at.now [] (with_pipes p table (note (PacketFinished c.args.at.now number k j) (net_of p n))))
+    c.from-index.ensures (c.in_ok-packet.ensures.ok k c.in-Some.ensures c.args.at (net_of p n) refl) in
+    from_view 0 (λ m. finishes c.args.at k c.args.instance (net_of p m)) p _ n _ _ c.self.view_is
+    (finished p p n c.finish_plainly_at.new.self k c.args.instance stands.housed c.finish_plainly_at.ensures.keys c.finish_plainly_at.ensures.seed
+    c.args.at number [] c.note.new.self c.note.new.self done c.note.ensures (notes-nil c.note.new.self))

@@ -1,0 +1,11 @@
+use Rattle.std.proofs.Common.{sym, subst}
+use Rattle.emu_model.specs.Rules.{RuleBook, start_behind}
+use Rattle.network.specs.Ways.{AreKnown}
+use Rattle.network.proofs.WayFacts.{known_searched}
+use Rattle.network.proofs.state.Network.search_behind.Goals as goal
+
+pub invariant_of-self : goal.invariant_of-self
+invariant_of-self g c =
+    let s = c.self.inside in
+    subst (λ (b : RuleBook). AreKnown b.rules s.table.pipes s.ways) (sym c.verdict_after-verdict.ensures.counted)
+    (known_searched (start_behind c.args.packet.now.place s.book.rules) c.args.packet.now s.book s.table.pipes s.ways c.self.invariant)

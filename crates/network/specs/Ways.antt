@@ -1,0 +1,27 @@
+-- Ways: how a packet goes that one rule alone counts, and sends into an instance that is there.
+use Rattle.std.specs.Prelude.{◌≡◌, ℕ, Option, Some, List, slice_get}
+use Rattle.emu_model.specs.declared.packets.Packet.{Packet}
+use Rattle.emu_model.specs.declared.packets.Load.TheVariants.{Plain}
+use Rattle.emu_model.specs.declared.rules.Verdict.TheVariants.{IntoPipe}
+use Rattle.emu_model.specs.declared.sources.SendSpec.{SendSpec}
+use Rattle.emu_model.specs.Net.{packet_of}
+use Rattle.emu_model.specs.Rules.{Counted, verdict, the_rules}
+use Rattle.rule_search.specs.Walk.{CountsAlone}
+use Rattle.pipe_core.specs.Keyed.{KeyedPipe}
+use Rattle.pipe_table.specs.Places.{IsRouted}
+use Rattle.network.specs.declared.ways.Way.{Way}
+use Rattle.network.specs.declared.ways.Remembered.{Remembered}
+
+-- a packet with this header
+abbrev pub plain : SendSpec → Packet
+plain send = packet_of Plain send 0
+
+-- the way of a packet, whose search begins at place `start`
+pub record IsWay (start : ℕ) (packet : Packet) (w : Way) (cs : List Counted) (ps : List KeyedPipe) : Type 0 where
+  pub alone : CountsAlone start packet (the_rules cs) w.rule
+  pub verdict : verdict start packet cs ≡ IntoPipe w.number w.place
+  pub routed : IsRouted w.number packet w.pipe w.instance ps
+
+-- what is remembered is a way of the packets with its header
+pub record AreKnown (cs : List Counted) (ps : List KeyedPipe) (lines : List (Option Remembered)) : Type 0 where
+  pub each : (line : ℕ) (r : Remembered) → slice_get lines line ≡ Some (Some r) → IsWay 0 (plain r.send) r.way cs ps

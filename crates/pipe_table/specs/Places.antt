@@ -1,0 +1,52 @@
+-- Pipes by their places in the table, which they keep as long as no pipe is made and none goes.
+use Rattle.std.specs.Prelude.{◌≡◌, ℕ, ◌<◌, Option, Some, List, length, position, slice_get}
+use Rattle.emu_model.specs.declared.packets.Packet.{Packet}
+use Rattle.emu_model.specs.FlowIds.{flow_id, instance_of}
+use Rattle.number_table.specs.Places.{place_in}
+use Rattle.pipe_core.specs.Keyed.{KeyedPipe, ids_of}
+use Rattle.pipe_core.specs.Steps.{HasRoomAtSlot, HasLineRoomAt, IsPlainAt}
+use Rattle.pipe_table.specs.Table.{has_number}
+
+-- the pipe of number k stands at this place
+abbrev pub StandsAt : ℕ → ℕ → List KeyedPipe → Type 0
+StandsAt k place ps = Some place ≡ position (has_number k) ps
+
+-- each pipe's number leads to its place
+abbrev pub AreLed : List KeyedPipe → List (Option ℕ) → Type 0
+AreLed ps places = (i : ℕ) (p : KeyedPipe) → slice_get ps i ≡ Some p → place_in places p.number ≡ Some i
+
+-- there is an instance at this place of the pipe at that place
+pub record IsInside (place instance : ℕ) (ps : List KeyedPipe) : Type 0 where
+  pub pipe : KeyedPipe
+  pub there : slice_get ps place ≡ Some pipe
+  pub inside : instance < length pipe.slots
+
+-- and it is this packet's in the pipe of number k
+pub record IsRouted (k : ℕ) (packet : Packet) (place instance : ℕ) (ps : List KeyedPipe) : Type 0 where
+  pub stands : StandsAt k place ps
+  pub pipe : KeyedPipe
+  pub there : slice_get ps place ≡ Some pipe
+  pub inside : instance < length pipe.slots
+  pub its : instance_of (ids_of pipe.slots) (flow_id pipe.config.mask packet) ≡ Some instance
+
+-- a packet of this size can come to an instance without memory, where the shelf has room for it
+abbrev pub HasRoomAtPlace : ℕ → ℕ → ℕ → List KeyedPipe → Type 0
+HasRoomAtPlace size place instance ps =
+    (p : KeyedPipe) → slice_get ps place ≡ Some p → HasRoomAtSlot size instance p
+
+-- the line of an instance has room
+abbrev pub HasLineRoomIn : ℕ → ℕ → List KeyedPipe → Type 0
+HasLineRoomIn place instance ps =
+    (p : KeyedPipe) → slice_get ps place ≡ Some p → HasLineRoomAt instance p
+
+-- a finish of an instance at this moment drops nothing for sure
+abbrev pub IsPlainIn : ℕ → ℕ → ℕ → List KeyedPipe → Type 0
+IsPlainIn place instance now ps =
+    (p : KeyedPipe) → slice_get ps place ≡ Some p → IsPlainAt instance now p
+
+-- each number has its place still, and each packet the instance that it had
+pub record KeepsPlaces (old new : List KeyedPipe) : Type 0 where
+  pub places : (k : ℕ) → position (has_number k) new ≡ position (has_number k) old
+  pub inside : (place instance : ℕ) → IsInside place instance old → IsInside place instance new
+  pub routes : (k : ℕ) (packet : Packet) (place instance : ℕ) →
+      IsRouted k packet place instance old → IsRouted k packet place instance new

@@ -1,0 +1,263 @@
+//! The lines of events, each put behind what stands before a place.
+
+ghost use Rattle.std.specs.Prelude.{◌≡◌, ◌+◌, ◌≤◌, ◌++◌, codes, decimal, false, length, take, IfSome, None};
+ghost use Rattle.report.specs.Words.{instance_name, load_of, cause_of};
+ghost use Rattle.report.specs.Lines.{line_of, is_event};
+
+use crate::clock::Clock;
+use crate::digits::{put_number, put_small};
+use crate::forward::{put_byte, put_cause, put_instance, put_load, put_next, put_word};
+use emu_model::{DropCause, Load, PipeNumber, Record};
+
+/// Puts a moment, what happened then, and to which number; returns where the number ends.
+#[inline(always)]
+pub fn put_event(
+    clock: &mut Clock,
+    text: &mut [u8],
+    at: usize,
+    moment: u64,
+    word: &[u8; 8],
+    count: usize,
+    number: u64,
+) -> usize
+    requires { (count ≤ 8) × (at + 52 ≤ length text.old) }
+    ensures end { (at ≤ result) × (result ≤ at + 52) }
+    ensures items { take result text.new
+        ≡ take at text.old ++ (decimal moment ++ (take count word.now ++ decimal number)) }
+{
+    let at = clock.put(text, at, moment);
+    let at = put_word(text, at, word, count);
+    put_number(text, at, number)
+}
+
+// Puts that a command was done.
+#[inline(always)]
+fn put_done(clock: &mut Clock, text: &mut [u8], at: usize, moment: u64, command: u64) -> usize
+    requires { at + 256 ≤ length text.old }
+    ensures end { (at ≤ result) × (result ≤ at + 128) }
+    ensures items { take result text.new
+        ≡ take at text.old
+        ++ (decimal moment ++ (codes " ok " ++ (decimal command ++ codes "\n"))) }
+{
+    let at = put_event(clock, text, at, moment, b" ok     ", 4, command);
+    put_byte(text, at, b'\n')
+}
+
+// Puts what a packet did at an instance.
+#[inline(always)]
+fn put_at_instance(
+    clock: &mut Clock,
+    text: &mut [u8],
+    at: usize,
+    moment: u64,
+    word: &[u8; 8],
+    count: usize,
+    packet: u64,
+    pipe: PipeNumber,
+    instance: u8,
+) -> usize
+    requires { (count ≤ 8) × (at + 256 ≤ length text.old) }
+    ensures end { (at ≤ result) × (result ≤ at + 128) }
+    ensures items { take result text.new
+        ≡ take at text.old
+        ++ (decimal moment
+        ++ (take count word.now
+        ++ (decimal packet ++ (codes " " ++ (instance_name pipe instance ++ codes "\n"))))) }
+{
+    let at = put_event(clock, text, at, moment, word, count, packet);
+    let at = put_instance(text, at, pipe, instance);
+    put_byte(text, at, b'\n')
+}
+
+// Puts that a packet was delivered.
+#[inline(always)]
+fn put_delivery(
+    clock: &mut Clock,
+    text: &mut [u8],
+    at: usize,
+    moment: u64,
+    packet: u64,
+    load: Load,
+) -> usize
+    requires { at + 256 ≤ length text.old }
+    ensures end { (at ≤ result) × (result ≤ at + 128) }
+    ensures items { take result text.new
+        ≡ take at text.old
+        ++ (decimal moment
+        ++ (codes " deliver " ++ (decimal packet ++ (codes " " ++ (load_of load ++ codes "\n"))))) }
+{
+    let at = clock.put(text, at, moment);
+    let at = put_word(text, at, b" deliver", 8);
+    let at = put_next(text, at, packet);
+    let at = put_load(text, at, load);
+    put_byte(text, at, b'\n')
+}
+
+// Puts that a packet was dropped, and why.
+#[inline(always)]
+fn put_drop(
+    clock: &mut Clock,
+    text: &mut [u8],
+    at: usize,
+    moment: u64,
+    packet: u64,
+    load: Load,
+    cause: DropCause,
+) -> usize
+    requires { at + 256 ≤ length text.old }
+    ensures end { (at ≤ result) × (result ≤ at + 128) }
+    ensures items { take result text.new
+        ≡ take at text.old
+        ++ (decimal moment
+        ++ (codes " drop "
+        ++ (decimal packet
+        ++ (codes " " ++ (load_of load ++ (codes " " ++ (cause_of cause ++ codes "\n"))))))) }
+{
+    let at = put_event(clock, text, at, moment, b" drop   ", 6, packet);
+    let at = put_load(text, at, load);
+    let at = put_cause(text, at, cause);
+    put_byte(text, at, b'\n')
+}
+
+// Puts what a sender's window is after an acknowledgement or a timeout.
+#[inline(always)]
+fn put_window(
+    clock: &mut Clock,
+    text: &mut [u8],
+    at: usize,
+    moment: u64,
+    word: &[u8; 8],
+    count: usize,
+    flow: u64,
+    cwnd: u64,
+    ssthresh: u64,
+) -> usize
+    requires { (count ≤ 8) × (at + 256 ≤ length text.old) }
+    ensures end { (at ≤ result) × (result ≤ at + 128) }
+    ensures items { take result text.new
+        ≡ take at text.old
+        ++ (decimal moment
+        ++ (take count word.now
+        ++ (decimal flow
+        ++ (codes " " ++ (decimal cwnd ++ (codes " " ++ (decimal ssthresh ++ codes "\n"))))))) }
+{
+    let at = clock.put(text, at, moment);
+    let at = put_word(text, at, word, count);
+    let at = put_small(text, at, flow);
+    let at = put_next(text, at, cwnd);
+    let at = put_next(text, at, ssthresh);
+    put_byte(text, at, b'\n')
+}
+
+/// Puts the line of an event, and returns where it ends; `None` where the record is none.
+#[inline(always)]
+pub fn put_line(clock: &mut Clock, text: &mut [u8], at: usize, line: &Record) -> Option<usize>
+    requires { at + 256 ≤ length text.old }
+    ensures some { IfSome result
+        (λ end. (at ≤ end) × (end ≤ at + 128)
+        × (take end text.new ≡ take at text.old ++ line_of line.now)) }
+    ensures none { result ≡ None → (is_event line.now ≡ false) × (text.new ≡ text.old) }
+{
+    let end = match *line {
+        Record::CommandDone { moment, command } => put_done(clock, text, at, moment, command),
+        Record::PacketArrived {
+            moment,
+            packet,
+            pipe,
+            instance,
+        } => put_at_instance(
+            clock,
+            text,
+            at,
+            moment,
+            b" arrive ",
+            8,
+            packet,
+            pipe,
+            instance,
+        ),
+        Record::PacketFinished {
+            moment,
+            packet,
+            pipe,
+            instance,
+        } => put_at_instance(
+            clock,
+            text,
+            at,
+            moment,
+            b" finish ",
+            8,
+            packet,
+            pipe,
+            instance,
+        ),
+        Record::PacketDelivered {
+            moment,
+            packet,
+            load,
+        } => put_delivery(clock, text, at, moment, packet, load),
+        Record::PacketPassed {
+            moment,
+            packet,
+            pipe,
+            instance,
+        } => put_at_instance(
+            clock,
+            text,
+            at,
+            moment,
+            b" pass   ",
+            6,
+            packet,
+            pipe,
+            instance,
+        ),
+        Record::PacketDropped {
+            moment,
+            packet,
+            load,
+            cause,
+        } => put_drop(clock, text, at, moment, packet, load, cause),
+        Record::AckTaken {
+            moment,
+            flow,
+            cwnd,
+            ssthresh,
+        } => {
+            let flow = u64::from(flow.get());
+            put_window(
+                clock,
+                text,
+                at,
+                moment,
+                b" ack    ",
+                5,
+                flow,
+                cwnd,
+                ssthresh,
+            )
+        }
+        Record::TimerExpired {
+            moment,
+            flow,
+            cwnd,
+            ssthresh,
+        } => {
+            let flow = u64::from(flow.get());
+            put_window(
+                clock,
+                text,
+                at,
+                moment,
+                b" expire ",
+                8,
+                flow,
+                cwnd,
+                ssthresh,
+            )
+        }
+        _ => return None,
+    };
+    Some(end)
+}
