@@ -6,6 +6,7 @@ use Rattle.std.proofs.lemmas.List.Sums.{sum_by-set, sum_by-append, sum_by-cons}
 use Rattle.shard.specs.Stand.{Stand, Seat, Seating, Final, seat_at, stand_in, stands_of}
 use Rattle.shard.specs.declared.shard.Turned.TheVariants.{Ran, Ended, Idle}
 use Rattle.shard.specs.Turns.{TakenIn, Settles, ManyTurnsSettled}
+use Rattle.shard.proofs.CallerLemmas.{turns_name}
 use Rattle.bench.specs.declared.mail.RingMail.{RingMail}
 use Rattle.bench.specs.Rings.{ring_seen}
 use Rattle.bench.specs.Custody.{times, seat_named, seated, AreResidents}
@@ -66,7 +67,7 @@ by_stands x (o ∷ seats) =
 -- a time that began anew leaves all names
 settled_seated : (x : ℕ) (old mid : Seating RingMail) → Settles old mid → seated x mid.seats ≡ seated x old.seats
 settled_seated x old mid h =
-    ⊎_elim (λ e. ap (λ (g : Seating RingMail). seated x g.seats) e)
+    ⊎_elim (λ e. ap (λ (g : Seating RingMail). seated x g.seats) e.1)
     (λ r. by_stands x mid.seats ∙ ap (sum_by (stand_named x)) r.1.stands ∙ sym (by_stands x old.seats)) h
 
 -- a parcel came
@@ -99,7 +100,7 @@ ran_seated x name may_refuse more ran old new h =
     let e = ap (seated x) r.others in
     let f : seat_named x (Some s) ≡ one_of x s.stand.name = refl in
     let g : seat_named x (Some t) ≡ one_of x t.stand.name = refl in
-    let n = same_one x t.stand.name s.stand.name r.turns.name in
+    let n = same_one x t.stand.name s.stand.name (turns_name ring_seen ran _ _ r.turns) in
     let m = settled_seated x old mid h.1 in
     omega arith
 
@@ -113,7 +114,7 @@ ended_seated x d may_refuse more ran old new h =
     let turns = h.2.1 in
     let r = turns.3 in
     let g = went_seated x mid new.seats turns.0 turns.1 r.was r.others in
-    let n = same_one x d.name turns.1.stand.name (r.end.name ∙ r.turns.name) in
+    let n = same_one x d.name turns.1.stand.name (r.end.name ∙ turns_name ring_seen ran _ _ r.turns) in
     let m = settled_seated x old mid h.1 in
     omega arith
 

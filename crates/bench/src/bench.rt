@@ -221,9 +221,9 @@ impl Bench {
         ensures err { IfErr result (λ e. OfferFails e slot self.old self.new) }
         ensures peered { self.new.peered ≡ self.old.peered }
     {
-        let Some(_there) = self.shard.records(slot) else {
+        if self.shard.records(slot).is_err() {
             return Err(OfferError::Vacant);
-        };
+        }
         let Some(out) = self.out.checked_add(1) else {
             return Err(OfferError::NoMemory);
         };

@@ -50,7 +50,7 @@ impl Outcome {
     pub fn commands(&self) -> &[Timed]
         ensures { result.now ≡ self.now.commands }
     {
-        self.dossier.commands()
+        self.dossier.consumed()
     }
 
     /// What was recorded.

@@ -183,7 +183,7 @@ impl Tenant {
     {
         dossier.name() == self.name
             && dossier.spec() == self.spec
-            && took(dossier.ending(), self.posted.as_slice(), dossier.commands())
+            && took(dossier.ending(), self.posted.as_slice(), dossier.consumed())
             && begins(dossier.records(), self.read.as_slice())
     }
 

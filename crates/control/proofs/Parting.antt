@@ -7,7 +7,7 @@ use Rattle.emu_model.specs.declared.commands.Spec.{Spec}
 use Rattle.emu_model.specs.declared.commands.Timed.{Timed}
 use Rattle.control_words.specs.Text.{lines}
 use Rattle.control_lines.specs.Entries.{Entry, Nothing, Begins, Does, Says}
-use Rattle.control_lines.specs.Laws.{LinesSayOne}
+use Rattle.control_lines.specs.LinesSayOne.{LinesSayOne}
 use Rattle.control.specs.declared.fault.Cause.{Cause}
 use Rattle.control.specs.declared.fault.Cause.TheVariants.{TooBig, Cut, TooLong, BadByte, BadWord, OutOfRange, NoEnd, TooMany, SameName, NoExperiment, AfterEnd, Backwards}
 use Rattle.control.specs.declared.scenario.Experiment.{Experiment}

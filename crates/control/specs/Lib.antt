@@ -1,6 +1,6 @@
 pub mod Answer
 pub mod Builder
-pub mod Laws
+pub mod TextLaws
 pub mod Names
 pub mod Order
 pub mod Ranges

@@ -52,7 +52,7 @@ fn ends(command: &Command) -> bool
 impl Builder {
     ghost use Rattle.std.specs.Prelude.{◌≡◌};
     ghost use Rattle.control_lines.specs.Entries.{view_entry};
-    ghost use Rattle.control.specs.Steps.{begin as begin_of, add as add_of, step};
+    ghost use Rattle.control.specs.Steps.{begin, add, step};
     ghost use Rattle.control.specs.Builder.{sofar, GivesStep, IsNamed, OnMemory, Taken};
     ghost use Rattle.control.specs.Names.{IsName};
     ghost use Rattle.control.specs.Scenario.{Grows};
@@ -60,7 +60,7 @@ impl Builder {
     #[tactic(auto, unfolding(crate::specs::Steps::begin))]
     fn begin(&mut self, alloc: Global, name: &[u8], spec: &Spec) -> Result<(), LineError>
         requires { IsName name.now }
-        ensures { GivesStep (sofar self.new) result (begin_of (sofar self.old) name.now spec.now) }
+        ensures { GivesStep (sofar self.new) result (begin (sofar self.old) name.now spec.now) }
     {
         if self.running.is_some() {
             return Err(LineError::Cause(Cause::NoEnd));
@@ -82,7 +82,7 @@ impl Builder {
 
     #[tactic(auto, unfolding(crate::specs::Steps::add))]
     fn add(&mut self, command: &Timed) -> Result<(), LineError>
-        ensures { GivesStep (sofar self.new) result (add_of (sofar self.old) command.now) }
+        ensures { GivesStep (sofar self.new) result (add (sofar self.old) command.now) }
     {
         let Some(mut experiment) = self.running.take() else {
             if self.done.is_empty() {

@@ -3,3 +3,4 @@ pub mod LineLaw
 pub mod LineEntries
 pub mod PacketWords
 pub mod PacketLine
+pub mod PacketParts

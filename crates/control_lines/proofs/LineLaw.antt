@@ -12,7 +12,7 @@ use Rattle.control_options.specs.Options.{options_of, flow_options_of}
 use Rattle.control_lines.specs.Grammar.{IsAction, ArePorts, IsRule, IsEnds, IsSend, IsTrain, IsFlow, IsCommand, AreSteps, Header, Line, Experiment, Command, IsLine}
 use Rattle.control_lines.specs.Shape.{action_of, source_ports_of, last_ports_of, rule_of, ends_of, send_of, train_of, flow_of, last_number_of, numbered, alone, config_of, pipe_of, add_of, inject_of, train_command_of, flow_command_of, source_of, command_of, steps_of, header_of, timed_of, shape_of}
 use Rattle.control_lines.proofs.Reading.{bind_some, chosen, key_is, value_is, after_is, end_is, said_is}
-use Rattle.control_options.specs.Laws.{OptionsAreRead, FlowOptionsAreRead}
+use Rattle.control_options.specs.OptionsAreRead.{OptionsAreRead, FlowOptionsAreRead}
 use Rattle.control_lines.specs.declared.raw.RawAction.{RawAction}
 use Rattle.control_lines.specs.declared.raw.RawAction.TheVariants.{Allow, Deny, Count, SkipTo, Pipe}
 use Rattle.control_words.specs.declared.raw.RawPorts.{RawPorts}

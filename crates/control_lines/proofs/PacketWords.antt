@@ -54,7 +54,7 @@ all_digits (x ∷ xs) n m e =
     let h = open_cond (is_ascii_digit x) (digits_after (n * 10 + (x - 48)) xs) m e in
     and_from _ _ h.0 (all_digits xs (n * 10 + (x - 48)) m h.1)
 
-number_is : (front : List ℕ) (n : ℕ) → 0 < length front → length front ≤ 20 → (eqb (get_or front 0 0) 48 && not (eqb (length front) 1)) ≡ false → digits_after 0 front ≡ Some n → number_of front ≡ Some n
+pub number_is : (front : List ℕ) (n : ℕ) → 0 < length front → length front ≤ 20 → (eqb (get_or front 0 0) 48 && not (eqb (length front) 1)) ≡ false → digits_after 0 front ≡ Some n → number_of front ≡ Some n
 unfolding number_of
 number_is front n some few lead e =
     cond-false _ _ _ (ne_eqb (length front) 0 (λ z. omega (arith, z, some))) ∙ (cond-false _ _ _ (le-ltb 20 (length front) few) ∙ (cond-false _ _ _ lead ∙ e))

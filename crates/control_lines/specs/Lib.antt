@@ -1,6 +1,6 @@
 pub mod Entries
 pub mod Grammar
-pub mod Laws
+pub mod LinesSayOne
 pub mod Ranges
 pub mod Shape
 pub mod PacketLine

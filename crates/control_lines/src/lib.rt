@@ -2,12 +2,12 @@
 //! of ipfw(8)). A line is read by its shape first, and then each number by its range.
 #![tactic(auto)]
 
-mod laws;
 mod line;
+mod lines_law;
 mod packet_line;
 mod ranges;
 mod raw;
 mod shape;
 
-pub use laws::lines_say_one;
 pub use line::{LineEntry, LineFault, read_line};
+pub use lines_law::lines_say_one;

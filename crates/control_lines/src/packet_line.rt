@@ -1,7 +1,7 @@
 //! The commonest line of a long scenario, a single packet, read at once: one space between its words, and each
 //! number in its range. Of any other line a `None` here says nothing.
 
-ghost use Rattle.std.specs.Prelude.{◌≡◌, ◌≤◌, ◌==◌, ◌&&◌, not, ◌∷◌, [], Some, length, take, IfSome};
+ghost use Rattle.std.specs.Prelude.{◌≡◌, ◌+◌, ◌≤◌, ◌==◌, ◌&&◌, not, ◌∷◌, [], Some, length, take, IfSome};
 ghost use Rattle.std.specs.Char.{is_ascii_digit};
 ghost use Rattle.std.specs.List.{list_all};
 ghost use Rattle.control_words.specs.Text.{words};
@@ -151,16 +151,39 @@ fn protocol_word(text: &[u8]) -> Option<(Protocol, &[u8])>
     Some((Protocol::Tcp, rest))
 }
 
+/// The digit in front, and what follows it.
+fn digit(text: &[u8]) -> Option<(u32, &[u8])>
+    ensures { IfSome result (λ x. (text.now ≡ (48 + x.0) ∷ x.1.now) × (x.0 ≤ 9)) }
+{
+    if text.is_empty() {
+        return None;
+    }
+    if !text[0].is_ascii_digit() {
+        return None;
+    }
+    Some((u32::from(text[0] - b'0'), &text[1..]))
+}
+
 /// One of an address's four numbers, and what directly follows it.
 fn part(text: &[u8]) -> Option<(u32, &[u8])>
     ensures { IfSome result
         (λ x. Leads IsNumber is_ascii_digit text.now x.0 x.1.now × (x.0 ≤ 255)) }
 {
-    let (n, rest) = number(text)?;
+    let (first, behind_first) = digit(text)?;
+    let Some((second, behind_second)) = digit(behind_first) else {
+        return Some((first, behind_first));
+    };
+    if first == 0 {
+        return None;
+    }
+    let Some((third, behind_third)) = digit(behind_second) else {
+        return Some((first * 10 + second, behind_second));
+    };
+    let n = (first * 10 + second) * 10 + third;
     if n > 255 {
         return None;
     }
-    Some((n as u32, rest))
+    Some((n, behind_third))
 }
 
 /// The same, and what follows the point behind it.

@@ -1,4 +1,4 @@
 pub mod Phrases
 pub mod Options
 pub mod Grammar
-pub mod Laws
+pub mod OptionsAreRead

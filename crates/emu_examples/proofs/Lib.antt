@@ -14,6 +14,7 @@ mod CodelConfigured
 mod CodelFourDrops
 mod CodelOneDrop
 mod CodelReentry
+mod CodelSteps
 mod CodelTwoDrops
 mod CountedBehind
 mod DeletedEverywhere

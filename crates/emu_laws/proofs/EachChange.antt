@@ -68,7 +68,7 @@ pub record Keeps (b : ℕ) (Sends : FlowState → Type 0) (Allowed : Command →
       list_any (λ g. g.number == k) n.flows ≡ false → P None n → P None (start_flow k f n)
 
 -- of what an option gives, and of what stands in for none
-found_or : {A B : Type 0} (P : B → Type 0) (f : A → B) (o : Option A) (d : B) →
+pub found_or : {A B : Type 0} (P : B → Type 0) (f : A → B) (o : Option A) (d : B) →
     ((a : A) → o ≡ Some a → P (f a)) → (o ≡ None → P d) → P (option_map_or f o d)
 found_or P f None d p q = q refl
 found_or P f (Some a) d p q = p a refl

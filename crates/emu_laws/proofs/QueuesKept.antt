@@ -61,12 +61,12 @@ never_idle spec c n =
     (alone spec c n).net.pipes
     (alone-pipes Anything (λ k config. Unit {0}) (λ k config i. IsWorkConserving i) busy-kept spec c n (anything c))
 
-bytes-append : (xs ys : List (Waiting Packet)) → bytes_of (xs ++ ys) ≡ bytes_of xs + bytes_of ys
+pub bytes-append : (xs ys : List (Waiting Packet)) → bytes_of (xs ++ ys) ≡ bytes_of xs + bytes_of ys
 bytes-append xs ys =
     sum-map (λ w. w.size) (xs ++ ys) ∙ sum_by-append (λ w. w.size) xs ys
     ∙ omega (arith, sum-map (λ (w : Waiting Packet). w.size) xs, sum-map (λ (w : Waiting Packet). w.size) ys)
 
-bytes-one : (w : Waiting Packet) → bytes_of (w ∷ []) ≡ w.size
+pub bytes-one : (w : Waiting Packet) → bytes_of (w ∷ []) ≡ w.size
 bytes-one w = sum-map (λ v. v.size) (w ∷ []) ∙ sum_by-cons (λ v. v.size) w [] ∙ omega arith
 
 -- one that is accepted is within a limit that is no less

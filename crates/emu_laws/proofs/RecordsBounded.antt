@@ -1,35 +1,42 @@
 -- How many records a step makes: what is recorded and held, taken together, rises by six at most, since a packet that
 -- is dropped is held no more.
 use Rattle.std.proofs.Common.{◌≡◌, ℕ, zero, suc, ◌+◌, ◌*◌, ◌/◌, ◌%◌, ◌≤◌, List, [], ◌∷◌, ◌++◌, length, true, refl, ◌∙◌, ap, Option, Some, None, arith}
-use Rattle.std.specs.Prelude.{if◌then◌else◌, not, is_some, nat_lt, ◌==◌, find, map, flat_map, sum_by}
+use Rattle.std.specs.Prelude.{if◌then◌else◌, not, is_some, nat_lt, ◌==◌, find, map, flat_map}
 use Rattle.std.specs.Option.{option_map_or}
-use Rattle.std.proofs.lemmas.List.{length-append, length-map}
+use Rattle.std.proofs.lemmas.List.{length-map}
 use Rattle.std.proofs.lemmas.List.Sums.{sum_by-cons, sum_by-append, count_by-le-length}
 use Rattle.emu_laws.proofs.Words.{Setting, Spec, Timed, Class, NextCommand, Exit, Finish, Expiry, Emission, Packet, Load, Plain, Seg, Ack, Verdict, OverTheLink, Dropped, IntoPipe, SendSpec, PipeConfig, DropCause, Denied, NoPipe, Budget, Deleted, Command, Add, Delete, Config, PipeDelete, PipeShow, Show, Inject, Train, Flow, Stop, OnePass, Trace, End, Record, CommandDone, CommandRefused, PacketArrived, PacketDelivered, PacketFinished, PacketPassed, AckTaken, TimerExpired, StepsSpent, RuleLine, PipeLine}
 use Rattle.emu_model.specs.Rules.{Counted, verdict, start_behind, counted_book}
-use Rattle.emu_model.specs.Delay.{exit_after, first_item, leave}
+use Rattle.emu_model.specs.Delay.{first_item, leave}
 use Rattle.emu_model.specs.Reno.{Sender, ack, with_segment, missing, emitted, emit, expire}
 use Rattle.emu_model.specs.Pipes.{Drop, InService, Instance, PipeState, After, pipe_packets, instance_for, pipe_arrive, pipe_finish, pipe_exit, pipe_configure}
 use Rattle.emu_model.specs.Net.{Net, FlowState, TrainState, note, note_all, note_traced, held, arrive_records, arrivals, note_arrival, enter_pipe, drop_packet, drop_record, to_pipe, by_verdict, pass_rules_from, pass_rules, go_on, packet_of, make_record, make, data_send, ack_send, find_pipe, put_pipe, put_after, find_flow, put_flow, find_train, put_train, take_segment, take_ack, take_load, deliver}
-use Rattle.emu_model.specs.Commands.{rule_lines, instance_line, instance_lines, pipe_lines, new_pipe, delete_pipe, stop_flow, refusal_of, effect_of, obey}
+use Rattle.emu_model.specs.Commands.{without_pipe, rule_lines, instance_line, instance_lines, pipe_lines, new_pipe, delete_pipe, stop_flow, refusal_of, effect_of, obey}
 use Rattle.emu_model.specs.Events.{direct_exit, deliver_some, flying_in, leave_pipe_some, pipe_exits, served_in, note_finish, pipe_finishes, expire_flow, emit_segment, emit_packet, event_of}
 use Rattle.emu_model.specs.declared.sources.Due.{Due}
 use Rattle.emu_model.specs.Step.{State, setting, take_class, take_due, count_step, spend, is_last_step, next_event, step_with, step}
 use Rattle.emu_model.specs.Alone.{alone}
 use Rattle.emu_laws.proofs.EachOf.{either, some_or}
-use Rattle.emu_laws.proofs.HeldSizes.{replaced-by, replaced-up, replaced-down, removed-down, one_of, load, all_of, tail-size, pipe_arrive-size, pipe_finish-size, pipe_exit-size, pipe_configure-size, with_pipe-size}
+use Rattle.emu_laws.proofs.HeldBudget.{one_of, some-is, none-weighs}
+use Rattle.emu_laws.proofs.HeldWeights.{fallen, weigh, each_one, as-many-fallen, held_is, weigh-same, weigh-entered, weigh-left, weigh-arrived, weigh-finished, weigh-exited, weigh-configured, weigh-opened, weigh-deleted}
 use Rattle.emu_laws.specs.WorkBound.{is_listing, told, RecordsAreBounded}
 
 -- what is recorded and held
 unfoldable sum_of : Net → ℕ
-sum_of n = told n.records + (length n.direct.flight + sum_by load n.pipes)
+sum_of n = told n.records + weigh each_one n
 
 told-append : (xs ys : List Record) → told (xs ++ ys) ≡ told xs + told ys
 told-append xs ys = sum_by-append (λ r. if not (is_listing r) then 1 else 0) xs ys
 
 noted : (rs : List Record) (n : Net) → sum_of (note_all rs n) ≤ sum_of n + length rs
 unfolding sum_of
-noted rs n = omega (arith, told-append n.records rs, count_by-le-length (λ r. not (is_listing r)) rs)
+noted rs n =
+    omega (
+      arith,
+      told-append n.records rs,
+      count_by-le-length (λ r. not (is_listing r)) rs,
+      weigh-same each_one n (note_all rs n) refl refl,
+    )
 
 noted_one : (r : Record) (n : Net) → sum_of (note r n) ≤ sum_of n + 1
 noted_one r n = omega (arith, noted (r ∷ []) n)
@@ -37,10 +44,8 @@ noted_one r n = omega (arith, noted (r ∷ []) n)
 still : (n m : Net) → m.direct ≡ n.direct → m.pipes ≡ n.pipes → m.records ≡ n.records → sum_of m ≡ sum_of n
 unfolding sum_of
 still n m d p r =
-    let a : length m.direct.flight ≡ length n.direct.flight = ap (λ l. length l.flight) d in
-    let b : sum_by load m.pipes ≡ sum_by load n.pipes = ap (sum_by load) p in
     let c : told m.records ≡ told n.records = ap told r in
-    omega arith
+    omega (arith, c, weigh-same each_one n m d p)
 
 traced : (rs : List Record) (n : Net) → sum_of (note_traced rs n) ≤ sum_of n + length rs
 traced rs n =
@@ -54,16 +59,19 @@ dropped_one : (now : ℕ) (cause : DropCause) (p : Packet) (n : Net) → sum_of 
 dropped_one now cause p n = omega (arith, noted (drop_record now (record { packet = p; cause = cause }) ∷ []) n)
 
 -- a pipe is put in place of the one that was found, and drops are noted
-put_after-sum : (now k d : ℕ) (p : PipeState) (a : After PipeState) (n : Net) → find_pipe k n ≡ Some p →
-    all_of a ≤ load p + d → sum_of (put_after now k a n) ≤ sum_of n + d
-unfolding sum_of all_of
-put_after-sum now k d p a n e h =
+put_after-sum : (now k d : ℕ) (a : After PipeState) (n : Net) →
+    weigh each_one (put_pipe k a.state n) + fallen each_one a.dropped ≤ weigh each_one n + d →
+    sum_of (put_after now k a n) ≤ sum_of n + d
+unfolding sum_of
+put_after-sum now k d a n h =
     omega (
       arith,
+      h,
       told-append n.records (map (drop_record now) a.dropped),
       count_by-le-length (λ r. not (is_listing r)) (map (drop_record now) a.dropped),
       length-map a.dropped (drop_record now),
-      replaced-by load (λ q. q.number == k) p a.state d (length a.dropped) n.pipes e h,
+      as-many-fallen a.dropped,
+      weigh-same each_one (put_pipe k a.state n) (put_after now k a n) refl refl,
     )
 
 arrivals-few : (now : ℕ) (p : Packet) (q : PipeState) → length (arrivals now p q) ≤ 2
@@ -85,7 +93,8 @@ module _ (at : Setting) where
   enter_pipe-sum k p n =
       some_or (λ m. sum_of m ≤ sum_of n + 1) (λ q. put_after at.now k (pipe_arrive at.seed at.now p q) n) (find_pipe k n)
       (drop_packet at.now NoPipe p n)
-      (λ q e. put_after-sum at.now k 1 q (pipe_arrive at.seed at.now p q) n e (pipe_arrive-size at.seed at.now p q))
+      (λ q e. put_after-sum at.now k 1 (pipe_arrive at.seed at.now p q) n
+      (omega (arith, weigh-arrived each_one at.seed at.now k p q n e)))
       (dropped_one at.now NoPipe p n)
 
   to_pipe-sum : (k : ℕ) (p : Packet) (n : Net) → sum_of (to_pipe at k p n) ≤ sum_of n + 3
@@ -94,8 +103,7 @@ module _ (at : Setting) where
 
   by_verdict-sum : (v : Verdict) (p : Packet) (n : Net) → sum_of (by_verdict at v p n) ≤ sum_of n + 3
   unfolding sum_of
-  by_verdict-sum OverTheLink p n =
-      omega (arith, length-append n.direct.flight (record { item = p; exit = exit_after n.direct.last at.now 0 } ∷ []))
+  by_verdict-sum OverTheLink p n = omega (arith, weigh-entered each_one at.now p n)
   by_verdict-sum Dropped p n = omega (arith, dropped_one at.now Denied p n)
   by_verdict-sum (IntoPipe k place) p n = to_pipe-sum k (record p { place = place }) n
 
@@ -148,7 +156,7 @@ module _ (at : Setting) where
   -- what leaves is held no more
   left-sum : (n : Net) → sum_of (record n { direct = leave n.direct }) + one_of (first_item n.direct.flight) ≡ sum_of n
   unfolding sum_of
-  left-sum n = omega (arith, tail-size n.direct.flight)
+  left-sum n = omega (arith, weigh-left each_one n, some-is (first_item n.direct.flight))
 
   direct_exit-sum : (n : Net) → sum_of (direct_exit at n) ≤ sum_of n + 4
   direct_exit-sum n = go (first_item n.direct.flight) (left-sum n)
@@ -164,12 +172,7 @@ module _ (at : Setting) where
   exited-sum : (pipe k : ℕ) (n : Net) (p : PipeState) → find_pipe pipe n ≡ Some p →
       sum_of (put_pipe pipe (pipe_exit k p) n) + one_of (flying_in k p) ≤ sum_of n
   unfolding sum_of
-  exited-sum pipe k n p e =
-      omega (
-        arith,
-        replaced-down load (λ q. q.number == pipe) p (pipe_exit k p) (one_of (flying_in k p)) n.pipes e
-            (pipe_exit-size k p),
-      )
+  exited-sum pipe k n p e = omega (arith, weigh-exited each_one pipe k p n e, some-is (flying_in k p))
 
   pipe_exits-sum : (pipe k : ℕ) (n : Net) (p : PipeState) → find_pipe pipe n ≡ Some p →
       sum_of (pipe_exits at pipe k n p) ≤ sum_of n + 4
@@ -206,9 +209,12 @@ module _ (at : Setting) where
       omega (
         arith,
         note_finish-sum pipe k (served_in k p) n,
-        put_after-sum at.now pipe 0 p (pipe_finish at.now k p) m
-            (ap (find (λ q. q.number == pipe)) (same-pipes pipe k (served_in k p) n) ∙ e)
-            (omega (arith, pipe_finish-size at.now k p)),
+        put_after-sum at.now pipe 0 (pipe_finish at.now k p) m
+            (omega (
+              arith,
+              weigh-finished each_one at.now pipe k p m
+                  (ap (find (λ q. q.number == pipe)) (same-pipes pipe k (served_in k p) n) ∙ e),
+            )),
       )
 
   expire_flow-sum : (n : Net) (f : FlowState) → sum_of (expire_flow at n f) ≤ sum_of n + 4
@@ -248,25 +254,11 @@ module _ (at : Setting) where
   configured-sum : (k : ℕ) (config : PipeConfig) (n : Net) (p : PipeState) → find_pipe k n ≡ Some p →
       sum_of (put_pipe k (pipe_configure config p) n) ≤ sum_of n
   unfolding sum_of
-  configured-sum k config n p e =
-      omega (
-        arith,
-        replaced-up load (λ q. q.number == k) p (pipe_configure config p) 0 n.pipes e
-            (omega (arith, pipe_configure-size config p)),
-      )
-
-  empty-load : (k : ℕ) (config : PipeConfig) → load (record { number = k; config = config; instances = [] }) ≡ 0
-  unfolding load
-  empty-load k config = refl
+  configured-sum k config n p e = omega (arith, weigh-configured each_one k config p n e)
 
   new_pipe-sum : (k : ℕ) (config : PipeConfig) (n : Net) → sum_of (new_pipe k config n) ≤ sum_of n
   unfolding sum_of
-  new_pipe-sum k config n =
-      omega (arith, with_pipe-size (record { number = k; config = config; instances = [] }) n.pipes (empty-load k config))
-
-  load-list : (p : PipeState) → load p ≡ length (pipe_packets p)
-  unfolding load
-  load-list p = refl
+  new_pipe-sum k config n = omega (arith, weigh-opened each_one k config n)
 
   -- as many are dropped as the pipe held
   deleted-sum : (k : ℕ) (n : Net) (p : PipeState) → find_pipe k n ≡ Some p → sum_of (delete_pipe at.now k n p) ≤ sum_of n
@@ -278,9 +270,9 @@ module _ (at : Setting) where
         told-append n.records (map (drop_record at.now) ds),
         count_by-le-length (λ r. not (is_listing r)) (map (drop_record at.now) ds),
         length-map ds (drop_record at.now),
-        length-map {B = Drop} (pipe_packets p) (λ q. record { packet = q; cause = Deleted }),
-        load-list p,
-        removed-down load (λ q. q.number == k) p n.pipes e,
+        as-many-fallen ds,
+        weigh-deleted each_one k p n e,
+        weigh-same each_one (without_pipe k n) (delete_pipe at.now k n p) refl refl,
       )
 
   -- listings aren't counted
@@ -310,7 +302,8 @@ module _ (at : Setting) where
 
   listed-sum : (rs : List Record) (n : Net) → told rs ≡ 0 → sum_of (note_all rs n) ≤ sum_of n
   unfolding sum_of
-  listed-sum rs n e = omega (arith, told-append n.records rs, e)
+  listed-sum rs n e =
+      omega (arith, told-append n.records rs, e, weigh-same each_one n (note_all rs n) refl refl)
 
   same : (n m : Net) → m.direct ≡ n.direct → m.pipes ≡ n.pipes → m.records ≡ n.records → sum_of m ≤ sum_of n + 4
   same n m d p r = omega (arith, still n m d p r)
@@ -370,9 +363,9 @@ step-sum s =
 
 alone-sum : (spec : Spec) (c : List Timed) (n : ℕ) → sum_of (alone spec c n).net ≤ 6 * n
 unfolding sum_of
-alone-sum spec c zero = omega arith
+alone-sum spec c zero = omega (arith, none-weighs)
 alone-sum spec c (suc n) = omega (arith, alone-sum spec c n, step-sum (alone spec c n))
 
 pub records_are_bounded : RecordsAreBounded
-unfolding sum_of load
-records_are_bounded spec c n = omega (arith, alone-sum spec c n)
+unfolding sum_of
+records_are_bounded spec c n = omega (arith, alone-sum spec c n, held_is (alone spec c n).net)

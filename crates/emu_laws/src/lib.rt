@@ -3,19 +3,34 @@
 //! them, and see where a definition would say something else.
 #![tactic(auto)]
 
-mod laws;
 mod links;
+mod losses;
+mod making;
 mod queues;
+mod runs;
 mod senders;
+mod single_states;
+mod strangers;
 mod work;
 
-pub use laws::{
-    dropping_ends_in_time, least_due_is_least, missing_is_least, numbers_count_identifiers,
-};
 pub use links::{delay_is_kept, idle_takes_its_time, rate_is_kept, service_is_on_time};
+pub use losses::{
+    acks_pass_the_budget, codel_drops_by_control, codel_drops_nothing, drops_after_interval,
+    drops_have_causes, full_at_limit, lost_below_rate, no_queue_is_full, nothing_goes_with_pipes,
+    nothing_is_lost, pipes_drop_nothing, room_drops_nothing,
+};
+pub use making::{acks_answer_segments, acks_match_segments, ends_were_held};
 pub use queues::{never_idle, queue_is_served_in_turn, queues_are_bounded, wait_is_bounded};
+pub use runs::{deliveries_wait, moments_are_their_own, records_are_in_order};
 pub use senders::{
     acked_has_arrived, done_flows_are_silent, flight_fits_window, new_data_fits_windows,
     sequence_is_in_order, too_small_window_sends_nothing,
+};
+pub use single_states::{
+    dropping_ends_in_time, least_due_is_least, missing_is_least, numbers_count_identifiers,
+};
+pub use strangers::{
+    exits_are_told, instances_are_strangers, runs_are_histories, same_happenings_change_alike,
+    steps_are_histories, strangers_change_nothing,
 };
 pub use work::{held_within_budget, records_are_bounded};

@@ -12,7 +12,7 @@ use Rattle.emu_model.specs.Net.{Net, Setting, FlowState, TrainState, find_pipe, 
 use Rattle.emu_model.specs.Dues.{dues_of}
 use Rattle.emu_model.specs.Step.{State, setting, take_class, take_due, take_event, count_step, spend, is_last_step, next_event, step_with, step}
 use Rattle.emu_model.specs.Alone.{alone}
-use Rattle.emu_model.specs.Laws.{ConfiguresPipe}
+use Rattle.emu_model.specs.RunLaws.{ConfiguresPipe}
 use Rattle.emu_model.specs.DueLaws.{AreRising, IsAhead, IsTimingInRange, IsInRange, IsEarly, DuesStayBelow}
 use Rattle.emu_model.proofs.AllFacts.{either, each_weaker}
 use Rattle.emu_model.proofs.Holding.{Facts, Holds, Keeps, Fits, same_parts, both_hold, event-holds, obey-holds}

@@ -12,7 +12,7 @@ use Rattle.emu_model.specs.Net.{Net, Setting, FlowState, note, note_all, note_tr
 use Rattle.emu_model.specs.Commands.{new_pipe, delete_pipe, stop_flow, refusal_of, effect_of, obey}
 use Rattle.emu_model.specs.Events.{direct_exit, flying_in, leave_pipe, pipe_exits, served_in, note_finish, pipe_finishes, expire_flow, emit_segment, emit_packet, emission, event_of}
 use Rattle.emu_model.specs.Step.{State, setting, take_command, take_class, take_due, count_step, spend, is_last_step, next_event, step_with, step}
-use Rattle.emu_model.specs.Laws.{with_earlier, RecordsAreNotRead}
+use Rattle.emu_model.specs.RunLaws.{with_earlier, RecordsAreNotRead}
 
 module _ (rs : List Record) where
   -- the net with these records before its own

@@ -9,7 +9,7 @@ use Rattle.emu_model.specs.Pipes.{InService, Instance, PipeState}
 use Rattle.emu_model.specs.Net.{Net, TrainState, find_pipe, find_train}
 use Rattle.emu_model.specs.Dues.{due, line_dues, service_dues, instances_dues, pipe_dues, flow_dues, train_dues, dues_of, rank}
 use Rattle.emu_model.specs.Step.{State, next_event}
-use Rattle.emu_model.specs.Laws.{same_source}
+use Rattle.emu_model.specs.RunLaws.{same_source}
 use Rattle.emu_model.proofs.AllFacts.{each_front, each_back, each_weaker, each_found}
 use Rattle.emu_model.proofs.Numbers.{one_if, count-cons}
 use Rattle.emu_model.proofs.CallerLemmas.{of_next_event}

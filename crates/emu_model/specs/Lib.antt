@@ -17,7 +17,7 @@ pub mod Commands
 pub mod Events
 pub mod Step
 pub mod Alone
-pub mod Laws
+pub mod RunLaws
 pub mod DueLaws
 pub mod ComponentLaws
 pub mod RenoLaws

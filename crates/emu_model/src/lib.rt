@@ -6,13 +6,13 @@ mod codel_laws;
 mod commands;
 mod component_laws;
 mod due_laws;
-mod laws;
 mod packets;
 mod pipes;
 mod ranged;
 mod records;
 mod reno_laws;
 mod rules;
+mod run_laws;
 mod sources;
 mod trace_laws;
 
@@ -24,10 +24,6 @@ pub use component_laws::{
     loss_has_its_extremes,
 };
 pub use due_laws::{dues_stay_ahead, dues_stay_below};
-pub use laws::{
-    budget_ends, dues_differ, later_commands_wait, packets_add_up, records_are_not_read,
-    records_grow,
-};
 pub use packets::{Load, Packet, Place, Protocol};
 pub use pipes::{Discipline, Mask, PipeConfig, QueueLimit};
 pub use ranged::{
@@ -41,6 +37,10 @@ pub use reno_laws::{
     second_expiry_holds, slow_start_grows, third_duplicate_resends, window_grows_by_segments,
 };
 pub use rules::{Action, PortRange, Prefix, ProtocolMatch, Rule, Verdict};
+pub use run_laws::{
+    budget_ends, dues_differ, later_commands_wait, packets_add_up, records_are_not_read,
+    records_grow,
+};
 pub use sources::{Class, Due, FlowSpec, SendSpec, Source, Timing, TrainSpec};
 pub use trace_laws::{
     each_make_once, each_packet_once, exits_keep_order, finishes_keep_order, make_comes_first,

@@ -6,7 +6,7 @@ use Rattle.emu_model.specs.declared.commands.Timed.{Timed}
 use Rattle.emu_model.specs.declared.records.Record.{Record}
 use Rattle.emu_model.specs.Step.{State, step, step_with, next_event}
 use Rattle.emu_model.specs.Alone.{alone}
-use Rattle.emu_model.specs.Laws.{LaterCommandsWait, RecordsGrow, RecordsAreNotRead, IsExtendedBy, with_more, with_earlier}
+use Rattle.emu_model.specs.RunLaws.{LaterCommandsWait, RecordsGrow, RecordsAreNotRead, IsExtendedBy, with_more, with_earlier}
 use Rattle.packet_store.specs.Pocket.{Pocket}
 use Rattle.experiment.specs.Kept.{KeptExperiment, view, IsAlone, IsAloneAfter, shown_ending}
 use Rattle.experiment.specs.Moves.{Steps, IsStep}

@@ -7,7 +7,7 @@ use Rattle.emu_model.specs.declared.sources.Source.{Source}
 use Rattle.emu_model.specs.declared.sources.Class.TheVariants.{NextCommand}
 use Rattle.emu_model.specs.Dues.{due, dues_of}
 use Rattle.emu_model.specs.Step.{State, next_event}
-use Rattle.emu_model.specs.Laws.{same_source}
+use Rattle.emu_model.specs.RunLaws.{same_source}
 
 -- the first of the commands that are left is the next one
 abbrev pub command_dues : List Timed → List Due

@@ -9,7 +9,7 @@ use Rattle.emu_model.specs.declared.records.Ending.{Ending}
 use Rattle.emu_model.specs.declared.records.Ending.TheVariants.{Ended, Spent, Halted}
 use Rattle.emu_model.specs.Step.{State}
 use Rattle.emu_model.specs.Alone.{alone}
-use Rattle.emu_model.specs.Laws.{with_earlier}
+use Rattle.emu_model.specs.RunLaws.{with_earlier}
 use Rattle.emu_model.specs.DueLaws.{AreRising, IsEarly}
 use Rattle.packet_store.specs.Pocket.{Pocket}
 use Rattle.network.specs.Kept.{KeptNet, net_of, net_keys, IsHoused}

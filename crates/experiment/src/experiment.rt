@@ -4,7 +4,7 @@ ghost use Rattle.std.specs.Prelude.{◌≡◌, ◌≢◌, ℕ, ◌+◌, ◌^◌,
 ghost use Rattle.emu_model.specs.declared.sources.Class.TheVariants.{NextCommand, Expiry};
 ghost use Rattle.emu_model.specs.declared.records.Ending.TheVariants.{Ended};
 ghost use Rattle.emu_model.specs.declared.records.Record.{Record};
-ghost use Rattle.emu_model.specs.declared.commands.Timed.{Timed as TimedCommand};
+ghost use Rattle.emu_model.specs.declared.commands.Timed.{Timed};
 ghost use Rattle.emu_model.specs.Step.{initial_state, next_event};
 ghost use Rattle.emu_model.specs.Commands.{is_end};
 ghost use Rattle.packet_store.specs.Pocket.{Pocket, empty_pocket, OthersStay};
@@ -211,10 +211,10 @@ impl Experiment {
         ensures budget { (S.pocket shelf.new owner).budget ≡ (S.pocket shelf.old owner).budget }
         ensures steps { self.new.steps ≤ self.new.spec.budget.steps }
         ensures noted { self.new.noted ≡ self.old.noted }
-        ensures expires { (c : TimedCommand) → self.old.next ≡ Some c →
+        ensures expires { (c : Timed) → self.old.next ≡ Some c →
             (next_event (view (S.pocket shelf.old owner) self.old) c).source.class ≡ Expiry →
             6 ≤ self.old.net.log.spare → result ≢ Event.Halted }
-        ensures obeys { (c : TimedCommand) → self.old.next ≡ Some c →
+        ensures obeys { (c : Timed) → self.old.next ≡ Some c →
             (next_event (view (S.pocket shelf.old owner) self.old) c).source.class ≡ NextCommand →
             TakesNoMemory c.command (net_of (S.pocket shelf.old owner) self.old.net) →
             6 ≤ self.old.net.log.spare → result ≢ Event.Halted }
@@ -244,17 +244,17 @@ impl Experiment {
         requires next { IsNext first self.old.next }
         requires going { self.old.ending ≡ None }
         requires housed { IsHousedIn (S.pocket shelf.old owner) self.old }
-        ensures ok { OnOk result ((c : TimedCommand) → self.old.next ≡ Some c →
+        ensures ok { OnOk result ((c : Timed) → self.old.next ≡ Some c →
             Steps (next_event (view (S.pocket shelf.old owner) self.old) c) c
             (S.pocket shelf.old owner) self.old (S.pocket shelf.new owner) self.new) }
         ensures halted { OnErr result
             (Halts (S.pocket shelf.old owner) self.old (S.pocket shelf.new owner) self.new) }
         ensures housed { IsHousedIn (S.pocket shelf.new owner) self.new }
         ensures noted { self.new.noted ≡ self.old.noted }
-        ensures expires { (c : TimedCommand) → self.old.next ≡ Some c →
+        ensures expires { (c : Timed) → self.old.next ≡ Some c →
             (next_event (view (S.pocket shelf.old owner) self.old) c).source.class ≡ Expiry →
             6 ≤ self.old.net.log.spare → IsOk result }
-        ensures obeys { (c : TimedCommand) → self.old.next ≡ Some c →
+        ensures obeys { (c : Timed) → self.old.next ≡ Some c →
             (next_event (view (S.pocket shelf.old owner) self.old) c).source.class ≡ NextCommand →
             TakesNoMemory c.command (net_of (S.pocket shelf.old owner) self.old.net) →
             6 ≤ self.old.net.log.spare → IsOk result }
@@ -293,13 +293,13 @@ impl Experiment {
         requires next { IsSome self.old.next }
         requires going { self.old.ending ≡ None }
         requires housed { IsHousedIn (S.pocket shelf.old owner) self.old }
-        ensures ok { OnOk result ((c : TimedCommand) → self.old.next ≡ Some c →
+        ensures ok { OnOk result ((c : Timed) → self.old.next ≡ Some c →
             Steps due c (S.pocket shelf.old owner) self.old (S.pocket shelf.new owner) self.new) }
         ensures halted { OnErr result
             (Halts (S.pocket shelf.old owner) self.old (S.pocket shelf.new owner) self.new) }
         ensures housed { IsHousedIn (S.pocket shelf.new owner) self.new }
         ensures noted { self.new.noted ≡ self.old.noted }
-        ensures obeys { (c : TimedCommand) → self.old.next ≡ Some c →
+        ensures obeys { (c : Timed) → self.old.next ≡ Some c →
             TakesNoMemory c.command (net_of (S.pocket shelf.old owner) self.old.net) →
             6 ≤ self.old.net.log.spare → IsOk result }
         ensures consumed { self.new.consumed ≡ self.old.consumed }
@@ -307,18 +307,15 @@ impl Experiment {
         ensures budget { (S.pocket shelf.new owner).budget ≡ (S.pocket shelf.old owner).budget }
         ensures others { OthersStay owner (S.pocket shelf.old) (S.pocket shelf.new) }
     {
-        let Some(command) = self.next else {
+        let Some(Timed { command, .. }) = &self.next else {
             unreachable!();
         };
         let at = setting_of(&self.spec, due.moment);
-        let Ok(()) = self
-            .net
-            .obey(shelf, owner, at, self.taken, &command.command)
-        else {
+        let ending = ending_by(command);
+        let Ok(()) = self.net.obey(shelf, owner, at, self.taken, command) else {
             self.ending = Some(Ending::Halted);
             return Err(AllocError);
         };
-        let ending = ending_by(&command.command);
         self.next = None;
         self.taken += 1;
         self.clock = due.moment;
@@ -342,7 +339,7 @@ impl Experiment {
         requires next { IsSome self.old.next }
         requires going { self.old.ending ≡ None }
         requires housed { IsHousedIn (S.pocket shelf.old owner) self.old }
-        ensures ok { OnOk result ((c : TimedCommand) → self.old.next ≡ Some c →
+        ensures ok { OnOk result ((c : Timed) → self.old.next ≡ Some c →
             Steps due c (S.pocket shelf.old owner) self.old (S.pocket shelf.new owner) self.new) }
         ensures halted { OnErr result
             (Halts (S.pocket shelf.old owner) self.old (S.pocket shelf.new owner) self.new) }

@@ -1,11 +1,14 @@
 pub mod Answering
+pub mod Concludings
 pub mod Endings
-pub mod Joined
+pub mod Gatherings
+pub mod JoinedReports
 pub mod Ownings
 pub mod ReadFacts
 pub mod Reporting
 pub mod Servings
 pub mod Settled
+pub mod Settlings
 pub mod ReportTexts
 pub mod Turns
 pub mod Tellings

@@ -1,5 +1,5 @@
 -- What a tenant's own dossier says of its experiment.
-use Rattle.std.proofs.Common.{◌≡◌, ◌≤◌, List, ◌++◌, length, take, drop, Some, IsSome, sym, ap, subst, ◌∙◌}
+use Rattle.std.proofs.Common.{◌≡◌, ◌≢◌, ◌≤◌, List, ◌++◌, length, take, drop, Some, IsSome, refl, sym, ap, subst, ◌∙◌}
 use Rattle.std.proofs.lemmas.List.{take-append-drop, append_assoc}
 use Rattle.std.proofs.Math.Seq.{take-append_seam, take-length}
 use Rattle.emu_model.specs.declared.commands.Spec.{Spec}
@@ -8,7 +8,7 @@ use Rattle.emu_model.specs.declared.records.Ending.{Ending}
 use Rattle.emu_model.specs.declared.records.Ending.TheVariants.{Ended, Spent, Halted}
 use Rattle.emu_model.specs.Net.{counters_of}
 use Rattle.emu_model.specs.Alone.{alone, trace_of}
-use Rattle.emu_model.specs.Laws.{TakesSteps, LaterCommandsWait}
+use Rattle.emu_model.specs.RunLaws.{TakesSteps, LaterCommandsWait}
 use Rattle.experiment.specs.Kept.{shown_ending}
 use Rattle.control.specs.declared.scenario.Experiment.{Experiment}
 use Rattle.shard.specs.Stand.{Final}
@@ -58,3 +58,12 @@ settled_alone wait t d o e fits is serves traced ended =
     same
     ∙ sym (ended_alone wait o.spec e.commands o.commands o.events begins traced.made traced.few over)
     ∙ ap (λ (s : Spec). trace_of (alone s e.commands s.budget.steps)) spec
+
+-- an ending that isn't for want of memory is shown
+shown-ended : (e : Ending) → e ≢ Halted → IsSome (shown_ending (Some e))
+shown-ended Ended ended = refl
+shown-ended Spent ended = refl
+shown-ended Halted ended = absurd (ended refl)
+
+pub is_shown : (d : Final RingMail) (o : Settled) → o ≡ settled d → d.ending ≢ Halted → IsSome (shown_ending (Some o.ending))
+is_shown d o is ended = shown-ended o.ending (λ halted. ended (sym (ap (λ (x : Settled). x.ending) is) ∙ halted))

@@ -10,20 +10,20 @@ use Rattle.bench.specs.declared.tenant.Tenant.{Tenant}
 use Rattle.bench.specs.Commands.{BeginsWith}
 use Rattle.bench.specs.Tenants.{posted, SameTenant}
 use Rattle.lab.specs.Reports.{trace_alone}
-use Rattle.lab.specs.Serving.{Serves, ServesAll, ServesFrom}
+use Rattle.lab.specs.Serving.{IsTenantOf, ServesAll}
 
 at_last : (ts : List Tenant) (u t : Tenant) → get_or (ts ++ u ∷ []) (length ts) t ≡ u
 at_last [] u t = refl
 at_last (x ∷ xs) u t = at_last xs u t
 
 -- one tenant is changed, and serves as before
-serves_set : (ts : List Tenant) (es : List Experiment) (k : ℕ) (u : Tenant) → ServesAll ts es → ((e : Experiment) → Serves u (get_or es k e)) → ServesAll (set ts k u) es
+serves_set : (ts : List Tenant) (es : List Experiment) (k : ℕ) (u : Tenant) → ServesAll ts es → ((e : Experiment) → IsTenantOf k u (get_or es k e)) → ServesAll (set ts k u) es
 serves_set ts es k u all one j t e low =
     let low' : j < length ts = omega (arith, length-set {A = Tenant}) in
-    let P : Tenant → Type 0 = λ v. Serves v (get_or es j e) in
+    let P : Tenant → Type 0 = λ v. IsTenantOf j v (get_or es j e) in
     let here : (j ≡ k) → P (get_or (set ts k u) j t) = λ is.
-    let Q : ℕ → Type 0 = λ m. Serves (get_or (set ts k u) m t) (get_or es m e) in
-    let R : Tenant → Type 0 = λ v. Serves v (get_or es k e) in
+    let Q : ℕ → Type 0 = λ m. IsTenantOf m (get_or (set ts k u) m t) (get_or es m e) in
+    let R : Tenant → Type 0 = λ v. IsTenantOf k v (get_or es k e) in
     subst Q (sym is) (subst R (sym (get_or-set_same ts k u t (omega arith))) (one e)) in
     let there : (j ≢ k) → P (get_or (set ts k u) j t) = λ other. subst P (sym (get_or-set_other ts k j u t other)) (all j t e low') in
     ⊎_elim here (λ or. there (λ is. ⊎_elim (λ x. absurd (omega arith)) (λ x. absurd (omega arith)) or)) (cases_order j k)
@@ -37,56 +37,32 @@ same_place (x ∷ es) (suc k) d e low = same_place es k d e (omega arith)
 pub serves_step : (ts : List Tenant) (es : List Experiment) (k : ℕ) (t u : Tenant) (x : Experiment) → ServesAll ts es → k < length ts → length ts ≡ length es → SameTenant (get_or ts k t) u → BeginsWith (get_or es k x).commands (posted u) → ServesAll (set ts k u) es
 serves_step ts es k t u x all low len same begins =
     serves_set ts es k u all (λ e.
-    let old : Serves (get_or ts k t) (get_or es k x) = all k t x low in
-    let new : Serves u (get_or es k x) = (same.1 ∙ old.0, begins) in
-    let R : Experiment → Type 0 = λ y. Serves u y in
+    let old : IsTenantOf k (get_or ts k t) (get_or es k x) = all k t x low in
+    let new : IsTenantOf k u (get_or es k x) = (same.0 ∙ old.0, (same.1 ∙ old.1.0, begins)) in
+    let R : Experiment → Type 0 = λ y. IsTenantOf k u y in
     subst R (same_place es k x e (omega arith)) new)
 
-serves_snoc : (ts : List Tenant) (es : List Experiment) (u : Tenant) → ServesAll ts es → ((e : Experiment) → Serves u (get_or es (length ts) e)) → ServesAll (ts ++ u ∷ []) es
+serves_snoc : (ts : List Tenant) (es : List Experiment) (u : Tenant) → ServesAll ts es → ((e : Experiment) → IsTenantOf (length ts) u (get_or es (length ts) e)) → ServesAll (ts ++ u ∷ []) es
 serves_snoc ts es u all one j t e low =
-    let P : Tenant → Type 0 = λ v. Serves v (get_or es j e) in
+    let P : Tenant → Type 0 = λ v. IsTenantOf j v (get_or es j e) in
     let len : j < length ts + 1 = omega (arith, length-append ts (u ∷ [])) in
     ⊎_elim (λ low'. subst P (sym (get_or_append_left ts (u ∷ []) t j low')) (all j t e low'))
     (λ high.
     let is : j ≡ length ts = omega arith in
-    let Q : ℕ → Type 0 = λ m. Serves (get_or (ts ++ u ∷ []) m t) (get_or es m e) in
-    let R : Tenant → Type 0 = λ v. Serves v (get_or es (length ts) e) in
+    let Q : ℕ → Type 0 = λ m. IsTenantOf m (get_or (ts ++ u ∷ []) m t) (get_or es m e) in
+    let R : Tenant → Type 0 = λ v. IsTenantOf (length ts) v (get_or es (length ts) e) in
     subst Q (sym is) (subst R (sym (at_last ts u t)) (one e))) (cases_lt j (length ts))
 
 -- one tenant more
-pub serves_open : (ts : List Tenant) (es : List Experiment) (k : ℕ) (u : Tenant) (x : Experiment) → ServesAll ts es → length ts ≡ k → k < length es → x ≡ get_or es k x → u.spec ≡ (get_or es k x).spec → posted u ≡ []
+pub serves_open : (ts : List Tenant) (es : List Experiment) (k : ℕ) (u : Tenant) (x : Experiment) → ServesAll ts es → length ts ≡ k → k < length es → x ≡ get_or es k x → u.name ≡ k → u.spec ≡ (get_or es k x).spec → posted u ≡ []
     → ServesAll (ts ++ u ∷ []) es
-serves_open ts es k u x all len low here spec none =
+serves_open ts es k u x all len low here name spec none =
     let P : List Timed → Type 0 = λ l. BeginsWith x.commands l in
-    let new : Serves u x = (spec ∙ sym (ap (λ (y : Experiment). y.spec) here), subst P (sym none) refl) in
+    let new : IsTenantOf k u x = (name, (spec ∙ sym (ap (λ (y : Experiment). y.spec) here), subst P (sym none) refl)) in
     serves_snoc ts es u all (λ e.
-    let R : Experiment → Type 0 = λ y. Serves u y in
-    let S : ℕ → Type 0 = λ m. Serves u (get_or es m e) in
+    let R : Experiment → Type 0 = λ y. IsTenantOf k u y in
+    let S : ℕ → Type 0 = λ m. IsTenantOf m u (get_or es m e) in
     subst S (sym len) (subst R (here ∙ same_place es k x e low) new))
-
--- all serve from 0 on
-pub serves_start : (ts : List Tenant) (es : List Experiment) → ServesAll ts es → ServesFrom 0 ts es
-serves_start ts es all k t e low =
-    let is : k ≡ 0 + k = omega arith in
-    let Q : ℕ → Type 0 = λ m. Serves (get_or ts k t) (get_or es m e) in
-    subst Q is (all k t e low)
-
--- the first is gone
-pub serves_rest : (n : ℕ) (ts us : List Tenant) (u : Tenant) (es : List Experiment) → ts ≡ u ∷ us → ServesFrom n ts es → ServesFrom (n + 1) us es
-serves_rest n ts us u es is from k t e low =
-    let all : ServesFrom n (u ∷ us) es = subst (λ l. ServesFrom n l es) is from in
-    let next : n + suc k ≡ n + 1 + k = omega arith in
-    let Q : ℕ → Type 0 = λ m. Serves (get_or us k t) (get_or es m e) in
-    subst Q next (all (suc k) t e (omega arith))
-
--- the first that is left serves the experiment at n
-pub serves_here : (n : ℕ) (ts us : List Tenant) (u : Tenant) (es : List Experiment) (x : Experiment) → ts ≡ u ∷ us → ServesFrom n ts es → x ≡ get_or es n x → Serves u x
-serves_here n ts us u es x is from here =
-    let all : ServesFrom n (u ∷ us) es = subst (λ l. ServesFrom n l es) is from in
-    let first : n + 0 ≡ n = omega arith in
-    let S : ℕ → Type 0 = λ m. Serves u (get_or es m x) in
-    let Q : Experiment → Type 0 = λ y. Serves u y in
-    subst Q (sym here) (subst S first (all 0 u x (omega arith)))
 
 -- one more that was settled
 pub collects : (n : ℕ) (es : List Experiment) (x : Experiment) (all : List Trace) (v : Trace) (new : List Trace) → n < length es → x ≡ get_or es n x → all ≡ map trace_alone (take n es) → v ≡ trace_alone x → new ≡ all ++ v ∷ []

@@ -9,7 +9,7 @@ use Rattle.emu_model.specs.declared.records.Record.{Record}
 use Rattle.emu_model.specs.declared.records.Ending.{Ending}
 use Rattle.emu_model.specs.Step.{State, initial_state, step, step_with}
 use Rattle.emu_model.specs.Alone.{after_steps, alone, trace_of}
-use Rattle.emu_model.specs.Laws.{with_more, with_earlier, TakesSteps, LaterCommandsWait}
+use Rattle.emu_model.specs.RunLaws.{with_more, with_earlier, TakesSteps, LaterCommandsWait}
 use Rattle.packet_store.specs.Pocket.{Pocket}
 use Rattle.experiment.specs.Kept.{KeptExperiment, view, IsAloneAfter}
 use Rattle.lab.specs.Runs.{IsOver}

@@ -1,5 +1,5 @@
 -- What is told of an experiment while it runs.
-use Rattle.std.proofs.Common.{◌≡◌, ℕ, Bool, cond, zero, suc, ◌+◌, ◌^◌, ◌<◌, ◌≤◌, List, [], ◌∷◌, ◌++◌, map, refl, sym, ap, ◌∙◌, subst, append_assoc, append-nil, arith}
+use Rattle.std.proofs.Common.{◌≡◌, ℕ, Bool, cond, zero, suc, ◌+◌, ◌^◌, ◌<◌, List, [], ◌∷◌, ◌++◌, map, sym, ap, ◌∙◌, subst, append_assoc, append-nil, arith}
 use Rattle.std.specs.Prelude.{count_by, sum, slice_index_or, flat_map}
 use Rattle.std.proofs.lemmas.List.Concat.{flat_map-append}
 use Rattle.std.proofs.lemmas.List.Sums.{sum_by-append}
@@ -8,8 +8,8 @@ use Rattle.emu_model.specs.declared.records.Counters.{Counters}
 use Rattle.emu_model.specs.declared.records.DropCause.TheVariants.{Denied, NoPipe, NoInstance, Lost, Full, Codel, Deleted, Budget}
 use Rattle.emu_model.specs.Net.{is_delivery, is_drop_of, drops_of, all_causes, counters_of, held}
 use Rattle.emu_model.specs.Step.{State}
-use Rattle.emu_model.specs.Alone.{Trace, alone, trace_of}
-use Rattle.emu_model.specs.Laws.{PacketsAddUp, AddsUp, with_earlier}
+use Rattle.emu_model.specs.Alone.{Trace, trace_of}
+use Rattle.emu_model.specs.RunLaws.{PacketsAddUp, AddsUp, with_earlier}
 use Rattle.packet_store.specs.Pocket.{Pocket}
 use Rattle.report.specs.Lines.{line_of, heading_of, report_of}
 use Rattle.report.specs.Lines as lines

@@ -1,8 +1,10 @@
 pub mod Bytes
-pub mod Laws
+pub mod JoiningLaw
 pub mod Troubles
 pub mod Telling
 pub mod Runs
 pub mod Reports
 pub mod Plans
 pub mod Serving
+pub mod Joins
+pub mod Gathers

@@ -1,5 +1,5 @@
 -- How many workers run a scenario, and what may go wrong while they do.
-use Rattle.std.specs.Prelude.{◌≡◌, ℕ, ◌≤◌, ◌^◌, Bool, true, false, Option, Some, None}
+use Rattle.std.specs.Prelude.{◌≡◌, ℕ, ◌≤◌, ◌^◌, Bool, true, false, cond, nat_le, Option, Some, None, Result, Ok, Err}
 use Rattle.lab.specs.declared.fault.RunFault.{RunFault}
 use Rattle.lab.specs.declared.fault.RunFault.TheVariants.{Memory, Gate, Strange}
 
@@ -47,3 +47,17 @@ gravity Memory = 3
 gravity Gate = 2
 gravity Strange = 1
 gravity _ = 0
+
+-- the graver of a fault and another
+abbrev pub graver_of : Option RunFault → RunFault → RunFault
+graver_of None b = b
+graver_of (Some a) b = cond (nat_le (gravity a) (gravity b)) b a
+
+-- a worker's own fault: want of memory, or the gate
+abbrev pub IsWorkers : Option RunFault → Type 0
+IsWorkers f = is_honest true f ≡ true
+
+-- what a call failed of, if it did
+abbrev pub fault_of : {T : Type 0} → Result T RunFault → Option RunFault
+fault_of (Ok x) = None
+fault_of (Err e) = Some e

@@ -1,5 +1,5 @@
 -- What the calls of the program read and write.
-use Rattle.std.specs.Prelude.{ℕ, List, [], ◌∷◌, ◌++◌, length, map, sum, flat_map, codes, decimal, Option, IfSome, Result, Ok, Err, Bool, true, false}
+use Rattle.std.specs.Prelude.{◌≡◌, ◌≢◌, IfErr, ℕ, List, ◌++◌, length, map, sum, flat_map, codes, decimal, Option, IfSome, Result, Ok, Err, Bool, true, false}
 use Rattle.std.specs.Io.KnownBytes.{Appends, Keeps}
 use Rattle.emu_model.specs.Alone.{Trace, alone, trace_of}
 use Rattle.report.specs.Lines.{report_of}
@@ -7,7 +7,7 @@ use Rattle.control.specs.declared.scenario.Experiment.{Experiment}
 use Rattle.control.specs.Scenario.{Spells, HasFault}
 use Rattle.lab.specs.declared.fault.RunFault.{RunFault}
 use Rattle.lab.specs.declared.fault.RunFault.TheVariants as faults
-use Rattle.lab.specs.Bytes.{IsCut}
+use Rattle.lab.specs.Bytes.{IsCut, TakesFew}
 
 -- an experiment by itself, after all steps of its budget
 abbrev pub trace_alone : Experiment → Trace
@@ -56,6 +56,15 @@ abbrev pub writer_failed : {T : Type 0} → Bool → Result T RunFault → Bool
 writer_failed old (Ok _) = false
 writer_failed old (Err faults.Write) = true
 writer_failed old (Err _) = old
+
+-- what a call leaves of its reader and its writer, whose words these are before it and after it: it took few bytes
+-- past the longest text, each has failed just where the answer says so, and the writer is as it was but for what was
+-- written
+pub record Ends {A : Type 0} (result : Result (Unit {0}) RunFault) (unread rest : Option (List ℕ)) (reading writing written : Bool) (before after : A) : Type 0 where
+  pub taken : TakesFew unread rest
+  pub read : reading ≡ reader_failed result
+  pub write : written ≡ writer_failed writing result
+  pub untouched : IfErr result (λ e. e ≢ faults.Write → after ≡ before)
 
 -- a fault of reading alone
 abbrev pub IsInputFault : RunFault → Type 0

@@ -1,5 +1,5 @@
 -- A tenant posts the commands of its experiment.
-use Rattle.std.specs.Prelude.{◌≡◌, ◌<◌, ◌+◌, ℕ, List, length, slice_index_or, Vec}
+use Rattle.std.specs.Prelude.{◌≡◌, ◌<◌, ℕ, List, length, slice_index_or, Vec}
 use Rattle.std.specs.Global.{Global}
 use Rattle.control.specs.declared.scenario.Experiment.{Experiment}
 use Rattle.bench.specs.declared.tenant.Tenant.{Tenant}
@@ -10,15 +10,14 @@ use Rattle.bench.specs.Tenants.{posted}
 abbrev pub Serves : Tenant → Experiment → Type 0
 Serves t e = (t.spec ≡ e.spec) × BeginsWith e.commands (posted t)
 
--- the first tenants serve the first experiments
+-- its name is its number, and it serves the experiment
+abbrev pub IsTenantOf : ℕ → Tenant → Experiment → Type 0
+IsTenantOf n t e = (t.name ≡ n) × Serves t e
+
+-- the first tenants are those of the first experiments, by their numbers
 abbrev pub ServesAll : List Tenant → List Experiment → Type 0
 ServesAll ts es =
-    (k : ℕ) (t : Tenant) (e : Experiment) → k < length ts → Serves (slice_index_or ts k t) (slice_index_or es k e)
-
--- the tenants that are left serve the experiments from n on
-abbrev pub ServesFrom : ℕ → List Tenant → List Experiment → Type 0
-ServesFrom n ts es =
-    (k : ℕ) (t : Tenant) (e : Experiment) → k < length ts → Serves (slice_index_or ts k t) (slice_index_or es (n + k) e)
+    (k : ℕ) (t : Tenant) (e : Experiment) → k < length ts → IsTenantOf k (slice_index_or ts k t) (slice_index_or es k e)
 
 -- each experiment has its tenant
 abbrev pub IsServed : Vec Tenant Global → List Experiment → Type 0

@@ -112,18 +112,18 @@ fn play<P: Progress>(
 /// memory was refused.
 fn report_by_itself<P: Progress>(
     alloc: Global,
-    plan: &Script,
+    script: &Script,
     progress: &P,
 ) -> Result<Vec<u8>, AllocError>
-    requires { AreInOrder 0 plan.now.commands }
-    ensures { IfOk result (λ text. text.items ≡ report_alone plan.now) }
+    requires { AreInOrder 0 script.now.commands }
+    ensures { IfOk result (λ text. text.items ≡ report_alone script.now) }
 {
     later_commands_wait();
     packets_add_up();
-    let mut shelf = OwnShelf::new(alloc, plan.spec.budget.packets);
-    let mut experiment = Experiment::new(alloc, plan.spec)?;
-    let mut telling = Telling::new(alloc, plan.name.as_bytes())?;
-    let commands = plan.commands.as_slice();
+    let mut shelf = OwnShelf::new(alloc, script.spec.budget.packets);
+    let mut experiment = Experiment::new(alloc, script.spec)?;
+    let mut telling = Telling::new(alloc, script.name.as_bytes())?;
+    let commands = script.commands.as_slice();
     play(
         &mut experiment,
         &mut shelf,
@@ -138,17 +138,17 @@ fn report_by_itself<P: Progress>(
 /// The reports of experiments that run by themselves, one after the other. `AllocError` where memory was refused.
 pub fn run_all<P: Progress>(
     alloc: Global,
-    plans: &[Script],
+    scripts: &[Script],
     progress: &P,
 ) -> Result<Vec<Text>, AllocError>
-    requires { All (λ e. AreInOrder 0 e.commands) plans.now }
-    ensures { IfOk result (λ texts. texts.items ≡ map report_alone plans.now) }
+    requires { All (λ e. AreInOrder 0 e.commands) scripts.now }
+    ensures { IfOk result (λ texts. texts.items ≡ map report_alone scripts.now) }
 {
-    let mut texts = Vec::with_capacity(alloc, plans.len())?;
-    for plan in plans {
-        let text = Text::of(report_by_itself(alloc, plan, progress)?);
+    let mut texts = Vec::with_capacity(alloc, scripts.len())?;
+    for script in scripts {
+        let text = Text::of(report_by_itself(alloc, script, progress)?);
         texts.push(text)?;
-        progress.ended(texts.len() as u64, plans.len() as u64);
+        progress.ended(texts.len() as u64, scripts.len() as u64);
     }
     Ok(texts)
 }

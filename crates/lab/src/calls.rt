@@ -1,9 +1,10 @@
 //! `run_alone`, `run` and `check`: all is read before any step, and all steps are made before anything is written.
 
-ghost use Rattle.std.specs.Prelude.{◌≡◌, ◌≢◌, ◌≤◌, length, sum, map, IfOk, IfErr, Err, true};
+ghost use Rattle.std.specs.Prelude.{◌≡◌, ◌≤◌, length, sum, map, IfOk, IfErr, Err, true};
 ghost use Rattle.lab.specs.Bytes.{TakesFew};
-ghost use Rattle.lab.specs.Plans.{IsOwnFault};
-ghost use Rattle.lab.specs.Reports.{reports, tally, Calls, Reads, ReadsFault, reader_failed, writer_failed};
+ghost use Rattle.lab.specs.Gathers.{IsFollowed};
+ghost use Rattle.lab.specs.Plans.{IsOwnFault, fault_of};
+ghost use Rattle.lab.specs.Reports.{reports, tally, Calls, Ends, Reads, ReadsFault, reader_failed};
 
 use crate::alone::run_all;
 use crate::ends::{Inlet, Outlet, flush_all, write_all};
@@ -47,10 +48,8 @@ pub fn run_alone<R: Inlet, W: Outlet>(
 ) -> Result<(), RunFault>
     ensures calls { Calls reports (R.remaining reader.old) (W.contents writer.old)
         (W.contents writer.new) result }
-    ensures taken { TakesFew (R.remaining reader.old) (R.remaining reader.new) }
-    ensures read { R.failed reader.new ≡ reader_failed result }
-    ensures write { W.failed writer.new ≡ writer_failed (W.failed writer.old) result }
-    ensures untouched { IfErr result (λ e. e ≢ RunFault.Write → writer.new ≡ writer.old) }
+    ensures ends { Ends result (R.remaining reader.old) (R.remaining reader.new)
+        (R.failed reader.new) (W.failed writer.old) (W.failed writer.new) writer.old writer.new }
     ensures own { IfErr result IsOwnFault }
 {
     run_alone_told(alloc, reader, writer, &Silent)
@@ -66,15 +65,13 @@ pub fn run_alone_told<R: Inlet, W: Outlet, P: Progress>(
 ) -> Result<(), RunFault>
     ensures calls { Calls reports (R.remaining reader.old) (W.contents writer.old)
         (W.contents writer.new) result }
-    ensures taken { TakesFew (R.remaining reader.old) (R.remaining reader.new) }
-    ensures read { R.failed reader.new ≡ reader_failed result }
-    ensures write { W.failed writer.new ≡ writer_failed (W.failed writer.old) result }
-    ensures untouched { IfErr result (λ e. e ≢ RunFault.Write → writer.new ≡ writer.old) }
+    ensures ends { Ends result (R.remaining reader.old) (R.remaining reader.new)
+        (R.failed reader.new) (W.failed writer.old) (W.failed writer.new) writer.old writer.new }
     ensures own { IfErr result IsOwnFault }
 {
     let scenario = read_scenario(alloc, reader)?;
-    let plans = scenario.experiments();
-    let Ok(texts) = run_all(alloc, plans, progress) else {
+    let scripts = scenario.experiments();
+    let Ok(texts) = run_all(alloc, scripts, progress) else {
         return Err(RunFault::Memory);
     };
     let Ok(mut buffer) = Buffer::new(alloc) else {
@@ -103,17 +100,16 @@ pub fn run<H: Threads + Wait + Sync, R: Inlet, W: Outlet, G: Gate>(
 ) -> Result<(), RunFault>
     ensures calls { Calls reports (R.remaining reader.old) (W.contents writer.old)
         (W.contents writer.new) result }
-    ensures taken { TakesFew (R.remaining reader.old) (R.remaining reader.new) }
-    ensures read { R.failed reader.new ≡ reader_failed result }
-    ensures write { W.failed writer.new ≡ writer_failed (W.failed writer.old) result }
-    ensures untouched { IfErr result (λ e. e ≢ RunFault.Write → writer.new ≡ writer.old) }
+    ensures ends { Ends result (R.remaining reader.old) (R.remaining reader.new)
+        (R.failed reader.new) (W.failed writer.old) (W.failed writer.new) writer.old writer.new }
     ensures gate { result ≡ Err RunFault.Gate → G.may_refuse ≡ true }
+    ensures joins { IsFollowed (R.remaining reader.old) plan.workers (fault_of result) }
 {
     run_told(rt, alloc, reader, writer, plan, gate, &Silent)
 }
 
 /// `run`, with somebody who is told how many experiments have ended.
-#[tactic(auto, using(crate::proofs::Endings::texts_written, crate::proofs::Endings::texts_cut, crate::proofs::Endings::texts_cut_after))]
+#[tactic(auto, using(crate::proofs::Endings::texts_written, crate::proofs::Endings::texts_cut, crate::proofs::Endings::texts_cut_after, crate::proofs::Concludings::fault_followed, crate::proofs::Concludings::run_follows, crate::proofs::Concludings::read_followed))]
 pub fn run_told<H: Threads + Wait + Sync, R: Inlet, W: Outlet, G: Gate, P: Progress + Sync>(
     rt: &H,
     alloc: Global,
@@ -125,16 +121,15 @@ pub fn run_told<H: Threads + Wait + Sync, R: Inlet, W: Outlet, G: Gate, P: Progr
 ) -> Result<(), RunFault>
     ensures calls { Calls reports (R.remaining reader.old) (W.contents writer.old)
         (W.contents writer.new) result }
-    ensures taken { TakesFew (R.remaining reader.old) (R.remaining reader.new) }
-    ensures read { R.failed reader.new ≡ reader_failed result }
-    ensures write { W.failed writer.new ≡ writer_failed (W.failed writer.old) result }
-    ensures untouched { IfErr result (λ e. e ≢ RunFault.Write → writer.new ≡ writer.old) }
+    ensures ends { Ends result (R.remaining reader.old) (R.remaining reader.new)
+        (R.failed reader.new) (W.failed writer.old) (W.failed writer.new) writer.old writer.new }
     ensures gate { result ≡ Err RunFault.Gate → G.may_refuse ≡ true }
+    ensures joins { IsFollowed (R.remaining reader.old) plan.workers (fault_of result) }
 {
     let scenario = read_scenario(alloc, reader)?;
-    let plans = scenario.experiments();
-    let left = run_together(rt, alloc, plans, plan, gate, progress)?;
-    let texts = texts_together(rt, alloc, plans, left, plan.workers)?;
+    let scripts = scenario.experiments();
+    let left = run_together(rt, alloc, scripts, plan, gate, progress)?;
+    let texts = texts_together(rt, alloc, scripts, left, plan.workers)?;
     let Ok(mut buffer) = Buffer::new(alloc) else {
         return Err(RunFault::Memory);
     };
@@ -149,28 +144,28 @@ pub fn run_told<H: Threads + Wait + Sync, R: Inlet, W: Outlet, G: Gate, P: Progr
 
 // How many commands the experiments have.
 #[tactic(auto, using(crate::proofs::ReadFacts::count_more, crate::proofs::ReadFacts::count_few))]
-fn count_commands(plans: &[Experiment]) -> u64
-    requires { sum (map (λ e. length e.commands) plans.now) ≤ 16777216 }
-    ensures { result ≡ sum (map (λ e. length e.commands) plans.now) }
+fn count_commands(scripts: &[Experiment]) -> u64
+    requires { sum (map (λ e. length e.commands) scripts.now) ≤ 16777216 }
+    ensures { result ≡ sum (map (λ e. length e.commands) scripts.now) }
 {
     let mut count = 0u64;
-    for plan in plans {
-        count += plan.commands.as_slice().len() as u64;
+    for script in scripts {
+        count += script.commands.as_slice().len() as u64;
     }
     count
 }
 
 // The line of `check`.
-fn tally_line(alloc: Global, plans: &[Experiment]) -> Result<Vec<u8>, AllocError>
-    requires { sum (map (λ e. length e.commands) plans.now) ≤ 16777216 }
-    ensures { IfOk result (λ text. text.items ≡ tally plans.now) }
+fn tally_line(alloc: Global, scripts: &[Experiment]) -> Result<Vec<u8>, AllocError>
+    requires { sum (map (λ e. length e.commands) scripts.now) ≤ 16777216 }
+    ensures { IfOk result (λ text. text.items ≡ tally scripts.now) }
 {
     let mut text = Vec::new(alloc);
     let mut digits = Digits::new();
     text.extend_from_slice(b"ok ")?;
-    text.extend_from_slice(digits.format(plans.len() as u64).as_bytes())?;
+    text.extend_from_slice(digits.format(scripts.len() as u64).as_bytes())?;
     text.extend_from_slice(b" ")?;
-    text.extend_from_slice(digits.format(count_commands(plans)).as_bytes())?;
+    text.extend_from_slice(digits.format(count_commands(scripts)).as_bytes())?;
     text.extend_from_slice(b"\n")?;
     Ok(text)
 }
@@ -185,10 +180,8 @@ pub fn check<R: Inlet, W: Outlet>(
 ) -> Result<(), RunFault>
     ensures calls { Calls tally (R.remaining reader.old) (W.contents writer.old)
         (W.contents writer.new) result }
-    ensures taken { TakesFew (R.remaining reader.old) (R.remaining reader.new) }
-    ensures read { R.failed reader.new ≡ reader_failed result }
-    ensures write { W.failed writer.new ≡ writer_failed (W.failed writer.old) result }
-    ensures untouched { IfErr result (λ e. e ≢ RunFault.Write → writer.new ≡ writer.old) }
+    ensures ends { Ends result (R.remaining reader.old) (R.remaining reader.new)
+        (R.failed reader.new) (W.failed writer.old) (W.failed writer.new) writer.old writer.new }
     ensures own { IfErr result IsOwnFault }
 {
     let scenario = read_scenario(alloc, reader)?;

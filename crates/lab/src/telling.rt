@@ -1,7 +1,7 @@
 //! The report of an experiment that runs by itself: its records become lines on the way, and are forgotten.
 
 ghost use Rattle.std.specs.Prelude.{◌≡◌, ◌+◌, ◌^◌, ◌<◌, ℕ, ◌++◌, List, [], slice_index_or, IfOk, OnOk};
-ghost use Rattle.emu_model.specs.declared.records.Record.{Record as Noted};
+ghost use Rattle.emu_model.specs.declared.records.Record.{Record};
 ghost use Rattle.packet_store.specs.Pocket.{Pocket};
 ghost use Rattle.report.specs.Lines.{heading_of, counters_of};
 ghost use Rattle.experiment.specs.Kept.{IsHousedIn, IsAloneAfter};
@@ -34,7 +34,7 @@ impl Model for Telling {
 // The drops of two parts of a run, cause by cause.
 fn sum_of(first: &[u64; 8], second: &[u64; 8]) -> [u64; 8]
     requires { (k : ℕ) → slice_index_or first.now k 0 + slice_index_or second.now k 0 < 2 ^ 64 }
-    ensures { (rs qs : List Noted) → first.now ≡ all_drops_of rs → second.now ≡ all_drops_of qs →
+    ensures { (rs qs : List Record) → first.now ≡ all_drops_of rs → second.now ≡ all_drops_of qs →
         result ≡ all_drops_of (rs ++ qs) }
 {
     [
@@ -67,7 +67,7 @@ impl Telling {
     /// Tells what an experiment has recorded, which it forgets. `AllocError` where the lines have no room.
     pub(crate) fn tell(&mut self, experiment: &mut Experiment) -> Result<(), AllocError>
         requires { CanTell self.old experiment.old }
-        ensures tells { OnOk result ((head : List ℕ) (rs : List Noted) → Tells head rs self.old →
+        ensures tells { OnOk result ((head : List ℕ) (rs : List Record) → Tells head rs self.old →
             Tells head (rs ++ experiment.old.net.log.records) self.new) }
         ensures rest { OnOk result (experiment.new ≡ record experiment.old {
           net = record experiment.old.net { log = experiment.new.net.log };
@@ -76,7 +76,7 @@ impl Telling {
         ensures housed { OnOk result
             ((p : Pocket) → IsHousedIn p experiment.old → IsHousedIn p experiment.new) }
         ensures after { OnOk result
-            ((earlier : List Noted) (p : Pocket) → IsAloneAfter earlier p experiment.old →
+            ((earlier : List Record) (p : Pocket) → IsAloneAfter earlier p experiment.old →
             IsAloneAfter (earlier ++ experiment.old.net.log.records) p experiment.new) }
     {
         packets_add_up();

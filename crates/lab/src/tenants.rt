@@ -1,10 +1,11 @@
 //! The side of the tenants, in the calling thread: each posts the commands of its experiment, and settles in the end.
 
-ghost use Rattle.std.specs.Prelude.{◌≡◌, ◌<◌, length, map, Some, is_some, IsSome, IsTrue, IfOk, IfErr, IfSome, Err};
-ghost use Rattle.experiment.specs.Kept.{shown_ending};
+ghost use Rattle.std.specs.Prelude.{◌≡◌, ◌≢◌, ◌<◌, length, map, IfOk, IfErr, IfSome};
+ghost use Rattle.emu_model.specs.declared.records.Ending.TheVariants.{Halted};
 ghost use Rattle.bench.specs.Commands.{BeginsWith};
-ghost use Rattle.bench.specs.Tenants.{posted, SameTenant, Fits};
-ghost use Rattle.lab.specs.Plans.{IsMemory, IsSettleFault};
+ghost use Rattle.bench.specs.Tenants.{posted, SameTenant};
+ghost use Rattle.lab.specs.Joins.{AreEnded, Unfit, SettlesNot};
+ghost use Rattle.lab.specs.Plans.{IsMemory};
 ghost use Rattle.lab.specs.Reports.{trace_alone};
 ghost use Rattle.lab.specs.Serving.{Serves, ServesAll, IsServed};
 
@@ -13,7 +14,7 @@ use crate::outcome::Outcome;
 use crate::worker::Board;
 use bench::{Bench, PostError, Registry, RingMail, Tenant};
 use control::Experiment;
-use emu_model::{Ending, Timed, later_commands_wait};
+use emu_model::{Timed, later_commands_wait};
 use shard::Dossier;
 use std::alloc::Global;
 use std::sync::Wait;
@@ -157,28 +158,17 @@ pub(crate) fn open_all(
     Ok(tenants)
 }
 
-// Whether an experiment ended by itself, and wasn't halted.
-fn has_ended(ending: Ending) -> bool
-    ensures exact { result ≡ is_some (shown_ending (Some ending)) }
-    ensures ended { IsTrue result → IsSome (shown_ending (Some ending)) }
-{
-    match ending {
-        Ending::Halted => return false,
-        Ending::Ended => return true,
-        Ending::Spent => return true,
-    }
-}
-
-// Settles one tenant. A halted experiment is want of memory.
+// Settles one tenant, whose experiment was not halted. `Strange` just where there is no dossier, or it isn't the
+// tenant's.
 fn settle_one(
     tenant: Tenant,
     dossier: Option<Dossier<RingMail>>,
     experiment: &Experiment,
 ) -> Result<Outcome, RunFault>
-    requires { Serves tenant experiment.now }
+    requires serves { Serves tenant experiment.now }
+    requires ended { IfSome dossier (λ d. d.ending ≢ Halted) }
     ensures ok { IfOk result (λ o. o ≡ trace_alone experiment.now) }
-    ensures err { IfErr result IsSettleFault }
-    ensures strange { result ≡ Err RunFault.Strange → IfSome dossier (λ d. ¬ Fits tenant d) }
+    ensures strange { IfErr result (λ e. (e ≡ RunFault.Strange) × Unfit tenant dossier) }
 {
     let Some(dossier) = dossier else {
         return Err(RunFault::Strange);
@@ -186,37 +176,38 @@ fn settle_one(
     let Ok(outcome) = tenant.settle(dossier) else {
         return Err(RunFault::Strange);
     };
-    if !has_ended(outcome.ending()) {
-        return Err(RunFault::Memory);
-    }
     outcome.known();
     later_commands_wait();
     let counters = outcome.counters();
     Ok(Outcome::new(outcome.into_records(), counters))
 }
 
-/// Settles each tenant with its dossier.
+/// Settles each tenant with the dossier at its place. `Strange` just where one has none, or one that isn't its own;
+/// all memory is asked for before any is settled.
 pub(crate) fn settle_all(
     alloc: Global,
     tenants: Vec<Tenant>,
     dossiers: Vec<Option<Dossier<RingMail>>>,
     scenario: &[Experiment],
 ) -> Result<Vec<Outcome>, RunFault>
-    requires { IsServed tenants scenario.now }
+    requires served { IsServed tenants scenario.now }
+    requires len { length dossiers.items ≡ length tenants.items }
+    requires ended { AreEnded dossiers.items }
     ensures ok { IfOk result (λ os. os.items ≡ map trace_alone scenario.now) }
-    ensures err { IfErr result IsSettleFault }
+    ensures err { IfErr result (SettlesNot tenants.items dossiers.items) }
 {
-    let mut all = Vec::new(alloc);
+    let Ok(mut all) = Vec::with_capacity(alloc, scenario.len()) else {
+        return Err(RunFault::Memory);
+    };
     let mut tenants = tenants.into_iter();
     let mut dossiers = dossiers.into_iter();
     for experiment in scenario {
         let Some(tenant) = tenants.next() else {
             unreachable!()
         };
-        let dossier = dossiers.next().unwrap_or(None);
-        if all.reserve(1).is_err() {
-            return Err(RunFault::Memory);
-        }
+        let Some(dossier) = dossiers.next() else {
+            unreachable!()
+        };
         all.push_reserved(settle_one(tenant, dossier, experiment)?);
     }
     Ok(all)

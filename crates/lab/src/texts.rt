@@ -29,14 +29,14 @@ impl Model for Text {
 
 impl Text {
     // The report of an experiment, from what it left.
-    fn new(alloc: Global, plan: &Experiment, outcome: Outcome) -> Result<Text, RunFault>
-        requires { outcome ≡ trace_alone plan.now }
-        ensures ok { IfOk result (λ text. text ≡ report_alone plan.now) }
+    fn new(alloc: Global, script: &Experiment, outcome: Outcome) -> Result<Text, RunFault>
+        requires { outcome ≡ trace_alone script.now }
+        ensures ok { IfOk result (λ text. text ≡ report_alone script.now) }
         ensures err { IfErr result IsMemory }
     {
         let Ok(bytes) = report_text(
             alloc,
-            plan.name.as_bytes(),
+            script.name.as_bytes(),
             outcome.records(),
             outcome.counters(),
         ) else {
@@ -63,22 +63,22 @@ impl Text {
 // The report of each experiment, one after the other. What an experiment left is given up once its report is made.
 fn texts_in_turn(
     alloc: Global,
-    plans: &[Experiment],
+    scripts: &[Experiment],
     outcomes: Vec<Outcome>,
 ) -> Result<Vec<Text>, RunFault>
-    requires { outcomes.items ≡ map trace_alone plans.now }
-    ensures ok { IfOk result (λ texts. texts.items ≡ map report_alone plans.now) }
+    requires { outcomes.items ≡ map trace_alone scripts.now }
+    ensures ok { IfOk result (λ texts. texts.items ≡ map report_alone scripts.now) }
     ensures err { IfErr result IsMemory }
 {
     let mut texts = Vec::new(alloc);
-    let Ok(()) = texts.reserve(plans.len()) else {
+    let Ok(()) = texts.reserve(scripts.len()) else {
         return Err(RunFault::Memory);
     };
     for outcome in outcomes {
-        let Some(plan) = plans.get(texts.len()) else {
+        let Some(script) = scripts.get(texts.len()) else {
             unreachable!()
         };
-        let text = Text::new(alloc, plan, outcome)?;
+        let text = Text::new(alloc, script, outcome)?;
         texts.push_reserved(text);
     }
     Ok(texts)
@@ -108,16 +108,16 @@ fn share(outcomes: &[Outcome], some: usize, all: usize) -> usize
 pub(crate) fn texts_together<R: Threads + Sync>(
     rt: &R,
     alloc: Global,
-    plans: &[Experiment],
+    scripts: &[Experiment],
     mut outcomes: Vec<Outcome>,
     threads: usize,
 ) -> Result<Vec<Text>, RunFault>
-    requires { outcomes.items ≡ map trace_alone plans.now }
-    ensures ok { IfOk result (λ texts. texts.items ≡ map report_alone plans.now) }
+    requires { outcomes.items ≡ map trace_alone scripts.now }
+    ensures ok { IfOk result (λ texts. texts.items ≡ map report_alone scripts.now) }
     ensures err { IfErr result IsMemory }
 {
     if threads < 2 || outcomes.len() < 2 {
-        return texts_in_turn(alloc, plans, outcomes);
+        return texts_in_turn(alloc, scripts, outcomes);
     }
     let others = threads / 2;
     let mine = threads - others;
@@ -125,21 +125,21 @@ pub(crate) fn texts_together<R: Threads + Sync>(
     let Ok(later) = outcomes.split_off(middle) else {
         return Err(RunFault::Memory);
     };
-    let (first_plans, later_plans) = plans.split_at(middle);
+    let (first_scripts, later_scripts) = scripts.split_at(middle);
     let (behind, front) = join(
         rt,
         move || -> Result<Vec<Text>, RunFault>
-            requires { IsSync R.row × (later.items ≡ map trace_alone later_plans.now) }
+            requires { IsSync R.row × (later.items ≡ map trace_alone later_scripts.now) }
             ensures ok { IfOk result
-                (λ texts. texts.items ≡ map report_alone later_plans.entry.now) }
+                (λ texts. texts.items ≡ map report_alone later_scripts.entry.now) }
             ensures err { IfErr result IsMemory }
-        { texts_together(rt, alloc, later_plans, later, others) },
+        { texts_together(rt, alloc, later_scripts, later, others) },
         move || -> Result<Vec<Text>, RunFault>
-            requires { IsSync R.row × (outcomes.items ≡ map trace_alone first_plans.now) }
+            requires { IsSync R.row × (outcomes.items ≡ map trace_alone first_scripts.now) }
             ensures ok { IfOk result
-                (λ texts. texts.items ≡ map report_alone first_plans.entry.now) }
+                (λ texts. texts.items ≡ map report_alone first_scripts.entry.now) }
             ensures err { IfErr result IsMemory }
-        { texts_together(rt, alloc, first_plans, outcomes, mine) },
+        { texts_together(rt, alloc, first_scripts, outcomes, mine) },
     );
     let mut texts = front?;
     let mut last = behind?;

@@ -64,14 +64,20 @@ pub(crate) struct Job {
     pub peer: Option<Peer>,
 }
 
+/// What a worker gives: its closed bench, the dossiers of those that ended there, and its fault.
+#[derive(Drop)]
+pub(crate) struct Given {
+    pub closing: Closing,
+    pub dossiers: Vec<Dossier<RingMail>>,
+    pub fault: Option<RunFault>,
+}
+
 /// What a worker gives at its join. By its type a gate that always says yes was never the cause of a fault.
 #[derive(Drop)]
 pub(crate) struct Report<G: Gate> {
     pub of: PhantomData<G>,
-    pub closing: Closing,
-    pub dossiers: Vec<Dossier<RingMail>>,
-    pub fault: Option<RunFault>,
-    pub ghost honest: { is_honest G.may_refuse fault ≡ true },
+    pub given: Given,
+    pub ghost honest: { is_honest G.may_refuse given.fault ≡ true },
 }
 
 // Asks the gate after each turn of a bench, and counts them.
@@ -349,10 +355,13 @@ pub(crate) fn work<G: Gate, R: Wait, P: Progress>(
         dossiers,
         turns: _,
     } = desk;
-    Report {
-        of: PhantomData,
+    let given = Given {
         closing: bench.close(),
         dossiers,
         fault: done.err(),
+    };
+    Report {
+        of: PhantomData,
+        given,
     }
 }

@@ -2,7 +2,7 @@
 
 ghost use Rattle.std.specs.Prelude.{◌≡◌, ◌+◌, ◌*◌, ◌^◌, ◌<◌, ◌≤◌, length, map, slice_get, IsOk, OnOk, OnErr};
 ghost use Rattle.emu_model.specs.Moments.{IsMoment, milliseconds};
-ghost use Rattle.emu_model.specs.Delay.{enter as entered, leave as left, empty_line, first_exit, first_item};
+ghost use Rattle.emu_model.specs.Delay.{enter, leave, empty_line, first_exit, first_item};
 ghost use Rattle.link_core.specs.Flight.{with_item};
 
 use emu_model::Delay;
@@ -60,7 +60,7 @@ impl<A: Drop> DelayLine<A> {
     pub fn enter(&mut self, item: A, finish: u64, delay: Delay) -> Result<(), AllocError>
         requires { IsMoment finish }
         ensures ok { OnOk result
-            (self.new.line ≡ entered item finish (milliseconds delay) self.old.line) }
+            (self.new.line ≡ enter item finish (milliseconds delay) self.old.line) }
         ensures err { OnErr result (self.new.line ≡ self.old.line) }
         ensures succeeds { 0 < self.old.spare → IsOk result }
         ensures room { self.old.spare ≤ self.new.spare + 1 }
@@ -103,7 +103,7 @@ impl<A: Drop> DelayLine<A> {
     #[inline(always)]
     pub fn leave(&mut self) -> Option<A>
         ensures item { result ≡ first_item self.old.line.flight }
-        ensures line { self.new.line ≡ left self.old.line }
+        ensures line { self.new.line ≡ leave self.old.line }
         ensures room { self.old.spare ≤ self.new.spare }
     {
         let gone = self.flight.pop_front()?;

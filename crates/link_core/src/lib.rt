@@ -2,9 +2,9 @@
 #![tactic(auto)]
 
 mod delay;
-mod laws;
+mod link_laws;
 mod rate;
 
 pub use delay::DelayLine;
-pub use laws::{configuration_begins_anew, periods_are_rounded_once};
+pub use link_laws::{configuration_begins_anew, periods_are_rounded_once};
 pub use rate::RateServer;

@@ -3,7 +3,7 @@
 ghost use Rattle.std.specs.Prelude.{◌≡◌, ℕ, ◌*◌, ◌^◌, ◌<◌, Some, None, option_map};
 ghost use Rattle.std.specs.Option.{ForSome};
 ghost use Rattle.emu_model.specs.Moments.{IsMoment};
-ghost use Rattle.emu_model.specs.Rate.{begin as begun, follow as followed, cut_period};
+ghost use Rattle.emu_model.specs.Rate.{begin, follow, cut_period};
 ghost use Rattle.link_core.specs.Server.{period_at};
 ghost use Rattle.link_core.specs.Served.{period_of, Tells};
 
@@ -52,7 +52,7 @@ impl Busy {
     fn followed(self, bw: Bandwidth, size: Size) -> Self
         requires tells { Tells bw self }
         requires early { IsMoment (period_of self).finish }
-        ensures period { period_of result ≡ followed bw size (period_of self) }
+        ensures period { period_of result ≡ follow bw size (period_of self) }
         ensures tells { Tells bw result }
     {
         let rate = bw.get();
@@ -103,7 +103,7 @@ impl RateServer {
     #[inline(always)]
     pub fn start(&mut self, now: u64, size: Size)
         requires early { IsMoment now }
-        ensures { self.new ≡ record self.old { busy = Some (begun self.old.bw now size) } }
+        ensures { self.new ≡ record self.old { busy = Some (begin self.old.bw now size) } }
     {
         self.busy = Some(Busy::at(now).followed(self.bw, size));
     }
@@ -113,7 +113,7 @@ impl RateServer {
     pub fn follow(&mut self, size: Size)
         requires { ForSome self.old.busy (λ p. IsMoment p.finish) }
         ensures { self.new
-            ≡ record self.old { busy = option_map (followed self.old.bw size) self.old.busy } }
+            ≡ record self.old { busy = option_map (follow self.old.bw size) self.old.busy } }
     {
         if let Some(busy) = self.busy {
             self.busy = Some(busy.followed(self.bw, size));

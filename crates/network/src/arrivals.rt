@@ -4,9 +4,10 @@ ghost use Rattle.std.specs.Prelude.{◌≡◌, ℕ, ◌+◌, ◌*◌, ◌^◌, �
 ghost use Rattle.std.specs.Option.{option_map_or};
 ghost use Rattle.emu_model.specs.Moments.{IsMoment};
 ghost use Rattle.packet_store.specs.Pocket.{Pocket, OthersStay, AllStay};
-ghost use Rattle.emu_model.specs.Net.{arrivals, by_verdict, drop_record, enter_pipe as enters_pipe, find_pipe, go_on as goes_on, make as made_of, make_record, packet_of, pass_rules as passes_rules, pass_rules_from as passes_from, to_direct as comes_to_direct, to_pipe as comes_to_pipe};
+ghost use Rattle.emu_model.specs.Net.{arrivals, by_verdict, drop_record, enter_pipe, find_pipe, go_on, make, make_record, packet_of, pass_rules, pass_rules_from, to_direct, to_pipe};
 ghost use Rattle.network.specs.Kept.{net_of, IsHoused, Stands};
 ghost use Rattle.network.specs.Changes.{Becomes, IsStill, Notes};
+ghost use Rattle.network.specs.Frames.{TakesRoom};
 ghost use Rattle.network.specs.Ready.{Foresees, IsReady, CanGo, CanPass, HasWay, start_after, CanMake};
 ghost use Rattle.pipe_table.specs.Table.{HasRoomIn};
 ghost use Rattle.pipe_table.specs.Places.{IsRouted, HasRoomAtPlace, KeepsPlaces};
@@ -277,7 +278,7 @@ impl Network {
         requires room { 0 < S.room shelf.old owner }
         requires ready { 0 < self.old.direct.spare }
         ensures becomes { Becomes 0
-            (comes_to_direct now packet.now (net_of (S.pocket shelf.old owner) self.old))
+            (to_direct now packet.now (net_of (S.pocket shelf.old owner) self.old))
             (S.pocket shelf.old owner) (S.pocket shelf.new owner) self.old self.new }
         ensures log { self.new.log ≡ self.old.log }
         ensures others { OthersStay owner (S.pocket shelf.old) (S.pocket shelf.new) }
@@ -308,10 +309,10 @@ impl Network {
         requires log { 0 < self.old.log.spare }
         requires ready { HasRoomIn number packet.now self.old.table.pipes }
         ensures becomes { Becomes 0
-            (enters_pipe at number packet.now (net_of (S.pocket shelf.old owner) self.old))
+            (enter_pipe at number packet.now (net_of (S.pocket shelf.old owner) self.old))
             (S.pocket shelf.old owner) (S.pocket shelf.new owner) self.old self.new }
-        ensures log { self.old.log.spare ≤ self.new.log.spare + 1 }
-        ensures others { OthersStay owner (S.pocket shelf.old) (S.pocket shelf.new) }
+        ensures takes { TakesRoom 1 owner (S.pocket shelf.old) (S.pocket shelf.new)
+            self.old self.new }
     {
         let answer = self.table.arrive(shelf, owner, at.now, number, packet);
         match answer {
@@ -339,10 +340,10 @@ impl Network {
         requires log { 2 < self.old.log.spare }
         requires ready { HasRoomIn number packet.now self.old.table.pipes }
         ensures becomes { Becomes 0
-            (comes_to_pipe at number packet.now (net_of (S.pocket shelf.old owner) self.old))
+            (to_pipe at number packet.now (net_of (S.pocket shelf.old owner) self.old))
             (S.pocket shelf.old owner) (S.pocket shelf.new owner) self.old self.new }
-        ensures log { self.old.log.spare ≤ self.new.log.spare + 3 }
-        ensures others { OthersStay owner (S.pocket shelf.old) (S.pocket shelf.new) }
+        ensures takes { TakesRoom 3 owner (S.pocket shelf.old) (S.pocket shelf.new)
+            self.old self.new }
     {
         self.note_arrival(at.now, number, packet);
         self.enter_pipe(shelf, owner, at, number, packet);
@@ -368,10 +369,10 @@ impl Network {
         requires ready { HasRoomAtPlace packet.now.size way.now.pipe way.now.instance
             self.old.table.pipes }
         ensures becomes { Becomes 0
-            (enters_pipe at way.now.number packet.now (net_of (S.pocket shelf.old owner) self.old))
+            (enter_pipe at way.now.number packet.now (net_of (S.pocket shelf.old owner) self.old))
             (S.pocket shelf.old owner) (S.pocket shelf.new owner) self.old self.new }
-        ensures log { self.old.log.spare ≤ self.new.log.spare + 1 }
-        ensures others { OthersStay owner (S.pocket shelf.old) (S.pocket shelf.new) }
+        ensures takes { TakesRoom 1 owner (S.pocket shelf.old) (S.pocket shelf.new)
+            self.old self.new }
     {
         let (pipe, instance) = (way.pipe, way.instance);
         let answer = self
@@ -403,10 +404,10 @@ impl Network {
         requires log { 2 < self.old.log.spare }
         requires ready { (start : ℕ) × CanGo start packet.now way.now self.old }
         ensures becomes { (start : ℕ) → CanGo start packet.now way.now self.old → Becomes 0
-            (passes_from at start packet.now (net_of (S.pocket shelf.old owner) self.old))
+            (pass_rules_from at start packet.now (net_of (S.pocket shelf.old owner) self.old))
             (S.pocket shelf.old owner) (S.pocket shelf.new owner) self.old self.new }
-        ensures log { self.old.log.spare ≤ self.new.log.spare + 3 }
-        ensures others { OthersStay owner (S.pocket shelf.old) (S.pocket shelf.new) }
+        ensures takes { TakesRoom 3 owner (S.pocket shelf.old) (S.pocket shelf.new)
+            self.old self.new }
     {
         self.book.count_at(way.rule, packet);
         let sent = Packet {
@@ -435,8 +436,8 @@ impl Network {
         ensures becomes { Becomes 0
             (by_verdict at verdict packet.now (net_of (S.pocket shelf.old owner) self.old))
             (S.pocket shelf.old owner) (S.pocket shelf.new owner) self.old self.new }
-        ensures log { self.old.log.spare ≤ self.new.log.spare + 3 }
-        ensures others { OthersStay owner (S.pocket shelf.old) (S.pocket shelf.new) }
+        ensures takes { TakesRoom 3 owner (S.pocket shelf.old) (S.pocket shelf.new)
+            self.old self.new }
     {
         match verdict {
             Verdict::OverTheLink => {
@@ -471,10 +472,10 @@ impl Network {
         requires log { 2 < self.old.log.spare }
         requires ready { HasWay packet.now line self.old }
         ensures becomes { Becomes 0
-            (passes_rules at packet.now (net_of (S.pocket shelf.old owner) self.old))
+            (pass_rules at packet.now (net_of (S.pocket shelf.old owner) self.old))
             (S.pocket shelf.old owner) (S.pocket shelf.new owner) self.old self.new }
-        ensures log { self.old.log.spare ≤ self.new.log.spare + 3 }
-        ensures others { OthersStay owner (S.pocket shelf.old) (S.pocket shelf.new) }
+        ensures takes { TakesRoom 3 owner (S.pocket shelf.old) (S.pocket shelf.new)
+            self.old self.new }
     {
         let Some(held) = self.ways.at(line) else {
             unreachable!();
@@ -493,10 +494,10 @@ impl Network {
         requires log { 2 < self.old.log.spare }
         requires ready { CanPass 0 packet.now None self.old }
         ensures becomes { Becomes 0
-            (passes_rules at packet.now (net_of (S.pocket shelf.old owner) self.old))
+            (pass_rules at packet.now (net_of (S.pocket shelf.old owner) self.old))
             (S.pocket shelf.old owner) (S.pocket shelf.new owner) self.old self.new }
-        ensures log { self.old.log.spare ≤ self.new.log.spare + 3 }
-        ensures others { OthersStay owner (S.pocket shelf.old) (S.pocket shelf.new) }
+        ensures takes { TakesRoom 3 owner (S.pocket shelf.old) (S.pocket shelf.new)
+            self.old self.new }
     {
         let verdict = self.book.verdict(packet);
         self.hand_on(shelf, owner, at, verdict, packet);
@@ -517,10 +518,10 @@ impl Network {
         requires log { 2 < self.old.log.spare }
         requires ready { CanPass (start_after packet.now self.old) packet.now known.now self.old }
         ensures becomes { Becomes 0
-            (goes_on at packet.now (net_of (S.pocket shelf.old owner) self.old))
+            (go_on at packet.now (net_of (S.pocket shelf.old owner) self.old))
             (S.pocket shelf.old owner) (S.pocket shelf.new owner) self.old self.new }
-        ensures log { self.old.log.spare ≤ self.new.log.spare + 3 }
-        ensures others { OthersStay owner (S.pocket shelf.old) (S.pocket shelf.new) }
+        ensures takes { TakesRoom 3 owner (S.pocket shelf.old) (S.pocket shelf.new)
+            self.old self.new }
     {
         match known {
             Some(way) => {
@@ -544,10 +545,10 @@ impl Network {
         requires log { 2 < self.old.log.spare }
         requires ready { CanPass (start_after packet.now self.old) packet.now None self.old }
         ensures becomes { Becomes 0
-            (goes_on at packet.now (net_of (S.pocket shelf.old owner) self.old))
+            (go_on at packet.now (net_of (S.pocket shelf.old owner) self.old))
             (S.pocket shelf.old owner) (S.pocket shelf.new owner) self.old self.new }
-        ensures log { self.old.log.spare ≤ self.new.log.spare + 3 }
-        ensures others { OthersStay owner (S.pocket shelf.old) (S.pocket shelf.new) }
+        ensures takes { TakesRoom 3 owner (S.pocket shelf.old) (S.pocket shelf.new)
+            self.old self.new }
     {
         let verdict = self.book.verdict_after(packet.place, packet);
         self.hand_on(shelf, owner, at, verdict, packet);
@@ -570,11 +571,11 @@ impl Network {
         requires log { 3 < self.old.log.spare }
         requires ready { CanMake sending.now.send passage.now self.old }
         ensures becomes { Becomes 1
-            (made_of at sending.now.load sending.now.send
+            (make at sending.now.load sending.now.send
             (net_of (S.pocket shelf.old owner) self.old))
             (S.pocket shelf.old owner) (S.pocket shelf.new owner) self.old self.new }
-        ensures log { self.old.log.spare ≤ self.new.log.spare + 4 }
-        ensures others { OthersStay owner (S.pocket shelf.old) (S.pocket shelf.new) }
+        ensures takes { TakesRoom 4 owner (S.pocket shelf.old) (S.pocket shelf.new)
+            self.old self.new }
     {
         keys_say_all();
         let packet = packet_of(sending.load, &sending.send, self.made);

@@ -4,11 +4,12 @@ ghost use Rattle.std.specs.Prelude.{◌≡◌, ℕ, ◌+◌, ◌*◌, ◌^◌, �
 ghost use Rattle.emu_model.specs.Moments.{IsMoment};
 ghost use Rattle.emu_model.specs.declared.commands.Command.TheVariants.{Add, Delete, Config, PipeDelete, PipeShow, Show, Inject, Train, Flow, Stop, OnePass, Trace, End};
 ghost use Rattle.emu_model.specs.declared.records.Record.TheVariants.{CommandDone, CommandRefused, RuleLine};
-ghost use Rattle.emu_model.specs.Commands.{obey as obeyed, config_refusal, refusal_of as obey_refusal, source_refusal};
+ghost use Rattle.emu_model.specs.Commands.{obey, config_refusal, refusal_of, source_refusal};
 ghost use Rattle.emu_model.specs.Rules.{add_refusal};
-ghost use Rattle.packet_store.specs.Pocket.{Pocket, OthersStay};
+ghost use Rattle.packet_store.specs.Pocket.{Pocket};
 ghost use Rattle.network.specs.Kept.{net_of, Stands};
 ghost use Rattle.network.specs.Changes.{Becomes, IsStill, Notes, Obeys};
+ghost use Rattle.network.specs.Frames.{Frame};
 ghost use Rattle.network.specs.Ready.{TakesNoMemory};
 ghost use Rattle.pipe_table.specs.Table.{pipe_of};
 
@@ -40,17 +41,14 @@ impl Network {
         requires stands { Stands at (S.pocket shelf.old owner) self.old }
         requires made { self.old.made < 2 ^ 63 }
         ensures ok { OnOk result
-            (Becomes 1 (obeyed at number command.now (net_of (S.pocket shelf.old owner) self.old))
+            (Becomes 1 (obey at number command.now (net_of (S.pocket shelf.old owner) self.old))
             (S.pocket shelf.old owner) (S.pocket shelf.new owner) self.old self.new) }
-        ensures room { OnOk result (0 < self.new.log.spare) }
-        ensures refused { OnErr result (IsStill self.old self.new) }
         ensures succeeds { TakesNoMemory command.now (net_of (S.pocket shelf.old owner) self.old) →
             6 ≤ self.old.log.spare → IsOk result }
         ensures kept { (k : ℕ) (config : PipeConfig) → command.now ≡ Config k config →
             IsSome (pipe_of k self.old.table.pipes) → 6 ≤ self.old.log.spare → IsOk result }
-        ensures refused_pocket { OnErr result
-            (S.pocket shelf.new owner ≡ S.pocket shelf.old owner) }
-        ensures others { OthersStay owner (S.pocket shelf.old) (S.pocket shelf.new) }
+        ensures frame { Frame result owner (S.pocket shelf.old) (S.pocket shelf.new)
+            self.old self.new }
     {
         self.obey_ready()?;
         match *command {
@@ -192,15 +190,12 @@ impl Network {
         requires forgot { self.old.ways ≡ [] }
         ensures ok { OnOk result
             (Becomes 1
-            (obeyed at number (PipeDelete pipe) (net_of (S.pocket shelf.old owner) self.old))
+            (obey at number (PipeDelete pipe) (net_of (S.pocket shelf.old owner) self.old))
             (S.pocket shelf.old owner) (S.pocket shelf.new owner) self.old self.new) }
-        ensures room { OnOk result (0 < self.new.log.spare) }
-        ensures refused { OnErr result (IsStill self.old self.new) }
-        ensures succeeds { IsSome (obey_refusal (PipeDelete pipe)
+        ensures succeeds { IsSome (refusal_of (PipeDelete pipe)
             (net_of (S.pocket shelf.old owner) self.old)) → IsOk result }
-        ensures refused_pocket { OnErr result
-            (S.pocket shelf.new owner ≡ S.pocket shelf.old owner) }
-        ensures others { OthersStay owner (S.pocket shelf.old) (S.pocket shelf.new) }
+        ensures frame { Frame result owner (S.pocket shelf.old) (S.pocket shelf.new)
+            self.old self.new }
     {
         // A pipe that isn't there drops nothing, and needs no room for it.
         if !self.table.has(pipe) {
@@ -263,13 +258,10 @@ impl Network {
         requires log { 5 < self.old.log.spare }
         ensures ok { OnOk result
             (Becomes 1
-            (obeyed at number (Inject send.now) (net_of (S.pocket shelf.old owner) self.old))
+            (obey at number (Inject send.now) (net_of (S.pocket shelf.old owner) self.old))
             (S.pocket shelf.old owner) (S.pocket shelf.new owner) self.old self.new) }
-        ensures room { OnOk result (0 < self.new.log.spare) }
-        ensures refused { OnErr result (IsStill self.old self.new) }
-        ensures refused_pocket { OnErr result
-            (S.pocket shelf.new owner ≡ S.pocket shelf.old owner) }
-        ensures others { OthersStay owner (S.pocket shelf.old) (S.pocket shelf.new) }
+        ensures frame { Frame result owner (S.pocket shelf.old) (S.pocket shelf.new)
+            self.old self.new }
     {
         shelf.put_ready(owner)?;
         self.inject_ready(shelf, owner, at.now, send)?;

@@ -4,11 +4,12 @@ ghost use Rattle.std.specs.Prelude.{◌≡◌, ℕ, ◌+◌, ◌*◌, ◌^◌, �
 ghost use Rattle.std.specs.Option.{option_map_or};
 ghost use Rattle.emu_model.specs.Moments.{IsMoment};
 ghost use Rattle.emu_model.specs.declared.packets.Load.TheVariants.{Plain, Seg, Ack};
-ghost use Rattle.emu_model.specs.Net.{deliver as delivered, find_flow, take_ack as acknowledged, take_load};
-ghost use Rattle.packet_store.specs.Pocket.{OthersStay, AllStay};
+ghost use Rattle.emu_model.specs.Net.{deliver, find_flow, take_ack, take_load};
+ghost use Rattle.packet_store.specs.Pocket.{AllStay};
 ghost use Rattle.pipe_table.specs.Places.{KeepsPlaces};
 ghost use Rattle.network.specs.Kept.{net_of, Stands};
 ghost use Rattle.network.specs.Changes.{Becomes, IsStill, Turns};
+ghost use Rattle.network.specs.Frames.{TakesRoom};
 ghost use Rattle.network.specs.Ready.{CanDeliver};
 
 use crate::state::Network;
@@ -96,10 +97,10 @@ impl Network {
         requires log { 4 < self.old.log.spare }
         requires ready { CanDeliver packet.now.load passage.now self.old }
         ensures becomes { Becomes 1
-            (delivered at packet.now (net_of (S.pocket shelf.old owner) self.old))
+            (deliver at packet.now (net_of (S.pocket shelf.old owner) self.old))
             (S.pocket shelf.old owner) (S.pocket shelf.new owner) self.old self.new }
-        ensures log { self.old.log.spare ≤ self.new.log.spare + 5 }
-        ensures others { OthersStay owner (S.pocket shelf.old) (S.pocket shelf.new) }
+        ensures takes { TakesRoom 5 owner (S.pocket shelf.old) (S.pocket shelf.new)
+            self.old self.new }
     {
         self.note(&Record::PacketDelivered {
             moment: at.now,
@@ -126,8 +127,8 @@ impl Network {
         requires ready { CanDeliver load passage.now self.old }
         ensures becomes { Becomes 1 (take_load at load (net_of (S.pocket shelf.old owner) self.old))
             (S.pocket shelf.old owner) (S.pocket shelf.new owner) self.old self.new }
-        ensures log { self.old.log.spare ≤ self.new.log.spare + 4 }
-        ensures others { OthersStay owner (S.pocket shelf.old) (S.pocket shelf.new) }
+        ensures takes { TakesRoom 4 owner (S.pocket shelf.old) (S.pocket shelf.new)
+            self.old self.new }
     {
         match load {
             Load::Plain => return,
@@ -161,8 +162,8 @@ impl Network {
         ensures becomes { Becomes 1
             (take_load at (Seg flow first) (net_of (S.pocket shelf.old owner) self.old))
             (S.pocket shelf.old owner) (S.pocket shelf.new owner) self.old self.new }
-        ensures log { self.old.log.spare ≤ self.new.log.spare + 4 }
-        ensures others { OthersStay owner (S.pocket shelf.old) (S.pocket shelf.new) }
+        ensures takes { TakesRoom 4 owner (S.pocket shelf.old) (S.pocket shelf.new)
+            self.old self.new }
     {
         let answer = self.traffic.take(flow, first);
         match answer {
@@ -179,7 +180,7 @@ impl Network {
     fn take_ack(&mut self, now: u64, flow: FlowNumber, upto: u64)
         requires early { IsMoment now }
         requires log { 0 < self.old.log.spare }
-        ensures turns { Turns (λ n. option_map_or (acknowledged now upto n)
+        ensures turns { Turns (λ n. option_map_or (take_ack now upto n)
             (find_flow flow n) n) self.old self.new }
         ensures log { self.old.log.spare ≤ self.new.log.spare + 1 }
     {

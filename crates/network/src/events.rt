@@ -1,16 +1,17 @@
 //! The events but the next command: exits, finishes, expiries and emissions.
 
-ghost use Rattle.std.specs.Prelude.{◌≡◌, ◌+◌, ◌*◌, ◌/◌, ◌%◌, ◌^◌, ◌<◌, ◌≤◌, ◌∷◌, [], ℕ, Some, None, true, false, IsOk, IfOk, OnOk, OnErr, IfSome, OnSome, option_and_then, map, length};
+ghost use Rattle.std.specs.Prelude.{◌≡◌, ◌+◌, ◌*◌, ◌/◌, ◌%◌, ◌^◌, ◌<◌, ◌≤◌, ◌∷◌, [], ℕ, Some, None, true, false, IsOk, IfOk, OnOk, IfSome, OnSome, option_and_then, map, length};
 ghost use Rattle.std.specs.Option.{option_map_or};
 ghost use Rattle.emu_model.specs.Moments.{IsMoment};
 ghost use Rattle.emu_model.specs.declared.sources.Class.TheVariants.{Expiry};
 ghost use Rattle.emu_model.specs.declared.packets.Load.TheVariants.{Plain};
 ghost use Rattle.emu_model.specs.Delay.{first_item, leave};
 ghost use Rattle.emu_model.specs.Net.{Net, drop_record, find_flow, find_pipe};
-ghost use Rattle.emu_model.specs.Events.{direct_exit as exits_direct, emission as emitted, event_of, expire_flow, flying_in, pipe_exits, pipe_finishes};
+ghost use Rattle.emu_model.specs.Events.{direct_exit, emission, event_of, expire_flow, flying_in, pipe_exits, pipe_finishes};
 ghost use Rattle.packet_store.specs.Pocket.{OthersStay, AllStay};
 ghost use Rattle.network.specs.Kept.{net_of, IsHoused, Stands};
 ghost use Rattle.network.specs.Changes.{Becomes, IsStill, Notes, Turns};
+ghost use Rattle.network.specs.Frames.{Frame};
 ghost use Rattle.network.specs.Ready.{CanDeliver, CanPass, start_after};
 ghost use Rattle.network.specs.Due.{IsDue};
 ghost use Rattle.pipe_table.specs.Table.{IsFinishing};
@@ -50,12 +51,9 @@ impl Network {
             (event_of at due.source.class due.source.number
             (net_of (S.pocket shelf.old owner) self.old))
             (S.pocket shelf.old owner) (S.pocket shelf.new owner) self.old self.new) }
-        ensures room { OnOk result (0 < self.new.log.spare) }
-        ensures refused { OnErr result (IsStill self.old self.new) }
         ensures succeeds { due.source.class ≡ Expiry → 6 ≤ self.old.log.spare → IsOk result }
-        ensures refused_pocket { OnErr result
-            (S.pocket shelf.new owner ≡ S.pocket shelf.old owner) }
-        ensures others { OthersStay owner (S.pocket shelf.old) (S.pocket shelf.new) }
+        ensures frame { Frame result owner (S.pocket shelf.old) (S.pocket shelf.new)
+            self.old self.new }
     {
         self.reserve(MOST_RECORDS)?;
         let source = due.source;
@@ -164,13 +162,10 @@ impl Network {
         requires made { self.old.made < 2 ^ 63 }
         requires log { 5 < self.old.log.spare }
         ensures ok { OnOk result
-            (Becomes 1 (exits_direct at (net_of (S.pocket shelf.old owner) self.old))
+            (Becomes 1 (direct_exit at (net_of (S.pocket shelf.old owner) self.old))
             (S.pocket shelf.old owner) (S.pocket shelf.new owner) self.old self.new) }
-        ensures room { OnOk result (0 < self.new.log.spare) }
-        ensures refused { OnErr result (IsStill self.old self.new) }
-        ensures refused_pocket { OnErr result
-            (S.pocket shelf.new owner ≡ S.pocket shelf.old owner) }
-        ensures others { OthersStay owner (S.pocket shelf.old) (S.pocket shelf.new) }
+        ensures frame { Frame result owner (S.pocket shelf.old) (S.pocket shelf.new)
+            self.old self.new }
     {
         let passage = self.direct_ready(shelf, owner, at.now)?;
         let Some(packet) = self.leave_direct(shelf, owner) else {
@@ -197,15 +192,12 @@ impl Network {
             OnOk result
             (Becomes 1 (option_map_or (pipe_exits at pipe instance n) (find_pipe pipe n) n)
             (S.pocket shelf.old owner) (S.pocket shelf.new owner) self.old self.new) }
-        ensures room { OnOk result (0 < self.new.log.spare) }
-        ensures refused { OnErr result (IsStill self.old self.new) }
         ensures plain { self.old.one_pass ≡ true → ((p : Packet) →
             option_and_then (flying_in instance)
             (find_pipe pipe (net_of (S.pocket shelf.old owner) self.old)) ≡ Some p →
             p.load ≡ Plain) → IsOk result }
-        ensures refused_pocket { OnErr result
-            (S.pocket shelf.new owner ≡ S.pocket shelf.old owner) }
-        ensures others { OthersStay owner (S.pocket shelf.old) (S.pocket shelf.new) }
+        ensures frame { Frame result owner (S.pocket shelf.old) (S.pocket shelf.new)
+            self.old self.new }
     {
         let Some(place) = self.table.place_of(pipe) else {
             self.exit_nothing(shelf, owner, at, pipe, instance);
@@ -261,15 +253,12 @@ impl Network {
             OnOk result
             (Becomes 1 (option_map_or (pipe_exits at pipe instance n) (find_pipe pipe n) n)
             (S.pocket shelf.old owner) (S.pocket shelf.new owner) self.old self.new) }
-        ensures room { OnOk result (0 < self.new.log.spare) }
-        ensures refused { OnErr result (IsStill self.old self.new) }
         ensures plain { ((p : Packet) →
             option_and_then (flying_in instance)
             (find_pipe pipe (net_of (S.pocket shelf.old owner) self.old)) ≡ Some p →
             p.load ≡ Plain) → IsOk result }
-        ensures refused_pocket { OnErr result
-            (S.pocket shelf.new owner ≡ S.pocket shelf.old owner) }
-        ensures others { OthersStay owner (S.pocket shelf.old) (S.pocket shelf.new) }
+        ensures frame { Frame result owner (S.pocket shelf.old) (S.pocket shelf.new)
+            self.old self.new }
     {
         let index = usize::from(instance);
         let Some(packet) = self.table.front_at(place, index, shelf, owner) else {
@@ -324,11 +313,8 @@ impl Network {
             OnOk result
             (Becomes 1 (option_map_or (pipe_exits at pipe instance n) (find_pipe pipe n) n)
             (S.pocket shelf.old owner) (S.pocket shelf.new owner) self.old self.new) }
-        ensures room { OnOk result (0 < self.new.log.spare) }
-        ensures refused { OnErr result (IsStill self.old self.new) }
-        ensures refused_pocket { OnErr result
-            (S.pocket shelf.new owner ≡ S.pocket shelf.old owner) }
-        ensures others { OthersStay owner (S.pocket shelf.old) (S.pocket shelf.new) }
+        ensures frame { Frame result owner (S.pocket shelf.old) (S.pocket shelf.new)
+            self.old self.new }
     {
         let index = usize::from(instance);
         let Some(packet) = self.table.front_at(place, index, shelf, owner) else {
@@ -365,11 +351,8 @@ impl Network {
             OnOk result
             (Becomes 0 (option_map_or (pipe_finishes at pipe instance n) (find_pipe pipe n) n)
             (S.pocket shelf.old owner) (S.pocket shelf.new owner) self.old self.new) }
-        ensures room { OnOk result (0 < self.new.log.spare) }
-        ensures refused { OnErr result (IsStill self.old self.new) }
-        ensures refused_pocket { OnErr result
-            (S.pocket shelf.new owner ≡ S.pocket shelf.old owner) }
-        ensures others { OthersStay owner (S.pocket shelf.old) (S.pocket shelf.new) }
+        ensures frame { Frame result owner (S.pocket shelf.old) (S.pocket shelf.new)
+            self.old self.new }
     {
         let Some(place) = self.table.place_of(pipe) else {
             unreachable!();
@@ -406,11 +389,8 @@ impl Network {
             OnOk result
             (Becomes 0 (option_map_or (pipe_finishes at pipe instance n) (find_pipe pipe n) n)
             (S.pocket shelf.old owner) (S.pocket shelf.new owner) self.old self.new) }
-        ensures room { OnOk result (0 < self.new.log.spare) }
-        ensures refused { OnErr result (IsStill self.old self.new) }
-        ensures refused_pocket { OnErr result
-            (S.pocket shelf.new owner ≡ S.pocket shelf.old owner) }
-        ensures others { OthersStay owner (S.pocket shelf.old) (S.pocket shelf.new) }
+        ensures frame { Frame result owner (S.pocket shelf.old) (S.pocket shelf.new)
+            self.old self.new }
     {
         let mut drops = mem::replace(&mut self.drops, Vec::new(self.alloc));
         let finished = self.finish_into(shelf, owner, at, pipe, instance, &mut drops);
@@ -435,11 +415,8 @@ impl Network {
             OnOk result
             (Becomes 0 (option_map_or (pipe_finishes at pipe instance n) (find_pipe pipe n) n)
             (S.pocket shelf.old owner) (S.pocket shelf.new owner) self.old self.new) }
-        ensures room { OnOk result (0 < self.new.log.spare) }
-        ensures refused { OnErr result (IsStill self.old self.new) }
-        ensures refused_pocket { OnErr result
-            (S.pocket shelf.new owner ≡ S.pocket shelf.old owner) }
-        ensures others { OthersStay owner (S.pocket shelf.old) (S.pocket shelf.new) }
+        ensures frame { Frame result owner (S.pocket shelf.old) (S.pocket shelf.new)
+            self.old self.new }
     {
         self.reserve_besides(shelf.count(owner))?;
         let packet = self
@@ -504,13 +481,10 @@ impl Network {
         requires log { 5 < self.old.log.spare }
         requires may { IsEmitting source self.old.traffic }
         ensures ok { OnOk result
-            (Becomes 1 (emitted at source (net_of (S.pocket shelf.old owner) self.old))
+            (Becomes 1 (emission at source (net_of (S.pocket shelf.old owner) self.old))
             (S.pocket shelf.old owner) (S.pocket shelf.new owner) self.old self.new) }
-        ensures room { OnOk result (0 < self.new.log.spare) }
-        ensures refused { OnErr result (IsStill self.old self.new) }
-        ensures refused_pocket { OnErr result
-            (S.pocket shelf.new owner ≡ S.pocket shelf.old owner) }
-        ensures others { OthersStay owner (S.pocket shelf.old) (S.pocket shelf.new) }
+        ensures frame { Frame result owner (S.pocket shelf.old) (S.pocket shelf.new)
+            self.old self.new }
     {
         shelf.put_ready(owner)?;
         let Some(found) = self.traffic.find(source) else {

@@ -4,7 +4,7 @@
 ghost use Rattle.std.specs.Prelude.{◌≡◌, ◌<◌, [], List, Some, IfSome, IfNone, IsTrue, slice_get};
 ghost use Rattle.emu_model.specs.Rules.{Counted};
 ghost use Rattle.pipe_core.specs.Keyed.{KeyedPipe};
-ghost use Rattle.network.specs.declared.ways.Remembered.{Remembered as RememberedWay};
+ghost use Rattle.network.specs.declared.ways.Remembered.{Remembered};
 ghost use Rattle.network.specs.Ways.{IsWay, AreKnown, plain};
 
 use emu_model::{FlowNumber, PipeNumber, Place, SendSpec};
@@ -119,7 +119,7 @@ impl Ways {
     pub(crate) fn at(&self, line: usize) -> Option<&Remembered>
         ensures some { IfSome result (λ r. slice_get self.now line ≡ Some (Some r.now)) }
         ensures none { IfNone result
-            ((r : RememberedWay) → slice_get self.now line ≡ Some (Some r) → ⊥) }
+            ((r : Remembered) → slice_get self.now line ≡ Some (Some r) → ⊥) }
     {
         let Some(slot) = self.lines.get(line) else {
             return None;

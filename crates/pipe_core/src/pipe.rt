@@ -14,7 +14,7 @@ ghost use Rattle.pipe_instance.specs.Keyed.{IsTuned};
 ghost use Rattle.pipe_core.specs.Masks.{IsUnder, IsZero, KeepsIds};
 ghost use Rattle.pipe_core.specs.Moves.{AreNamed, Keeps};
 ghost use Rattle.pipe_core.specs.Keyed.{seen_pipe, view, shown_of, ids_of, keys_of};
-ghost use Rattle.pipe_core.specs.Leaves.{instance_number as number_of, slot_due, pipe_due};
+ghost use Rattle.pipe_core.specs.Leaves.{instance_number, slot_due, pipe_due};
 ghost use Rattle.pipe_core.specs.Rehousing.{Rehouses};
 ghost use Rattle.pipe_core.specs.Steps.{drops_of, drops_by_codel, IsGrown, HasRoomAt, HasRoomAtSlot, HasInstance, HasLineRoomAt, IsFreeAt, IsPlainAt, ArrivesAt, configured_slot};
 
@@ -116,15 +116,15 @@ impl Pipe {
     }
 
     /// When an instance has something to do (ns): its next exit, and its next finish.
-    pub fn dues(&self, index: usize) -> InstanceDues
-        requires { index < length self.now.slots }
+    pub fn dues(&self, instance: usize) -> InstanceDues
+        requires { instance < length self.now.slots }
         ensures exit { (f : ℕ → Packet) → result.exit
             ≡ option_and_then (λ i. first_exit i.line.flight)
-            (slice_get (seen_pipe f self.now).instances index) }
+            (slice_get (seen_pipe f self.now).instances instance) }
         ensures finish { (f : ℕ → Packet) → result.finish
-            ≡ option_map (λ s. s.period.finish) (served_in index (seen_pipe f self.now)) }
+            ≡ option_map (λ s. s.period.finish) (served_in instance (seen_pipe f self.now)) }
     {
-        let slot = &self.slots[index];
+        let slot = &self.slots[instance];
         slot.instance.dues()
     }
 
@@ -150,11 +150,11 @@ impl Pipe {
     }
 
     /// The numbers of an instance, as a listing has them; None where there is no such instance.
-    pub fn shown(&self, index: usize) -> Option<Shown>
+    pub fn shown(&self, instance: usize) -> Option<Shown>
         ensures { (f : ℕ → Packet) →
-            result ≡ option_map shown_of (slice_get (seen_pipe f self.now).instances index) }
+            result ≡ option_map shown_of (slice_get (seen_pipe f self.now).instances instance) }
     {
-        let slot = self.slots.get(index)?;
+        let slot = self.slots.get(instance)?;
         Some(slot.instance.shown())
     }
 
@@ -228,13 +228,13 @@ impl Pipe {
         ensures known { IfOk result (λ k. k ≢ NO_INSTANCE → HasInstance k packet.now self.new) }
     {
         shelf.put_ready(owner)?;
-        let Some(index) = self.place_for(packet) else {
+        let Some(instance) = self.place_for(packet) else {
             let id = self.config.mask.apply(packet);
             self.make_ready(id)?;
             return Ok(NO_INSTANCE);
         };
-        self.accept_ready(index, packet.size, now)?;
-        Ok(index)
+        self.accept_ready(instance, packet.size, now)?;
+        Ok(instance)
     }
 
     // The place of a packet's instance, where it is there.
@@ -247,8 +247,8 @@ impl Pipe {
             return Some(0);
         }
         let id = self.config.mask.apply(packet);
-        let index = self.ids.find(id)?;
-        Some(index as usize)
+        let instance = self.ids.find(id)?;
+        Some(instance as usize)
     }
 
     // There is one instance, which is every packet's.
@@ -263,14 +263,14 @@ impl Pipe {
 
     /// Makes the growth that an instance needs to accept a packet of this size.
     #[inline(always)]
-    pub fn accept_ready(&mut self, index: usize, size: Size, now: u64) -> Result<(), AllocError>
-        requires { index < length self.old.slots }
+    pub fn accept_ready(&mut self, instance: usize, size: Size, now: u64) -> Result<(), AllocError>
+        requires { instance < length self.old.slots }
         ensures grown { IsGrown self.old self.new }
         ensures ids { ids_of self.new.slots ≡ ids_of self.old.slots }
-        ensures ready { OnOk result (HasRoomAtSlot size index self.new) }
-        ensures succeeds { HasRoomAtSlot size index self.old → IsOk result }
+        ensures ready { OnOk result (HasRoomAtSlot size instance self.new) }
+        ensures succeeds { HasRoomAtSlot size instance self.old → IsOk result }
     {
-        let slot = &mut self.slots[index];
+        let slot = &mut self.slots[instance];
         slot.instance.accept_ready(size, now)
     }
 
@@ -312,39 +312,39 @@ impl Pipe {
         ensures none { IfNone result (self.new.slots ≡ self.old.slots) }
         ensures ids { KeepsIds self.old.slots self.new.slots }
     {
-        if let Some(index) = self.ids.find(id) {
-            return Some(index as usize);
+        if let Some(instance) = self.ids.find(id) {
+            return Some(instance as usize);
         }
-        let index = match self.ids.find_or_make(id) {
-            Ok(index) => index,
+        let instance = match self.ids.find_or_make(id) {
+            Ok(instance) => instance,
             Err(InstanceError::TooMany) => return None,
             Err(InstanceError::NoMemory) => unreachable!(),
         };
-        let instance = Instance::new(self.alloc, &self.config, self.seed, self.number, index);
-        self.slots.push_reserved(Slot { id, instance });
+        let made = Instance::new(self.alloc, &self.config, self.seed, self.number, instance);
+        self.slots.push_reserved(Slot { id, instance: made });
         self.dues.push(DueNumber::none());
-        Some(index as usize)
+        Some(instance as usize)
     }
 
     /// A packet comes to its instance, which is there.
     #[inline(always)]
     pub fn arrive_at<S: Shelf>(
         &mut self,
-        index: usize,
+        instance: usize,
         shelf: &mut S,
         owner: Owner,
         now: u64,
         packet: &Packet,
     ) -> Option<DropCause>
-        requires inside { index < length self.old.slots }
+        requires inside { instance < length self.old.slots }
         requires early { IsMoment now }
         requires budget { (S.pocket shelf.old owner).count < (S.pocket shelf.old owner).budget }
         requires room { 0 < S.room shelf.old owner }
-        requires ready { HasRoomAtSlot packet.now.size index self.old }
-        ensures came { ArrivesAt index now packet.now result (S.pocket shelf.old owner)
+        requires ready { HasRoomAtSlot packet.now.size instance self.old }
+        ensures came { ArrivesAt instance now packet.now result (S.pocket shelf.old owner)
             (S.pocket shelf.new owner) self.old self.new }
         ensures arrived { instance_of (ids_of self.old.slots)
-            (flow_id self.old.config.mask packet.now) ≡ Some index →
+            (flow_id self.old.config.mask packet.now) ≡ Some instance →
             AreNamed (S.pocket shelf.old owner) (keys_of self.old.slots) →
             pipe_arrive self.old.seed now packet.now (view (S.pocket shelf.old owner) self.old)
             ≡ record {
@@ -356,14 +356,14 @@ impl Pipe {
         ensures same { self.new ≡ record self.old { slots = self.new.slots } }
         ensures ids { ids_of self.new.slots ≡ ids_of self.old.slots }
         ensures busy { (f : ℕ → Packet) →
-            is_some (served_in index (seen_pipe f self.old)) ≡ true →
+            is_some (served_in instance (seen_pipe f self.old)) ≡ true →
             pipe_due f self.new ≡ pipe_due f self.old }
         ensures others { OthersStay owner (S.pocket shelf.old) (S.pocket shelf.new) }
     {
-        let slot = &mut self.slots[index];
+        let slot = &mut self.slots[instance];
         let was_busy = slot.instance.is_busy();
         let answer = slot.arrive(shelf, owner, now, packet, &self.config);
-        set_unless(was_busy, &mut self.dues, index, slot, self.number);
+        set_unless(was_busy, &mut self.dues, instance, slot, self.number);
         answer
     }
 
@@ -396,10 +396,10 @@ impl Pipe {
         ensures others { OthersStay owner (S.pocket shelf.old) (S.pocket shelf.new) }
     {
         let id = self.config.mask.apply(packet);
-        let Some(index) = self.find_or_make(id) else {
+        let Some(instance) = self.find_or_make(id) else {
             return Some(DropCause::NoInstance);
         };
-        self.arrive_at(index, shelf, owner, now, packet)
+        self.arrive_at(instance, shelf, owner, now, packet)
     }
 
     /// The packet in service in an instance finishes at the moment `now` (ns), at which it is due, and is
@@ -412,18 +412,18 @@ impl Pipe {
         &mut self,
         shelf: &mut S,
         owner: Owner,
-        index: usize,
+        instance: usize,
         now: u64,
         drops: &mut Vec<Packet>,
     ) -> Result<Packet, AllocError>
         requires early { IsMoment now }
         requires due { option_map (λ s. s.period.finish)
-            (served_in index (view (S.pocket shelf.old owner) self.old)) ≡ Some now }
+            (served_in instance (view (S.pocket shelf.old owner) self.old)) ≡ Some now }
         requires named { AreNamed (S.pocket shelf.old owner) (keys_of self.old.slots) }
         ensures served { IfOk result (λ packet.
-            option_map (λ s. s.item) (served_in index (view (S.pocket shelf.old owner) self.old))
+            option_map (λ s. s.item) (served_in instance (view (S.pocket shelf.old owner) self.old))
             ≡ Some packet) }
-        ensures ok { OnOk result (pipe_finish now index (view (S.pocket shelf.old owner) self.old)
+        ensures ok { OnOk result (pipe_finish now instance (view (S.pocket shelf.old owner) self.old)
             ≡ record {
               state = view (S.pocket shelf.new owner) self.new;
               dropped = drops_by_codel drops.new.items;
@@ -439,33 +439,34 @@ impl Pipe {
         ensures count { OnOk result
             ((S.pocket shelf.new owner).count + length drops.new.items
             ≡ (S.pocket shelf.old owner).count) }
-        ensures succeeds { IsFreeAt index now (vec_capacity drops.old) self.old → IsOk result }
+        ensures succeeds { IsFreeAt instance now (vec_capacity drops.old) self.old → IsOk result }
         ensures capacity { vec_capacity drops.old ≤ vec_capacity drops.new }
     {
-        let slot = &mut self.slots[index];
+        let slot = &mut self.slots[instance];
         let finished = slot.finish(shelf, owner, now, &self.config, drops);
-        self.dues.set(index, slot.due(self.number, index as u8));
+        self.dues
+            .set(instance, slot.due(self.number, instance as u8));
         finished
     }
 
     /// Whether a packet is in service in an instance.
     #[inline(always)]
-    pub fn is_busy(&self, index: usize) -> bool
-        requires { index < length self.now.slots }
+    pub fn is_busy(&self, instance: usize) -> bool
+        requires { instance < length self.now.slots }
         ensures { (f : ℕ → Packet) →
-            result ≡ is_some (served_in index (seen_pipe f self.now)) }
+            result ≡ is_some (served_in instance (seen_pipe f self.now)) }
     {
-        let slot = &self.slots[index];
+        let slot = &self.slots[instance];
         slot.instance.is_busy()
     }
 
     /// A finish of an instance at this moment (ns) drops nothing for sure.
     #[inline(always)]
-    pub fn drops_none(&self, index: usize, now: u64) -> bool
-        requires { index < length self.now.slots }
-        ensures { IsTrue result ↔ IsPlainAt index now self.now }
+    pub fn drops_none(&self, instance: usize, now: u64) -> bool
+        requires { instance < length self.now.slots }
+        ensures { IsTrue result ↔ IsPlainAt instance now self.now }
     {
-        let slot = &self.slots[index];
+        let slot = &self.slots[instance];
         slot.instance.drops_none(now)
     }
 
@@ -476,26 +477,26 @@ impl Pipe {
         &mut self,
         shelf: &S,
         owner: Owner,
-        index: usize,
+        instance: usize,
         now: u64,
     ) -> Result<u64, AllocError>
         requires early { IsMoment now }
         requires due { option_map (λ s. s.period.finish)
-            (served_in index (view (S.pocket shelf.now owner) self.old)) ≡ Some now }
+            (served_in instance (view (S.pocket shelf.now owner) self.old)) ≡ Some now }
         requires named { AreNamed (S.pocket shelf.now owner) (keys_of self.old.slots) }
-        requires plain { IsPlainAt index now self.old }
+        requires plain { IsPlainAt instance now self.old }
         ensures served { IfOk result (λ number. option_map (λ s. s.item.number)
-            (served_in index (view (S.pocket shelf.now owner) self.old)) ≡ Some number) }
-        ensures ok { OnOk result (pipe_finish now index (view (S.pocket shelf.now owner) self.old)
+            (served_in instance (view (S.pocket shelf.now owner) self.old)) ≡ Some number) }
+        ensures ok { OnOk result (pipe_finish now instance (view (S.pocket shelf.now owner) self.old)
             ≡ record { state = view (S.pocket shelf.now owner) self.new; dropped = [] }) }
         ensures keys { Keeps (S.pocket shelf.now owner) (S.pocket shelf.now owner)
             (keys_of self.old.slots) (keys_of self.new.slots) }
         ensures same { self.new ≡ record self.old { slots = self.new.slots } }
         ensures ids { ids_of self.new.slots ≡ ids_of self.old.slots }
         ensures refused { OnErr result (IsGrown self.old self.new) }
-        ensures succeeds { HasLineRoomAt index self.old → IsOk result }
+        ensures succeeds { HasLineRoomAt instance self.old → IsOk result }
     {
-        let packet = self.finish_kept(shelf, owner, index, now)?;
+        let packet = self.finish_kept(shelf, owner, instance, now)?;
         Ok(packet.number)
     }
 
@@ -505,51 +506,52 @@ impl Pipe {
         &mut self,
         shelf: &S,
         owner: Owner,
-        index: usize,
+        instance: usize,
         now: u64,
     ) -> Result<Packet, AllocError>
         requires early { IsMoment now }
         requires due { option_map (λ s. s.period.finish)
-            (served_in index (view (S.pocket shelf.now owner) self.old)) ≡ Some now }
+            (served_in instance (view (S.pocket shelf.now owner) self.old)) ≡ Some now }
         requires named { AreNamed (S.pocket shelf.now owner) (keys_of self.old.slots) }
-        requires plain { IsPlainAt index now self.old }
+        requires plain { IsPlainAt instance now self.old }
         ensures served { IfOk result (λ packet. option_map (λ s. s.item)
-            (served_in index (view (S.pocket shelf.now owner) self.old)) ≡ Some packet) }
-        ensures ok { OnOk result (pipe_finish now index (view (S.pocket shelf.now owner) self.old)
+            (served_in instance (view (S.pocket shelf.now owner) self.old)) ≡ Some packet) }
+        ensures ok { OnOk result (pipe_finish now instance (view (S.pocket shelf.now owner) self.old)
             ≡ record { state = view (S.pocket shelf.now owner) self.new; dropped = [] }) }
         ensures keys { Keeps (S.pocket shelf.now owner) (S.pocket shelf.now owner)
             (keys_of self.old.slots) (keys_of self.new.slots) }
         ensures same { self.new ≡ record self.old { slots = self.new.slots } }
         ensures ids { ids_of self.new.slots ≡ ids_of self.old.slots }
         ensures refused { OnErr result (IsGrown self.old self.new) }
-        ensures succeeds { HasLineRoomAt index self.old → IsOk result }
+        ensures succeeds { HasLineRoomAt instance self.old → IsOk result }
     {
-        let slot = &mut self.slots[index];
+        let slot = &mut self.slots[instance];
         let finished = slot.finish_plainly(shelf, owner, now, &self.config);
-        self.dues.set(index, slot.due(self.number, index as u8));
+        self.dues
+            .set(instance, slot.due(self.number, instance as u8));
         finished
     }
 
     /// The packet that leaves first in an instance, which stays; None where nothing is on its way.
     #[inline(always)]
-    pub fn front<S: Shelf>(&self, shelf: &S, owner: Owner, index: usize) -> Option<Packet>
-        requires inside { index < length self.now.slots }
+    pub fn front<S: Shelf>(&self, shelf: &S, owner: Owner, instance: usize) -> Option<Packet>
+        requires inside { instance < length self.now.slots }
         requires named { AreNamed (S.pocket shelf.now owner) (keys_of self.now.slots) }
-        ensures { result ≡ flying_in index (view (S.pocket shelf.now owner) self.now) }
+        ensures { result ≡ flying_in instance (view (S.pocket shelf.now owner) self.now) }
     {
-        let slot = &self.slots[index];
+        let slot = &self.slots[instance];
         slot.front(shelf, owner)
     }
 
     /// What leaves first in an instance goes: the packet, which is taken from the shelf; None where
     /// nothing is on its way. Takes no memory, and keeps room for arrivals.
     #[inline(always)]
-    pub fn exit<S: Shelf>(&mut self, shelf: &mut S, owner: Owner, index: usize) -> Option<Packet>
-        requires inside { index < length self.old.slots }
+    pub fn exit<S: Shelf>(&mut self, shelf: &mut S, owner: Owner, instance: usize) -> Option<Packet>
+        requires inside { instance < length self.old.slots }
         requires named { AreNamed (S.pocket shelf.old owner) (keys_of self.old.slots) }
-        ensures packet { result ≡ flying_in index (view (S.pocket shelf.old owner) self.old) }
+        ensures packet { result ≡ flying_in instance (view (S.pocket shelf.old owner) self.old) }
         ensures shown { view (S.pocket shelf.new owner) self.new
-            ≡ pipe_exit index (view (S.pocket shelf.old owner) self.old) }
+            ≡ pipe_exit instance (view (S.pocket shelf.old owner) self.old) }
         ensures keys { Keeps (S.pocket shelf.old owner) (S.pocket shelf.new owner)
             (keys_of self.old.slots) (keys_of self.new.slots) }
         ensures same { self.new ≡ record self.old { slots = self.new.slots } }
@@ -562,9 +564,10 @@ impl Pipe {
             ((S.pocket shelf.new owner).count < (S.pocket shelf.new owner).budget) }
         ensures others { OthersStay owner (S.pocket shelf.old) (S.pocket shelf.new) }
     {
-        let slot = &mut self.slots[index];
+        let slot = &mut self.slots[instance];
         let packet = slot.exit(shelf, owner);
-        self.dues.set(index, slot.due(self.number, index as u8));
+        self.dues
+            .set(instance, slot.due(self.number, instance as u8));
         packet
     }
 
@@ -672,16 +675,16 @@ fn is_zero(mask: &Mask) -> bool
 
 // What is due of an instance is set anew, unless it's the same for sure.
 #[inline(always)]
-fn set_unless(same: bool, dues: &mut DueIndex, index: usize, slot: &Slot, number: PipeNumber)
-    requires inside { index < length dues.old.leaves }
-    requires few { index < 256 }
-    requires numbered { number * 256 + index ≡ number_of slot.now }
-    requires same { IsTrue same → slice_get dues.old.leaves index ≡ Some (slot_due slot.now) }
+fn set_unless(same: bool, dues: &mut DueIndex, instance: usize, slot: &Slot, number: PipeNumber)
+    requires inside { instance < length dues.old.leaves }
+    requires few { instance < 256 }
+    requires numbered { number * 256 + instance ≡ instance_number slot.now }
+    requires same { IsTrue same → slice_get dues.old.leaves instance ≡ Some (slot_due slot.now) }
     ensures { dues.new
-        ≡ record dues.old { leaves = slice_set dues.old.leaves index (slot_due slot.now) } }
+        ≡ record dues.old { leaves = slice_set dues.old.leaves instance (slot_due slot.now) } }
 {
     if !same {
-        dues.set(index, slot.due(number, index as u8));
+        dues.set(instance, slot.due(number, instance as u8));
     }
 }
 
@@ -689,13 +692,13 @@ fn set_unless(same: bool, dues: &mut DueIndex, index: usize, slot: &Slot, number
 fn index_all(slots: &[Slot], number: PipeNumber, dues: &mut DueIndex)
     requires few { length slots.now ≤ 256 }
     requires numbered { (i : ℕ) (s : Slot) → slice_get slots.now i ≡ Some s →
-        number * 256 + i ≡ number_of s }
+        number * 256 + i ≡ instance_number s }
     requires long { length dues.old.leaves ≡ length slots.now }
     ensures { dues.new ≡ record dues.old { leaves = map slot_due slots.now } }
 {
-    for index in 0..slots.len() {
-        let slot = &slots[index];
-        dues.set(index, slot.due(number, index as u8));
+    for instance in 0..slots.len() {
+        let slot = &slots[instance];
+        dues.set(instance, slot.due(number, instance as u8));
     }
 }
 

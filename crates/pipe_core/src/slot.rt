@@ -25,15 +25,15 @@ pub(crate) struct Slot {
 }
 
 impl Slot {
-    /// What it has due first, by its pipe and its place there.
+    /// What it has due first, by its pipe and its number there.
     #[inline(always)]
-    pub(crate) fn due(&self, pipe: PipeNumber, place: u8) -> DueNumber
-        requires { pipe * 256 + place ≡ instance_number self.now }
+    pub(crate) fn due(&self, pipe: PipeNumber, instance: u8) -> DueNumber
+        requires { pipe * 256 + instance ≡ instance_number self.now }
         ensures { result ≡ slot_due self.now }
     {
         let dues = self.instance.dues();
-        let exit = DueNumber::at_some(dues.exit, Source::exit(pipe, place));
-        exit.or_earlier(DueNumber::at_some(dues.finish, Source::finish(pipe, place)))
+        let exit = DueNumber::at_some(dues.exit, Source::exit(pipe, instance));
+        exit.or_earlier(DueNumber::at_some(dues.finish, Source::finish(pipe, instance)))
     }
 
     /// A packet comes: its loss word is drawn, and then the limit decides.

@@ -8,7 +8,7 @@ ghost use Rattle.emu_model.specs.Moments.{IsMoment};
 ghost use Rattle.emu_model.specs.declared.commands.Setting.{Setting};
 ghost use Rattle.emu_model.specs.Net.{Net, find_pipe, note, note_drops, enter_pipe};
 ghost use Rattle.emu_model.specs.declared.records.Record.TheVariants.{PacketFinished};
-ghost use Rattle.emu_model.specs.Commands.{config_refusal, configure as configured, new_pipe, new_pipe_refusal, delete_pipe};
+ghost use Rattle.emu_model.specs.Commands.{config_refusal, configure, new_pipe, new_pipe_refusal, delete_pipe};
 ghost use Rattle.emu_model.specs.Events.{flying_in, leave_pipe_some, pipe_exits, pipe_finishes};
 ghost use Rattle.packet_store.specs.Pocket.{Pocket, OthersStay, AllStay};
 ghost use Rattle.pipe_core.specs.Keyed.{KeyedPipe, ids_of};
@@ -484,7 +484,7 @@ impl PipeTable {
     ) -> Result<(), ConfigureError>
         ensures seed { self.new.seed ≡ self.old.seed }
         ensures ok { OnOk result ((p : Pocket) (n : Net) →
-            configured number config.now (with_pipes p self.old n) ≡ with_pipes p self.new n) }
+            configure number config.now (with_pipes p self.old n) ≡ with_pipes p self.new n) }
         ensures refusal { MatchResult result
             (λ _. (p : Pocket) (n : Net) →
             config_refusal number config.now (with_pipes p self.old n) ≡ None)

@@ -1,11 +1,10 @@
 //! The list of records, and the counts.
-ghost use Rattle.std.specs.Prelude.{◌≡◌, ℕ, ◌+◌, ◌^◌, ◌<◌, ◌≤◌, [], ◌∷◌, ◌++◌, slice_index_or, OnOk, IsOk};
+ghost use Rattle.std.specs.Prelude.{◌≡◌, ℕ, ◌+◌, ◌-◌, ◌^◌, ◌<◌, ◌≤◌, [], ◌∷◌, ◌++◌, slice_index_or, vec_len, vec_capacity, OnOk, IsOk};
 ghost use Rattle.record_log.specs.Log.{delivered_of, all_drops_of, with_drop};
 
 use emu_model::{DropCause, Record};
 use std::alloc::{AllocError, Global};
 use std::marker::Model;
-use std::slice;
 
 /// Records in the order in which they came, and how many of them tell of a delivery, and of a drop
 /// for each cause.
@@ -47,6 +46,17 @@ fn count_drop(drops: &mut [u64; 8], cause: DropCause)
         DropCause::Deleted => drops[6] += 1,
         DropCause::Budget => drops[7] += 1,
     }
+}
+
+// One thing more at the end of a list that has room for it.
+#[inline(always)]
+fn put<T: Copy>(list: &mut Vec<T>, value: &T)
+    requires { vec_len list.old < vec_capacity list.old }
+    ensures items { list.new.items ≡ list.old.items ++ value.now ∷ [] }
+    ensures room { vec_capacity list.old - vec_len list.old
+        ≤ vec_capacity list.new - vec_len list.new + 1 }
+{
+    list.push_reserved(*value);
 }
 
 // How many records there is room for once there is any, so that the first few don't grow the list step by step.
@@ -91,9 +101,7 @@ impl RecordLog {
             Record::PacketDropped { cause, .. } => count_drop(&mut self.drops, *cause),
             _ => {}
         }
-        let Ok(()) = self.records.extend_from_slice(slice::from_ref(entry)) else {
-            unreachable!();
-        };
+        put(&mut self.records, entry);
     }
 
     /// No records any more; their room stays.

@@ -2,16 +2,16 @@
 //! each segment: our choice).
 #![tactic(auto)]
 
-mod laws;
 mod receiver;
 mod sender;
+mod sender_laws;
 mod state;
 mod times;
 
-pub use laws::{
+pub use receiver::Receiver;
+pub use sender::Sender;
+pub use sender_laws::{
     adaptive_time_is_bounded, loss_leaves_two_segments, number_never_falls,
     positions_stay_in_order, second_expiry_holds, segments_are_a_set, timed_is_sent_once,
     window_holds_a_segment,
 };
-pub use receiver::Receiver;
-pub use sender::Sender;

@@ -2,7 +2,7 @@
 
 ghost use Rattle.std.specs.Prelude.{◌≡◌, ◌+◌, ◌*◌, ◌%◌, ◌^◌, ◌<◌, ◌≤◌, true};
 ghost use Rattle.emu_model.specs.Moments.{IsMoment};
-ghost use Rattle.emu_model.specs.Reno.{total_bytes, initial_sender, ack as acknowledged, expire as expired, emit as sent, emitted, may_emit};
+ghost use Rattle.emu_model.specs.Reno.{total_bytes, initial_sender, ack, expire, emit, emitted, may_emit};
 ghost use Rattle.reno_core.specs.Sound.{IsSound};
 
 use crate::state::State;
@@ -60,7 +60,7 @@ impl Sender {
     pub fn ack(&mut self, now: u64, upto: u64)
         requires early { IsMoment now }
         ensures { self.new
-            ≡ record self.old { sender = acknowledged self.old.flow now upto self.old.sender } }
+            ≡ record self.old { sender = ack self.old.flow now upto self.old.sender } }
     {
         self.state.ack(&self.flow, now, upto);
     }
@@ -69,7 +69,7 @@ impl Sender {
     pub fn expire(&mut self, now: u64)
         requires early { IsMoment now }
         ensures { self.new
-            ≡ record self.old { sender = expired self.old.flow now self.old.sender } }
+            ≡ record self.old { sender = expire self.old.flow now self.old.sender } }
     {
         self.state.expire(&self.flow, now);
     }
@@ -80,7 +80,7 @@ impl Sender {
         requires early { IsMoment now }
         requires may { may_emit self.old.flow self.old.sender ≡ true }
         ensures sender { self.new
-            ≡ record self.old { sender = sent self.old.flow now self.old.sender } }
+            ≡ record self.old { sender = emit self.old.flow now self.old.sender } }
         ensures first { result ≡ emitted self.old.sender }
         ensures whole { result % self.old.flow.smss ≡ 0 }
         ensures within { result < total_bytes self.old.flow }

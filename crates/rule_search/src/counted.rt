@@ -2,7 +2,7 @@
 
 ghost use Rattle.std.specs.Prelude.{◌≡◌, ◌≤◌};
 ghost use Rattle.emu_model.specs.Rules.{place_of, rule_matches, count_packet, new_rule, default_rule};
-ghost use Rattle.rule_search.specs.Walk.{decision, target_of as jump_target};
+ghost use Rattle.rule_search.specs.Walk.{decision, target_of};
 
 use crate::matching::matches;
 use emu_model::{
@@ -141,7 +141,7 @@ impl CountedRule {
 
 /// The number to which a rule jumps.
 pub fn target_of(action: Action) -> Option<u32>
-    ensures { result ≡ jump_target action }
+    ensures { result ≡ target_of action }
 {
     match action {
         Action::SkipTo(number) => Some(number.get()),

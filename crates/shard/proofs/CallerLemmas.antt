@@ -1,45 +1,30 @@
 -- Lemmas for callers: one turn is many turns of which no further ones were asked for.
-use Rattle.std.proofs.Common.{◌≡◌, ℕ, ◌≤◌, ap, ◌∙◌, arith}
+use Rattle.std.proofs.Common.{◌≡◌, ℕ, zero, suc, ◌≤◌, ap, ◌∙◌, arith, subst}
 use Rattle.std.specs.Prelude.{Bool}
-use Rattle.emu_model.specs.Net.{counters_of}
-use Rattle.emu_model.specs.Step.{State}
-use Rattle.emu_model.specs.Alone.{after_steps}
-use Rattle.shard.specs.Seen.{Seen, IsToldMore, IsPublished}
+use Rattle.shard.specs.Seen.{Seen, IsToldMore}
 use Rattle.shard.specs.declared.shard.Turned.{Turned}
 use Rattle.shard.specs.declared.shard.Turned.TheVariants.{Ran, Ended, Idle}
 use Rattle.shard.specs.Stand.{Stand, Seating, Final}
-use Rattle.shard.specs.Turns.{IsTurn, IsEnd, HasRun, Turns, TurnsSettled, ManyTurns, ManyTurnsSettled, last_state}
+use Rattle.shard.specs.Turns.{IsTurn, IsEnd, AreTurns, Turns, TurnsSettled, ManyTurns, ManyTurnsSettled}
 
 module _ {M : Type 0} (seen : M → Seen) where
   pub told_trans : (a b c : M) → IsToldMore seen a b → IsToldMore seen b c → IsToldMore seen a c
   told_trans a b c g h = h ∙ ap (λ (x : Seen). record x { letters = (seen c).letters; full = (seen c).full }) g
 
-  -- one turn, where no further ones were asked for
-  pub turn_of : (n : ℕ) (s t : Stand M) → n ≡ 1 → HasRun seen n s t → IsPublished seen t.state.net.records t.mail → IsTurn seen s t
-  turn_of n s t one h published = record {
-    name = h.name;
-    spec = h.spec;
-    consumed = h.consumed;
-    state = h.state ∙ ap (λ k. after_steps k s.state) one;
-    made = omega (arith, h.made, one);
-    mail = h.mail;
-    published = published;
-  }
+  -- turns leave the name
+  pub turns_name : (n : ℕ) (s t : Stand M) → AreTurns seen n s t → t.name ≡ s.name
+  turns_name zero s t h = ap (λ (x : Stand M). x.name) h
+  turns_name (suc n) s u h = h.2.name ∙ turns_name n s h.0 h.1
 
-  end_of : (n : ℕ) (s t : Stand M) (d : Final M) → n ≡ 0 → HasRun seen n s t → IsEnd seen t d → IsEnd seen s d
-  end_of n s t d none h e =
-      let state : t.state ≡ s.state = h.state ∙ ap (λ k. after_steps k s.state) none in
-      record {
-        name = e.name ∙ h.name;
-        spec = e.spec ∙ h.spec;
-        commands = e.commands ∙ h.consumed;
-        records = e.records ∙ ap (λ (x : State). (last_state d.ending x).net.records) state;
-        counters = e.counters ∙ ap (λ (x : State). counters_of (last_state d.ending x).net) state;
-        events = e.events ∙ ap (λ (x : State). (last_state d.ending x).steps) state;
-        ending = e.ending ∙ ap (λ (x : State). (last_state d.ending x).ending) state;
-        mail = told_trans s.mail t.mail d.mail h.mail e.mail;
-        published = e.published;
-      }
+  -- one turn, where no further ones were asked for
+  turn_of : (n : ℕ) (s t : Stand M) → n ≡ 1 → AreTurns seen n s t → IsTurn seen s t
+  turn_of zero s t e h = absurd (omega (arith, e))
+  turn_of (suc zero) s t e h = subst (λ u. IsTurn seen u t) h.1 h.2
+  turn_of (suc (suc n)) s t e h = absurd (omega (arith, e))
+
+  end_of : (n : ℕ) (s t : Stand M) (d : Final M) → n ≡ 0 → AreTurns seen n s t → IsEnd seen t d → IsEnd seen s d
+  end_of zero s t d e h end = subst (λ u. IsEnd seen u d) h end
+  end_of (suc n) s t d e h end = absurd (omega (arith, e))
 
   single : (a : Turned M) (may_refuse : Bool) (n : ℕ) (old new : Seating M) → ManyTurns seen may_refuse 0 n a old new → Turns seen a old new
   single (Ran name) may_refuse n old new h =
@@ -47,7 +32,7 @@ module _ {M : Type 0} (seen : M → Seen) where
         h.2.0,
         h.2.1,
         h.2.2,
-        record { was = r.was; name_is = r.name_is; ready = r.ready; turn = turn_of n _ _ (omega (arith, h.0, h.1)) r.turns r.published; others = r.others },
+        record { was = r.was; name_is = r.name_is; ready = r.ready; turn = turn_of n _ _ (omega (arith, h.0, h.1)) r.turns; others = r.others },
       )
   single (Ended d) may_refuse n old new h =
       let r = h.1.3 in (

@@ -4,6 +4,8 @@ mod SlotChanges
 mod RowFacts
 mod KeptFacts
 mod TurnFacts
+mod TurnsNow
+mod ManyTurns
 pub mod CallerLemmas
 mod RunFacts
 mod SeatFacts

@@ -4,7 +4,7 @@ use Rattle.std.specs.Prelude.{is_some, option_to_list}
 use Rattle.emu_model.specs.declared.commands.Timed.{Timed}
 use Rattle.emu_model.specs.declared.sources.Due.{Due}
 use Rattle.emu_model.specs.declared.sources.Source.{Source}
-use Rattle.emu_model.specs.Laws.{same_source}
+use Rattle.emu_model.specs.RunLaws.{same_source}
 use Rattle.emu_model.specs.Step.{next_event}
 use Rattle.packet_store.specs.Pocket.{empty_pocket}
 use Rattle.experiment.specs.Dues.{first_due}

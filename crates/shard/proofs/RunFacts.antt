@@ -5,8 +5,6 @@ use denote.Enum.Bare.{sameb}
 use Rattle.emu_model.specs.declared.commands.Timed.{Timed}
 use Rattle.emu_model.specs.declared.records.Ending.{Ending}
 use Rattle.emu_model.specs.declared.records.Ending.TheVariants.{Ended as ByEnd, Spent, Halted as ByNoMemory}
-use Rattle.emu_model.specs.Step.{step}
-use Rattle.emu_model.specs.Alone.{after_steps}
 use Rattle.packet_store.specs.Pocket.{Pocket}
 use Rattle.timer_wheel.specs.Rows.{Row}
 use Rattle.experiment.specs.contracts.experiment.Event.{the_type}
@@ -20,24 +18,12 @@ use Rattle.shard.specs.Stand.{Stand}
 use Rattle.shard.specs.Kept.{IsKept, IsGoing}
 use Rattle.shard.specs.Seats.{standing, IsSeated}
 use Rattle.shard.specs.Steps.{IsLeaving, Advances, HasStayed, HasLeft, RunsOn, Runs}
-use Rattle.shard.specs.Turns.{IsTurn, HasRun, SaidYes, Heard, LeavesOff, last_state}
-use Rattle.shard.proofs.CallerLemmas.{told_trans}
+use Rattle.shard.specs.Turns.{IsTurn, AreTurns, SaidYes, Heard, LeavesOff, last_state}
 
 module _ {M : Type 0} (seen : M → Seen) where
-  -- no turn was made yet
-  pub none_run : (s : Stand M) → HasRun seen 0 s s
-  none_run s = record { name = refl; spec = refl; consumed = refl; state = refl; made = omega arith; mail = refl }
-
   -- a turn more
-  pub one_more : (n : ℕ) (s t u : Stand M) → HasRun seen n s t → IsTurn seen t u → HasRun seen (n + 1) s u
-  one_more n s t u h m = record {
-    name = m.name ∙ h.name;
-    spec = m.spec ∙ h.spec;
-    consumed = m.consumed ∙ h.consumed;
-    state = m.state ∙ ap step h.state ∙ ap (λ k. after_steps k s.state) (sym (add-one n));
-    made = omega (arith, m.made, h.made);
-    mail = told_trans seen s.mail t.mail u.mail h.mail m.mail;
-  }
+  pub one_more : (n : ℕ) (s t u : Stand M) → AreTurns seen n s t → IsTurn seen t u → AreTurns seen (n + 1) s u
+  one_more n s t u h m = subst (λ k. AreTurns seen k s u) (sym (add-one n)) (t, h, m)
 
   -- who watches heard the name once more
   pub said_yes_more : {W : Type 0} (hears : ℕ → Bool → W → W → Type 0) (name other n : ℕ) (u v w : W) → other ≡ name → SaidYes hears name n u v → hears other true v w → SaidYes hears name (n + 1) u w
@@ -65,13 +51,12 @@ module _ {M : Type 0} (seen : M → Seen) where
   none_left (Some c) h = absurd (cc)
 
   -- a turn more of the resident, of which `n` were made; then no other followed
-  pub stays_after : (may_refuse : Bool) (more n : ℕ) (p m q : Pocket) (old last new : Resident M) → n ≤ more → HasRun seen n (standing p old) (standing m last) → IsTurn seen (standing m last) (standing q new) → LeavesOff may_refuse more (n + 1) (standing q new) → HasStayed seen may_refuse more (n + 1) p old q new
+  pub stays_after : (may_refuse : Bool) (more n : ℕ) (p m q : Pocket) (old last new : Resident M) → n ≤ more → AreTurns seen n (standing p old) (standing m last) → IsTurn seen (standing m last) (standing q new) → LeavesOff may_refuse more (n + 1) (standing q new) → HasStayed seen may_refuse more (n + 1) p old q new
   stays_after may_refuse more n p m q old last new few h turn off = record {
     some = omega arith;
     few = omega (arith, few);
     left_off = off;
     turns = one_more n (standing p old) (standing m last) (standing q new) h turn;
-    published = turn.published;
   }
 
   -- what an event leaves of a resident, whatever it answers
@@ -121,7 +106,7 @@ module _ {M : Type 0} (seen : M → Seen) where
   went_on Still p q old new e s = absurd s
 
   -- it has ended after n turns
-  pub left : (a : Event) (may_refuse : Bool) (more n : ℕ) (p m q : Pocket) (old last new : Resident M) → sameb the_type a Ran ≡ false → n ≤ more → last.owner ≡ old.owner → HasRun seen n (standing p old) (standing m last) → Advances seen a m last q new → RunsOn seen may_refuse more n a p old q new
+  pub left : (a : Event) (may_refuse : Bool) (more n : ℕ) (p m q : Pocket) (old last new : Resident M) → sameb the_type a Ran ≡ false → n ≤ more → last.owner ≡ old.owner → AreTurns seen n (standing p old) (standing m last) → Advances seen a m last q new → RunsOn seen may_refuse more n a p old q new
   left Ran may_refuse more n p m q old last new e few owner h s = absurd (cc)
   left Ended may_refuse more n p m q old last new e few owner h s = record { few = few; pocket = m; last = last; owner = owner; turns = h; ending = s.0; leaving = s.1 }
   left Halted may_refuse more n p m q old last new e few owner h s = record { few = few; pocket = m; last = last; owner = owner; turns = h; ending = s.0; leaving = s.1 }
@@ -144,7 +129,7 @@ module _ {M : Type 0} (seen : M → Seen) where
   -- the entry was set anew
   pub entered : (a : Event) (may_refuse : Bool) (more n : ℕ) (p q : Pocket) (row : Row) (clock : ℕ) (old mid new : Resident M) → sameb the_type a Ran ≡ true → RunsOn seen may_refuse more n a p old q mid → new ≡ record mid { offset = new.offset } → mid.owner ≡ old.owner → IsSeated seen q row clock new → Runs seen may_refuse more n a p old q row clock new
   entered Ran may_refuse more n p q row clock old mid new e h same owner seated = (
-    subst (λ (x : Resident M). HasStayed seen may_refuse more n p old q x) (sym same) (record { some = h.0.some; few = h.0.few; left_off = h.0.left_off; turns = h.0.turns; published = h.0.published }),
+    subst (λ (x : Resident M). HasStayed seen may_refuse more n p old q x) (sym same) (record { some = h.0.some; few = h.0.few; left_off = h.0.left_off; turns = h.0.turns }),
     seated,
     ap (λ (x : Resident M). x.owner) same ∙ owner,
   )

@@ -13,7 +13,7 @@ use Rattle.shard.specs.declared.resident.Resident.{Resident}
 use Rattle.shard.specs.Entries.{entries_of, row_at}
 use Rattle.shard.specs.Kept.{IsKept, IsGoing, next_kept}
 use Rattle.shard.specs.Seats.{standing, IsSeated}
-use Rattle.shard.specs.Turns.{IsTurn, HasRun, LeavesOff, last_state}
+use Rattle.shard.specs.Turns.{IsTurn, AreTurns, LeavesOff, last_state}
 
 module _ {M : Type 0} where
   -- a resident whose entry is the least of the agenda
@@ -59,8 +59,7 @@ module _ {M : Type 0} where
     pub some : 1 ≤ n
     pub few : n ≤ more + 1
     pub left_off : LeavesOff may_refuse more n (standing q new)
-    pub turns : HasRun seen n (standing p old) (standing q new)
-    pub published : IsPublished seen new.experiment.net.log.records new.mail
+    pub turns : AreTurns seen n (standing p old) (standing q new)
 
   -- it made n turns, after which it was `last`, and ended in the next one
   pub record HasLeft (seen : M → Seen) (more n : ℕ) (p : Pocket) (old : Resident M) (q : Pocket) (new : Resident M) : Type 0 where
@@ -68,7 +67,7 @@ module _ {M : Type 0} where
     pub pocket : Pocket
     pub last : Resident M
     pub owner : last.owner ≡ old.owner
-    pub turns : HasRun seen n (standing p old) (standing pocket last)
+    pub turns : AreTurns seen n (standing p old) (standing pocket last)
     pub ending : Ending
     pub leaving : IsLeaving seen pocket q ending last new
 

@@ -5,8 +5,7 @@ use Rattle.emu_model.specs.declared.records.Ending.{Ending}
 use Rattle.emu_model.specs.declared.records.Ending.TheVariants.{Ended as ByEnd, Spent, Halted}
 use Rattle.emu_model.specs.Net.{counters_of}
 use Rattle.emu_model.specs.Step.{State, step}
-use Rattle.emu_model.specs.Alone.{after_steps}
-use Rattle.emu_model.specs.Laws.{with_more}
+use Rattle.emu_model.specs.RunLaws.{with_more}
 use Rattle.experiment.specs.Kept.{last_moment, shown_ending}
 use Rattle.shard.specs.Seen.{Seen, IsToldMore, IsPublished}
 use Rattle.shard.specs.declared.shard.Turned.{Turned}
@@ -52,14 +51,10 @@ pub record IsEnd {M : Type 0} (seen : M → Seen) (s : Stand M) (d : Final M) : 
   pub mail : IsToldMore seen s.mail d.mail
   pub published : IsPublished seen d.records d.mail
 
--- n steps were made one after the other, and letters were put into the mail
-pub record HasRun {M : Type 0} (seen : M → Seen) (n : ℕ) (s t : Stand M) : Type 0 where
-  pub name : t.name ≡ s.name
-  pub spec : t.spec ≡ s.spec
-  pub consumed : t.consumed ≡ s.consumed
-  pub state : t.state ≡ after_steps n s.state
-  pub made : t.state.steps ≡ s.state.steps + n
-  pub mail : IsToldMore seen s.mail t.mail
+-- n turns were made one after the other
+abbrev pub AreTurns : {M : Type 0} → (M → Seen) → ℕ → Stand M → Stand M → Type 0
+AreTurns {M} seen zero s t = t ≡ s
+AreTurns {M} seen (suc n) s u = (t : Stand M) × AreTurns seen n s t × IsTurn seen t u
 
 -- the time of the agenda began anew: nobody is shown otherwise
 pub record IsRebased {M : Type 0} (old new : Seating M) : Type 0 where
@@ -67,9 +62,9 @@ pub record IsRebased {M : Type 0} (old new : Seating M) : Type 0 where
   pub clock : new.clock ≡ 0
   pub offsets : (k : ℕ) (s : Seat M) → seat_at new.seats k ≡ Some s → (s.offset ≡ None) ⊎ (s.offset ≡ Some 0)
 
--- perhaps the time began anew, which it does where the clock has come to 2^62
+-- the time begins anew just where the clock has come to 2^62
 abbrev pub Settles : {M : Type 0} → Seating M → Seating M → Type 0
-Settles old new = (new ≡ old) ⊎ ((2 ^ 62 ≤ old.clock) × IsRebased old new)
+Settles old new = ((old.clock < 2 ^ 62) × (new ≡ old)) ⊎ ((2 ^ 62 ≤ old.clock) × IsRebased old new)
 
 -- the resident of a slot made a step, and every other slot is as before
 pub record RanAt {M : Type 0} (seen : M → Seen) (name : ℕ) (old new : Seating M) (slot : ℕ) (s t : Seat M) : Type 0 where
@@ -93,7 +88,7 @@ Turns {M} seen (Ended d) old new = (slot : ℕ) × (s : Seat M) × EndedAt seen 
 Turns {M} seen Idle old new =
     (new ≡ old) × ((slot : ℕ) (s : Seat M) → seat_at old.seats slot ≡ Some s → s.offset ≡ None)
 
--- one turn, before which the time may have begun anew
+-- one turn, before which the time begins anew where the clock has come far
 abbrev pub TurnsSettled : {M : Type 0} → (M → Seen) → Turned M → Seating M → Seating M → Type 0
 TurnsSettled {M} seen answer old new = (mid : Seating M) × Settles old mid × Turns seen answer mid new
 
@@ -102,15 +97,14 @@ pub record RanFor {M : Type 0} (seen : M → Seen) (n name : ℕ) (old new : Sea
   pub was : seat_at old.seats slot ≡ Some s
   pub name_is : s.stand.name ≡ name
   pub ready : IsSome s.offset
-  pub turns : HasRun seen n s.stand t.stand
-  pub published : IsPublished seen t.stand.state.net.records t.stand.mail
+  pub turns : AreTurns seen n s.stand t.stand
   pub others : new.seats ≡ slice_set old.seats slot (Some t)
 
 -- the resident of a slot made n turns, after which it stood so, and ended in the next one
 pub record EndedAfter {M : Type 0} (seen : M → Seen) (n : ℕ) (d : Final M) (old new : Seating M) (slot : ℕ) (s : Seat M) (t : Stand M) : Type 0 where
   pub was : seat_at old.seats slot ≡ Some s
   pub ready : IsSome s.offset
-  pub turns : HasRun seen n s.stand t
+  pub turns : AreTurns seen n s.stand t
   pub end : IsEnd seen t d
   pub others : new.seats ≡ slice_set old.seats slot None
 
@@ -128,7 +122,25 @@ ManyTurns {M} seen may_refuse more ran (Ended d) old new =
 ManyTurns {M} seen may_refuse more ran Idle old new =
     (ran ≡ 0) × (new ≡ old) × ((slot : ℕ) (s : Seat M) → seat_at old.seats slot ≡ Some s → s.offset ≡ None)
 
--- the same, before which the time may have begun anew
+-- single turns one after the other, so many, each of which the resident of a name ran
+abbrev pub TurnsOf : {M : Type 0} → (M → Seen) → ℕ → ℕ → Seating M → Seating M → Type 0
+TurnsOf {M} seen zero name old new = new ≡ old
+TurnsOf {M} seen (suc n) name old new =
+    (mid : Seating M) × TurnsOf seen n name old mid × Turns seen (Ran name) mid new
+
+-- what many turns are: as many single ones as ran, and, where it ended, one more in which it did
+abbrev pub SingleTurns : {M : Type 0} → (M → Seen) → ℕ → Turned M → Seating M → Seating M → Type 0
+SingleTurns {M} seen ran (Ran name) old new = TurnsOf seen ran name old new
+SingleTurns {M} seen ran (Ended d) old new =
+    (mid : Seating M) × TurnsOf seen ran d.name old mid × Turns seen (Ended d) mid new
+SingleTurns {M} seen ran Idle old new = Turns seen Idle old new
+
+-- many turns are single ones
+abbrev pub ManyAreSingle : {M : Type 0} → (M → Seen) → Type 0
+ManyAreSingle {M} seen = (may_refuse : Bool) (more ran : ℕ) (answer : Turned M) (old new : Seating M) →
+    ManyTurns seen may_refuse more ran answer old new → SingleTurns seen ran answer old new
+
+-- the same, before which the time begins anew where the clock has come far
 abbrev pub ManyTurnsSettled : {M : Type 0} → (M → Seen) → Bool → ℕ → ℕ → Turned M → Seating M → Seating M → Type 0
 ManyTurnsSettled {M} seen may_refuse more ran answer old new =
     (mid : Seating M) × Settles old mid × ManyTurns seen may_refuse more ran answer mid new

@@ -71,7 +71,7 @@ impl<M: Mail> Dossier<M> {
     }
 
     /// The commands that came.
-    pub fn commands(&self) -> &[Timed]
+    pub fn consumed(&self) -> &[Timed]
         ensures { result.now ≡ self.now.commands }
     {
         &self.commands
@@ -96,6 +96,13 @@ impl<M: Mail> Dossier<M> {
         ensures { result ≡ self.now.ending }
     {
         self.ending
+    }
+
+    /// Its mail.
+    pub fn mail(&self) -> &M
+        ensures { result.now ≡ self.now.mail }
+    {
+        &self.mail
     }
 
     /// How many steps were made.

@@ -5,6 +5,7 @@
 mod dossier;
 mod list_mail;
 mod mail;
+mod many_turns;
 mod parcel;
 mod posts;
 mod resident;
@@ -14,6 +15,7 @@ mod watch;
 pub use dossier::Dossier;
 pub use list_mail::ListMail;
 pub use mail::Mail;
+pub use many_turns::many_turns_are_turns;
 pub use parcel::{Parcel, Unopened};
 pub use posts::{PostError, Vacant};
 pub use shard::{PackError, Polled, Shard, TakeInError, Turned};

@@ -9,6 +9,7 @@ ghost use Rattle.shard.specs.Seats.{parked, IsDossierOf};
 use crate::dossier::Dossier;
 use crate::mail::Mail;
 use crate::parcel::Parcel;
+use crate::posts::Vacant;
 use crate::resident::Resident;
 use crate::watch::{Unwatched, Watch};
 use emu_model::{Record, Timed};
@@ -91,7 +92,7 @@ impl<A: Agenda, M: Mail> Model for Shard<A, M> {
 }
 
 impl<A: Agenda, M: Mail> Shard<A, M> {
-    ghost use Rattle.std.specs.Prelude.{◌≡◌, ◌≢◌, ℕ, ◌≤◌, ◌<◌, ◌^◌, None, Some, IfOk, IfErr, IfSome, IfNone, OnErr, IsSome, MatchOption, length, IsTrue, IsFalse};
+    ghost use Rattle.std.specs.Prelude.{◌≡◌, ◌≢◌, ℕ, ◌≤◌, ◌<◌, ◌^◌, None, Some, IfOk, IfErr, IfSome, IfNone, OnErr, IsSome, length, IsTrue, IsFalse};
     ghost use Rattle.shard.specs.Stand.{seat_at, stands_of, Seat, IsTold};
     ghost use Rattle.shard.specs.Turns.{TurnsSettled, ManyTurns, ManyTurnsSettled, Heard, NamesIt, TakenIn, ComesBack, HasVacancy, PackedAt, IsPoll, IsRebased};
 
@@ -300,24 +301,40 @@ impl<A: Agenda, M: Mail> Shard<A, M> {
         resident.name == name
     }
 
-    /// What the resident of a slot recorded; None where nobody is.
-    pub fn records(&self, slot: usize) -> Option<&[Record]>
-        ensures { MatchOption result (seat_at self.now.seats slot ≡ None)
-            (λ rs. (s : Seat M) × (seat_at self.now.seats slot ≡ Some s)
-            × (rs.now ≡ s.stand.state.net.records)) }
+    // The resident of a slot, with what its experiment recorded and consumed.
+    fn resident(&self, slot: usize) -> Result<&Resident<M>, Vacant>
+        ensures there { IfOk result (λ r. (s : Seat M) × (seat_at self.now.seats slot ≡ Some s)
+            × (r.now.experiment.net.log.records ≡ s.stand.state.net.records)
+            × (r.now.experiment.consumed ≡ s.stand.consumed)) }
+        ensures vacant { OnErr result (seat_at self.now.seats slot ≡ None) }
     {
-        let resident = self.slots.get(slot)?.as_ref()?;
-        Some(resident.experiment.records())
+        if slot >= self.slots.len() {
+            return Err(Vacant);
+        }
+        let Some(resident) = &self.slots[slot] else {
+            return Err(Vacant);
+        };
+        Ok(resident)
     }
 
-    /// The commands that came to the resident of a slot, the next one among them; None where nobody is.
-    pub fn consumed(&self, slot: usize) -> Option<&[Timed]>
-        ensures { MatchOption result (seat_at self.now.seats slot ≡ None)
-            (λ cs. (s : Seat M) × (seat_at self.now.seats slot ≡ Some s)
-            × (cs.now ≡ s.stand.consumed)) }
+    /// What the resident of a slot recorded; `Vacant` where nobody is.
+    pub fn records(&self, slot: usize) -> Result<&[Record], Vacant>
+        ensures there { IfOk result (λ rs. (s : Seat M) × (seat_at self.now.seats slot ≡ Some s)
+            × (rs.now ≡ s.stand.state.net.records)) }
+        ensures vacant { OnErr result (seat_at self.now.seats slot ≡ None) }
     {
-        let resident = self.slots.get(slot)?.as_ref()?;
-        Some(resident.experiment.consumed())
+        let resident = self.resident(slot)?;
+        Ok(resident.experiment.records())
+    }
+
+    /// The commands that came to the resident of a slot, the next one among them; `Vacant` where nobody is.
+    pub fn consumed(&self, slot: usize) -> Result<&[Timed], Vacant>
+        ensures there { IfOk result (λ cs. (s : Seat M) × (seat_at self.now.seats slot ≡ Some s)
+            × (cs.now ≡ s.stand.consumed)) }
+        ensures vacant { OnErr result (seat_at self.now.seats slot ≡ None) }
+    {
+        let resident = self.resident(slot)?;
+        Ok(resident.experiment.consumed())
     }
 
     /// What each resident keeps: it shows the state of running it alone.

@@ -1,24 +1,30 @@
 //! Worked examples on shards. Their texts and reports are those of examples/.
 
+ghost use Rattle.std.specs.Prelude.{◌^◌, ◌≤◌};
+
+mod agendas;
 mod calls;
 mod desk;
 mod refusals;
 mod turns;
 
+use agendas::{Anew, GivesUp};
 use calls::{
-    Desk, arrive, counted, is_crowded, pack, packs_nobody, poll, put, seen_back, seen_in, slot_of,
-    take_in,
+    Desk, Host, arrive, counted, is_crowded, pack, packs_nobody, poll, put, seen_back, seen_in,
+    slot_of, take_in,
 };
 use desk::{
-    Guest, MOST_TURNS, Move, attend, host, invite, invite_all, parcel, settle, settle_all, turn,
+    Guest, MOST_TURNS, Move, attend, host, invite, invite_all, parcel, post, settle, settle_all,
+    turn,
 };
 use emu_model::Command;
 use example_texts as texts;
-use shard::Polled;
+use shard::{Polled, Shard};
 use std::alloc::{AllocError, Global};
 use std::mem;
 use std::process::Abort;
 use std::test::Fail;
+use timer_wheel::{Agenda, Wheel};
 
 // Polls, turns and posts of a shard with nobody in it, and then with one guest.
 fn answers(
@@ -104,16 +110,20 @@ fn side_by_side(rt: HostRuntime) -> Result<(), Fail> {
 }
 
 // Packs a resident, and takes it in on the other shard.
-fn hand_over(here: &mut Desk, there: &mut Desk, slot: usize) -> Option<usize> {
+fn hand_over<A: Agenda, B: Agenda>(
+    here: &mut Host<A>,
+    there: &mut Host<B>,
+    slot: usize,
+) -> Option<usize> {
     let parcel = pack(here, slot).ok()?;
     take_in(there, parcel)
 }
 
 // Moves the resident of a name to the other shard.
-fn moves(
+fn moves<A: Agenda, B: Agenda>(
     rt: &(impl Abort + AllocGlobal),
-    here: &mut Desk,
-    there: &mut Desk,
+    here: &mut Host<A>,
+    there: &mut Host<B>,
     name: u32,
 ) -> Result<(), AllocError> {
     let Some(slot) = slot_of(here, name) else {
@@ -127,10 +137,10 @@ fn moves(
 }
 
 // The first guest and one more on one shard, the others on another.
-fn settle_on_two(
+fn settle_on_two<A: Agenda>(
     alloc: Global,
-    here: &mut Desk,
-    there: &mut Desk,
+    here: &mut Host<A>,
+    there: &mut Host<A>,
     guests: &[Guest],
 ) -> Result<(), AllocError> {
     for (place, guest) in guests.iter().enumerate() {
@@ -143,22 +153,32 @@ fn settle_on_two(
     Ok(())
 }
 
-// Has the first of three guests stand on two shards in turn, after each of its events on the other, and answers how
-// often it was moved.
-fn goes(
+/// A clock (ns) shortly before the one at which a shard's time begins anew, which is 2^62.
+const FAR: u64 = (1 << 62) - 1000;
+
+/// How often the first guest was moved, and how often an entry was refused.
+#[derive(Clone, Copy, Debug, PartialEq)]
+struct Way {
+    moved: u64,
+    refused: u64,
+}
+
+// Has the first of three guests stand on two shards in turn, after each of its events on the other.
+fn goes<A: Agenda>(
     rt: &(impl Abort + AllocGlobal),
-    here: &mut Desk,
-    there: &mut Desk,
+    here: &mut Host<A>,
+    there: &mut Host<A>,
     guests: &mut [Guest],
-) -> Result<u64, AllocError> {
+) -> Result<Way, AllocError> {
     settle_on_two(rt.alloc(), here, there, guests)?;
     let mut moved = 0u64;
+    let mut refused = 0u64;
     let mut ended = 0u64;
     for _ in 0..MOST_TURNS {
         if ended == 3 {
-            return Ok(moved);
+            return Ok(Way { moved, refused });
         }
-        attend(rt, here, guests, false);
+        refused = refused.saturating_add(attend(rt, here, guests, false));
         match turn(rt, here, guests)? {
             Move::Ran(0) => {
                 moves(rt, here, there, 0)?;
@@ -175,36 +195,48 @@ fn goes(
         }
     }
     assert!(rt; false, "not ended");
-    Ok(moved)
+    Ok(Way { moved, refused })
 }
 
-// Has three guests on two shards, of which the second one's clock is far.
-fn travels(rt: &(impl Abort + AllocGlobal), guests: &mut [Guest]) -> Result<u64, AllocError> {
-    let mut here = Desk::new(rt.alloc())?;
-    let Ok(mut there) = Desk::with_clock(rt.alloc(), (1 << 62) - 1000) else {
+// Has three guests on two shards, of which the second one's clock is far, and the first one's here.
+fn travels<A: Agenda>(
+    rt: &(impl Abort + AllocGlobal),
+    clock: u64,
+    guests: &mut [Guest],
+) -> Result<Way, AllocError>
+    requires { clock ≤ 2 ^ 62 }
+{
+    let mut here: Host<A> = Shard::with_clock(rt.alloc(), clock)?;
+    let Ok(mut there) = Shard::with_clock(rt.alloc(), FAR) else {
         drop(here);
         return Err(AllocError);
     };
-    let moved = goes(rt, &mut here, &mut there, guests);
+    let way = goes(rt, &mut here, &mut there, guests);
     drop(here);
     drop(there);
-    moved
+    way
 }
 
-// Has a guest travel beside two that flood their budgets.
+// A guest that travels beside two that flood their budgets.
+fn beside_floods(
+    rt: &(impl Abort + AllocGlobal),
+    text: &'static str,
+    report: &'static str,
+) -> Result<Vec<Guest>, AllocError> {
+    let flood = (texts::FLOOD, texts::FLOOD_REPORT);
+    invite_all(rt, 0, &[(text, report), flood, flood])
+}
+
+// Has a guest travel so.
 fn is_packed_every_event(
     rt: &(impl Abort + AllocGlobal),
     text: &'static str,
     report: &'static str,
 ) -> Result<(), AllocError> {
-    let cards = [
-        (text, report),
-        (texts::FLOOD, texts::FLOOD_REPORT),
-        (texts::FLOOD, texts::FLOOD_REPORT),
-    ];
-    let mut guests = invite_all(rt, 0, &cards)?;
-    let moved = travels(rt, guests.as_mut_slice())?;
-    assert!(rt; moved > 10);
+    let mut guests = beside_floods(rt, text, report)?;
+    let way = travels::<Wheel>(rt, 0, guests.as_mut_slice())?;
+    assert!(rt; way.moved > 10);
+    assert_eq!(rt; way.refused, 0);
     Ok(())
 }
 
@@ -216,6 +248,63 @@ fn packed_every_event(rt: HostRuntime) -> Result<(), Fail> {
         texts::TWO_PIPES_IN_TURN,
         texts::TWO_PIPES_IN_TURN_REPORT,
     )?;
+    Ok(())
+}
+
+// The same on two shards whose clocks are both far.
+fn begins_anew<A: Agenda>(rt: &(impl Abort + AllocGlobal)) -> Result<Way, AllocError> {
+    let (text, report) = (texts::FAST_RETRANSMIT, texts::FAST_RETRANSMIT_REPORT);
+    let mut guests = beside_floods(rt, text, report)?;
+    travels::<A>(rt, FAR, guests.as_mut_slice())
+}
+
+// Each shard's time begins anew once: its clock passes 2^62, and not again, since none of the guests goes on for longer
+// than 0.1 s. So just as often an agenda refuses memory that refuses the first entry from then on.
+#[test]
+fn rebase(rt: HostRuntime) -> Result<(), Fail> {
+    let plain = begins_anew::<Wheel>(&rt)?;
+    let counted = begins_anew::<Anew<Wheel>>(&rt)?;
+    assert!(rt; plain.moved > 10);
+    assert_eq!(rt; plain.refused, 0);
+    assert_eq!(rt; counted.moved, plain.moved);
+    assert_eq!(rt; counted.refused, 2);
+    Ok(())
+}
+
+// Has a guest on a shard that gives its agenda no memory, as long as another one needs to end, and then on that one.
+fn waits<A: Agenda>(
+    rt: &(impl Abort + AllocGlobal),
+    here: &mut Host<A>,
+    there: &mut Desk,
+) -> Result<(), AllocError> {
+    let cards = [(texts::NEW_RATE, texts::NEW_RATE_REPORT)];
+    let mut guests = invite_all(rt, 0, &cards)?;
+    settle_all(rt.alloc(), here, guests.as_slice())?;
+    for guest in guests.iter_mut() {
+        post(here, 0, guest);
+    }
+    assert_eq!(rt; poll(here, 0), Polled::Took(0));
+    for _ in 0..100 {
+        assert_eq!(rt; poll(here, 0), Polled::NoMemory(0));
+        assert_eq!(rt; turn(rt, here, guests.as_slice())?, Move::Idle);
+        assert_eq!(rt; counted(here, 0), Some((0, 1)));
+    }
+    moves(rt, here, there, 0)?;
+    host(rt, there, guests.as_mut_slice(), true)
+}
+
+// On an agenda that is refused memory each time a guest makes no event and loses nothing.
+#[test]
+fn always_gives_up(rt: HostRuntime) -> Result<(), Fail> {
+    let mut here: Host<GivesUp> = Shard::new(rt.alloc())?;
+    let Ok(mut there) = Desk::new(rt.alloc()) else {
+        drop(here);
+        return Err(Fail::from("memory"));
+    };
+    let done = waits(&rt, &mut here, &mut there);
+    drop(here);
+    drop(there);
+    done?;
     Ok(())
 }
 

@@ -3,7 +3,7 @@ use Rattle.std.proofs.Common.{inl, inr, ◌≡◌, ℕ, Bool, ◌==◌, ◌&&◌
 use Rattle.std.proofs.lemmas.Bool.{cases_Bool, eqb-true, true≢false}
 use Rattle.std.specs.Map.{lookup}
 use Rattle.emu_model.specs.declared.sources.Source.{Source}
-use Rattle.emu_model.specs.Laws.{same_source}
+use Rattle.emu_model.specs.RunLaws.{same_source}
 use Rattle.timer_wheel.specs.declared.index.Whose.{Whose}
 use Rattle.timer_wheel.specs.Index.{is_whose, whose_of, key_in}
 use Rattle.timer_wheel.proofs.Sources.{same_source-sym}

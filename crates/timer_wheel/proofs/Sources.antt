@@ -5,7 +5,7 @@ use Rattle.emu_model.specs.declared.sources.Class.{Class}
 use Rattle.emu_model.specs.declared.sources.Class.TheVariants.{NextCommand, Exit, Finish, Expiry, Emission}
 use Rattle.emu_model.specs.declared.sources.Source.{Source}
 use Rattle.emu_model.specs.Dues.{rank}
-use Rattle.emu_model.specs.Laws.{same_source}
+use Rattle.emu_model.specs.RunLaws.{same_source}
 use Rattle.timer_wheel.specs.declared.Entry.{Entry}
 use Rattle.timer_wheel.specs.Rows.{is_of}
 

@@ -2,7 +2,7 @@
 use Rattle.std.proofs.Common.{inl, inr, ◌≡◌, ◌≢◌, ℕ, ◌+◌, ◌<◌, ◌≤◌, ◌%◌, ◌==◌, ◌&&◌, cond, List, length, set, Option, Some, None, slice_get, count_by, refl, sym, ap, subst, ◌∙◌, arith}
 use Rattle.std.proofs.lemmas.Bool.{cases_eq, ne_eqb}
 use Rattle.emu_model.specs.declared.sources.Source.{Source}
-use Rattle.emu_model.specs.Laws.{same_source}
+use Rattle.emu_model.specs.RunLaws.{same_source}
 use Rattle.timer_wheel.specs.declared.Entry.{Entry}
 use Rattle.timer_wheel.specs.Index.{key_in}
 use Rattle.timer_wheel.specs.Stocks.{StockBook, Holds, IsStock, IsThinned, due_by, due_of, room_of}

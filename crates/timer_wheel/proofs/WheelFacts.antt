@@ -6,7 +6,7 @@ use Rattle.std.proofs.lemmas.List.Sorted.{Contains-permutation}
 use Rattle.std.specs.List.{Contains}
 use Rattle.std.specs.List.Sorted.{IsPermutation}
 use Rattle.emu_model.specs.declared.sources.Source.{Source}
-use Rattle.emu_model.specs.Laws.{same_source}
+use Rattle.emu_model.specs.RunLaws.{same_source}
 use Rattle.timer_wheel.specs.declared.Entry.{Entry}
 use Rattle.timer_wheel.specs.declared.ties.Tie.{Tie}
 use Rattle.timer_wheel.specs.Index.{key_in}

@@ -3,7 +3,7 @@ use Rattle.std.specs.Prelude.{◌≡◌, ℕ, ◌≤◌, ◌==◌, Bool, ◌&&�
 use Rattle.std.specs.List.{best_of}
 use Rattle.emu_model.specs.declared.sources.Source.{Source}
 use Rattle.emu_model.specs.Dues.{rank}
-use Rattle.emu_model.specs.Laws.{same_source}
+use Rattle.emu_model.specs.RunLaws.{same_source}
 use Rattle.timer_wheel.specs.declared.Entry.{Entry}
 
 -- the row of one owner: the due of each source

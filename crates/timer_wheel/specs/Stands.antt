@@ -1,7 +1,7 @@
 -- What stands in the slots of a wheel.
 use Rattle.std.specs.Prelude.{◌≡◌, ℕ, ◌<◌, ◌≤◌, ◌^◌, ◌==◌, ◌&&◌, ◌⊎◌, [], ◌∷◌, ◌++◌, cond, false, Some, None}
 use Rattle.emu_model.specs.declared.sources.Source.{Source}
-use Rattle.emu_model.specs.Laws.{same_source}
+use Rattle.emu_model.specs.RunLaws.{same_source}
 use Rattle.timer_wheel.specs.declared.Entry.{Entry}
 use Rattle.timer_wheel.specs.Places.{place_of}
 use Rattle.timer_wheel.specs.Rows.{Row, IsAtOrAbove, is_before}

@@ -4,7 +4,7 @@ ghost use Rattle.std.proofs.Common.{rules};
 ghost use Rattle.std.specs.Cmp.Rules.{hashing};
 ghost use Rattle.std.specs.Hash as fed;
 ghost use Rattle.emu_model.specs.declared.sources.Source.{Source};
-ghost use Rattle.emu_model.specs.Laws.{same_source};
+ghost use Rattle.emu_model.specs.RunLaws.{same_source};
 ghost use Rattle.timer_wheel.specs.Index.{key_in, whose_of};
 
 use crate::Owner;

@@ -1,7 +1,7 @@
 //! Agendas: which owner's source is due first, and when (our choice).
 //!
 //! `Agenda` says what one is. `ListAgenda` keeps a plain list, for tests, and `Wheel` a timing wheel; callers
-//! that are generic over `Agenda` can't tell them apart. Only `new`, `set_ready` and `set` of a source that
+//! that are generic over `Agenda` can't tell them apart. Only `new` and `set` of a source that
 //! has no due take memory, and where it is refused, all is as before.
 #![tactic(auto)]
 
@@ -15,7 +15,7 @@ mod stock;
 mod ties;
 mod wheel;
 
-ghost use Rattle.std.specs.Prelude.{◌≡◌, ◌≢◌, ℕ, ◌+◌, ◌<◌, ◌≤◌, false, Option, Some, None, IfSome, IfNone, IfOk, OnOk, OnErr, IsOk, IsSome, IsTrue};
+ghost use Rattle.std.specs.Prelude.{◌≡◌, ◌≢◌, ℕ, ◌+◌, ◌<◌, ◌≤◌, false, Option, Some, None, IfSome, IfNone, IfOk, OnOk, OnErr, IsOk, IsSome};
 ghost use Rattle.emu_model.specs.declared.sources.Source.{Source};
 ghost use Rattle.timer_wheel.specs.Rows.{no_dues, with_due, without_due, is_before, is_of};
 
@@ -55,13 +55,6 @@ pub trait Agenda: Drop {
     fn clock(&self) -> u64
         ensures clock { result ≡ time self.now }
         ensures low { (o : ℕ) (s : Source) (d : ℕ) → entries self.now o s ≡ Some d → result ≤ d };
-
-    /// Makes room for one further source, and says whether it could.
-    fn set_ready(&mut self) -> bool
-        ensures ready { IsTrue result → 0 < spare self.new }
-        ensures entries { (o : ℕ) → entries self.new o ≡ entries self.old o }
-        ensures time { time self.new ≡ time self.old }
-        ensures spare { spare self.old ≤ spare self.new };
 
     /// Sets the due of a source, in place of the one that it had. A source that had one needs no memory.
     fn set(&mut self, owner: Owner, source: Source, due: u64) -> Result<(), AllocError>

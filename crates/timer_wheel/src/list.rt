@@ -95,10 +95,6 @@ impl Agenda for ListAgenda {
         self.clock
     }
 
-    fn set_ready(&mut self) -> bool {
-        self.items.reserve(1).is_ok()
-    }
-
     fn set(&mut self, owner: Owner, source: Source, due: u64) -> Result<(), AllocError> {
         let entry = Entry { due, owner, source };
         if has(&self.items, owner, source) {

@@ -4,8 +4,8 @@ ghost use Rattle.std.specs.Prelude.{◌≡◌, ℕ, ◌+◌, ◌*◌, ◌^◌, �
 ghost use Rattle.emu_model.specs.Moments.{IsMoment};
 ghost use Rattle.emu_model.specs.Dues.{flow_dues};
 ghost use Rattle.emu_model.specs.declared.commands.Setting.{Setting};
-ghost use Rattle.emu_model.specs.Net.{Net, put_flow, note, data_send, ack_send, take_ack as acknowledged};
-ghost use Rattle.emu_model.specs.Reno.{emit as sent, emitted, expire as expired, with_segment, missing};
+ghost use Rattle.emu_model.specs.Net.{Net, put_flow, note, data_send, ack_send, take_ack};
+ghost use Rattle.emu_model.specs.Reno.{emit, emitted, expire, with_segment, missing};
 ghost use Rattle.emu_model.specs.declared.records.Record.TheVariants.{AckTaken};
 ghost use Rattle.traffic.specs.Kept.{opened_flow};
 ghost use Rattle.traffic.specs.Leaves.{expiry_due, emission_due};
@@ -139,7 +139,7 @@ impl Flow {
         requires early { IsMoment now }
         requires may { may_send self.old.state ≡ true }
         ensures flow { let f = self.old.state in
-            self.new ≡ record self.old { state = record f { sender = sent f.flow now f.sender } } }
+            self.new ≡ record self.old { state = record f { sender = emit f.flow now f.sender } } }
         ensures result { let f = self.old.state in
             result ≡ record {
               load = Load.Seg f.number (emitted f.sender);
@@ -197,10 +197,10 @@ impl Flow {
     #[inline(always)]
     pub(crate) fn take_ack(&mut self, now: u64, upto: u64) -> Option<Window>
         requires early { IsMoment now }
-        ensures taken { IfSome result (λ w. (n : Net) → acknowledged now upto n self.old.state
+        ensures taken { IfSome result (λ w. (n : Net) → take_ack now upto n self.old.state
             ≡ note (AckTaken now self.old.state.number w.cwnd w.ssthresh)
             (put_flow self.new.state n)) }
-        ensures ignored { IfNone result ((n : Net) → acknowledged now upto n self.old.state ≡ n) }
+        ensures ignored { IfNone result ((n : Net) → take_ack now upto n self.old.state ≡ n) }
         ensures same { IfNone result (self.new ≡ self.old) }
         ensures number { self.new.state.number ≡ self.old.state.number }
         ensures header { self.new.state.flow ≡ self.old.state.flow }
@@ -217,7 +217,7 @@ impl Flow {
         requires early { IsMoment now }
         ensures flow { let f = self.old.state in
             self.new
-            ≡ record self.old { state = record f { sender = expired f.flow now f.sender } } }
+            ≡ record self.old { state = record f { sender = expire f.flow now f.sender } } }
         ensures window { result ≡ record {
           cwnd = self.new.state.sender.cwnd;
           ssthresh = self.new.state.sender.ssthresh;

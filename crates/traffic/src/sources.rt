@@ -6,8 +6,8 @@ ghost use Rattle.std.specs.List.{best_of};
 ghost use Rattle.emu_model.specs.Moments.{IsMoment};
 ghost use Rattle.emu_model.specs.declared.records.Record.TheVariants.{AckTaken, TimerExpired};
 ghost use Rattle.emu_model.specs.declared.commands.Setting.{Setting};
-ghost use Rattle.emu_model.specs.Net.{Net, find_flow, make, note, ack_send, take_segment, take_ack as acknowledged};
-ghost use Rattle.emu_model.specs.Commands.{is_in_use, source_refusal, start_flow as with_flow, start_train as with_train, stop_flow};
+ghost use Rattle.emu_model.specs.Net.{Net, find_flow, make, note, ack_send, take_segment, take_ack};
+ghost use Rattle.emu_model.specs.Commands.{is_in_use, source_refusal, start_flow, start_train, stop_flow};
 ghost use Rattle.emu_model.specs.Dues.{is_before};
 ghost use Rattle.emu_model.specs.Events.{emission, expire_flow};
 ghost use Rattle.traffic.specs.Kept.{with_traffic, IsFree, HasRoomFor};
@@ -106,7 +106,7 @@ impl Traffic {
         requires { IsFree number self.old }
         ensures ok { OnOk result
             ((n : Net) →
-            with_flow number flow.now (with_traffic self.old n) ≡ with_traffic self.new n) }
+            start_flow number flow.now (with_traffic self.old n) ≡ with_traffic self.new n) }
         ensures err { OnErr result (self.new ≡ self.old) }
     {
         self.flows.reserve(1)?;
@@ -130,7 +130,7 @@ impl Traffic {
         requires free { IsFree number self.old }
         ensures ok { OnOk result
             ((n : Net) →
-            with_train now number train.now (with_traffic self.old n) ≡ with_traffic self.new n) }
+            start_train now number train.now (with_traffic self.old n) ≡ with_traffic self.new n) }
         ensures err { OnErr result (self.new ≡ self.old) }
     {
         self.trains.reserve(1)?;
@@ -254,7 +254,7 @@ impl Traffic {
     pub fn take_ack(&mut self, now: u64, number: FlowNumber, upto: u64) -> Option<Window>
         requires early { IsMoment now }
         ensures taken { (n : Net) → let m = with_traffic self.old n in
-            option_map_or (acknowledged now upto m) (find_flow number m) m
+            option_map_or (take_ack now upto m) (find_flow number m) m
             ≡ option_map_or
             (λ w. note (AckTaken now number w.cwnd w.ssthresh) (with_traffic self.new n)) result
             (with_traffic self.new n) }

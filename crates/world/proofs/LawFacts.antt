@@ -11,7 +11,7 @@ use Rattle.emu_model.specs.declared.sources.Due.{Due}
 use Rattle.emu_model.specs.Step.{State, step, step_with, count_step, take_class, take_due, is_last_step, spend, next_event}
 use Rattle.emu_model.specs.Net.{counters_of}
 use Rattle.emu_model.specs.Alone.{alone}
-use Rattle.emu_model.specs.Laws.{IsExtendedBy, RecordsGrow, LaterCommandsWait, TakesSteps}
+use Rattle.emu_model.specs.RunLaws.{IsExtendedBy, RecordsGrow, LaterCommandsWait, TakesSteps}
 use Rattle.world.specs.Tenants.{Shown, shown}
 use Rattle.world.specs.Places.{Places}
 use Rattle.world.specs.Kept.{IsAlone, IsKept, IsWorld, AreFollowedBy, AgreeUpTo, AgreeOnNames}

@@ -9,5 +9,6 @@ mod PlaceFacts
 mod LawFacts
 mod MailFacts
 mod MoveFacts
+mod IndexFacts
 mod ReadFacts
 mod NewFacts

@@ -56,7 +56,7 @@ nobody_sat s slot h = sitting_is s slot ∙ ap stand_in h
 
 -- a time that began anew leaves everybody there
 pub settled : (s t : Seating MailBook) → Settles s t → (k : ℕ) → sitting t k ≡ sitting s k
-settled s t (inl e) k = ap (λ x. sitting x k) e
+settled s t (inl e) k = ap (λ x. sitting x k) e.1
 settled s t (inr r) k = ap (λ l. get_or l k None) r.1.stands
 
 pub rebased : (s t : Seating MailBook) → IsRebased s t → (k : ℕ) → sitting t k ≡ sitting s k

@@ -3,7 +3,7 @@ use Rattle.std.specs.Prelude.{◌≡◌, ℕ, ◌≤◌, ◌⊎◌, List, [], �
 use Rattle.emu_model.specs.declared.commands.Timed.{Timed}
 use Rattle.emu_model.specs.Net.{counters_of}
 use Rattle.emu_model.specs.Alone.{alone}
-use Rattle.emu_model.specs.Laws.{IsExtendedBy, TakesSteps}
+use Rattle.emu_model.specs.RunLaws.{IsExtendedBy, TakesSteps}
 use Rattle.experiment.specs.Kept.{last_moment}
 use Rattle.shard.specs.Mails.{letters_of, posted_of}
 use Rattle.shard.specs.Stand.{heard_from}

@@ -3,14 +3,14 @@
 
 mod deque;
 mod home;
-mod laws;
 mod mails;
 mod moves;
 mod run;
 mod steps;
 mod world;
+mod worlds_law;
 
 pub use home::Place;
-pub use laws::two_worlds;
 pub use steps::{Did, Step};
 pub use world::World;
+pub use worlds_law::two_worlds;

@@ -1,7 +1,7 @@
 //! The tenants' ends of the mails.
 
 ghost use Rattle.std.specs.Prelude.{◌≡◌};
-ghost use Rattle.emu_model.specs.Commands.{is_end as ends};
+ghost use Rattle.emu_model.specs.Commands.{is_end};
 
 use crate::home::Home;
 use crate::steps::Did;
@@ -101,7 +101,7 @@ impl Home {
 
 // Whether a command is an `end`.
 fn is_end(command: Command) -> bool
-    ensures { result ≡ ends command }
+    ensures { result ≡ is_end command }
 {
     matches!(command, Command::End)
 }

@@ -122,7 +122,7 @@ impl<A: Agenda> World<A> {
             Home::Handed(parcel) => return parcel.consumed(),
             Home::Seated { shard, slot } => return self.consumed_in(*shard, *slot),
             Home::Queued { shard: _, parcel } => return parcel.consumed(),
-            Home::Left(dossier) => return dossier.commands(),
+            Home::Left(dossier) => return dossier.consumed(),
         }
     }
 
@@ -150,8 +150,8 @@ impl<A: Agenda> World<A> {
             return &[];
         }
         match self.shards[shard].records(slot) {
-            Some(records) => return records,
-            None => return &[],
+            Ok(records) => return records,
+            Err(_) => return &[],
         }
     }
 
@@ -163,8 +163,8 @@ impl<A: Agenda> World<A> {
             return &[];
         }
         match self.shards[shard].consumed(slot) {
-            Some(commands) => return commands,
-            None => return &[],
+            Ok(commands) => return commands,
+            Err(_) => return &[],
         }
     }
 }

@@ -3,10 +3,13 @@
 
 use emu_model::{Record, Spec, Timed};
 use shard::{ListMail, PackError, Parcel, Polled, PostError, Shard, TakeInError, Turned, Vacant};
-use timer_wheel::Wheel;
+use timer_wheel::{Agenda, Wheel};
 
-/// The shards of the examples.
-pub type Desk = Shard<Wheel, ListMail>;
+/// The shards of the examples, over an agenda.
+pub type Host<A> = Shard<A, ListMail>;
+
+/// Those over a wheel.
+pub type Desk = Host<Wheel>;
 
 /// What became of a parcel that was to be taken in.
 pub type Arrival = Result<usize, TakeInError<ListMail>>;
@@ -14,17 +17,17 @@ pub type Arrival = Result<usize, TakeInError<ListMail>>;
 /// No command's moment is later (ns).
 const LATEST: u64 = 1_000_000_000_000_000;
 
-pub fn arrive(shard: &mut Desk, parcel: Parcel<ListMail>) -> Arrival {
+pub fn arrive<A: Agenda>(shard: &mut Host<A>, parcel: Parcel<ListMail>) -> Arrival {
     shard.take_in(parcel)
 }
 
 /// The slot of a parcel that was taken in.
-pub fn take_in(shard: &mut Desk, parcel: Parcel<ListMail>) -> Option<usize> {
+pub fn take_in<A: Agenda>(shard: &mut Host<A>, parcel: Parcel<ListMail>) -> Option<usize> {
     shard.take_in(parcel).ok()
 }
 
 /// Takes in what came back.
-pub fn take_in_again(shard: &mut Desk, answer: Arrival) -> Option<usize> {
+pub fn take_in_again<A: Agenda>(shard: &mut Host<A>, answer: Arrival) -> Option<usize> {
     if answer.is_ok() {
         return answer.ok();
     }
@@ -69,48 +72,52 @@ pub fn seen_back(answer: &Arrival) -> Option<Sight> {
 }
 
 /// How many records and commands the resident of a slot has; None where nobody is.
-pub fn counted(shard: &Desk, slot: usize) -> Option<(usize, usize)> {
-    let records = shard.records(slot)?.len();
-    let commands = shard.consumed(slot)?.len();
+pub fn counted<A: Agenda>(shard: &Host<A>, slot: usize) -> Option<(usize, usize)> {
+    let records = shard.records(slot).ok()?.len();
+    let commands = shard.consumed(slot).ok()?.len();
     Some((records, commands))
 }
 
-pub fn pack(shard: &mut Desk, slot: usize) -> Result<Parcel<ListMail>, PackError> {
+pub fn pack<A: Agenda>(shard: &mut Host<A>, slot: usize) -> Result<Parcel<ListMail>, PackError> {
     shard.pack(slot)
 }
 
 /// Whether nobody is at a slot, as `pack` answers; who is there is packed and dropped.
-pub fn packs_nobody(shard: &mut Desk, slot: usize) -> bool {
+pub fn packs_nobody<A: Agenda>(shard: &mut Host<A>, slot: usize) -> bool {
     let packed = shard.pack(slot);
     let is_vacant = matches!(&packed, Err(PackError::Vacant));
     drop(packed);
     is_vacant
 }
 
-pub fn advance(shard: &mut Desk) -> Turned<ListMail> {
+pub fn advance<A: Agenda>(shard: &mut Host<A>) -> Turned<ListMail> {
     shard.turn()
 }
 
-pub fn poll(shard: &mut Desk, slot: usize) -> Polled {
+pub fn poll<A: Agenda>(shard: &mut Host<A>, slot: usize) -> Polled {
     shard.poll(slot)
 }
 
 /// None where the moment is too late for any command.
-pub fn put(shard: &mut Desk, slot: usize, timed: Timed) -> Option<Result<(), PostError>> {
+pub fn put<A: Agenda>(
+    shard: &mut Host<A>,
+    slot: usize,
+    timed: Timed,
+) -> Option<Result<(), PostError>> {
     if timed.moment > LATEST {
         return None;
     }
     Some(shard.put(slot, timed))
 }
 
-pub fn read(shard: &mut Desk, slot: usize) -> Result<Option<Record>, Vacant> {
+pub fn read<A: Agenda>(shard: &mut Host<A>, slot: usize) -> Result<Option<Record>, Vacant> {
     shard.read(slot)
 }
 
-pub fn slot_of(shard: &Desk, name: u32) -> Option<usize> {
+pub fn slot_of<A: Agenda>(shard: &Host<A>, name: u32) -> Option<usize> {
     shard.slot_of(name)
 }
 
-pub fn rebase(shard: &mut Desk) {
+pub fn rebase<A: Agenda>(shard: &mut Host<A>) {
     shard.rebase();
 }

@@ -1,12 +1,13 @@
 //! What the examples share: guests of a shard, whose commands are posted to it in their order.
 
-use super::calls::{Desk, advance, poll, put, read, slot_of, take_in};
+use super::calls::{Host, advance, poll, put, read, slot_of, take_in};
 use control::{Experiment as Plan, ParseError, parse_scenario};
 use emu_model::Timed;
 use report::report_text;
 use shard::{Dossier, ListMail, Parcel, Polled, Turned};
 use std::alloc::{AllocError, Global};
 use std::process::Abort;
+use timer_wheel::Agenda;
 
 /// How many letters a mail holds.
 const LETTERS: usize = 64;
@@ -93,13 +94,21 @@ pub fn parcel(alloc: Global, guest: &Guest) -> Result<Parcel<ListMail>, AllocErr
 }
 
 /// Takes a guest in.
-pub fn settle(alloc: Global, shard: &mut Desk, guest: &Guest) -> Result<usize, AllocError> {
+pub fn settle<A: Agenda>(
+    alloc: Global,
+    shard: &mut Host<A>,
+    guest: &Guest,
+) -> Result<usize, AllocError> {
     let parcel = parcel(alloc, guest)?;
     take_in(shard, parcel).ok_or(AllocError)
 }
 
 /// Takes all guests in.
-pub fn settle_all(alloc: Global, shard: &mut Desk, guests: &[Guest]) -> Result<(), AllocError> {
+pub fn settle_all<A: Agenda>(
+    alloc: Global,
+    shard: &mut Host<A>,
+    guests: &[Guest],
+) -> Result<(), AllocError> {
     for guest in guests {
         settle(alloc, shard, guest)?;
     }
@@ -107,7 +116,7 @@ pub fn settle_all(alloc: Global, shard: &mut Desk, guests: &[Guest]) -> Result<(
 }
 
 /// Puts a guest's commands into its mail until that is full.
-pub fn post(shard: &mut Desk, slot: usize, guest: &mut Guest) {
+pub fn post<A: Agenda>(shard: &mut Host<A>, slot: usize, guest: &mut Guest) {
     for next in guest.posted..guest.commands().len() {
         let Some(timed) = guest.commands().get(next) else {
             return;
@@ -120,7 +129,7 @@ pub fn post(shard: &mut Desk, slot: usize, guest: &mut Guest) {
 }
 
 /// Reads the letters that wait.
-pub fn read_all(shard: &mut Desk, slot: usize) {
+pub fn read_all<A: Agenda>(shard: &mut Host<A>, slot: usize) {
     for _ in 0..LETTERS {
         if !matches!(read(shard, slot), Ok(Some(_))) {
             return;
@@ -129,19 +138,29 @@ pub fn read_all(shard: &mut Desk, slot: usize) {
 }
 
 /// Posts the commands of each guest that is there, polls it, and reads its letters where they are to be read. None is
-/// to be refused memory.
-pub fn attend(rt: &impl Abort, shard: &mut Desk, guests: &mut [Guest], reads: bool) {
+/// to be refused memory. Answers how many have their entry again, since it was refused before.
+pub fn attend<A: Agenda>(
+    rt: &impl Abort,
+    shard: &mut Host<A>,
+    guests: &mut [Guest],
+    reads: bool,
+) -> u64 {
+    let mut resumed = 0u64;
     for guest in guests.iter_mut() {
         let Some(slot) = slot_of(shard, guest.name) else {
             continue;
         };
         post(shard, slot, guest);
         let answer = poll(shard, slot);
-        assert!(rt; !matches!(answer, Polled::NoMemory(_) | Polled::Resumed(_)));
+        assert!(rt; !matches!(answer, Polled::NoMemory(_)));
+        if matches!(answer, Polled::Resumed(_)) {
+            resumed = resumed.saturating_add(1);
+        }
         if reads {
             read_all(shard, slot);
         }
     }
+    resumed
 }
 
 /// A turn, and the name of whose it was; of one that has ended, its steps too.
@@ -153,9 +172,9 @@ pub enum Move {
 }
 
 /// Makes a turn, and wants the report of a guest that ended.
-pub fn turn(
+pub fn turn<A: Agenda>(
     rt: &(impl Abort + AllocGlobal),
-    shard: &mut Desk,
+    shard: &mut Host<A>,
     guests: &[Guest],
 ) -> Result<Move, AllocError> {
     let turned = advance(shard);
@@ -181,9 +200,9 @@ fn seen_of(
 }
 
 /// Attends and turns until as many have ended as there are guests, each with its report.
-pub fn host(
+pub fn host<A: Agenda>(
     rt: &(impl Abort + AllocGlobal),
-    shard: &mut Desk,
+    shard: &mut Host<A>,
     guests: &mut [Guest],
     reads: bool,
 ) -> Result<(), AllocError> {
@@ -192,7 +211,7 @@ pub fn host(
         if ended == guests.len() {
             return Ok(());
         }
-        attend(rt, shard, guests, reads);
+        assert_eq!(rt; attend(rt, shard, guests, reads), 0);
         if let Move::Ended(..) = turn(rt, shard, guests)? {
             ended = ended.saturating_add(1);
         }

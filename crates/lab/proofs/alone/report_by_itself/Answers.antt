@@ -11,7 +11,7 @@ use Rattle.lab.proofs.alone.report_by_itself.Goals as goal
 pub play-requires-clause-housed : goal.play-requires-clause-housed
 play-requires-clause-housed g c =
     subst (λ p. IsHousedIn p c.in_ok-experiment.experiment) (sym c.new-shelf.ensures.own)
-    (c.in_ok-experiment.ensures.housed c.args.plan.now.spec.budget.packets (omega arith))
+    (c.in_ok-experiment.ensures.housed c.args.script.now.spec.budget.packets (omega arith))
 
 pub play-requires-clause-told : goal.play-requires-clause-told
 play-requires-clause-told g c =
@@ -41,9 +41,9 @@ returns g c =
     (played.told head (told-new head c.in_ok-telling.telling p c.in_ok-experiment.experiment c.in_ok-telling.ensures (c.in_ok-experiment.ensures.alone p)))
     (λ rs. tells.tells head rs) (λ earlier. tells.after earlier q) in
     subst (λ (l : List ℕ). IfOk c.into_report.result (λ text. text.items ≡ l)) (
-    told-report c.args.plan.now.name head c.tell.new.self q c.tell.new.experiment now tells.records (ap heading_of c.as_bytes.ensures.value)
-    c.counters.result (c.counters.ensures q (tells.housed q played.housed)) (trace_alone c.args.plan.now) (
-    left_told c.later_commands_wait.ensures c.args.plan.now.spec c.args.plan.now.commands now.earlier q c.play.new.experiment c.tell.new.experiment tells.rest
+    told-report c.args.script.now.name head c.tell.new.self q c.tell.new.experiment now tells.records (ap heading_of c.as_bytes.ensures.value)
+    c.counters.result (c.counters.ensures q (tells.housed q played.housed)) (trace_alone c.args.script.now) (
+    left_told c.later_commands_wait.ensures c.args.script.now.spec c.args.script.now.commands now.earlier q c.play.new.experiment c.tell.new.experiment tells.rest
     (played.spec ∙ c.in_ok-experiment.ensures.given.0) now.after played.rest (sym c.as_slice-commands.ensures ∙ played.all) played.over played.few
     )
     ) c.into_report.ensures

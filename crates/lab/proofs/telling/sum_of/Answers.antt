@@ -1,5 +1,4 @@
-use Rattle.std.proofs.Common.{◌≡◌, ◌∙◌, ◌+◌, ℕ, List, ◌∷◌, [], ap}
-use Rattle.std.specs.Prelude.{slice_index_or}
+use Rattle.std.proofs.Common.{◌∙◌}
 use Rattle.lab.proofs.Tellings.{drops-both, summed}
 use Rattle.lab.proofs.telling.sum_of.Goals as goal
 

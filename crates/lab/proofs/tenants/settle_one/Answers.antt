@@ -1,6 +1,5 @@
-use Rattle.std.proofs.Common.{◌∙◌, Some, IsSome, subst}
-use Rattle.experiment.specs.Kept.{shown_ending}
-use Rattle.lab.proofs.Ownings.{IsTraced, settled_alone}
+use Rattle.std.proofs.Common.{◌∙◌}
+use Rattle.lab.proofs.Ownings.{IsTraced, settled_alone, is_shown}
 use Rattle.lab.proofs.tenants.settle_one.Goals as goal
 
 pub returns-clause-ok : goal.returns-clause-ok
@@ -8,4 +7,4 @@ returns-clause-ok c =
     let o = c.in-Ok.outcome in
     let traced : IsTraced o = record { records = c.known.ensures.records; counters = c.known.ensures.counters; ending = c.known.ensures.ending; few = c.known.ensures.few; made = c.known.ensures.made } in
     c.new.ensures ∙ (λ i. record { records = c.into_records.ensures i; counters = c.counters-counters.ensures i })
-    ∙ settled_alone c.later_commands_wait.ensures c.args.tenant c.in-Some.dossier o c.args.experiment.now c.in-Ok.ensures.fits c.in-Ok.ensures.outcome c.requires traced (subst (λ x. IsSome (shown_ending (Some x))) c.ending.ensures (c.has_ended.ensures.ended c.if-not-has_ended.false))
+    ∙ settled_alone c.later_commands_wait.ensures c.args.tenant c.in-Some.dossier o c.args.experiment.now c.in-Ok.ensures.fits c.in-Ok.ensures.outcome c.requires.serves traced (is_shown c.in-Some.dossier o c.in-Ok.ensures.outcome (rw c.in-Some.is at c.requires.ended))

@@ -1,4 +1,4 @@
-use Rattle.std.proofs.Common.{ℕ, ◌+◌, ◌*◌}
+use Rattle.std.proofs.Common.{◌+◌, ◌*◌}
 use Rattle.lab.proofs.texts.+fn-texts_together-join+arg2+fn-texts_together-join+arg3+texts_together.Given as goal
 
 abbrev pub decreases-join+arg2 : goal.decreases-join+arg2

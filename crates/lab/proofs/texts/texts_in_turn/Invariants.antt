@@ -5,7 +5,7 @@ use Rattle.lab.proofs.texts.texts_in_turn.Given as goal
 
 abbrev pub invariant-loop-outcome : goal.invariant-loop-outcome
 invariant-loop-outcome l =
-    (into_iter_items l.outcome-iterator ≡ map trace_alone (drop (length l.texts.items) l.plans))
-    × (l.texts.items ≡ map report_alone (take (length l.texts.items) l.plans))
+    (into_iter_items l.outcome-iterator ≡ map trace_alone (drop (length l.texts.items) l.scripts))
+    × (l.texts.items ≡ map report_alone (take (length l.texts.items) l.scripts))
     × (into_iter_len l.outcome-iterator ≡ length (into_iter_items l.outcome-iterator))
-    × (length l.plans ≤ vec_capacity l.texts)
+    × (length l.scripts ≤ vec_capacity l.texts)

@@ -13,4 +13,4 @@ pub returns-else-not-same : goal.returns-else-not-same
 returns-else-not-same c =
     let x = c.args.dues.now in
     let there = c.requires.same c.if-not-same.false in
-    λ t. record { leaves = sym (set-there x.leaves c.args.index (slot_due c.args.slot.now) there) t; spare = x.spare }
+    λ t. record { leaves = sym (set-there x.leaves c.args.instance (slot_due c.args.slot.now) there) t; spare = x.spare }

@@ -18,4 +18,4 @@ invariant_of-self g c =
       noted = s.noted.items;
       spare = vec_capacity s.consumed - vec_len s.consumed;
     } in
-    sound-halted e s.latest s.held c.obey.new.self (g.S.Shelf.pocket c.args.shelf.now c.args.owner) c.self.invariant c.in_default-obey.ensures.refused
+    sound-halted e s.latest s.held c.obey.new.self (g.S.Shelf.pocket c.args.shelf.now c.args.owner) c.self.invariant c.in_default-obey.ensures.frame.refused

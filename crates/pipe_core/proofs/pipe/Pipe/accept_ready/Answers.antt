@@ -12,7 +12,7 @@ use Rattle.pipe_core.proofs.pipe.Pipe.accept_ready.Goals as goal
 pub invariant_of-self : goal.invariant_of-self
 invariant_of-self c =
     let s = c.self.inside in
-    let k : ℕ = c.args.index in
+    let k : ℕ = c.args.instance in
     let x : Slot = c.index_mut-slot.result.now in
     let within : k < length s.slots.items = subst (λ (e : KeyedPipe). k < length e.slots) (sym c.self.view_is) c.requires in
     let at : IsPlace k s.slots.items x = place_of s.slots.items k x c.index_mut-slot.ensures.value within in
@@ -27,7 +27,7 @@ invariant_of-self c =
 pub returns-clause-grown : goal.returns-clause-grown
 returns-clause-grown c =
     let s = c.self.inside in
-    let k : ℕ = c.args.index in
+    let k : ℕ = c.args.instance in
     let x : Slot = c.index_mut-slot.result.now in
     let within : k < length s.slots.items = subst (λ (e : KeyedPipe). k < length e.slots) (sym c.self.view_is) c.requires in
     let at : IsPlace k s.slots.items x = place_of s.slots.items k x c.index_mut-slot.ensures.value within in
@@ -39,7 +39,7 @@ returns-clause-grown c =
 pub returns-clause-ids : goal.returns-clause-ids
 returns-clause-ids c =
     let s = c.self.inside in
-    let k : ℕ = c.args.index in
+    let k : ℕ = c.args.instance in
     let x : Slot = c.index_mut-slot.result.now in
     let within : k < length s.slots.items = subst (λ (e : KeyedPipe). k < length e.slots) (sym c.self.view_is) c.requires in
     let at : IsPlace k s.slots.items x = place_of s.slots.items k x c.index_mut-slot.ensures.value within in
@@ -50,7 +50,7 @@ returns-clause-ids c =
 pub returns-clause-ready : goal.returns-clause-ready
 returns-clause-ready c =
     let s = c.self.inside in
-    let k : ℕ = c.args.index in
+    let k : ℕ = c.args.instance in
     let x : Slot = c.index_mut-slot.result.now in
     let within : k < length s.slots.items = subst (λ (e : KeyedPipe). k < length e.slots) (sym c.self.view_is) c.requires in
     let at : IsPlace k s.slots.items x = place_of s.slots.items k x c.index_mut-slot.ensures.value within in
@@ -61,7 +61,7 @@ returns-clause-ready c =
 pub returns-clause-succeeds : goal.returns-clause-succeeds
 returns-clause-succeeds c =
     let s = c.self.inside in
-    let k : ℕ = c.args.index in
+    let k : ℕ = c.args.instance in
     let x : Slot = c.index_mut-slot.result.now in
     let within : k < length s.slots.items = subst (λ (e : KeyedPipe). k < length e.slots) (sym c.self.view_is) c.requires in
     let at : IsPlace k s.slots.items x = place_of s.slots.items k x c.index_mut-slot.ensures.value within in

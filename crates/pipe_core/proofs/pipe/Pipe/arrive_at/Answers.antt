@@ -26,14 +26,14 @@ pub arrive-answer-requires-clause-ready : goal.arrive-answer-requires-clause-rea
 arrive-answer-requires-clause-ready g c =
     let s = c.self.inside in
     let at = place_inside c.self.view_is c.requires.inside c.index_mut-slot.ensures.value in
-    let ready = subst (λ (e : KeyedPipe). HasRoomAtSlot c.args.packet.now.size c.args.index e) (sym c.self.view_is) c.requires.ready in
+    let ready = subst (λ (e : KeyedPipe). HasRoomAtSlot c.args.packet.now.size c.args.instance e) (sym c.self.view_is) c.requires.ready in
     ready _ (get_at _ _ _ at)
 
 pub set_unless-requires-clause-inside : goal.set_unless-requires-clause-inside
 set_unless-requires-clause-inside g c =
     let s = c.self.inside in
-    leaves_within s.slots.items s.dues c.args.index c.self.invariant.1
-    (subst (λ (e : KeyedPipe). c.args.index < length e.slots) (sym c.self.view_is) c.requires.inside)
+    leaves_within s.slots.items s.dues c.args.instance c.self.invariant.1
+    (subst (λ (e : KeyedPipe). c.args.instance < length e.slots) (sym c.self.view_is) c.requires.inside)
 
 pub set_unless-requires-clause-few : goal.set_unless-requires-clause-few
 set_unless-requires-clause-few g c =
@@ -52,7 +52,7 @@ set_unless-requires-clause-same g c = λ busy.
     let p : Pocket = g.S.Shelf.pocket c.args.shelf.now c.args.owner in
     let q : Pocket = g.S.Shelf.pocket c.arrive-answer.new.shelf c.args.owner in
     let at = place_inside c.self.view_is c.requires.inside c.index_mut-slot.ensures.value in
-    leaf_there s.slots.items s.dues c.args.index c.index_mut-slot.result.now c.arrive-answer.new.self at c.self.invariant.1
+    leaf_there s.slots.items s.dues c.args.instance c.index_mut-slot.result.now c.arrive-answer.new.self at c.self.invariant.1
     (due-busy s.config c.args.now c.args.packet.now c.arrive-answer.result p q c.index_mut-slot.result.now c.arrive-answer.new.self
     (sym c.is_busy-was_busy.ensures ∙ busy) c.arrive-answer.ensures.came)
 
@@ -61,7 +61,7 @@ invariant_of-self g c =
     let s = c.self.inside in
     let at = place_inside c.self.view_is c.requires.inside c.index_mut-slot.ensures.value in (
       pipe_at _ _ _ at s.config s.seed s.number s.ids.ids c.arrive-answer.new.self c.arrive-answer.ensures.came.place c.self.invariant.0,
-      leaves_set s.slots.items c.args.index c.arrive-answer.new.self s.dues c.set_unless.new.dues (slot_due c.arrive-answer.new.self) c.self.invariant.1
+      leaves_set s.slots.items c.args.instance c.arrive-answer.new.self s.dues c.set_unless.new.dues (slot_due c.arrive-answer.new.self) c.self.invariant.1
           refl c.set_unless.ensures,
       c.self.invariant.2,
     )
@@ -78,10 +78,10 @@ returns-clause-came g c =
     let q : Pocket = g.S.Shelf.pocket c.arrive-answer.new.shelf c.args.owner in
     let old : KeyedPipe = inside_of s.config s.seed s.number s.slots.items (min (min (vec_capacity s.slots - vec_len s.slots) s.ids.spare) s.dues.spare) in
     let spare = sym (ap (λ (p : Places). p.spare) c.set_unless.ensures) in
-    rw (← c.self.view_is) (subst (λ n. ArrivesAt c.args.index c.args.now c.args.packet.now c.arrive-answer.result p q old (record old {
-      slots = set s.slots.items c.args.index c.arrive-answer.new.self;
+    rw (← c.self.view_is) (subst (λ n. ArrivesAt c.args.instance c.args.now c.args.packet.now c.arrive-answer.result p q old (record old {
+      slots = set s.slots.items c.args.instance c.arrive-answer.new.self;
       spare = min (min (vec_capacity s.slots - vec_len s.slots) s.ids.spare) n;
-    })) spare (comes_at c.args.index c.args.now c.args.packet.now c.arrive-answer.result p q old _ c.arrive-answer.new.self s.ids.ids at c.self.invariant.0 c.arrive-answer.ensures.came))
+    })) spare (comes_at c.args.instance c.args.now c.args.packet.now c.arrive-answer.result p q old _ c.arrive-answer.new.self s.ids.ids at c.self.invariant.0 c.arrive-answer.ensures.came))
 
 pub returns-clause-arrived : goal.returns-clause-arrived
 returns-clause-arrived g c = λ its named.
@@ -90,16 +90,16 @@ returns-clause-arrived g c = λ its named.
     let p : Pocket = g.S.Shelf.pocket c.args.shelf.now c.args.owner in
     let q : Pocket = g.S.Shelf.pocket c.arrive-answer.new.shelf c.args.owner in
     let old : KeyedPipe = inside_of s.config s.seed s.number s.slots.items 0 in
-    let new : KeyedPipe = inside_of s.config s.seed s.number (set s.slots.items c.args.index c.arrive-answer.new.self) 0 in
-    let came : ArrivesAt c.args.index c.args.now c.args.packet.now c.arrive-answer.result p q old new =
-    comes_at c.args.index c.args.now c.args.packet.now c.arrive-answer.result p q old _ c.arrive-answer.new.self s.ids.ids at c.self.invariant.0 c.arrive-answer.ensures.came in
-    let here : instance_of (ids_of s.slots.items) (flow_id s.config.mask c.args.packet.now) ≡ Some c.args.index =
+    let new : KeyedPipe = inside_of s.config s.seed s.number (set s.slots.items c.args.instance c.arrive-answer.new.self) 0 in
+    let came : ArrivesAt c.args.instance c.args.now c.args.packet.now c.arrive-answer.result p q old new =
+    comes_at c.args.instance c.args.now c.args.packet.now c.arrive-answer.result p q old _ c.arrive-answer.new.self s.ids.ids at c.self.invariant.0 c.arrive-answer.ensures.came in
+    let here : instance_of (ids_of s.slots.items) (flow_id s.config.mask c.args.packet.now) ≡ Some c.args.instance =
     ap (λ (z : KeyedPipe). instance_of (ids_of z.slots) (flow_id z.config.mask c.args.packet.now)) c.self.view_is ∙ its in
-    let within : c.args.index < length s.slots.items = subst (λ (e : KeyedPipe). c.args.index < length e.slots) (sym c.self.view_is) c.requires.inside in
+    let within : c.args.instance < length s.slots.items = subst (λ (e : KeyedPipe). c.args.instance < length e.slots) (sym c.self.view_is) c.requires.inside in
     rw (← c.self.view_is)
-    (arrive_some c.args.now c.args.index c.args.packet.now c.arrive-answer.result p q old old new (flow_id s.config.mask c.args.packet.now) refl came
+    (arrive_some c.args.now c.args.instance c.args.packet.now c.arrive-answer.result p q old old new (flow_id s.config.mask c.args.packet.now) refl came
     (named_inside c.self.view_is named) refl (sym here)
-    (λ f. with_known f (flow_id s.config.mask c.args.packet.now) c.args.index old within))
+    (λ f. with_known f (flow_id s.config.mask c.args.packet.now) c.args.instance old within))
 
 pub returns-clause-keys : goal.returns-clause-keys
 returns-clause-keys g c =
@@ -115,7 +115,7 @@ pub returns-clause-same : goal.returns-clause-same
 returns-clause-same g c =
     let s = c.self.inside in
     let n = min (vec_capacity s.slots - vec_len s.slots) s.ids.spare in
-    rw (← c.self.view_is) (λ t. inside_of s.config s.seed s.number (set s.slots.items c.args.index c.arrive-answer.new.self) (min n (ap (λ (p : Places). p.spare) c.set_unless.ensures t)))
+    rw (← c.self.view_is) (λ t. inside_of s.config s.seed s.number (set s.slots.items c.args.instance c.arrive-answer.new.self) (min n (ap (λ (p : Places). p.spare) c.set_unless.ensures t)))
 
 pub returns-clause-busy : goal.returns-clause-busy
 returns-clause-busy g c = λ f busy.
@@ -127,8 +127,8 @@ returns-clause-busy g c = λ f busy.
     let at = place_inside c.self.view_is c.requires.inside c.index_mut-slot.ensures.value in
     let old : KeyedPipe = inside_of s.config s.seed s.number s.slots.items 0 in
     let served : is_some x.instance.service.busy ≡ true =
-    sym (busy-at c.args.index s.slots.items x at f) ∙ ap (λ (z : KeyedPipe). is_some (served_in c.args.index (seen_pipe f z))) c.self.view_is ∙ busy in
-    pipe-same f old (inside_of s.config s.seed s.number (set s.slots.items c.args.index y) 0) c.args.index x y refl c.index_mut-slot.ensures.value
+    sym (busy-at c.args.instance s.slots.items x at f) ∙ ap (λ (z : KeyedPipe). is_some (served_in c.args.instance (seen_pipe f z))) c.self.view_is ∙ busy in
+    pipe-same f old (inside_of s.config s.seed s.number (set s.slots.items c.args.instance y) 0) c.args.instance x y refl c.index_mut-slot.ensures.value
     c.self.invariant.0.slots_are (pipe_at _ _ _ at s.config s.seed s.number s.ids.ids y c.arrive-answer.ensures.came.place c.self.invariant.0).slots_are
     (due-busy s.config c.args.now c.args.packet.now c.arrive-answer.result p q x y served c.arrive-answer.ensures.came)
     ∙ ap (pipe_due f) c.self.view_is

@@ -25,7 +25,7 @@ invariant_of-self g c =
     let s = c.self.inside in
     let at = place_inside c.self.view_is c.requires.inside c.index_mut-slot.ensures.value in (
       pipe_at _ _ _ at s.config s.seed s.number s.ids.ids c.exit-packet.new.self c.exit-packet.ensures.left.place c.self.invariant.0,
-      leaves_set s.slots.items c.args.index c.exit-packet.new.self s.dues c.set.new.self c.due.result c.self.invariant.1
+      leaves_set s.slots.items c.args.instance c.exit-packet.new.self s.dues c.set.new.self c.due.result c.self.invariant.1
           c.due.ensures c.set.ensures,
       c.self.invariant.2,
     )
@@ -66,7 +66,7 @@ returns-clause-ready g c =
     (λ size h. kept_room size c.index_mut-slot.result.now.instance y.instance left.queue left.service h) in
     let spare = sym (ap (λ (p : Places). p.spare) c.set.ensures) in
     rw (← c.self.view_is) (subst (λ n. (p : Packet) → HasRoomAt p old → HasRoomAt p (record old {
-      slots = set s.slots.items c.args.index y;
+      slots = set s.slots.items c.args.instance y;
       spare = min room n;
     })) spare same)
 

@@ -14,25 +14,25 @@ use Rattle.pipe_core.proofs.pipe.Pipe.finish.Goals as goal
 pub finish-finished-requires-clause-tuned : goal.finish-finished-requires-clause-tuned
 finish-finished-requires-clause-tuned g c =
     let s = c.self.inside in
-    let at = place_due (g.S.Shelf.pocket c.args.shelf.now c.args.owner) c.args.index c.self.view_is c.requires.due c.index_mut-slot.ensures.value in
+    let at = place_due (g.S.Shelf.pocket c.args.shelf.now c.args.owner) c.args.instance c.self.view_is c.requires.due c.index_mut-slot.ensures.value in
     (slot_at _ _ _ at s.config s.seed s.number s.ids.ids c.self.invariant.0).tuned
 
 pub finish-finished-requires-clause-due : goal.finish-finished-requires-clause-due
-finish-finished-requires-clause-due g c = due_at (g.S.Shelf.pocket c.args.shelf.now c.args.owner) c.args.index c.self.view_is c.requires.due c.index_mut-slot.ensures.value
+finish-finished-requires-clause-due g c = due_at (g.S.Shelf.pocket c.args.shelf.now c.args.owner) c.args.instance c.self.view_is c.requires.due c.index_mut-slot.ensures.value
 
 pub finish-finished-requires-clause-named : goal.finish-finished-requires-clause-named
 finish-finished-requires-clause-named g c =
-    let at = place_due (g.S.Shelf.pocket c.args.shelf.now c.args.owner) c.args.index c.self.view_is c.requires.due c.index_mut-slot.ensures.value in
+    let at = place_due (g.S.Shelf.pocket c.args.shelf.now c.args.owner) c.args.instance c.self.view_is c.requires.due c.index_mut-slot.ensures.value in
     named_at _ _ _ at _ (named_inside c.self.view_is c.requires.named)
 
 pub invariant_of-self : goal.invariant_of-self
 invariant_of-self g c =
     let s = c.self.inside in
     let y : Slot = c.finish-finished.new.self in
-    let at = place_due (g.S.Shelf.pocket c.args.shelf.now c.args.owner) c.args.index c.self.view_is c.requires.due c.index_mut-slot.ensures.value in (
+    let at = place_due (g.S.Shelf.pocket c.args.shelf.now c.args.owner) c.args.instance c.self.view_is c.requires.due c.index_mut-slot.ensures.value in (
       pipe_at _ _ _ at s.config s.seed s.number s.ids.ids y
           (finish_place s.config c.args.now y.instance.lane.spare c.finish-finished.new.drops.items _ _ _ y c.finish-finished.result c.finish-finished.ensures.finished c.finish-finished.ensures.refused) c.self.invariant.0,
-      leaves_set s.slots.items c.args.index y s.dues c.set.new.self c.due.result c.self.invariant.1
+      leaves_set s.slots.items c.args.instance y s.dues c.set.new.self c.due.result c.self.invariant.1
           c.due.ensures c.set.ensures,
       c.self.invariant.2,
     )
@@ -44,48 +44,48 @@ inside_of config seed number slots spare =
 pub returns-clause-served : goal.returns-clause-served
 returns-clause-served g c =
     let s = c.self.inside in
-    let at = place_due (g.S.Shelf.pocket c.args.shelf.now c.args.owner) c.args.index c.self.view_is c.requires.due c.index_mut-slot.ensures.value in
+    let at = place_due (g.S.Shelf.pocket c.args.shelf.now c.args.owner) c.args.instance c.self.view_is c.requires.due c.index_mut-slot.ensures.value in
     let p : Pocket = g.S.Shelf.pocket c.args.shelf.now c.args.owner in
     let q : Pocket = g.S.Shelf.pocket c.finish-finished.new.shelf c.args.owner in
     let old : KeyedPipe = inside_of s.config s.seed s.number s.slots.items (min (min (vec_capacity s.slots - vec_len s.slots) s.ids.spare) s.dues.spare) in
-    rw (← c.self.view_is) (if_ok_by c.finish-finished.result (λ packet f. served_view c.args.index old _ _ at p q c.args.now packet c.finish-finished.new.drops.items f) c.finish-finished.ensures.finished)
+    rw (← c.self.view_is) (if_ok_by c.finish-finished.result (λ packet f. served_view c.args.instance old _ _ at p q c.args.now packet c.finish-finished.new.drops.items f) c.finish-finished.ensures.finished)
 
 pub returns-clause-ok : goal.returns-clause-ok
 returns-clause-ok g c =
     let s = c.self.inside in
-    let at = place_due (g.S.Shelf.pocket c.args.shelf.now c.args.owner) c.args.index c.self.view_is c.requires.due c.index_mut-slot.ensures.value in
+    let at = place_due (g.S.Shelf.pocket c.args.shelf.now c.args.owner) c.args.instance c.self.view_is c.requires.due c.index_mut-slot.ensures.value in
     let p : Pocket = g.S.Shelf.pocket c.args.shelf.now c.args.owner in
     let q : Pocket = g.S.Shelf.pocket c.finish-finished.new.shelf c.args.owner in
     let old : KeyedPipe = inside_of s.config s.seed s.number s.slots.items (min (min (vec_capacity s.slots - vec_len s.slots) s.ids.spare) s.dues.spare) in
-    rw (← c.self.view_is) (on_ok_by c.finish-finished.result (λ packet f. finish_view c.args.index old _ _ at p q c.args.now packet c.finish-finished.new.drops.items (named_inside c.self.view_is c.requires.named) f) c.finish-finished.ensures.finished)
+    rw (← c.self.view_is) (on_ok_by c.finish-finished.result (λ packet f. finish_view c.args.instance old _ _ at p q c.args.now packet c.finish-finished.new.drops.items (named_inside c.self.view_is c.requires.named) f) c.finish-finished.ensures.finished)
 
 pub returns-clause-keys : goal.returns-clause-keys
 returns-clause-keys g c =
     let s = c.self.inside in
     let y : Slot = c.finish-finished.new.self in
-    let at = place_due (g.S.Shelf.pocket c.args.shelf.now c.args.owner) c.args.index c.self.view_is c.requires.due c.index_mut-slot.ensures.value in
+    let at = place_due (g.S.Shelf.pocket c.args.shelf.now c.args.owner) c.args.instance c.self.view_is c.requires.due c.index_mut-slot.ensures.value in
     rw (← c.self.view_is) (keeps_at _ _ _ at _ _ y
     (finish_keeps s.config c.args.now y.instance.lane.spare c.finish-finished.new.drops.items _ _ _ y c.finish-finished.result c.finish-finished.ensures.finished c.finish-finished.ensures.refused c.finish-finished.ensures.refused_pocket))
 
 pub returns-clause-refused : goal.returns-clause-refused
 returns-clause-refused g c =
     let s = c.self.inside in
-    let at = place_due (g.S.Shelf.pocket c.args.shelf.now c.args.owner) c.args.index c.self.view_is c.requires.due c.index_mut-slot.ensures.value in
+    let at = place_due (g.S.Shelf.pocket c.args.shelf.now c.args.owner) c.args.instance c.self.view_is c.requires.due c.index_mut-slot.ensures.value in
     let p : Pocket = g.S.Shelf.pocket c.args.shelf.now c.args.owner in
     let q : Pocket = g.S.Shelf.pocket c.finish-finished.new.shelf c.args.owner in
     let y : Slot = c.finish-finished.new.self in
     let old : KeyedPipe = inside_of s.config s.seed s.number s.slots.items (min (min (vec_capacity s.slots - vec_len s.slots) s.ids.spare) s.dues.spare) in
     let spare = sym (ap (λ (p : Places). p.spare) c.set.ensures) in
     rw (← c.self.view_is) (subst (λ m. OnErr c.finish-finished.result (IsGrown old (record old {
-      slots = set s.slots.items c.args.index y;
+      slots = set s.slots.items c.args.instance y;
       spare = min (min (vec_capacity s.slots - vec_len s.slots) s.ids.spare) m;
-    }))) spare (on_err c.finish-finished.result (λ e. refused_grown c.args.index old _ y at p q y.instance.lane.spare e) c.finish-finished.ensures.refused))
+    }))) spare (on_err c.finish-finished.result (λ e. refused_grown c.args.instance old _ y at p q y.instance.lane.spare e) c.finish-finished.ensures.refused))
 
 pub returns-clause-succeeds : goal.returns-clause-succeeds
 returns-clause-succeeds g c =
-    let at = place_due (g.S.Shelf.pocket c.args.shelf.now c.args.owner) c.args.index c.self.view_is c.requires.due c.index_mut-slot.ensures.value in
+    let at = place_due (g.S.Shelf.pocket c.args.shelf.now c.args.owner) c.args.instance c.self.view_is c.requires.due c.index_mut-slot.ensures.value in
     λ free. c.finish-finished.ensures.succeeds
-    (subst (λ (e : KeyedPipe). IsFreeAt c.args.index c.args.now (vec_capacity c.args.drops.now) e) (sym c.self.view_is) free _ (get_at _ _ _ at))
+    (subst (λ (e : KeyedPipe). IsFreeAt c.args.instance c.args.now (vec_capacity c.args.drops.now) e) (sym c.self.view_is) free _ (get_at _ _ _ at))
 
 pub returns-clause-count : goal.returns-clause-count
 returns-clause-count g c = on_ok_by c.finish-finished.result (λ packet f. f.count) c.finish-finished.ensures.finished
@@ -94,7 +94,7 @@ pub due-requires : goal.due-requires
 due-requires g c =
     let s = c.self.inside in
     let y : Slot = c.finish-finished.new.self in
-    let at = place_due (g.S.Shelf.pocket c.args.shelf.now c.args.owner) c.args.index c.self.view_is c.requires.due c.index_mut-slot.ensures.value in
+    let at = place_due (g.S.Shelf.pocket c.args.shelf.now c.args.owner) c.args.instance c.self.view_is c.requires.due c.index_mut-slot.ensures.value in
     number_at s.config s.seed s.number _ _ y
     (slot_at _ _ _ at s.config s.seed s.number s.ids.ids c.self.invariant.0)
     (finish_place s.config c.args.now y.instance.lane.spare c.finish-finished.new.drops.items _ _ _ y c.finish-finished.result c.finish-finished.ensures.finished c.finish-finished.ensures.refused)
@@ -102,13 +102,13 @@ due-requires g c =
 pub set-requires : goal.set-requires
 set-requires g c =
     let s = c.self.inside in
-    leaves_within s.slots.items s.dues c.args.index c.self.invariant.1 (within_due (g.S.Shelf.pocket c.args.shelf.now c.args.owner) c.args.index c.self.view_is c.requires.due)
+    leaves_within s.slots.items s.dues c.args.instance c.self.invariant.1 (within_due (g.S.Shelf.pocket c.args.shelf.now c.args.owner) c.args.instance c.self.view_is c.requires.due)
 
 pub returns-clause-ids : goal.returns-clause-ids
 returns-clause-ids g c =
     let s = c.self.inside in
     let y : Slot = c.finish-finished.new.self in
-    let at = place_due (g.S.Shelf.pocket c.args.shelf.now c.args.owner) c.args.index c.self.view_is c.requires.due c.index_mut-slot.ensures.value in
+    let at = place_due (g.S.Shelf.pocket c.args.shelf.now c.args.owner) c.args.instance c.self.view_is c.requires.due c.index_mut-slot.ensures.value in
     ids_same _ _ _ at y
     (finish_place s.config c.args.now y.instance.lane.spare c.finish-finished.new.drops.items _ _ _ y c.finish-finished.result c.finish-finished.ensures.finished c.finish-finished.ensures.refused).id
     ∙ ap (λ (z : KeyedPipe). ids_of z.slots) c.self.view_is

@@ -11,7 +11,7 @@ use Rattle.pipe_core.proofs.pipe.Pipe.front.Goals as goal
 pub front-requires : goal.front-requires
 front-requires g c =
     let slots = c.self.inside.slots.items in
-    let k : ℕ = c.args.index in
+    let k : ℕ = c.args.instance in
     let x : Slot = c.index-slot.result.now in
     let p : Pocket = g.S.Shelf.pocket c.args.shelf.now c.args.owner in
     let within : k < length slots = subst (λ (e : KeyedPipe). k < length e.slots) (sym c.self.view_is) c.requires.inside in
@@ -21,7 +21,7 @@ front-requires g c =
 pub returns : goal.returns
 returns g c =
     let slots = c.self.inside.slots.items in
-    let k : ℕ = c.args.index in
+    let k : ℕ = c.args.instance in
     let x : Slot = c.index-slot.result.now in
     let p : Pocket = g.S.Shelf.pocket c.args.shelf.now c.args.owner in
     let within : k < length slots = subst (λ (e : KeyedPipe). k < length e.slots) (sym c.self.view_is) c.requires.inside in

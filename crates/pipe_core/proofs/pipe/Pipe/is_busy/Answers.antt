@@ -8,6 +8,6 @@ pub returns : goal.returns
 returns c =
     let slots = c.self.inside.slots.items in
     let x = c.index-slot.result.now in
-    let within : c.args.index < length slots = subst (λ (e : KeyedPipe). c.args.index < length e.slots) (sym c.self.view_is) c.requires in
-    let at : IsPlace c.args.index slots x = place_of slots c.args.index x c.index-slot.ensures within in
-    rw (← c.self.view_is) (λ f. c.is_busy.ensures ∙ sym (busy-at c.args.index slots x at f))
+    let within : c.args.instance < length slots = subst (λ (e : KeyedPipe). c.args.instance < length e.slots) (sym c.self.view_is) c.requires in
+    let at : IsPlace c.args.instance slots x = place_of slots c.args.instance x c.index-slot.ensures within in
+    rw (← c.self.view_is) (λ f. c.is_busy.ensures ∙ sym (busy-at c.args.instance slots x at f))

@@ -39,24 +39,24 @@ returns-clause-place g c = ap (λ o. unwrap_or o NO_INSTANCE) c.in-Some.ensures
 
 pub returns-clause-known : goal.returns-clause-known
 returns-clause-known g c = λ there.
-    instance-found c.args.packet.now c.args.self.now c.accept_ready.new.self c.in-Some.index c.in-Some.ensures
+    instance-found c.args.packet.now c.args.self.now c.accept_ready.new.self c.in-Some.instance c.in-Some.ensures
     c.accept_ready.ensures.ids (ap (λ (z : KeyedPipe). z.config.mask) c.accept_ready.ensures.grown.same)
     c.in_ok-accept_ready.ensures.ready
 
 pub returns-clause-ready : goal.returns-clause-ready
 returns-clause-ready g c =
-    room-found c.args.packet.now c.accept_ready.new.self c.in-Some.index
-    (instance-found c.args.packet.now c.args.self.now c.accept_ready.new.self c.in-Some.index c.in-Some.ensures
+    room-found c.args.packet.now c.accept_ready.new.self c.in-Some.instance
+    (instance-found c.args.packet.now c.args.self.now c.accept_ready.new.self c.in-Some.instance c.in-Some.ensures
     c.accept_ready.ensures.ids (ap (λ (z : KeyedPipe). z.config.mask) c.accept_ready.ensures.grown.same)
     c.in_ok-accept_ready.ensures.ready)
 
 pub accept_ready-requires : goal.accept_ready-requires
 accept_ready-requires g c =
-    let at = known (ids_of c.args.self.now.slots) (flow_id c.args.self.now.config.mask c.args.packet.now) c.in-Some.index (sym c.in-Some.ensures) in
+    let at = known (ids_of c.args.self.now.slots) (flow_id c.args.self.now.config.mask c.args.packet.now) c.in-Some.instance (sym c.in-Some.ensures) in
     omega (arith, at.1, length-map c.args.self.now.slots (λ (t : Slot). t.id))
 
 pub returns-in_err-accept_ready-clause-succeeds : goal.returns-in_err-accept_ready-clause-succeeds
 returns-in_err-accept_ready-clause-succeeds g c = λ room has.
-    let at = known (ids_of c.args.self.now.slots) (flow_id c.args.self.now.config.mask c.args.packet.now) c.in-Some.index (sym c.in-Some.ensures) in
-    let fine = c.accept_ready.ensures.succeeds (has.there c.in-Some.index at.0) in
+    let at = known (ids_of c.args.self.now.slots) (flow_id c.args.self.now.config.mask c.args.packet.now) c.in-Some.instance (sym c.in-Some.ensures) in
+    let fine = c.accept_ready.ensures.succeeds (has.there c.in-Some.instance at.0) in
     err-not c.accept_ready.result _ c.in_err-accept_ready.was fine

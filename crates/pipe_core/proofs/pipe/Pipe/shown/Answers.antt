@@ -10,7 +10,7 @@ use Rattle.pipe_core.proofs.pipe.Pipe.shown.Goals as goal
 pub returns : goal.returns
 returns c =
     let slots = c.self.inside.slots.items in
-    let k : ℕ = c.args.index in
+    let k : ℕ = c.args.instance in
     let x : Slot = c.in_ok-slot.slot.now in
     let h = c.in_ok-slot.ensures.lookup in
     let test : nat_lt k (length slots) ≡ true = ap (λ ss. nat_lt k (length ss)) (sym c.deref.ensures.value) ∙ sym h.0 in

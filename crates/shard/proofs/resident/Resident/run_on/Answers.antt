@@ -5,12 +5,13 @@ use Rattle.experiment.specs.declared.experiment.Event.TheVariants.{Ran}
 use Rattle.shard.specs.Seats.{standing}
 use Rattle.shard.specs.Steps.{Advances, HasStayed}
 use Rattle.shard.specs.Turns.{LeavesOff, IsTurn}
-use Rattle.shard.proofs.RunFacts.{none_run, said_yes_more, heard_more, heard_all, went_on, left, stayed, stays_after, none_left, one_more, not_same, is_same}
+use Rattle.shard.proofs.RunFacts.{said_yes_more, heard_more, heard_all, went_on, left, stayed, stays_after, none_left, one_more, not_same, is_same}
+use Rattle.shard.proofs.CallerLemmas.{turns_name}
 use Rattle.shard.proofs.resident.Resident.run_on.Goals.{then-not-ran-via-then-not-ran, then-not-ran-via-else-not-ran+then-not-has_next}
 use Rattle.shard.proofs.resident.Resident.run_on.Goals as goal
 
 pub loop-made-init : goal.loop-made-init
-loop-made-init g c = (c.requires.going, c.requires.next, refl, refl, none_run g.M.Mail.seen _, refl, λ o n. refl)
+loop-made-init g c = (c.requires.going, c.requires.next, refl, refl, refl, refl, λ o n. refl)
 
 pub returns-then-ne-clause-runs : goal.returns-then-ne-clause-runs
 returns-then-ne-clause-runs g c =
@@ -44,7 +45,7 @@ returns-then-not-ran-clause-runs g c =
       | then-not-ran-via-else-not-ran+then-not-has_next w ↦ inr (inl (none_left g.M.Mail.seen t.experiment.next (sym w.has_next.ensures ∙ w.if-not-has_next.true)))
     ] in (
       c.loop-made.made + 1,
-      heard_more g.M.Mail.seen g.W.Watch.hears r.name t.name c.loop-made.made c.ran.result c.args.watch.now c.loop-made.watch c.ran.new.self (on.1.name ∙ i.4.name) i.5 c.ran.ensures.hears,
+      heard_more g.M.Mail.seen g.W.Watch.hears r.name t.name c.loop-made.made c.ran.result c.args.watch.now c.loop-made.watch c.ran.new.self (on.1.name ∙ turns_name g.M.Mail.seen c.loop-made.made _ _ i.4) i.5 c.ran.ensures.hears,
       (stays_after g.M.Mail.seen g.W.Watch.may_refuse c.args.more c.loop-made.made p m q r l t (omega (arith, c.loop-made-test.true)) i.4 on.1 off, on.0),
     )
 
@@ -65,7 +66,7 @@ loop-made-preserved g c =
       c.advance-event.ensures.owner ∙ i.2,
       c.advance-event.ensures.offset ∙ i.3,
       one_more g.M.Mail.seen c.loop-made.made (standing p r) (standing m l) (standing q t) i.4 on.1,
-      said_yes_more g.M.Mail.seen g.W.Watch.hears r.name t.name c.loop-made.made c.args.watch.now c.loop-made.watch c.ran.new.self (on.1.name ∙ i.4.name) i.5 (subst (λ b. g.W.Watch.hears t.name b c.loop-made.watch c.ran.new.self) c.if-not-ran.false c.ran.ensures.hears),
+      said_yes_more g.M.Mail.seen g.W.Watch.hears r.name t.name c.loop-made.made c.args.watch.now c.loop-made.watch c.ran.new.self (on.1.name ∙ turns_name g.M.Mail.seen c.loop-made.made _ _ i.4) i.5 (subst (λ b. g.W.Watch.hears t.name b c.loop-made.watch c.ran.new.self) c.if-not-ran.false c.ran.ensures.hears),
       λ o n. c.advance-event.ensures.others o (λ e. n (e ∙ i.2)) ∙ i.6 o n,
     )
 
@@ -84,7 +85,7 @@ returns-then-eq-clause-runs g c =
     let on = went_on g.M.Mail.seen c.advance-event-2.result m q l t same made in
     let all : c.loop-made.made ≡ c.args.more = omega (arith, c.loop-made-test.false, c.loop-made.auto.made-end) in (
       c.loop-made.made + 1,
-      heard_more g.M.Mail.seen g.W.Watch.hears r.name t.name c.loop-made.made c.ran-then-eq.result c.args.watch.now c.loop-made.watch c.ran-then-eq.new.self (on.1.name ∙ i.4.name) i.5 c.ran-then-eq.ensures.hears,
+      heard_more g.M.Mail.seen g.W.Watch.hears r.name t.name c.loop-made.made c.ran-then-eq.result c.args.watch.now c.loop-made.watch c.ran-then-eq.new.self (on.1.name ∙ turns_name g.M.Mail.seen c.loop-made.made _ _ i.4) i.5 c.ran-then-eq.ensures.hears,
       stayed g.M.Mail.seen c.advance-event-2.result g.W.Watch.may_refuse c.args.more (c.loop-made.made + 1) p q r t same
           (stays_after g.M.Mail.seen g.W.Watch.may_refuse c.args.more c.loop-made.made p m q r l t (omega (arith, all)) i.4 on.1 (inl (omega (arith, all)))) on.0,
     )

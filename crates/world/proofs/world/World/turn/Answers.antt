@@ -1,7 +1,5 @@
 use Rattle.std.proofs.Common.{◌≡◌, ℕ, ◌<◌, [], length, Some, refl, sym, ap, subst, ◌∙◌, arith}
 use Rattle.std.specs.Prelude.{slice_get}
-use Rattle.std.proofs.lemmas.List.{get_or_read}
-use Rattle.std.proofs.lemmas.Option.{slice_get_read}
 use Rattle.shard.specs.Mails.{MailBook}
 use Rattle.shard.specs.Stand.{Final, Seating}
 use Rattle.world.specs.declared.home.Desk.{Desk}
@@ -10,6 +8,7 @@ use Rattle.world.specs.Kept.{IsWorld}
 use Rattle.world.specs.Steps.{did_end, IsWorldTurn}
 use Rattle.world.proofs.KeptFacts.{IsOver}
 use Rattle.world.proofs.TurnFacts.{ran_in, near_end, over_in, idle_in, with_left}
+use Rattle.world.proofs.IndexFacts.{shard_read, desk_read}
 use Rattle.world.proofs.world.World.turn.Goals as goal
 
 pub invariant_of-self : goal.invariant_of-self
@@ -17,30 +16,28 @@ invariant_of-self g c =
     let s = c.self.inside in
     let w : Places = record { desks = s.desks.items; shards = s.shards.items; deques = s.deques.items } in
     let within : c.args.i < length s.shards.items = omega (arith, s.shards.ok.0) in
-    let sh : Seating MailBook = c.turn-turned.new.self in
-    let read : c.index_mut-shard.result.now ≡ shard_at s.shards.items c.args.i = get_or_read s.shards.items c.args.i c.index_mut-shard.result.now within c.index_mut-shard.ensures.value (record { seats = []; clock = 0 }) in
-    let f = ran_in w c.args.i c.in-Ran.field-0 c.index_mut-shard.result.now sh c.self.invariant within read c.in-Ran.ensures c.known.ensures in
-    f.world
+    let sh = c.turn-turned.new.self in
+    let read = shard_read s.shards.items within c.index_mut-shard.ensures.value in
+    (ran_in w c.args.i c.in-Ran.field-0 _ sh c.self.invariant within read c.in-Ran.ensures c.known.ensures).world
 
 pub returns-in-Ran : goal.returns-in-Ran
 returns-in-Ran g c =
     let s = c.self.inside in
     let w : Places = record { desks = s.desks.items; shards = s.shards.items; deques = s.deques.items } in
     let within : c.args.i < length s.shards.items = omega (arith, s.shards.ok.0) in
-    let sh : Seating MailBook = c.turn-turned.new.self in
-    let read : c.index_mut-shard.result.now ≡ shard_at s.shards.items c.args.i = get_or_read s.shards.items c.args.i c.index_mut-shard.result.now within c.index_mut-shard.ensures.value (record { seats = []; clock = 0 }) in
-    let f = ran_in w c.args.i c.in-Ran.field-0 c.index_mut-shard.result.now sh c.self.invariant within read c.in-Ran.ensures c.known.ensures in
-    rw (← c.self.view_is) f.turn
+    let sh = c.turn-turned.new.self in
+    let read = shard_read s.shards.items within c.index_mut-shard.ensures.value in
+    rw (← c.self.view_is) (ran_in w c.args.i c.in-Ran.field-0 _ sh c.self.invariant within read c.in-Ran.ensures c.known.ensures).turn
 
 pub index_mut-desk-requires : goal.index_mut-desk-requires
 index_mut-desk-requires g c =
     let s = c.self.inside in
     let w : Places = record { desks = s.desks.items; shards = s.shards.items; deques = s.deques.items } in
     let within : c.args.i < length s.shards.items = omega (arith, s.shards.ok.0) in
-    let sh : Seating MailBook = c.turn-turned.new.self in
-    let read : c.index_mut-shard.result.now ≡ shard_at s.shards.items c.args.i = get_or_read s.shards.items c.args.i c.index_mut-shard.result.now within c.index_mut-shard.ensures.value (record { seats = []; clock = 0 }) in
+    let sh = c.turn-turned.new.self in
+    let read = shard_read s.shards.items within c.index_mut-shard.ensures.value in
     let x : Final MailBook = c.in-Ended.dossier in
-    let near : x.name < length s.desks.items = near_end w c.args.i x c.index_mut-shard.result.now sh c.self.invariant read c.in-Ended.ensures in
+    let near : x.name < length s.desks.items = near_end w c.args.i x _ sh c.self.invariant read c.in-Ended.ensures in
     omega (arith, near, c.name.ensures, s.desks.ok.0)
 
 pub invariant_of-self-in-Ended : goal.invariant_of-self-in-Ended
@@ -48,16 +45,15 @@ invariant_of-self-in-Ended g c =
     let s = c.self.inside in
     let w : Places = record { desks = s.desks.items; shards = s.shards.items; deques = s.deques.items } in
     let within : c.args.i < length s.shards.items = omega (arith, s.shards.ok.0) in
-    let sh : Seating MailBook = c.turn-turned.new.self in
-    let read : c.index_mut-shard.result.now ≡ shard_at s.shards.items c.args.i = get_or_read s.shards.items c.args.i c.index_mut-shard.result.now within c.index_mut-shard.ensures.value (record { seats = []; clock = 0 }) in
+    let sh = c.turn-turned.new.self in
+    let read = shard_read s.shards.items within c.index_mut-shard.ensures.value in
     let x : Final MailBook = c.in-Ended.dossier in
-    let near : x.name < length s.desks.items = near_end w c.args.i x c.index_mut-shard.result.now sh c.self.invariant read c.in-Ended.ensures in
-    let d : Desk = c.index_mut-desk.result.now in
-    let n : ℕ = c.name.result in
+    let near : x.name < length s.desks.items = near_end w c.args.i x _ sh c.self.invariant read c.in-Ended.ensures in
+    let n = c.name.result in
     let k = c.known-in-Ended.ensures in
     let over : IsOver x = record { records = k.records; counters = k.counters; made = k.made; heard = k.heard; told = k.told } in
-    let found : slice_get s.desks.items n ≡ Some d = slice_get_read s.desks.items s.desks.len n d s.desks.ok.0 (omega (arith, near, c.name.ensures, s.desks.ok.0)) c.index_mut-desk.ensures.value in
-    let f = over_in w c.args.i n x c.index_mut-shard.result.now sh d (did_end x.ending) c.self.invariant within read c.in-Ended.ensures over (sym c.name.ensures) found refl in
+    let found = desk_read s.desks.items (omega (arith, near, c.name.ensures)) c.index_mut-desk.ensures.value in
+    let f = over_in w c.args.i n x _ sh _ (did_end x.ending) c.self.invariant within read c.in-Ended.ensures over (sym c.name.ensures) found refl in
     subst (λ (e : Desk). IsWorld (with_left w c.args.i sh n e)) (sym c.go.ensures) f.world
 
 pub returns-in-Ended : goal.returns-in-Ended
@@ -65,16 +61,15 @@ returns-in-Ended g c =
     let s = c.self.inside in
     let w : Places = record { desks = s.desks.items; shards = s.shards.items; deques = s.deques.items } in
     let within : c.args.i < length s.shards.items = omega (arith, s.shards.ok.0) in
-    let sh : Seating MailBook = c.turn-turned.new.self in
-    let read : c.index_mut-shard.result.now ≡ shard_at s.shards.items c.args.i = get_or_read s.shards.items c.args.i c.index_mut-shard.result.now within c.index_mut-shard.ensures.value (record { seats = []; clock = 0 }) in
+    let sh = c.turn-turned.new.self in
+    let read = shard_read s.shards.items within c.index_mut-shard.ensures.value in
     let x : Final MailBook = c.in-Ended.dossier in
-    let near : x.name < length s.desks.items = near_end w c.args.i x c.index_mut-shard.result.now sh c.self.invariant read c.in-Ended.ensures in
-    let d : Desk = c.index_mut-desk.result.now in
-    let n : ℕ = c.name.result in
+    let near : x.name < length s.desks.items = near_end w c.args.i x _ sh c.self.invariant read c.in-Ended.ensures in
+    let n = c.name.result in
     let k = c.known-in-Ended.ensures in
     let over : IsOver x = record { records = k.records; counters = k.counters; made = k.made; heard = k.heard; told = k.told } in
-    let found : slice_get s.desks.items n ≡ Some d = slice_get_read s.desks.items s.desks.len n d s.desks.ok.0 (omega (arith, near, c.name.ensures, s.desks.ok.0)) c.index_mut-desk.ensures.value in
-    let f = over_in w c.args.i n x c.index_mut-shard.result.now sh d c.ended.result c.self.invariant within read c.in-Ended.ensures over (sym c.name.ensures) found (c.ended.ensures ∙ ap did_end c.ending-ending.ensures) in
+    let found = desk_read s.desks.items (omega (arith, near, c.name.ensures)) c.index_mut-desk.ensures.value in
+    let f = over_in w c.args.i n x _ sh _ c.ended.result c.self.invariant within read c.in-Ended.ensures over (sym c.name.ensures) found (c.ended.ensures ∙ ap did_end c.ending-ending.ensures) in
     rw (← c.self.view_is) (subst (λ (e : Desk). IsWorldTurn c.args.i c.ended.result w (with_left w c.args.i sh n e)) (sym c.go.ensures) f.turn)
 
 pub invariant_of-self-in-Idle : goal.invariant_of-self-in-Idle
@@ -82,17 +77,15 @@ invariant_of-self-in-Idle g c =
     let s = c.self.inside in
     let w : Places = record { desks = s.desks.items; shards = s.shards.items; deques = s.deques.items } in
     let within : c.args.i < length s.shards.items = omega (arith, s.shards.ok.0) in
-    let sh : Seating MailBook = c.turn-turned.new.self in
-    let read : c.index_mut-shard.result.now ≡ shard_at s.shards.items c.args.i = get_or_read s.shards.items c.args.i c.index_mut-shard.result.now within c.index_mut-shard.ensures.value (record { seats = []; clock = 0 }) in
-    let f = idle_in w c.args.i c.index_mut-shard.result.now sh c.self.invariant within read c.in-Idle.ensures in
-    f.world
+    let sh = c.turn-turned.new.self in
+    let read = shard_read s.shards.items within c.index_mut-shard.ensures.value in
+    (idle_in w c.args.i _ sh c.self.invariant within read c.in-Idle.ensures).world
 
 pub returns-in-Idle : goal.returns-in-Idle
 returns-in-Idle g c =
     let s = c.self.inside in
     let w : Places = record { desks = s.desks.items; shards = s.shards.items; deques = s.deques.items } in
     let within : c.args.i < length s.shards.items = omega (arith, s.shards.ok.0) in
-    let sh : Seating MailBook = c.turn-turned.new.self in
-    let read : c.index_mut-shard.result.now ≡ shard_at s.shards.items c.args.i = get_or_read s.shards.items c.args.i c.index_mut-shard.result.now within c.index_mut-shard.ensures.value (record { seats = []; clock = 0 }) in
-    let f = idle_in w c.args.i c.index_mut-shard.result.now sh c.self.invariant within read c.in-Idle.ensures in
-    rw (← c.self.view_is) f.turn
+    let sh = c.turn-turned.new.self in
+    let read = shard_read s.shards.items within c.index_mut-shard.ensures.value in
+    rw (← c.self.view_is) (idle_in w c.args.i _ sh c.self.invariant within read c.in-Idle.ensures).turn

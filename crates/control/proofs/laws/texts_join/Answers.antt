@@ -1,5 +1,0 @@
-use Rattle.control.proofs.Joining.{joined}
-use Rattle.control.proofs.laws.texts_join.Goals as goal
-
-pub returns : goal.returns
-returns c = joined c.lines_say_one.ensures

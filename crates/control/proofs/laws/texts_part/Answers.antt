@@ -1,5 +1,0 @@
-use Rattle.control.proofs.Parting.{parted}
-use Rattle.control.proofs.laws.texts_part.Goals as goal
-
-pub returns : goal.returns
-returns c = parted c.lines_say_one.ensures

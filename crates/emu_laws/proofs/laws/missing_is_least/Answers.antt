@@ -1,5 +1,0 @@
-use Rattle.emu_laws.proofs.MissingFacts as law
-use Rattle.emu_laws.proofs.laws.missing_is_least.Goals as goal
-
-pub returns : goal.returns
-returns c = law.missing_is_least

@@ -1,5 +1,0 @@
-use Rattle.emu_laws.proofs.InstanceNumbering as law
-use Rattle.emu_laws.proofs.laws.numbers_count_identifiers.Goals as goal
-
-pub returns : goal.returns
-returns c = law.numbers_count_identifiers

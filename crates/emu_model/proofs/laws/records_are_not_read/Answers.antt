@@ -1,5 +1,0 @@
-use Rattle.emu_model.proofs.Earlier as law
-use Rattle.emu_model.proofs.laws.records_are_not_read.Goals as goal
-
-pub returns : goal.returns
-returns c = law.records_are_not_read

@@ -1,5 +1,0 @@
-use Rattle.network.proofs.Steps.{still-housed}
-use Rattle.network.proofs.laws.still_is_housed.Goals as goal
-
-pub returns : goal.returns
-returns c = still-housed

@@ -1,5 +1,0 @@
-use Rattle.reno_core.proofs.Histories as law
-use Rattle.reno_core.proofs.laws.adaptive_time_is_bounded.Goals as goal
-
-pub returns : goal.returns
-returns c = law.adaptive_time_is_bounded

@@ -1,5 +1,0 @@
-use Rattle.reno_core.proofs.Histories as law
-use Rattle.reno_core.proofs.laws.loss_leaves_two_segments.Goals as goal
-
-pub returns : goal.returns
-returns c = law.loss_leaves_two_segments

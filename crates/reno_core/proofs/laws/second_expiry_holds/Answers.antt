@@ -1,5 +1,0 @@
-use Rattle.reno_core.proofs.Histories as law
-use Rattle.reno_core.proofs.laws.second_expiry_holds.Goals as goal
-
-pub returns : goal.returns
-returns c = law.second_expiry_holds

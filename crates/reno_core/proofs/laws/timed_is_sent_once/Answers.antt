@@ -1,5 +1,0 @@
-use Rattle.reno_core.proofs.Histories as law
-use Rattle.reno_core.proofs.laws.timed_is_sent_once.Goals as goal
-
-pub returns : goal.returns
-returns c = law.timed_is_sent_once

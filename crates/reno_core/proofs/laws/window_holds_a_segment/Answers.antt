@@ -1,5 +1,0 @@
-use Rattle.reno_core.proofs.Histories as law
-use Rattle.reno_core.proofs.laws.window_holds_a_segment.Goals as goal
-
-pub returns : goal.returns
-returns c = law.window_holds_a_segment

@@ -1,6 +1,0 @@
-use Rattle.packet_store.specs.Own.{own_pocket}
-use Rattle.experiment.specs.Kept.{IsHousedIn}
-use Rattle.shard_bench.proofs.alone.play.Given as goal
-
-abbrev pub invariant-loop-k : goal.invariant-loop-k
-invariant-loop-k l = record { housed : IsHousedIn (own_pocket l.shelf) l.experiment }

@@ -1,0 +1,128 @@
+//! `timed`: a given amount of work of one part, to be timed from outside. It reads no clock.
+//!
+//! - `timed turns RESIDENTS`: that many flows in one shard, turned to their ends.
+//! - `timed alone RESIDENTS`: the same flows one after the other, each by itself.
+//! - `timed moves PACKETS TIMES`: one resident with so many packets, packed and taken in again.
+//! - `timed AGENDA WORK ENTRIES TIMES`: dues of an agenda, `wheel` or `list`, where WORK is `fill` (ENTRIES
+//!   dues are set, and no more), `one` (TIMES rounds, in each of which ENTRIES dues are set in one slot, and
+//!   popped), `spread` (the same, over many slots), `set` (TIMES dues of ENTRIES sources in one slot are set
+//!   anew) or `clear` (they are cleared and set again).
+//! - `timed TOLD LINES TIMES`: TIMES times the report of so many lines, where TOLD is `flow` (finishes,
+//!   deliveries of segments and of acknowledgements, windows), `train` (finishes and deliveries) or `drops`
+//!   (of a full queue).
+//! - `timed read TIMES`: a scenario from standard input is read, and its experiments are counted.
+//!
+//! Without words it does a little of each but the last.
+#![tactic(auto)]
+
+mod agendas;
+mod alone;
+mod fault;
+mod lines;
+mod plans;
+mod together;
+mod words;
+
+use agendas::{Act, Rounds, popped_of};
+use lines::{Told, bytes_of, experiments_of};
+use std::alloc::Global;
+use std::env;
+use std::io::Read;
+use timer_wheel::{Agenda, ListAgenda, Wheel};
+use words::{Kind, Work, work_of};
+
+// Does an agenda's rounds, and says how many dues were popped.
+fn popped(alloc: Global, kind: Kind, rounds: Rounds) -> anyhow::Result<u64> {
+    match kind {
+        Kind::Wheel => {
+            let mut agenda: Wheel = Agenda::new(alloc, 0)?;
+            Ok(popped_of(&mut agenda, rounds)?)
+        }
+        Kind::List => {
+            let mut agenda: ListAgenda = Agenda::new(alloc, 0)?;
+            Ok(popped_of(&mut agenda, rounds)?)
+        }
+    }
+}
+
+// Reads what comes on standard input so often, and says how many experiments that were.
+fn read(rt: &HostRuntime, alloc: Global, times: u32) -> anyhow::Result<u64> {
+    let mut text = Vec::new(alloc);
+    rt.reader().read_to_end(&mut text)?;
+    Ok(experiments_of(alloc, text.as_slice(), times))
+}
+
+// Does the work, and prints how much it was.
+fn work(rt: &HostRuntime, alloc: Global, work: Work) -> anyhow::Result<()> {
+    match work {
+        Work::Turns { residents } => {
+            let turns = together::turns(alloc, residents)?;
+            println!(rt; "turns of {residents} residents: {turns}")?;
+        }
+        Work::Alone { residents } => {
+            let steps = alone::steps(alloc, residents)?;
+            println!(rt; "steps of {residents} alone: {steps}")?;
+        }
+        Work::Moves { packets, times } => {
+            let moved = together::moves(alloc, packets, times)?;
+            println!(rt; "packets moved in {times} moves: {moved}")?;
+        }
+        Work::Agenda { kind, rounds } => {
+            let popped = popped(alloc, kind, rounds)?;
+            println!(rt; "dues popped: {popped}")?;
+        }
+        Work::Report { told, lines, times } => {
+            let bytes = bytes_of(alloc, told, lines, times)?;
+            println!(rt; "bytes in {times} reports: {bytes}")?;
+        }
+        Work::Read { times } => {
+            let experiments = read(rt, alloc, times)?;
+            println!(rt; "experiments read: {experiments}")?;
+        }
+    }
+    Ok(())
+}
+
+// A little of each part of a shard's work.
+fn turn_a_little(rt: &HostRuntime, alloc: Global) -> anyhow::Result<()> {
+    work(rt, alloc, Work::Turns { residents: 3 })?;
+    work(rt, alloc, Work::Alone { residents: 3 })?;
+    let (packets, times) = (10, 5);
+    work(rt, alloc, Work::Moves { packets, times })
+}
+
+// A little with each agenda.
+fn pop_a_little(rt: &HostRuntime, alloc: Global) -> anyhow::Result<()> {
+    for kind in [Kind::Wheel, Kind::List] {
+        for act in [Act::Fill, Act::One, Act::Spread, Act::Set, Act::Clear] {
+            let (entries, times) = (10, 3);
+            let rounds = Rounds {
+                act,
+                entries,
+                times,
+            };
+            work(rt, alloc, Work::Agenda { kind, rounds })?;
+        }
+    }
+    Ok(())
+}
+
+// A little of each report.
+fn tell_a_little(rt: &HostRuntime, alloc: Global) -> anyhow::Result<()> {
+    for told in [Told::Flow, Told::Train, Told::Drops] {
+        let (lines, times) = (10, 2);
+        work(rt, alloc, Work::Report { told, lines, times })?;
+    }
+    Ok(())
+}
+
+fn main(rt: HostRuntime) -> anyhow::Result<()> {
+    let alloc = rt.alloc();
+    let words = env::args(&rt)?.collect::<Vec<String>>(alloc)?;
+    if words.len() > 1 {
+        return work(&rt, alloc, work_of(words.as_slice())?);
+    }
+    turn_a_little(&rt, alloc)?;
+    pop_a_little(&rt, alloc)?;
+    tell_a_little(&rt, alloc)
+}

@@ -1,0 +1,105 @@
+//! The words of the command line.
+
+use crate::agendas::{Act, Rounds};
+use crate::fault::Fault;
+use crate::lines::Told;
+
+/// Which agenda.
+#[derive(Clone, Copy, Debug, PartialEq)]
+pub enum Kind {
+    Wheel,
+    List,
+}
+
+/// What is to be done.
+#[derive(Clone, Copy)]
+pub enum Work {
+    Turns { residents: usize },
+    Alone { residents: usize },
+    Moves { packets: u16, times: u32 },
+    Agenda { kind: Kind, rounds: Rounds },
+    Report { told: Told, lines: u32, times: u32 },
+    Read { times: u32 },
+}
+
+// The number that a word spells.
+fn number(word: Option<&String>) -> Result<u32, Fault> {
+    let Some(word) = word else {
+        return Err(Fault::Words);
+    };
+    let Ok(number) = word.as_str().parse::<u32>() else {
+        return Err(Fault::Words);
+    };
+    Ok(number)
+}
+
+// How many residents that is.
+fn residents(words: &[String]) -> Result<usize, Fault> {
+    Ok(number(words.get(2))? as usize)
+}
+
+// A resident's packets, and how often it is moved.
+fn moves(words: &[String]) -> Result<Work, Fault> {
+    let Ok(packets) = u16::try_from(number(words.get(2))?) else {
+        return Err(Fault::Range);
+    };
+    let times = number(words.get(3))?;
+    Ok(Work::Moves { packets, times })
+}
+
+// What a word asks of an agenda.
+fn act(word: Option<&String>) -> Result<Act, Fault> {
+    let Some(word) = word else {
+        return Err(Fault::Words);
+    };
+    match word.as_str() {
+        "fill" => Ok(Act::Fill),
+        "one" => Ok(Act::One),
+        "spread" => Ok(Act::Spread),
+        "set" => Ok(Act::Set),
+        "clear" => Ok(Act::Clear),
+        _ => Err(Fault::Words),
+    }
+}
+
+// What is asked of an agenda.
+fn agenda(kind: Kind, words: &[String]) -> Result<Work, Fault> {
+    let rounds = Rounds {
+        act: act(words.get(2))?,
+        entries: number(words.get(3))?,
+        times: number(words.get(4))?,
+    };
+    Ok(Work::Agenda { kind, rounds })
+}
+
+// A report of records that tell of this.
+fn report(told: Told, words: &[String]) -> Result<Work, Fault> {
+    let lines = number(words.get(2))?;
+    let times = number(words.get(3))?;
+    Ok(Work::Report { told, lines, times })
+}
+
+/// What the words ask for, the program's name first.
+pub fn work_of(words: &[String]) -> Result<Work, Fault> {
+    let Some(word) = words.get(1) else {
+        return Err(Fault::Words);
+    };
+    match word.as_str() {
+        "turns" => Ok(Work::Turns {
+            residents: residents(words)?,
+        }),
+        "alone" => Ok(Work::Alone {
+            residents: residents(words)?,
+        }),
+        "moves" => moves(words),
+        "wheel" => agenda(Kind::Wheel, words),
+        "list" => agenda(Kind::List, words),
+        "flow" => report(Told::Flow, words),
+        "train" => report(Told::Train, words),
+        "drops" => report(Told::Drops, words),
+        "read" => Ok(Work::Read {
+            times: number(words.get(2))?,
+        }),
+        _ => Err(Fault::Words),
+    }
+}
