@@ -6,5 +6,5 @@ use Rattle.network_examples.proofs.tests.obeys_once.Goals as goal
 
 pub returns-in_default-clause-housed : goal.returns-in_default-clause-housed
 returns-in_default-clause-housed c =
-    subst (λ (p : Pocket). IsHoused p c.obey.new.self) (sym c.in_default.ensures.refused_pocket)
-    (c.still_is_housed.ensures (own_pocket c.args.shelf.now) c.args.net.now c.obey.new.self c.requires.stands.housed c.in_default.ensures.refused)
+    subst (λ (p : Pocket). IsHoused p c.obey.new.self) (sym c.in_default.ensures.frame.pocket)
+    (c.still_is_housed.ensures (own_pocket c.args.shelf.now) c.args.net.now c.obey.new.self c.requires.stands.housed c.in_default.ensures.frame.refused)
