@@ -82,6 +82,7 @@ fn past_word(line: &[u8], start: usize) -> usize
 pub fn place_of_word(line: &[u8], index: usize) -> Place
     ensures within { result.start + result.width ≤ length line.now }
     ensures word { IsFirstAt (drop index (words line.now)) line.now result }
+    ensures rest { words (drop result.start line.now) ≡ drop index (words line.now) }
 {
     let mut start = leading_spaces(line);
     for _count in 0..index {

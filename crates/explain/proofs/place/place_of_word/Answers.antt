@@ -19,3 +19,8 @@ returns-clause-word c =
     let all : c.loop-count._count ≡ c.args.index = omega arith in
     let end = c.word_end.ensures.value ∙ ap (position_or_len space) c.tail.ensures in
     rw (← all) (left_found c.args.line.now c.loop-count.start c.word_end.result _ c.loop-count.invariant end)
+
+pub returns-clause-rest : goal.returns-clause-rest
+returns-clause-rest c =
+    let all : c.loop-count._count ≡ c.args.index = omega arith in
+    rw (← all) c.loop-count.invariant.words_are
