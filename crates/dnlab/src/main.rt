@@ -5,8 +5,6 @@
 mod kept;
 mod meter;
 mod tell;
-#[cfg(test)]
-mod tests;
 mod watched;
 mod words;
 

@@ -4,7 +4,7 @@ use clap::{Arg, ArgAction, Command, Error};
 use std::alloc::Global;
 
 /// What the program is asked to do.
-#[derive(Clone, Copy, Debug, PartialEq)]
+#[derive(Clone, Copy)]
 pub enum Task {
     /// To run the experiments by so many workers, each of which offers one to the others after so many turns, and to
     /// say how far it is.

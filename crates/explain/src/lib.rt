@@ -10,8 +10,6 @@ mod place;
 mod refused;
 mod replies;
 mod show;
-#[cfg(test)]
-mod tests;
 
 pub use finding::{Finding, find};
 pub use further::{faults_behind, next_fault, show_found};

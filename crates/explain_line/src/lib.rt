@@ -4,8 +4,6 @@
 mod hints;
 mod option_walk;
 mod tables;
-#[cfg(test)]
-mod tests;
 mod walk;
 mod wanted;
 

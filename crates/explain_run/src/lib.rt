@@ -6,8 +6,6 @@ mod ends;
 mod rules;
 mod show;
 mod survey;
-#[cfg(test)]
-mod tests;
 mod walk;
 mod warning;
 

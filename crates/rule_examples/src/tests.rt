@@ -2,8 +2,8 @@
 //! of their own, and the tests are tables.
 
 use emu_model::{
-    Action, Load, Packet, PipeNumber, Place, Prefix, PrefixLength, Protocol, ProtocolMatch,
-    Refusal, Rule, RuleNumber, Size, Verdict,
+    Action, Load, Packet, PipeNumber, Place, PortRange, Prefix, PrefixLength, Protocol,
+    ProtocolMatch, Refusal, Rule, RuleNumber, Size, Verdict,
 };
 use emu_rules::{AddError, RuleList};
 use std::alloc::Global;
@@ -321,5 +321,87 @@ fn memory_may_be_refused(rt: HostRuntime) -> Result<(), Fail> {
         let grown = grows(&mut list, n);
         assert!(rt; grown);
     }
+    Ok(())
+}
+
+/// allow udp from 10.0.0.0/30 1000-1001 to 10.0.0.2/32 2000-2000
+fn narrow_rule() -> Rule {
+    Rule {
+        number: number(100),
+        action: Action::Allow,
+        proto: ProtocolMatch::OnlyUdp,
+        src: prefix(0x0a00_0000, 30),
+        sports: PortRange::new(1000, 1001),
+        dst: prefix(0x0a00_0002, 32),
+        dports: PortRange::new(2000, 2000),
+    }
+}
+
+/// Whether the one rule of this list lets the packet through.
+fn matches(list: &RuleList, packet: &Packet) -> bool {
+    word(list.find(packet)) == "allow"
+}
+
+#[test]
+fn what_a_rule_matches(rt: HostRuntime) -> Result<(), Fail> {
+    let mut list = RuleList::new(rt.alloc())?;
+    let added = add(&mut list, narrow_rule()) == "ok";
+    assert!(rt; added);
+    for (proto, src, sport, dst, dport, want) in [
+        (Protocol::Udp, 0x0a00_0001, 1000, 0x0a00_0002, 2000, true),
+        (Protocol::Udp, 0x0a00_0003, 1001, 0x0a00_0002, 2000, true),
+        (Protocol::Tcp, 0x0a00_0001, 1000, 0x0a00_0002, 2000, false),
+        (Protocol::Udp, 0x0a00_0004, 1000, 0x0a00_0002, 2000, false),
+        (Protocol::Udp, 0x0a00_0001, 1002, 0x0a00_0002, 2000, false),
+        (Protocol::Udp, 0x0a00_0001, 999, 0x0a00_0002, 2000, false),
+        (Protocol::Udp, 0x0a00_0001, 1000, 0x0a00_0003, 2000, false),
+        (Protocol::Udp, 0x0a00_0001, 1000, 0x0a00_0002, 2001, false),
+    ] {
+        let matched = matches(&list, &packet(proto, src, sport, dst, dport));
+        assert_eq!(rt; matched, want, "from {src} {sport} to {dst} {dport}");
+    }
+    Ok(())
+}
+
+/// allow udp from any 1-300 to any
+fn low_ports() -> Rule {
+    Rule {
+        proto: ProtocolMatch::OnlyUdp,
+        sports: PortRange::new(1, 300),
+        ..rule(10, Action::Allow)
+    }
+}
+
+/// Each of 600 flows gets its own verdict, foreseen and then counted.
+fn take_turns(list: &mut RuleList) -> bool {
+    for sport in 1..601 {
+        let sent = packet(Protocol::Udp, 0x0a00_0001, sport, 0x0a00_0002, 2000);
+        let want = if sport <= 300 { "allow" } else { "deny" };
+        if word(list.foresee(&sent)) != want || word(list.verdict(&sent)) != want {
+            return false;
+        }
+    }
+    true
+}
+
+/// More flows than a memory has places for, in turn: their findings take each other's places.
+#[test]
+fn flows_at_one_place(rt: HostRuntime) -> Result<(), Fail> {
+    let mut list = RuleList::new(rt.alloc())?;
+    let mut added = add(&mut list, low_ports()) == "ok";
+    for n in 20..24 {
+        added = added && add_plain(&mut list, n, Action::Deny) == "ok";
+    }
+    let judged = take_turns(&mut list) && take_turns(&mut list);
+    let lines = [
+        (10, 0, 600, 600_000),
+        (20, 1, 600, 600_000),
+        (21, 2, 0, 0),
+        (22, 3, 0, 0),
+        (23, 4, 0, 0),
+        (65535, 0, 0, 0),
+    ];
+    let listed = lists(&list, &lines);
+    assert!(rt; added && judged && listed);
     Ok(())
 }

@@ -13,6 +13,3 @@ pub use search::{
     Foreseen, NO_RULE, aim, count_at, first_behind, first_from, foresee, judge, judge_and_count,
     judge_by_memory,
 };
-
-#[cfg(test)]
-mod tests;

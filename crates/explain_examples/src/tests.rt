@@ -1,0 +1,5 @@
+//! Words at fault, what is found in a text and in a report, and warnings.
+
+mod finding;
+mod line;
+mod run;

@@ -1,0 +1,276 @@
+//! What is found in a text and in a report, and what is printed of it, written by hand.
+
+use control::{Cause, Fault};
+use explain::*;
+use std::process::Abort;
+use std::test::*;
+
+fn fault(line: u64, cause: Cause) -> Fault {
+    Fault { line, cause }
+}
+
+/// Wants this to be printed of the fault of this text.
+fn shows(rt: &(impl Abort + AllocGlobal), text: &str, fault: &Fault, wanted: &str) {
+    let found = find(text.as_bytes(), fault);
+    let shown = show_finding(rt.alloc(), &found).expect(rt, "memory");
+    assert!(rt; shown.as_slice() == wanted.as_bytes(), "in {text}");
+}
+
+#[test]
+fn faults(rt: HostRuntime) {
+    for (text, line, cause, wanted) in [
+        (
+            "experiment a seed 0 budget 1\n@0 pipe 1 config plr 5%\n",
+            2,
+            Cause::BadWord,
+            "  @0 pipe 1 config plr 5%
+                       ^^
+  expected: a loss rate of 0 to 1: 0 or 1, alone or with a point and 1 to 6 digits
+  example: @0 pipe 1 config plr 0.05
+  hint: no percent sign: 5% is 0.05
+",
+        ),
+        (
+            "experiment a seed 0 budget 1\n@7 show\n@5 show\n",
+            3,
+            Cause::Backwards,
+            "  @5 show
+  ^^
+  expected: a moment not below that of the command before it
+  before: line 2: @7 show
+",
+        ),
+        (
+            "experiment a seed 0 budget 1\n",
+            2,
+            Cause::NoEnd,
+            "  expected: `end`, as the last command of the experiment before
+  example: @5000000000 end
+  before: line 1: experiment a seed 0 budget 1
+",
+        ),
+    ] {
+        shows(&rt, text, &fault(line, cause), wanted);
+    }
+}
+
+#[test]
+fn places(rt: HostRuntime) {
+    for (line, index, start, width) in [
+        ("@0 show", 0, 0, 2),
+        ("@0 show", 1, 3, 4),
+        ("@0 show", 2, 7, 0),
+        ("@0 show", 9, 7, 0),
+        ("  @0   show ", 0, 2, 2),
+        ("  @0   show ", 1, 7, 4),
+        ("  @0   show ", 2, 12, 0),
+        ("", 0, 0, 0),
+    ] {
+        let place = place_of_word(line.as_bytes(), index);
+        assert!(rt; place == Place { start, width }, "word {index} of {line}");
+    }
+    assert!(rt; line_at(b"a\nb\n", 2) == Some(b"b".as_slice()));
+    assert!(rt; line_at(b"a\nb\n", 3) == Some(b"".as_slice()));
+    assert!(rt; line_at(b"a\nb\n", 4).is_none());
+    assert!(rt; line_at(b"a\nb\n", 0).is_none());
+}
+
+const REPORT: &str = "experiment a
+0 ok 0
+0 refused 1 13
+0 ok 2
+rule 65535 0 0 deny ip from any to any
+counters 0 0 0 0 0 0 0 0 0 0 0
+experiment b
+0 refused 0 10
+";
+
+const SCENARIO: &str = "# refused commands
+experiment a seed 0 budget 1
+@0 one_pass 1
+@0 delete 7
+
+@0 end
+experiment b seed 0 budget 1
+@0 add 0 allow ip from any to any
+@0 end
+";
+
+fn refusal(experiment: u64, command: u64, code: u64) -> Refusal {
+    Refusal {
+        experiment,
+        command,
+        code,
+    }
+}
+
+/// Takes a report in pieces of so many bytes, and wants these refusals and notes of it.
+fn hears(
+    rt: &(impl Abort + AllocGlobal),
+    report: &str,
+    size: usize,
+    refusals: &[Refusal],
+    notes: &[Note],
+) {
+    let mut replies = Replies::new(rt.alloc());
+    for bytes in report.as_bytes().chunks(size.max(1)) {
+        assert!(rt; replies.take(bytes).is_ok(), "memory");
+    }
+    assert!(rt; replies.refusals() == refusals, "in pieces of {size}");
+    assert!(rt; replies.notes() == notes, "in pieces of {size}");
+}
+
+#[test]
+fn refusals(rt: HostRuntime) {
+    for size in 1..40 {
+        hears(
+            &rt,
+            REPORT,
+            size,
+            &[refusal(1, 1, 13), refusal(2, 0, 10)],
+            &[],
+        );
+    }
+}
+
+/// Wants this to be printed of the command that was refused.
+fn tells(rt: &(impl Abort + AllocGlobal), text: &mut Text, refusal: &Refusal, wanted: &str) {
+    let refused = text.find(refusal).expect(rt, "a line");
+    let shown = show_refused(rt.alloc(), &refused).expect(rt, "memory");
+    assert!(rt; shown.as_slice() == wanted.as_bytes());
+}
+
+#[test]
+fn lines_of_commands(rt: HostRuntime) {
+    let mut text = Text::new(SCENARIO.as_bytes());
+    tells(
+        &rt,
+        &mut text,
+        &refusal(1, 1, 13),
+        "line 4: refused 13
+  @0 delete 7
+  experiment: a
+  means: no rule has this number
+  hint: it was never added, is deleted by now, or its `add` was refused: `show` lists the rules
+",
+    );
+    tells(
+        &rt,
+        &mut text,
+        &refusal(2, 0, 10),
+        "line 8: refused 10
+  @0 add 0 allow ip from any to any
+  experiment: b
+  means: it isn't a number that a rule may have
+  hint: a rule's number is 1 to 65534; 65535 is the last rule, which denies what is left and stays
+",
+    );
+    assert!(rt; text.find(&refusal(2, 7, 10)).is_none());
+}
+
+const DROPS: &str = "experiment a
+0 ok 0
+5 drop 0 plain denied
+6 drop 1 data 7 0 denied
+7 drop 2 data 8 1460 full
+8 drop 3 data 7 1460 denied
+8 drop 4 ack 7 2920 denied
+9 drop 5 plain budget
+9 drop 6 ack 9 0 budget
+10 spent
+counters 7 0 0 4 0 0 0 1 0 0 2
+experiment b
+3 drop 0 plain denied
+4 drop 1 plain lost
+4 deliver 2 plain
+counters 3 1 0 1 0 0 1 0 0 0 0
+experiment c
+1 drop 0 plain denied
+";
+
+fn note(experiment: u64, subject: Subject, first: u64, count: u64) -> Note {
+    Note {
+        experiment,
+        subject,
+        first,
+        count,
+    }
+}
+
+// The third experiment's report hasn't ended.
+#[test]
+fn notes(rt: HostRuntime) {
+    let wanted = [
+        note(1, Subject::DeniedPlain, 5, 1),
+        note(1, Subject::DeniedData(7), 6, 2),
+        note(1, Subject::DeniedAck(7), 8, 1),
+        note(1, Subject::OverBudget, 9, 2),
+        note(1, Subject::Spent, 10, 1),
+        note(2, Subject::DeniedPlain, 3, 1),
+    ];
+    for size in 1..40 {
+        hears(&rt, DROPS, size, &[], &wanted);
+    }
+}
+
+const FAULTS: &str = "experiment a seed 0 budget 1
+@0 shw
+@5 show
+@4 show
+@3 bad
+experiment b seed 0 budget 1
+@5 show
+@4 show
+@3 show
+@x end
+experiment a seed 0 budget 0
+@0";
+
+/// Wants these faults behind this one.
+fn follow(rt: &(impl Abort + AllocGlobal), first: &Fault, wanted: &[Fault]) {
+    let found = faults_behind(rt.alloc(), FAULTS.as_bytes(), first).expect(rt, "memory");
+    assert!(rt; found.as_slice() == wanted);
+}
+
+#[test]
+fn faults_behind_the_first(rt: HostRuntime) {
+    let wanted = [
+        fault(5, Cause::BadWord),
+        fault(8, Cause::Backwards),
+        fault(10, Cause::BadWord),
+        fault(11, Cause::OutOfRange),
+        fault(12, Cause::Cut),
+    ];
+    follow(&rt, &fault(2, Cause::BadWord), &wanted);
+    follow(&rt, &fault(13, Cause::NoEnd), &[]);
+}
+
+#[test]
+fn a_fault_with_its_line(rt: HostRuntime) {
+    let fault = fault(12, Cause::Cut);
+    let found = find(FAULTS.as_bytes(), &fault);
+    let shown = show_found(rt.alloc(), &fault, &found).expect(&rt, "memory");
+    let wanted = "line 12: cut
+  @0
+    ^
+  expected: a line feed at the end of the last line
+  hint: the text was cut off, or the editor left the last line feed out
+";
+    assert!(rt; shown.as_slice() == wanted.as_bytes());
+}
+
+// Where memory is refused the answer says so, and it isn't where there is enough.
+#[test]
+fn refused(rt: HostRuntime) {
+    let fault = fault(4, Cause::AfterEnd);
+    if let Ok(shown) = show_finding(rt.alloc(), &find(SCENARIO.as_bytes(), &fault)) {
+        assert!(rt; shown.len() > 20);
+    }
+    let mut replies = Replies::new(rt.alloc());
+    if replies.take(REPORT.as_bytes()).is_ok() {
+        assert!(rt; replies.refusals().len() == 2);
+    }
+    if let Ok(found) = faults_behind(rt.alloc(), FAULTS.as_bytes(), &fault) {
+        assert!(rt; found.len() == 5);
+    }
+}
