@@ -40,6 +40,7 @@ module _ {M : Type 0} (seen : M → Seen) where
         name_is = turns_name seen n s.stand h.0 h.1 ∙ named;
         ready = ready;
         turn = h.2;
+        entered = inr ready;
         others = sym (set-set old.seats k (Some (record { stand = h.0; offset = s.offset })) (Some (record { stand = u; offset = s.offset })));
       },
     ),
@@ -61,6 +62,7 @@ module _ {M : Type 0} (seen : M → Seen) where
             name_is = turns_name seen n s.stand h.0 h.1 ∙ r.name_is;
             ready = r.ready;
             turn = h.2;
+            entered = r.entered;
             others = r.others ∙ sym (set-set old.seats k (Some m) (Some t));
           },
         ),
