@@ -1,5 +1,5 @@
 -- Lemmas for callers: one turn is many turns of which no further ones were asked for.
-use Rattle.std.proofs.Common.{◌≡◌, ℕ, zero, suc, ◌≤◌, ap, ◌∙◌, arith, subst}
+use Rattle.std.proofs.Common.{◌≡◌, ℕ, zero, suc, ap, ◌∙◌, arith, subst}
 use Rattle.std.specs.Prelude.{Bool}
 use Rattle.shard.specs.Seen.{Seen, IsToldMore}
 use Rattle.shard.specs.declared.shard.Turned.{Turned}

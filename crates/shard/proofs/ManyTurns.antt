@@ -1,12 +1,11 @@
 -- Many turns are single ones, one after the other.
-use Rattle.std.proofs.Common.{◌≡◌, ℕ, zero, suc, ◌+◌, ◌<◌, ◌≤◌, List, length, get_or, set, Option, Some, None, IsSome, refl, sym, ap, ◌∙◌, arith, inl, inr}
+use Rattle.std.proofs.Common.{◌≡◌, ℕ, zero, suc, ◌<◌, ◌≤◌, List, length, set, Option, Some, None, IsSome, sym, ap, ◌∙◌, arith, inl, inr}
 use Rattle.std.proofs.lemmas.Bool.{cases_lt}
 use Rattle.std.proofs.lemmas.List.{get_or-set_same, get_or_past, set-get_or}
 use Rattle.shard.specs.Seen.{Seen}
-use Rattle.shard.specs.declared.shard.Turned.{Turned}
 use Rattle.shard.specs.declared.shard.Turned.TheVariants.{Ran, Ended, Idle}
 use Rattle.shard.specs.Stand.{Stand, Seat, Seating, seat_at}
-use Rattle.shard.specs.Turns.{AreTurns, RanFor, EndedAfter, TurnsOf, ManyAreSingle}
+use Rattle.shard.specs.Turns.{AreTurns, RanFor, TurnsOf, ManyAreSingle}
 use Rattle.shard.proofs.CallerLemmas.{turns_name}
 use Rattle.shard.proofs.Slots.{set-set}
 

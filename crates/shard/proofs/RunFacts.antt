@@ -1,5 +1,5 @@
 -- Steps of one resident, one after the other.
-use Rattle.std.proofs.Common.{◌≡◌, ℕ, zero, suc, ◌+◌, ◌<◌, ◌≤◌, true, false, [], Option, Some, None, IsSome, refl, sym, ap, ◌∙◌, arith, subst, inl, inr, add-one, ⊎_elim}
+use Rattle.std.proofs.Common.{◌≡◌, ℕ, zero, suc, ◌+◌, ◌≤◌, true, false, [], Option, Some, None, IsSome, refl, sym, ap, ◌∙◌, arith, subst, inl, inr, add-one, ⊎_elim}
 use Rattle.std.specs.Prelude.{◌⊎◌, Bool, not, is_some, option_to_list}
 use denote.Enum.Bare.{sameb}
 use Rattle.emu_model.specs.declared.commands.Timed.{Timed}

@@ -1,7 +1,6 @@
-use Rattle.std.proofs.Common.{◌≡◌, ℕ, List, set, Option, Some, None, refl, sym, ap, ◌∙◌, arith, subst}
+use Rattle.std.proofs.Common.{◌≡◌, set, Some, None, refl, sym, ap, ◌∙◌, arith, subst}
 use Rattle.std.specs.Prelude.{is_some}
 use Rattle.packet_store.specs.Books.{pocket_of}
-use Rattle.shard.specs.declared.resident.Resident.{Resident}
 use Rattle.shard.specs.Stand.{Seating, seat_at, Final}
 use Rattle.shard.specs.Seats.{standing, seat, seat_of, seats_of}
 use Rattle.shard.specs.Turns.{AreTurns, LeavesOff}
