@@ -1,11 +1,11 @@
 -- Lemmas for callers: one turn is many turns of which no further ones were asked for.
-use Rattle.std.proofs.Common.{◌≡◌, ℕ, zero, suc, ◌≤◌, ap, ◌∙◌, arith, subst}
+use Rattle.std.proofs.Common.{◌≡◌, ℕ, zero, suc, ap, ◌∙◌, arith, subst}
 use Rattle.std.specs.Prelude.{Bool}
 use Rattle.shard.specs.Seen.{Seen, IsToldMore}
 use Rattle.shard.specs.declared.shard.Turned.{Turned}
 use Rattle.shard.specs.declared.shard.Turned.TheVariants.{Ran, Ended, Idle}
 use Rattle.shard.specs.Stand.{Stand, Seating, Final}
-use Rattle.shard.specs.Turns.{IsTurn, IsEnd, AreTurns, Turns, TurnsSettled, ManyTurns, ManyTurnsSettled}
+use Rattle.shard.specs.Turns.{IsTurn, IsEnd, AreTurns, TurnsFirst, TurnsSettled, ManyTurns, ManyTurnsSettled}
 
 module _ {M : Type 0} (seen : M → Seen) where
   pub told_trans : (a b c : M) → IsToldMore seen a b → IsToldMore seen b c → IsToldMore seen a c
@@ -26,19 +26,21 @@ module _ {M : Type 0} (seen : M → Seen) where
   end_of zero s t d e h end = subst (λ u. IsEnd seen u d) h end
   end_of (suc n) s t d e h end = absurd (omega (arith, e))
 
-  single : (a : Turned M) (may_refuse : Bool) (n : ℕ) (old new : Seating M) → ManyTurns seen may_refuse 0 n a old new → Turns seen a old new
+  single : (a : Turned M) (may_refuse : Bool) (n : ℕ) (old new : Seating M) → ManyTurns seen may_refuse 0 n a old new → TurnsFirst seen a old new
   single (Ran name) may_refuse n old new h =
       let r = h.2.4 in (
         h.2.0,
         h.2.1,
         h.2.2,
-        record { was = r.was; name_is = r.name_is; ready = r.ready; turn = turn_of n _ _ (omega (arith, h.0, h.1)) r.turns; others = r.others },
+        record { was = r.was; name_is = r.name_is; ready = r.ready; turn = turn_of n _ _ (omega (arith, h.0, h.1)) r.turns; entered = r.entered; others = r.others },
+        r.first,
       )
   single (Ended d) may_refuse n old new h =
       let r = h.1.3 in (
         h.1.0,
         h.1.1,
         record { was = r.was; ready = r.ready; end = end_of n _ _ d (omega (arith, h.0)) r.turns r.end; others = r.others },
+        r.first,
       )
   single Idle may_refuse n old new h = (h.1, h.2)
 

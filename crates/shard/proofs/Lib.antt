@@ -5,6 +5,7 @@ mod RowFacts
 mod KeptFacts
 mod TurnFacts
 mod TurnsNow
+mod FirstFacts
 mod ManyTurns
 pub mod CallerLemmas
 mod RunFacts

@@ -1,12 +1,11 @@
 -- Many turns are single ones, one after the other.
-use Rattle.std.proofs.Common.{◌≡◌, ℕ, zero, suc, ◌+◌, ◌<◌, ◌≤◌, List, length, get_or, set, Option, Some, None, IsSome, refl, sym, ap, ◌∙◌, arith, inl, inr}
+use Rattle.std.proofs.Common.{◌≡◌, ℕ, zero, suc, ◌<◌, ◌≤◌, List, length, set, Option, Some, None, IsSome, sym, ap, ◌∙◌, arith, inl, inr}
 use Rattle.std.proofs.lemmas.Bool.{cases_lt}
 use Rattle.std.proofs.lemmas.List.{get_or-set_same, get_or_past, set-get_or}
 use Rattle.shard.specs.Seen.{Seen}
-use Rattle.shard.specs.declared.shard.Turned.{Turned}
 use Rattle.shard.specs.declared.shard.Turned.TheVariants.{Ran, Ended, Idle}
 use Rattle.shard.specs.Stand.{Stand, Seat, Seating, seat_at}
-use Rattle.shard.specs.Turns.{AreTurns, RanFor, EndedAfter, TurnsOf, ManyAreSingle}
+use Rattle.shard.specs.Turns.{AreTurns, RanFor, TurnsOf, ManyAreSingle}
 use Rattle.shard.proofs.CallerLemmas.{turns_name}
 use Rattle.shard.proofs.Slots.{set-set}
 
@@ -40,6 +39,7 @@ module _ {M : Type 0} (seen : M → Seen) where
         name_is = turns_name seen n s.stand h.0 h.1 ∙ named;
         ready = ready;
         turn = h.2;
+        entered = inr ready;
         others = sym (set-set old.seats k (Some (record { stand = h.0; offset = s.offset })) (Some (record { stand = u; offset = s.offset })));
       },
     ),
@@ -61,6 +61,7 @@ module _ {M : Type 0} (seen : M → Seen) where
             name_is = turns_name seen n s.stand h.0 h.1 ∙ r.name_is;
             ready = r.ready;
             turn = h.2;
+            entered = r.entered;
             others = r.others ∙ sym (set-set old.seats k (Some m) (Some t));
           },
         ),

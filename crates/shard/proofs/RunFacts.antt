@@ -1,5 +1,5 @@
 -- Steps of one resident, one after the other.
-use Rattle.std.proofs.Common.{◌≡◌, ℕ, zero, suc, ◌+◌, ◌<◌, ◌≤◌, true, false, [], Option, Some, None, IsSome, refl, sym, ap, ◌∙◌, arith, subst, add-one, ⊎_elim}
+use Rattle.std.proofs.Common.{◌≡◌, ℕ, zero, suc, ◌+◌, ◌≤◌, true, false, [], Option, Some, None, IsSome, refl, sym, ap, ◌∙◌, arith, subst, inl, inr, add-one, ⊎_elim}
 use Rattle.std.specs.Prelude.{◌⊎◌, Bool, not, is_some, option_to_list}
 use denote.Enum.Bare.{sameb}
 use Rattle.emu_model.specs.declared.commands.Timed.{Timed}
@@ -49,6 +49,11 @@ module _ {M : Type 0} (seen : M → Seen) where
   pub none_left : (o : Option Timed) → is_some o ≡ false → option_to_list o ≡ []
   none_left None h = refl
   none_left (Some c) h = absurd (cc)
+
+  -- no command is left, or there is an entry
+  pub entry_if_next : (n : Option Timed) (o : Option ℕ) → (IsSome n → IsSome o) → (option_to_list n ≡ []) ⊎ IsSome o
+  entry_if_next None o h = inl refl
+  entry_if_next (Some c) o h = inr (h refl)
 
   -- a turn more of the resident, of which `n` were made; then no other followed
   pub stays_after : (may_refuse : Bool) (more n : ℕ) (p m q : Pocket) (old last new : Resident M) → n ≤ more → AreTurns seen n (standing p old) (standing m last) → IsTurn seen (standing m last) (standing q new) → LeavesOff may_refuse more (n + 1) (standing q new) → HasStayed seen may_refuse more (n + 1) p old q new
@@ -127,15 +132,16 @@ module _ {M : Type 0} (seen : M → Seen) where
   stays_on Still may_refuse more n p q old new e h = absurd h
 
   -- the entry was set anew
-  pub entered : (a : Event) (may_refuse : Bool) (more n : ℕ) (p q : Pocket) (row : Row) (clock : ℕ) (old mid new : Resident M) → sameb the_type a Ran ≡ true → RunsOn seen may_refuse more n a p old q mid → new ≡ record mid { offset = new.offset } → mid.owner ≡ old.owner → IsSeated seen q row clock new → Runs seen may_refuse more n a p old q row clock new
-  entered Ran may_refuse more n p q row clock old mid new e h same owner seated = (
+  pub entered : (a : Event) (may_refuse : Bool) (more n : ℕ) (p q : Pocket) (row : Row) (clock : ℕ) (old mid new : Resident M) → sameb the_type a Ran ≡ true → RunsOn seen may_refuse more n a p old q mid → new ≡ record mid { offset = new.offset } → mid.owner ≡ old.owner → IsSeated seen q row clock new → (IsSome mid.experiment.next → IsSome new.offset) → Runs seen may_refuse more n a p old q row clock new
+  entered Ran may_refuse more n p q row clock old mid new e h same owner seated there = (
     subst (λ (x : Resident M). HasStayed seen may_refuse more n p old q x) (sym same) (record { some = h.0.some; few = h.0.few; left_off = h.0.left_off; turns = h.0.turns }),
     seated,
     ap (λ (x : Resident M). x.owner) same ∙ owner,
+    λ some. there (subst (λ (x : Resident M). IsSome x.experiment.next) same some),
   )
-  entered Ended may_refuse more n p q row clock old mid new e h same owner seated = absurd (cc)
-  entered Halted may_refuse more n p q row clock old mid new e h same owner seated = absurd (cc)
-  entered Still may_refuse more n p q row clock old mid new e h same owner seated = absurd h
+  entered Ended may_refuse more n p q row clock old mid new e h same owner seated there = absurd (cc)
+  entered Halted may_refuse more n p q row clock old mid new e h same owner seated there = absurd (cc)
+  entered Still may_refuse more n p q row clock old mid new e h same owner seated there = absurd h
 
   -- without an entry
   pub gone_on : (a : Event) (may_refuse : Bool) (more n : ℕ) (p q : Pocket) (row : Row) (clock : ℕ) (old new : Resident M) → sameb the_type a Ran ≡ false → RunsOn seen may_refuse more n a p old q new → Runs seen may_refuse more n a p old q row clock new
@@ -145,7 +151,7 @@ module _ {M : Type 0} (seen : M → Seen) where
   gone_on Still may_refuse more n p q row clock old new e h = h
 
   -- many turns with their entries, by their answer
-  pub ran_on : (a : Event) (may_refuse : Bool) (more n : ℕ) (p q : Pocket) (row : Row) (clock : ℕ) (old new : Resident M) → sameb the_type a Ran ≡ true → Runs seen may_refuse more n a p old q row clock new → HasStayed seen may_refuse more n p old q new × IsSeated seen q row clock new × (new.owner ≡ old.owner)
+  pub ran_on : (a : Event) (may_refuse : Bool) (more n : ℕ) (p q : Pocket) (row : Row) (clock : ℕ) (old new : Resident M) → sameb the_type a Ran ≡ true → Runs seen may_refuse more n a p old q row clock new → HasStayed seen may_refuse more n p old q new × IsSeated seen q row clock new × (new.owner ≡ old.owner) × (IsSome new.experiment.next → IsSome new.offset)
   ran_on Ran may_refuse more n p q row clock old new e h = h
   ran_on Ended may_refuse more n p q row clock old new e h = absurd (cc)
   ran_on Halted may_refuse more n p q row clock old new e h = absurd (cc)

@@ -1,5 +1,5 @@
 -- What turns do to the resident whose entry is least.
-use Rattle.std.proofs.Common.{◌≡◌, ◌≢◌, ℕ, ◌+◌, ◌*◌, ◌^◌, ◌<◌, ◌≤◌, List, set, Option, Some, None, IsSome, sym, ap, ◌∙◌, arith, subst}
+use Rattle.std.proofs.Common.{◌≡◌, ◌≢◌, ℕ, ◌+◌, ◌^◌, ◌<◌, ◌≤◌, List, set, Option, Some, None, IsSome, sym, ap, ◌∙◌, arith, subst}
 use Rattle.std.specs.Prelude.{IfSome, unwrap_or}
 use Rattle.emu_model.specs.Moments.{end_of_time}
 use Rattle.emu_model.specs.declared.records.Ending.{Ending}

@@ -1,5 +1,5 @@
 -- The resident of the least entry, from that it is found to that it stays or goes.
-use Rattle.std.proofs.Common.{◌≡◌, ◌≢◌, ℕ, ◌+◌, ◌^◌, ◌<◌, ◌≤◌, false, List, length, get_or, set, Option, Some, None, IsSome, refl, sym, ap, ◌∙◌, arith, subst}
+use Rattle.std.proofs.Common.{◌≡◌, ◌≢◌, ℕ, ◌^◌, ◌<◌, ◌≤◌, false, List, length, get_or, set, Option, Some, None, IsSome, sym, ap, ◌∙◌, arith, subst}
 use Rattle.std.specs.Prelude.{Bool, IfSome, is_some}
 use Rattle.std.proofs.lemmas.List.{get_or_read, get_or-set_same, length-set}
 use denote.Enum.Bare.{sameb}
@@ -13,10 +13,10 @@ use Rattle.shard.specs.Seen.{Seen}
 use Rattle.shard.specs.declared.resident.Resident.{Resident}
 use Rattle.shard.specs.Stand.{Seating, Final}
 use Rattle.shard.specs.Kept.{IsKept}
-use Rattle.shard.specs.Seats.{resident_at, seats_of, seat_of, IsDossierOf, IsShard}
-use Rattle.shard.specs.Steps.{IsLeast, IsLeaving, HasLeft, Runs}
+use Rattle.shard.specs.Seats.{resident_at, seats_of, IsDossierOf, IsShard}
+use Rattle.shard.specs.Steps.{IsLeast, HasLeft, Runs}
 use Rattle.shard.proofs.Slots.{set-set}
-use Rattle.shard.proofs.SlotChanges.{read_at, due_at, IsChanged}
+use Rattle.shard.proofs.SlotChanges.{read_at, due_at}
 use Rattle.shard.proofs.RunFacts.{over}
 use Rattle.shard.proofs.TurnFacts.{least, Called, gone}
 

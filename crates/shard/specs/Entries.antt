@@ -22,3 +22,9 @@ row_of offset (Some d) = row_at (d.moment + offset)
 abbrev pub entries_of : Option ℕ → Option Due → Row
 entries_of None next = no_dues
 entries_of (Some offset) next = row_of offset next
+
+-- the moment at which the entry stands, if there is one
+abbrev pub entry_at : Option ℕ → Option Due → Option ℕ
+entry_at None next = None
+entry_at (Some offset) None = None
+entry_at (Some offset) (Some d) = Some (d.moment + offset)

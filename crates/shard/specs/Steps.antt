@@ -1,5 +1,5 @@
 -- What a step does to a resident.
-use Rattle.std.specs.Prelude.{◌≡◌, ℕ, ◌+◌, ◌*◌, ◌^◌, ◌<◌, ◌≤◌, Bool, Some, IsSome, IfSome}
+use Rattle.std.specs.Prelude.{◌≡◌, ℕ, ◌+◌, ◌^◌, ◌<◌, ◌≤◌, Bool, Some, IsSome, IfSome}
 use Rattle.emu_model.specs.Moments.{end_of_time}
 use Rattle.emu_model.specs.declared.records.Ending.{Ending}
 use Rattle.emu_model.specs.declared.sources.Source.{Source}
@@ -79,10 +79,11 @@ module _ {M : Type 0} where
   RunsOn seen may_refuse more n Halted p old q new = HasLeft seen more n p old q new
   RunsOn seen may_refuse more n Still p old q new = ⊥
 
-  -- many turns, after which the entry is what comes next
+  -- many turns, after which the entry is what comes next; it is there where a command is
   abbrev pub Runs : (M → Seen) → Bool → ℕ → ℕ → Event → Pocket → Resident M → Pocket → Row → ℕ → Resident M → Type 0
   Runs seen may_refuse more n Ran p old q row clock new =
       HasStayed seen may_refuse more n p old q new × IsSeated seen q row clock new × (new.owner ≡ old.owner)
+      × (IsSome new.experiment.next → IsSome new.offset)
   Runs seen may_refuse more n Ended p old q row clock new = HasLeft seen more n p old q new
   Runs seen may_refuse more n Halted p old q row clock new = HasLeft seen more n p old q new
   Runs seen may_refuse more n Still p old q row clock new = ⊥

@@ -1,11 +1,12 @@
 -- What the answers of a shard say, on its seats.
-use Rattle.std.specs.Prelude.{◌≡◌, ℕ, zero, suc, ◌+◌, ◌^◌, ◌<◌, ◌≤◌, ◌⊎◌, Bool, true, [], ◌∷◌, ◌++◌, Some, None, IsSome, slice_set}
+use Rattle.std.specs.Prelude.{◌≡◌, ℕ, zero, suc, ◌+◌, ◌^◌, ◌<◌, ◌≤◌, ◌⊎◌, Bool, true, [], ◌∷◌, ◌++◌, List, Some, None, IsSome, slice_set, Option}
 use Rattle.emu_model.specs.declared.commands.Timed.{Timed}
 use Rattle.emu_model.specs.declared.records.Ending.{Ending}
 use Rattle.emu_model.specs.declared.records.Ending.TheVariants.{Ended as ByEnd, Spent, Halted}
 use Rattle.emu_model.specs.Net.{counters_of}
 use Rattle.emu_model.specs.Step.{State, step}
 use Rattle.emu_model.specs.RunLaws.{with_more}
+use Rattle.experiment.specs.Dues.{next_due_in}
 use Rattle.experiment.specs.Kept.{last_moment, shown_ending}
 use Rattle.shard.specs.Seen.{Seen, IsToldMore, IsPublished}
 use Rattle.shard.specs.declared.shard.Turned.{Turned}
@@ -15,6 +16,7 @@ use Rattle.shard.specs.declared.shard.Polled.TheVariants.{Vacant, Took, Resumed,
 use Rattle.shard.specs.declared.shard.TakeInError.{TakeInError}
 use Rattle.shard.specs.declared.shard.TakeInError.TheVariants.{Crowded, NoMemory as NoRoom}
 use Rattle.shard.specs.Stand.{Stand, Seat, Final, Seating, seat_at, stands_of}
+use Rattle.shard.specs.Entries.{entry_at}
 
 -- what is shown stays, and the name with it
 pub record SameView {M : Type 0} (s t : Stand M) : Type 0 where
@@ -66,12 +68,23 @@ pub record IsRebased {M : Type 0} (old new : Seating M) : Type 0 where
 abbrev pub Settles : {M : Type 0} → Seating M → Seating M → Type 0
 Settles old new = ((old.clock < 2 ^ 62) × (new ≡ old)) ⊎ ((2 ^ 62 ≤ old.clock) × IsRebased old new)
 
--- the resident of a slot made a step, and every other slot is as before
+-- the moment at which a resident's entry stands in the agenda (ns); None where it is parked
+abbrev pub entry_of : {M : Type 0} → Seat M → Option ℕ
+entry_of s = entry_at s.offset (next_due_in s.stand.state)
+
+-- the entry of a slot is the least: none stands earlier, and none that stands as early is of a lesser slot
+pub record IsFirst {M : Type 0} (seats : List (Option (Seat M))) (slot : ℕ) (s : Seat M) : Type 0 where
+  pub at : ℕ
+  pub is : entry_of s ≡ Some at
+  pub least : (k : ℕ) (x : Seat M) (d : ℕ) → seat_at seats k ≡ Some x → entry_of x ≡ Some d → (at ≤ d) × (at ≡ d → slot ≤ k)
+
+-- the resident of a slot made a step, and every other slot is as before; it has an entry where a command is left
 pub record RanAt {M : Type 0} (seen : M → Seen) (name : ℕ) (old new : Seating M) (slot : ℕ) (s t : Seat M) : Type 0 where
   pub was : seat_at old.seats slot ≡ Some s
   pub name_is : s.stand.name ≡ name
   pub ready : IsSome s.offset
   pub turn : IsTurn seen s.stand t.stand
+  pub entered : (t.stand.state.left ≡ []) ⊎ IsSome t.offset
   pub others : new.seats ≡ slice_set old.seats slot (Some t)
 
 -- the resident of a slot ended
@@ -88,22 +101,34 @@ Turns {M} seen (Ended d) old new = (slot : ℕ) × (s : Seat M) × EndedAt seen 
 Turns {M} seen Idle old new =
     (new ≡ old) × ((slot : ℕ) (s : Seat M) → seat_at old.seats slot ≡ Some s → s.offset ≡ None)
 
--- one turn, before which the time begins anew where the clock has come far
-abbrev pub TurnsSettled : {M : Type 0} → (M → Seen) → Turned M → Seating M → Seating M → Type 0
-TurnsSettled {M} seen answer old new = (mid : Seating M) × Settles old mid × Turns seen answer mid new
+-- one turn of the resident whose entry is least
+abbrev pub TurnsFirst : {M : Type 0} → (M → Seen) → Turned M → Seating M → Seating M → Type 0
+TurnsFirst {M} seen (Ran name) old new =
+    (slot : ℕ) × (s : Seat M) × (t : Seat M) × RanAt seen name old new slot s t × IsFirst old.seats slot s
+TurnsFirst {M} seen (Ended d) old new =
+    (slot : ℕ) × (s : Seat M) × EndedAt seen d old new slot s × IsFirst old.seats slot s
+TurnsFirst {M} seen Idle old new = Turns seen Idle old new
 
--- the resident of a slot made n turns one after the other, and every other slot is as before
+-- the same, before which the time begins anew where the clock has come far
+abbrev pub TurnsSettled : {M : Type 0} → (M → Seen) → Turned M → Seating M → Seating M → Type 0
+TurnsSettled {M} seen answer old new = (mid : Seating M) × Settles old mid × TurnsFirst seen answer mid new
+
+-- the resident of a slot, whose entry is least, made n turns one after the other, and every other slot is as before;
+-- it has an entry where a command is left
 pub record RanFor {M : Type 0} (seen : M → Seen) (n name : ℕ) (old new : Seating M) (slot : ℕ) (s t : Seat M) : Type 0 where
   pub was : seat_at old.seats slot ≡ Some s
   pub name_is : s.stand.name ≡ name
   pub ready : IsSome s.offset
+  pub first : IsFirst old.seats slot s
   pub turns : AreTurns seen n s.stand t.stand
+  pub entered : (t.stand.state.left ≡ []) ⊎ IsSome t.offset
   pub others : new.seats ≡ slice_set old.seats slot (Some t)
 
--- the resident of a slot made n turns, after which it stood so, and ended in the next one
+-- the resident of a slot, whose entry is least, made n turns, after which it stood so, and ended in the next one
 pub record EndedAfter {M : Type 0} (seen : M → Seen) (n : ℕ) (d : Final M) (old new : Seating M) (slot : ℕ) (s : Seat M) (t : Stand M) : Type 0 where
   pub was : seat_at old.seats slot ≡ Some s
   pub ready : IsSome s.offset
+  pub first : IsFirst old.seats slot s
   pub turns : AreTurns seen n s.stand t
   pub end : IsEnd seen t d
   pub others : new.seats ≡ slice_set old.seats slot None

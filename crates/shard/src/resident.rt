@@ -1,6 +1,6 @@
 //! One resident's part in a shard's calls.
 
-ghost use Rattle.std.specs.Prelude.{◌≡◌, ◌≤◌, length, take};
+ghost use Rattle.std.specs.Prelude.{◌≡◌, ◌+◌, ◌^◌, ◌<◌, ◌≤◌, length, take};
 ghost use Rattle.emu_model.specs.Moments.{end_of_time};
 ghost use Rattle.shard.specs.Seen.{IsToldMore, IsPublished};
 
@@ -48,6 +48,22 @@ fn publish<M: Mail>(mail: &mut M, records: &[Record], published: usize) -> usize
         };
     }
     records.len()
+}
+
+// An offset by which a moment that isn't before its experiment's clock isn't before the agenda's: the one
+// that there is, where it serves, else a later one.
+fn offset_from(clock: u64, own: u64, moment: u64, offset: u64) -> u64
+    requires own { own ≤ moment }
+    requires early { moment ≤ 10 ^ 15 }
+    requires late { offset ≤ clock }
+    requires clock { clock < 2 ^ 62 + end_of_time }
+    ensures late { result ≤ clock }
+    ensures on { clock ≤ moment + result }
+{
+    if moment + offset < clock {
+        return clock.saturating_sub(own);
+    }
+    offset
 }
 
 impl<M: Mail> Resident<M> {
@@ -315,6 +331,7 @@ impl<M: Mail> Resident<M> {
             IsGoing M.seen p self.old.experiment self.old.published self.old.mail
             → IsSeated M.seen p (A.entries agenda.new slot) (A.time agenda.old) self.new }
         ensures same { self.new ≡ record self.old { offset = self.new.offset } }
+        ensures entered { IsSome self.old.experiment.next → IsSome self.new.offset }
         ensures others { (o : ℕ) → o ≢ slot → A.entries agenda.new o ≡ A.entries agenda.old o }
         ensures time { A.time agenda.new ≡ A.time agenda.old }
     {
@@ -326,12 +343,9 @@ impl<M: Mail> Resident<M> {
             agenda.clear_owner(slot);
             return;
         };
-        // No due lies below the experiment's clock; where that were below the agenda's, its time is set anew.
-        if due.moment + offset < agenda.clock() {
-            self.enter(agenda, slot);
-            return;
-        }
-        let Ok(()) = agenda.set(slot, TURN, due.moment + offset) else {
+        let later = offset_from(agenda.clock(), self.experiment.clock(), due.moment, offset);
+        self.offset = Some(later);
+        let Ok(()) = agenda.set(slot, TURN, due.moment + later) else {
             unreachable!();
         };
     }

@@ -124,9 +124,10 @@ impl<A: Agenda, M: Mail> Shard<A, M> {
         })
     }
 
-    /// One event of one resident, whose entry is least. Its records are published while its mail takes them. One
-    /// that has ended, or is halted for want of memory, comes out as a dossier. Where the agenda's clock has come
-    /// far, its time begins anew before.
+    /// One event of the resident whose entry is least, by its moment and then by slot. Its records are published while
+    /// its mail takes them; it has an entry again where a next command is there. One that has ended, or is halted for
+    /// want of memory, comes out as a dossier. Where the agenda's clock has come to 2^62 ns, its time begins anew
+    /// before.
     pub fn turn(&mut self) -> Turned<M>
         ensures { TurnsSettled M.seen result self.old self.new }
     {

@@ -1,4 +1,4 @@
-use Rattle.std.proofs.Common.{◌≡◌, ◌<◌, [], sym, ap, ◌∙◌, subst, length, take, arith, refl}
+use Rattle.std.proofs.Common.{◌<◌, [], sym, ap, ◌∙◌, subst, length, take, arith, refl}
 use Rattle.emu_model.specs.declared.commands.Spec.{Spec}
 use Rattle.shard.specs.Seen.{Seen, IsPublished}
 use Rattle.shard.specs.Stand.{heard_from}

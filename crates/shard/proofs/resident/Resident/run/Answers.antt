@@ -1,8 +1,8 @@
-use Rattle.std.proofs.Common.{◌≡◌, ℕ, ◌≤◌, Option, sym, ◌∙◌, ap, subst, refl}
+use Rattle.std.proofs.Common.{ℕ, ◌≤◌, Option, sym, ◌∙◌, ap, subst}
 use Rattle.std.specs.Prelude.{is_some, IfSome}
 use Rattle.packet_store.specs.Books.{pocket_of}
 use Rattle.shard.proofs.RowFacts.{one_entry}
-use Rattle.shard.proofs.RunFacts.{stays_on, entered, gone_on}
+use Rattle.shard.proofs.RunFacts.{stays_on}
 use Rattle.shard.proofs.resident.Resident.run.Goals as goal
 
 pub set_again-requires : goal.set_again-requires

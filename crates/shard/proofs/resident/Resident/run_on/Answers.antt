@@ -1,10 +1,8 @@
-use Rattle.std.proofs.Common.{◌≡◌, ℕ, ◌+◌, ◌<◌, true, false, refl, sym, ap, ◌∙◌, arith, subst, inl, inr}
+use Rattle.std.proofs.Common.{◌≡◌, ◌+◌, refl, sym, ◌∙◌, arith, subst, inl, inr}
 use Rattle.packet_store.specs.Books.{pocket_of}
-use Rattle.experiment.specs.contracts.experiment.Event.{the_type}
-use Rattle.experiment.specs.declared.experiment.Event.TheVariants.{Ran}
 use Rattle.shard.specs.Seats.{standing}
-use Rattle.shard.specs.Steps.{Advances, HasStayed}
-use Rattle.shard.specs.Turns.{LeavesOff, IsTurn}
+use Rattle.shard.specs.Steps.{Advances}
+use Rattle.shard.specs.Turns.{LeavesOff}
 use Rattle.shard.proofs.RunFacts.{said_yes_more, heard_more, heard_all, went_on, left, stayed, stays_after, none_left, one_more, not_same, is_same}
 use Rattle.shard.proofs.CallerLemmas.{turns_name}
 use Rattle.shard.proofs.resident.Resident.run_on.Goals.{then-not-ran-via-then-not-ran, then-not-ran-via-else-not-ran+then-not-has_next}

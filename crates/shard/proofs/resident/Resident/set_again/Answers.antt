@@ -1,11 +1,10 @@
-use Rattle.std.proofs.Common.{◌≡◌, ◌+◌, ◌<◌, ◌*◌, ◌^◌, sym, ap, ◌∙◌, subst, ℕ, Option, Some, arith}
-use Rattle.std.specs.Prelude.{IfSome}
+use Rattle.std.proofs.Common.{◌≡◌, ◌+◌, ap, ◌∙◌, sym, ℕ, Option, Some, arith}
 use Rattle.emu_model.specs.Moments.{end_of_time}
 use Rattle.emu_model.specs.declared.sources.Due.{Due}
 use Rattle.emu_model.specs.declared.sources.Source.{Source}
 use Rattle.packet_store.specs.Pocket.{empty_pocket}
 use Rattle.timer_wheel.specs.Rows.{Row}
-use Rattle.shard.specs.Entries.{row_at, row_of, entries_of}
+use Rattle.shard.specs.Entries.{row_at, row_of}
 use Rattle.shard.specs.Kept.{next_kept}
 use Rattle.shard.proofs.RowFacts.{row_below, has_next, set_anew}
 use Rattle.shard.proofs.resident.Resident.set_again.Goals as goal
@@ -13,7 +12,7 @@ use Rattle.shard.proofs.resident.Resident.set_again.Goals as goal
 pub returns-clause-seated : goal.returns-clause-seated
 returns-clause-seated g c = λ p going.
     let e = c.args.self.now.experiment in
-    let o : ℕ = c.in-Some.offset in
+    let o : ℕ = c.offset_from-later.result in
     let due : Due = c.in-Some-next_due.due in
     let at : ℕ = due.moment + o in
     let stale = c.requires.stale.1 in
@@ -22,8 +21,8 @@ returns-clause-seated g c = λ p going.
     ap (λ (w : Row). w s) c.in-Ok.ensures.ok ∙ set_anew (g.A.Agenda.entries c.args.agenda.now c.args.slot) stale.was at stale.entries s in
     record {
       going = going;
-      entries = λ s. set s ∙ ap (λ (n : Option Due). row_of o n s) next ∙ ap (λ (x : Option ℕ). entries_of x (next_kept e) s) (sym c.in-Some.is);
+      entries = λ s. set s ∙ ap (λ (n : Option Due). row_of o n s) next;
       ready = λ h. has_next e due (sym next);
-      late = stale.late;
-      below = λ s d is. subst (λ (x : Option ℕ). IfSome x (λ y. d < y + end_of_time)) (sym c.in-Some.is) (row_below at (o + end_of_time) s d (omega (arith, c.in-Some-next_due.ensures.early)) (sym (set s) ∙ is));
+      late = omega (arith, c.offset_from-later.ensures.late, c.clock.ensures.clock);
+      below = λ s d is. row_below at (o + end_of_time) s d (omega (arith, c.in-Some-next_due.ensures.early)) (sym (set s) ∙ is);
     }

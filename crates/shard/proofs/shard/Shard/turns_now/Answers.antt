@@ -1,13 +1,13 @@
-use Rattle.std.proofs.Common.{◌≡◌, ℕ, List, set, Option, Some, None, refl, sym, ap, ◌∙◌, arith, subst}
+use Rattle.std.proofs.Common.{◌≡◌, set, Some, None, refl, sym, ap, ◌∙◌, arith, subst}
 use Rattle.std.specs.Prelude.{is_some}
 use Rattle.packet_store.specs.Books.{pocket_of}
-use Rattle.shard.specs.declared.resident.Resident.{Resident}
 use Rattle.shard.specs.Stand.{Seating, seat_at, Final}
 use Rattle.shard.specs.Seats.{standing, seat, seat_of, seats_of}
 use Rattle.shard.specs.Turns.{AreTurns, LeavesOff}
 use Rattle.shard.proofs.CallerLemmas.{turns_name}
 use Rattle.shard.proofs.SlotChanges.{seat_is, all_parked}
-use Rattle.shard.proofs.RunFacts.{ran_on}
+use Rattle.shard.proofs.FirstFacts.{first}
+use Rattle.shard.proofs.RunFacts.{ran_on, entry_if_next}
 use Rattle.shard.proofs.TurnFacts.{ended, ran}
 use Rattle.shard.proofs.TurnsNow.{inside, found, called, ending, taken_out}
 use Rattle.shard.proofs.shard.Shard.turns_now.Goals as goal
@@ -82,7 +82,9 @@ returns-then-eq g c =
             was = seat_is (pocket_of s.store) s.slots.items c.args.self.now.seats e.owner r (ap (λ (x : Seating _). x.seats) c.self.view_is) f.is;
             name_is = refl;
             ready = f.least.ready;
+            first = first g.M.Mail.seen (pocket_of s.store) (g.A.Agenda.entries s.agenda) (g.A.Agenda.time s.agenda) s.slots.items c.args.self.now.seats e r c.self.invariant (ap (λ (x : Seating _). x.seats) c.self.view_is) f.is was.was was.least;
             turns = subst (λ o. AreTurns g.M.Mail.seen run.runs.0 (standing (pocket_of s.store r.owner) r) (standing (after o) t)) (sym on.2) on.0.turns;
+            entered = entry_if_next g.M.Mail.seen t.experiment.next t.offset on.3;
             others = h.seats ∙ ap (λ (x : Seating _). set x.seats e.owner (seat_of after (Some t))) c.self.view_is;
           },
         ),
@@ -166,6 +168,7 @@ returns g c =
           record {
             was = seat_is (pocket_of s.store) s.slots.items c.args.self.now.seats e.owner r (ap (λ (y : Seating _). y.seats) c.self.view_is) f.is;
             ready = f.least.ready;
+            first = first g.M.Mail.seen (pocket_of s.store) (g.A.Agenda.entries s.agenda) (g.A.Agenda.time s.agenda) s.slots.items c.args.self.now.seats e r c.self.invariant (ap (λ (y : Seating _). y.seats) c.self.view_is) f.is was.was was.least;
             turns = left.turns;
             end = ended g.M.Mail.seen left.pocket (after r.owner) left.ending left.last t c.take_ended.result left.leaving out.dossier;
             others = out.seats ∙ ap (λ (y : Seating _). set y.seats e.owner None) c.self.view_is;
