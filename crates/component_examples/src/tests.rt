@@ -9,4 +9,5 @@ mod masks;
 mod numbers;
 mod queues;
 mod ranges;
+mod refusals;
 mod shelves;

@@ -236,18 +236,25 @@ fn answer_alike<A: Agenda, B: Agenda>(one: &mut A, other: &mut B) -> bool {
     pop(one) == None
 }
 
+fn kinds_answer_alike<A: Agenda + Drop, B: Agenda + Drop>(alloc: Global) -> bool {
+    let Some(mut one) = made::<A>(alloc, 0) else {
+        return false;
+    };
+    let alike = match made::<B>(alloc, 0) {
+        Some(mut other) => {
+            let alike = answer_alike(&mut one, &mut other);
+            drop(other);
+            alike
+        }
+        None => false,
+    };
+    drop(one);
+    alike
+}
+
 #[test]
 fn wheel_answers_as_the_list(rt: HostRuntime) {
-    let (Some(mut wheel), Some(mut list)) = (
-        made::<Wheel>(rt.alloc(), 0),
-        made::<ListAgenda>(rt.alloc(), 0),
-    ) else {
-        return assert!(rt; false, "no agenda");
-    };
-    let alike = answer_alike(&mut wheel, &mut list);
-    drop(wheel);
-    drop(list);
-    assert!(rt; alike);
+    assert!(rt; kinds_answer_alike::<Wheel, ListAgenda>(rt.alloc()));
 }
 
 // More entries in one slot than a call for each would have room for on the stack.
@@ -260,14 +267,18 @@ fn takes_many<A: Agenda>(agenda: &mut A) -> bool {
     true
 }
 
+fn drops_a_long_slot<A: Agenda + Drop>(alloc: Global) -> bool {
+    let Some(mut agenda) = made::<A>(alloc, 0) else {
+        return false;
+    };
+    let first = takes_many(&mut agenda);
+    agenda.restart();
+    let second = takes_many(&mut agenda);
+    drop(agenda);
+    first && second
+}
+
 #[test]
 fn wheel_drops_a_long_slot(rt: HostRuntime) {
-    let Some(mut wheel) = made::<Wheel>(rt.alloc(), 0) else {
-        return assert!(rt; false, "no wheel");
-    };
-    let first = takes_many(&mut wheel);
-    wheel.restart();
-    let second = takes_many(&mut wheel);
-    drop(wheel);
-    assert!(rt; first && second);
+    assert!(rt; drops_a_long_slot::<Wheel>(rt.alloc()));
 }

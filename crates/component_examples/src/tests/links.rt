@@ -1,114 +1,133 @@
+ghost use Rattle.emu_model.specs.Moments.{IsMoment};
+
 use emu_model::{Bandwidth, Delay, Size};
 use link_core::{DelayLine, RateServer};
-use std::test::Fail;
+use std::process::Abort;
 
-fn rate(bits: u64) -> Result<Bandwidth, Fail> {
-    Ok(Bandwidth::new(bits).ok_or("no rate")?)
+fn rate(rt: &impl Abort, bits: u64) -> Bandwidth {
+    Bandwidth::new(bits).expect(rt, "a rate")
 }
 
-fn bytes(count: u16) -> Result<Size, Fail> {
-    Ok(Size::new(count).ok_or("no size")?)
+fn bytes(rt: &impl Abort, count: u16) -> Size {
+    Size::new(count).expect(rt, "a size")
 }
 
-fn milliseconds(count: u16) -> Result<Delay, Fail> {
-    Ok(Delay::new(count).ok_or("no delay")?)
+fn milliseconds(rt: &impl Abort, count: u16) -> Delay {
+    Delay::new(count).expect(rt, "a delay")
 }
 
 #[test]
-fn period_is_rounded_once(rt: HostRuntime) -> Result<(), Fail> {
-    let size = bytes(1000)?;
-    let mut server = RateServer::new(rate(3_000_000)?);
-    assert_eq!(rt; server.due(), None);
+fn period_is_rounded_once(rt: HostRuntime) {
+    let size = bytes(&rt, 1000);
+    let mut server = RateServer::new(rate(&rt, 3_000_000));
+    assert!(rt; server.due() == None);
     server.start(0, size);
-    assert_eq!(rt; server.due(), Some(2_666_667));
+    assert!(rt; server.due() == Some(2_666_667));
     server.follow(size);
-    assert_eq!(rt; server.due(), Some(5_333_334));
+    assert!(rt; server.due() == Some(5_333_334));
     server.follow(size);
-    assert_eq!(rt; server.due(), Some(8_000_000));
+    assert!(rt; server.due() == Some(8_000_000));
     server.rest();
-    assert_eq!(rt; server.due(), None);
+    assert!(rt; server.due() == None);
     server.follow(size);
-    assert_eq!(rt; server.due(), None, "at rest");
-    Ok(())
+    assert!(rt; server.due() == None);
 }
 
 #[test]
-fn new_rate_waits_for_packet_in_service(rt: HostRuntime) -> Result<(), Fail> {
-    let size = bytes(1000)?;
-    let mut server = RateServer::new(rate(1_000_000)?);
+fn new_rate_waits_for_packet_in_service(rt: HostRuntime) {
+    let size = bytes(&rt, 1000);
+    let mut server = RateServer::new(rate(&rt, 1_000_000));
     server.start(0, size);
-    assert_eq!(rt; server.due(), Some(8_000_000));
-    server.configure(rate(2_000_000)?);
-    assert_eq!(rt; server.due(), Some(8_000_000));
+    assert!(rt; server.due() == Some(8_000_000));
+    server.configure(rate(&rt, 2_000_000));
+    assert!(rt; server.due() == Some(8_000_000));
     server.follow(size);
-    assert_eq!(rt; server.due(), Some(12_000_000));
-    Ok(())
+    assert!(rt; server.due() == Some(12_000_000));
 }
 
 #[test]
-fn unlimited_rate_takes_no_time(rt: HostRuntime) -> Result<(), Fail> {
-    let mut server = RateServer::new(rate(0)?);
-    server.start(7, bytes(1500)?);
-    assert_eq!(rt; server.due(), Some(7));
-    server.follow(bytes(40)?);
-    assert_eq!(rt; server.due(), Some(7));
-    Ok(())
+fn unlimited_rate_takes_no_time(rt: HostRuntime) {
+    let mut server = RateServer::new(rate(&rt, 0));
+    server.start(7, bytes(&rt, 1500));
+    assert!(rt; server.due() == Some(7));
+    server.follow(bytes(&rt, 40));
+    assert!(rt; server.due() == Some(7));
+}
+
+/// When what is next on its way is due, and what it is, which leaves.
+fn next(line: &mut DelayLine<u8>) -> (Option<u64>, Option<u8>) {
+    (line.due(), line.leave())
+}
+
+fn enters(rt: &impl Abort, line: &mut DelayLine<u8>, item: u8, now: u64, delay: u16)
+    requires { IsMoment now }
+{
+    let entered = line.enter(item, now, milliseconds(rt, delay));
+    assert!(rt; entered.is_ok());
+}
+
+fn exits_keep_order_on(rt: &impl Abort, line: &mut DelayLine<u8>) {
+    assert!(rt; line.due() == None);
+    assert!(rt; line.enter_ready(0, milliseconds(rt, 100)).is_ok());
+    enters(rt, line, 1, 0, 100);
+    enters(rt, line, 2, 20_000_000, 1);
+    assert!(rt; line.flight() == 2);
+    assert!(rt; next(line) == (Some(100_000_000), Some(1)));
+    assert!(rt; next(line) == (Some(100_000_000), Some(2)));
+    assert!(rt; next(line) == (None, None));
+    enters(rt, line, 3, 100_000_000, 0);
+    assert!(rt; line.due() == Some(100_000_001));
 }
 
 #[test]
-fn exits_keep_order(rt: HostRuntime) -> Result<(), Fail> {
-    let mut line = DelayLine::new(rt.alloc());
-    assert_eq!(rt; line.due(), None);
-    line.enter_ready(0, milliseconds(100)?)?;
-    line.enter(1u8, 0, milliseconds(100)?)?;
-    line.enter(2u8, 20_000_000, milliseconds(1)?)?;
-    assert_eq!(rt; line.flight(), 2);
-    assert_eq!(rt; line.due(), Some(100_000_000));
-    assert_eq!(rt; line.leave(), Some(1));
-    assert_eq!(rt; line.due(), Some(100_000_000));
-    assert_eq!(rt; line.leave(), Some(2));
-    assert_eq!(rt; line.leave(), None);
-    line.enter(3u8, 100_000_000, milliseconds(0)?)?;
-    assert_eq!(rt; line.due(), Some(100_000_001), "without a delay");
-    Ok(())
+fn exits_keep_order(rt: HostRuntime) {
+    exits_keep_order_on(&rt, &mut DelayLine::new(rt.alloc()));
+}
+
+/// An item comes made ready and another not; one that is refused leaves the line as it was.
+fn two_enter(rt: &impl Abort, line: &mut DelayLine<u8>, item: u8, delay: Delay) {
+    let now = u64::from(item);
+    let before = (line.due(), line.flight());
+    if line.enter_ready(now, delay).is_ok() {
+        assert!(rt; line.enter(item, now, delay) == Ok(()));
+    } else {
+        assert!(rt; (line.due(), line.flight()) == before);
+    }
+    let before = (line.due(), line.flight());
+    if line.enter(item, now, delay).is_err() {
+        assert!(rt; (line.due(), line.flight()) == before);
+    }
 }
 
 /// What is refused leaves the line as it was, and an entry that was made ready isn't refused. A run
 /// in which an allocation fails shows it.
 #[test]
-fn refused_entries_change_nothing(rt: HostRuntime) -> Result<(), Fail> {
-    let delay = milliseconds(0)?;
+fn refused_entries_change_nothing(rt: HostRuntime) {
+    let delay = milliseconds(&rt, 0);
     let mut line = DelayLine::new(rt.alloc());
-    for item in 0..40u64 {
-        let (first, flight) = (line.due(), line.flight());
-        if line.enter_ready(item, delay).is_ok() {
-            assert_eq!(rt; line.enter(item, item, delay), Ok(()));
-        } else {
-            assert_eq!(rt; (line.due(), line.flight()), (first, flight), "not ready");
-        }
-        let (first, flight) = (line.due(), line.flight());
-        if line.enter(item, item, delay).is_err() {
-            assert_eq!(rt; (line.due(), line.flight()), (first, flight), "refused");
-        }
+    for item in 0..40u8 {
+        two_enter(&rt, &mut line, item, delay);
     }
-    Ok(())
 }
 
-/// What is on its way stands at its place, and another item that is put there leaves at the same
-/// moment.
-#[test]
-fn items_are_replaced_in_place(rt: HostRuntime) -> Result<(), Fail> {
-    let mut line = DelayLine::new(rt.alloc());
-    assert_eq!(rt; line.at(0), None);
-    line.enter(1u8, 0, milliseconds(1)?)?;
-    line.enter(2u8, 0, milliseconds(2)?)?;
+fn items_are_replaced_on(rt: &impl Abort, line: &mut DelayLine<u8>) {
+    assert!(rt; line.at(0) == None);
+    enters(rt, line, 1, 0, 1);
+    enters(rt, line, 2, 0, 2);
+    assert!(rt; line.flight() == 2);
     line.replace(1, 12);
     assert_eq!(rt;
         (line.at(0), line.at(1), line.at(2)),
         (Some(1), Some(12), None)
     );
     line.replace(0, 11);
-    assert_eq!(rt; (line.due(), line.leave()), (Some(1_000_000), Some(11)));
-    assert_eq!(rt; (line.due(), line.leave()), (Some(2_000_000), Some(12)));
-    Ok(())
+    assert!(rt; next(line) == (Some(1_000_000), Some(11)));
+    assert!(rt; next(line) == (Some(2_000_000), Some(12)));
+}
+
+/// What is on its way stands at its place, and another item that is put there leaves at the same
+/// moment.
+#[test]
+fn items_are_replaced_in_place(rt: HostRuntime) {
+    items_are_replaced_on(&rt, &mut DelayLine::new(rt.alloc()));
 }

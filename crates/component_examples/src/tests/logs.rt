@@ -2,7 +2,7 @@
 
 use emu_model::{DropCause, Load, Record};
 use record_log::*;
-use std::test::Fail;
+use std::process::Abort;
 
 const CAUSES: [DropCause; 8] = [
     DropCause::Denied,
@@ -32,48 +32,62 @@ fn dropped(packet: u64, cause: DropCause) -> Record {
     }
 }
 
-#[test]
-fn counts_go_by_kind_and_cause(rt: HostRuntime) -> Result<(), Fail> {
-    let mut log = RecordLog::new(rt.alloc());
-    log.reserve(16)?;
-    log.note(&Record::CommandDone {
-        moment: 0,
-        command: 0,
-    });
-    log.note(&delivered(1));
-    log.note(&delivered(2));
-    for cause in CAUSES {
-        log.reserve(1)?;
-        log.note(&dropped(3, cause));
+fn notes(rt: &impl Abort, log: &mut RecordLog, entry: &Record) {
+    log.reserve(1).expect(rt, "memory");
+    log.note(entry);
+}
+
+// Thirteen records.
+fn notes_all(rt: &impl Abort, log: &mut RecordLog) {
+    notes(
+        rt,
+        log,
+        &Record::CommandDone {
+            moment: 0,
+            command: 0,
+        },
+    );
+    notes(rt, log, &delivered(1));
+    notes(rt, log, &delivered(2));
+    for cause in &CAUSES {
+        notes(rt, log, &dropped(3, *cause));
     }
-    log.reserve(2)?;
-    log.note(&dropped(4, DropCause::Full));
-    log.note(&Record::StepsSpent { moment: 9 });
-    assert_eq!(rt; log.delivered(), 2);
+    notes(rt, log, &dropped(4, DropCause::Full));
+    notes(rt, log, &Record::StepsSpent { moment: 9 });
+}
+
+#[test]
+fn counts_go_by_kind_and_cause(rt: HostRuntime) {
+    let mut log = RecordLog::new(rt.alloc());
+    notes_all(&rt, &mut log);
+    assert!(rt; log.delivered() == 2);
     assert!(rt; log.drops() == [1, 1, 1, 1, 2, 1, 1, 1]);
-    assert_eq!(rt; log.as_slice().len(), 13);
-    assert!(rt; log.as_slice()[2] == delivered(2));
+    assert!(rt; log.as_slice().get(2) == Some(&delivered(2)));
     let records = log.into_vec();
-    assert_eq!(rt; records.len(), 13);
+    assert!(rt; records.len() == 13);
     assert!(rt; records[11] == dropped(4, DropCause::Full));
-    Ok(())
+}
+
+// How many records there are, and how many packets were delivered.
+fn counts(log: &RecordLog) -> (usize, u64) {
+    (log.as_slice().len(), log.delivered())
 }
 
 // Where memory is refused nothing is lost.
-#[test]
-fn a_refused_growth_keeps_the_records(rt: HostRuntime) -> Result<(), Fail> {
-    let mut log = RecordLog::new(rt.alloc());
+fn keeps_its_records(rt: &impl Abort, log: &mut RecordLog) {
     if log.reserve(1).is_err() {
-        assert_eq!(rt; log.as_slice().len(), 0);
-        return Ok(());
+        return assert!(rt; counts(log) == (0, 0));
     }
     log.note(&delivered(1));
     if log.reserve(100).is_err() {
-        assert_eq!(rt; log.as_slice().len(), 1);
-        assert_eq!(rt; log.delivered(), 1);
-        return Ok(());
+        return assert!(rt; counts(log) == (1, 1));
     }
     log.note(&delivered(2));
-    assert_eq!(rt; log.delivered(), 2);
-    Ok(())
+    assert!(rt; counts(log) == (2, 2));
+}
+
+#[test]
+fn a_refused_growth_keeps_the_records(rt: HostRuntime) {
+    let mut log = RecordLog::new(rt.alloc());
+    keeps_its_records(&rt, &mut log);
 }

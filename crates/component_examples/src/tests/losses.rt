@@ -1,44 +1,37 @@
 use emu_model::{LossRate, PipeNumber};
 use loss_stream::LossStream;
-use std::test::Fail;
+use std::process::Abort;
 
-/// The opening stream of seed 0, of which the key is zero: its words are 2917185654 and 2419978656.
-fn zero_stream() -> Result<LossStream, Fail> {
-    let first = PipeNumber::new(1).ok_or("no pipe")?;
-    Ok(LossStream::new(0, first, 0))
-}
-
-fn millionths(count: u32) -> Result<LossRate, Fail> {
-    Ok(LossRate::new(count).ok_or("no rate")?)
+/// What becomes of the first two packets of seed 0 at a rate in millionths. The key is zero, and its opening words are
+/// 2917185654 and 2419978656.
+fn two_lost(rt: &impl Abort, first: u32, second: u32) -> [bool; 2] {
+    let pipe = PipeNumber::new(1).expect(rt, "a pipe");
+    let mut stream = LossStream::new(0, pipe, 0);
+    assert!(rt; stream.drawn() == 0);
+    let one = stream.lose(LossRate::new(first).expect(rt, "a rate"));
+    assert!(rt; stream.drawn() == 1);
+    let other = stream.lose(LossRate::new(second).expect(rt, "a rate"));
+    assert!(rt; stream.drawn() == 2);
+    [one, other]
 }
 
 #[test]
-fn words_are_those_of_the_cipher(rt: HostRuntime) -> Result<(), Fail> {
-    for (plr, first, second) in [
-        (0, false, false),
-        (563_445, false, false),
-        (563_446, false, true),
-        (600_000, false, true),
-        (679_210, false, true),
-        (679_211, true, true),
-        (680_000, true, true),
-        (1_000_000, true, true),
+fn words_are_those_of_the_cipher(rt: HostRuntime) {
+    for (plr, lost) in &[
+        (0, [false, false]),
+        (563_445, [false, false]),
+        (563_446, [false, true]),
+        (600_000, [false, true]),
+        (679_210, [false, true]),
+        (679_211, [true, true]),
+        (680_000, [true, true]),
+        (1_000_000, [true, true]),
     ] {
-        let plr = millionths(plr)?;
-        let mut stream = zero_stream()?;
-        assert_eq!(rt; stream.lose(plr), first);
-        assert_eq!(rt; stream.lose(plr), second);
-        assert_eq!(rt; stream.drawn(), 2);
+        assert!(rt; two_lost(&rt, *plr, *plr) == *lost);
     }
-    Ok(())
 }
 
 #[test]
-fn each_packet_draws(rt: HostRuntime) -> Result<(), Fail> {
-    let mut stream = zero_stream()?;
-    assert_eq!(rt; stream.drawn(), 0);
-    assert!(rt; !stream.lose(millionths(0)?));
-    assert_eq!(rt; stream.drawn(), 1);
-    assert!(rt; stream.lose(millionths(600_000)?));
-    Ok(())
+fn each_packet_draws(rt: HostRuntime) {
+    assert!(rt; two_lost(&rt, 0, 600_000) == [false, true]);
 }

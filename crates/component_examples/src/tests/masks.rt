@@ -2,7 +2,7 @@
 
 use emu_model::{Load, Mask, Packet, Place, Protocol, RuleNumber, Size};
 use flow_mask::*;
-use std::test::Fail;
+use std::process::Abort;
 
 fn mask(proto: u8, dst: u32, dport: u16) -> Mask {
     Mask {
@@ -41,57 +41,75 @@ fn to(dst: u32) -> FlowId {
     apply(mask(0, 0xffff_ffff, 0), Protocol::Udp, dst, 2000)
 }
 
+// The number of a destination, which may be new.
+fn number(rt: &impl Abort, instances: &mut Instances, dst: u32) -> u8 {
+    instances
+        .find_or_make(to(dst))
+        .ok()
+        .expect(rt, "an instance")
+}
+
 #[test]
-fn each_destination_has_its_instance(rt: HostRuntime) -> Result<(), Fail> {
+fn each_destination_has_its_instance(rt: HostRuntime) {
     let mut instances = Instances::new(rt.alloc());
-    for (dst, want) in [(0x0a00_0002, 0), (0x0a00_0003, 1), (0x0a00_0002, 0)] {
-        assert_eq!(rt; instances.find_or_make(to(dst))?, want);
+    for (dst, want) in &[(0x0a00_0002, 0), (0x0a00_0003, 1), (0x0a00_0002, 0)] {
+        assert!(rt; number(&rt, &mut instances, *dst) == *want);
     }
-    assert_eq!(rt; instances.find(to(0x0a00_0003)), Some(1));
-    assert_eq!(rt; instances.len(), 2);
-    Ok(())
+    assert!(rt; instances.find(to(0x0a00_0003)) == Some(1));
+    assert!(rt; instances.len() == 2);
+}
+
+// Whether packets of two protocols, to two destinations and ports, are one flow.
+fn are_one(mask: Mask, one: (Protocol, u32, u16), other: (Protocol, u32, u16)) -> bool {
+    apply(mask, one.0, one.1, one.2) == apply(mask, other.0, other.1, other.2)
 }
 
 #[test]
 fn a_mask_tells_its_bits_apart(rt: HostRuntime) {
-    let none = mask(0, 0, 0);
-    assert!(rt; apply(none, Protocol::Udp, 1, 80) == apply(none, Protocol::Tcp, 2, 90));
+    use Protocol::{Tcp, Udp};
+
+    assert!(rt; are_one(mask(0, 0, 0), (Udp, 1, 80), (Tcp, 2, 90)));
     // 6 and 17 differ, and 8 is a bit of neither.
-    let whole = mask(0xff, 0, 0);
-    assert!(rt; apply(whole, Protocol::Udp, 1, 80) != apply(whole, Protocol::Tcp, 1, 80));
-    let neither = mask(8, 0, 0);
-    assert!(rt; apply(neither, Protocol::Udp, 1, 80) == apply(neither, Protocol::Tcp, 1, 80));
-    let odd = mask(0, 0, 1);
-    assert!(rt; apply(odd, Protocol::Udp, 1, 80) != apply(odd, Protocol::Udp, 1, 83));
-    assert!(rt; apply(odd, Protocol::Udp, 1, 80) == apply(odd, Protocol::Udp, 1, 82));
+    assert!(rt; !are_one(mask(0xff, 0, 0), (Udp, 1, 80), (Tcp, 1, 80)));
+    assert!(rt; are_one(mask(8, 0, 0), (Udp, 1, 80), (Tcp, 1, 80)));
+    assert!(rt; !are_one(mask(0, 0, 1), (Udp, 1, 80), (Udp, 1, 83)));
+    assert!(rt; are_one(mask(0, 0, 1), (Udp, 1, 80), (Udp, 1, 82)));
+}
+
+fn take_no_257th(rt: &impl Abort, instances: &mut Instances) {
+    for low in 0..256u16 {
+        assert!(rt; u16::from(number(rt, instances, u32::from(low))) == low);
+    }
+    assert!(rt; instances.find_or_make_ready(to(256)).is_ok());
+    let answer = instances.find_or_make(to(256));
+    assert!(rt; matches!(answer, Err(InstanceError::TooMany)));
+    assert!(rt; number(rt, instances, 255) == 255);
 }
 
 #[test]
-fn the_257th_has_no_instance(rt: HostRuntime) -> Result<(), Fail> {
+fn the_257th_has_no_instance(rt: HostRuntime) {
     let mut instances = Instances::new(rt.alloc());
-    for low in 0..256 {
-        assert_eq!(rt; instances.find_or_make(to(low))? as u32, low);
+    take_no_257th(&rt, &mut instances);
+}
+
+// The number of a destination, at the second try where memory was refused.
+fn number_in_the_end(instances: &mut Instances, dst: u32) -> Option<u8> {
+    if dst % 2 == 0 && instances.find_or_make_ready(to(dst)).is_err() {
+        instances.find_or_make_ready(to(dst)).ok()?;
     }
-    instances.find_or_make_ready(to(256))?;
-    assert!(rt; matches!(instances.find_or_make(to(256)), Err(InstanceError::TooMany)));
-    assert_eq!(rt; instances.find_or_make(to(255))?, 255);
-    Ok(())
+    match instances.find_or_make(to(dst)) {
+        Ok(index) => Some(index),
+        Err(_) => instances.find_or_make(to(dst)).ok(),
+    }
 }
 
 // Passes with ample memory, and where any one allocation of it is refused: a refused call left all as
 // it was, and goes when it is made again.
 #[test]
-fn a_refused_growth_changes_nothing(rt: HostRuntime) -> Result<(), Fail> {
+fn a_refused_growth_changes_nothing(rt: HostRuntime) {
     let mut instances = Instances::new(rt.alloc());
-    for low in 0..20 {
-        if low % 2 == 0 && instances.find_or_make_ready(to(low)).is_err() {
-            instances.find_or_make_ready(to(low))?;
-        }
-        let index = match instances.find_or_make(to(low)) {
-            Ok(index) => index,
-            Err(_) => instances.find_or_make(to(low))?,
-        };
-        assert_eq!(rt; index as u32, low);
+    for low in 0..20u8 {
+        let index = number_in_the_end(&mut instances, u32::from(low));
+        assert!(rt; index == Some(low));
     }
-    Ok(())
 }

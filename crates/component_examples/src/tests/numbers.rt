@@ -1,24 +1,15 @@
-ghost use Rattle.std.specs.Prelude.{◌^◌, ◌<◌};
-
 use number_table::NumberTable;
-use std::test::Fail;
+use std::process::Abort;
 
 /// A number leads to a place from now on, at the second try where memory was refused; what the numbers around it lead
 /// to is as it was then.
-fn leads(table: &mut NumberTable, number: u16, place: usize) -> Result<(), Fail>
-    requires { place < 2 ^ 16 }
-{
+fn leads(rt: &impl Abort, table: &mut NumberTable, number: u16, place: u16) {
     let before = around(table, number);
-    if table.ready(number).is_ok() {
-        table.set(number, place);
-        return Ok(());
+    if table.ready(number).is_err() {
+        assert!(rt; around(table, number) == before, "it has changed");
+        table.ready(number).expect(rt, "memory");
     }
-    if around(table, number) != before {
-        return Err(Fail::from("it has changed"));
-    }
-    table.ready(number)?;
-    table.set(number, place);
-    Ok(())
+    table.set(number, usize::from(place));
 }
 
 /// The places of a number and of those beside it.
@@ -31,14 +22,12 @@ fn around(table: &NumberTable, number: u16) -> [Option<usize>; 3] {
 }
 
 // Numbers far apart, in no order, and the last of all.
-#[test]
-fn numbers_lead_to_their_places(rt: HostRuntime) -> Result<(), Fail> {
-    let mut table = NumberTable::new(rt.alloc());
-    assert!(rt; table.get(0).is_none(), "nothing is there");
-    for (number, place) in [(7, 0), (1, 1), (65535, 2), (300, 65535), (0, 4)] {
-        leads(&mut table, number, place)?;
+fn numbers_lead(rt: &impl Abort, table: &mut NumberTable) {
+    assert!(rt; table.get(0).is_none());
+    for (number, place) in &[(7, 0), (1, 1), (65535, 2), (300, 65535), (0, 4)] {
+        leads(rt, table, *number, *place);
     }
-    for (number, place) in [
+    for (number, place) in &[
         (0, Some(4)),
         (1, Some(1)),
         (2, None),
@@ -49,27 +38,32 @@ fn numbers_lead_to_their_places(rt: HostRuntime) -> Result<(), Fail> {
         (65534, None),
         (65535, Some(2)),
     ] {
-        assert!(rt; table.get(number) == place, "{number}");
+        assert!(rt; table.get(*number) == *place);
     }
-    leads(&mut table, 7, 9)?;
-    assert!(rt; table.get(7) == Some(9), "another place");
-    assert!(rt; table.get(1) == Some(1), "as it was");
-    Ok(())
+    leads(rt, table, 7, 9);
+    assert!(rt; table.get(7) == Some(9));
+    assert!(rt; table.get(1) == Some(1));
+}
+
+#[test]
+fn numbers_lead_to_their_places(rt: HostRuntime) {
+    let mut table = NumberTable::new(rt.alloc());
+    numbers_lead(&rt, &mut table);
 }
 
 /// Passes with ample memory, and where any one allocation is refused.
+fn many_numbers_lead(rt: &impl Abort, table: &mut NumberTable) {
+    for number in 1..40 {
+        leads(rt, table, number, 40 - number);
+        assert!(rt; table.get(number) == Some(usize::from(40 - number)));
+    }
+    for number in 1..40 {
+        assert!(rt; table.get(number).is_some());
+    }
+}
+
 #[test]
-fn growth_may_be_refused_memory(rt: HostRuntime) -> Result<(), Fail> {
+fn growth_may_be_refused_memory(rt: HostRuntime) {
     let mut table = NumberTable::new(rt.alloc());
-    for number in 1..40 {
-        leads(&mut table, number, usize::from(40 - number))?;
-        assert!(rt;
-            table.get(number) == Some(usize::from(40 - number)),
-            "{number}"
-        );
-    }
-    for number in 1..40 {
-        assert!(rt; table.get(number).is_some(), "{number} still");
-    }
-    Ok(())
+    many_numbers_lead(&rt, &mut table);
 }

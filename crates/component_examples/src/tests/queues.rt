@@ -1,22 +1,24 @@
 //! The control law's numbers, the limits, runs under CoDel, and refused memory.
 
+ghost use Rattle.emu_model.specs.Moments.{IsMoment};
+
 use emu_model::{CodelTime, KByteLimit, QueueLimit, Size, SlotLimit};
 use queue_disc::*;
 use std::alloc::{AllocError, Global};
-use std::test::Fail;
+use std::process::Abort;
 
 const MILLISECOND: u64 = 1_000_000;
 
-fn size(bytes: u16) -> Result<Size, Fail> {
-    Ok(Size::new(bytes).ok_or("no size")?)
+fn size(rt: &impl Abort, bytes: u16) -> Size {
+    Size::new(bytes).expect(rt, "a size")
 }
 
-fn slots(count: u16) -> Result<QueueLimit, Fail> {
-    Ok(QueueLimit::Slots(SlotLimit::new(count).ok_or("no limit")?))
+fn slots(rt: &impl Abort, count: u16) -> QueueLimit {
+    QueueLimit::Slots(SlotLimit::new(count).expect(rt, "a limit"))
 }
 
-fn time(nanoseconds: u64) -> Result<CodelTime, Fail> {
-    Ok(CodelTime::new(nanoseconds).ok_or("no time")?)
+fn time(rt: &impl Abort, nanoseconds: u64) -> CodelTime {
+    CodelTime::new(nanoseconds).expect(rt, "a time")
 }
 
 fn cause(refused: Result<(), Refused<u32>>) -> Option<EnqueueError> {
@@ -27,56 +29,82 @@ fn cause(refused: Result<(), Refused<u32>>) -> Option<EnqueueError> {
 }
 
 #[test]
-fn control_law_rounds_down(rt: HostRuntime) -> Result<(), Fail> {
-    let interval = time(100 * MILLISECOND)?;
-    assert_eq!(rt; control_law(112_000_000, 1, interval), 212_000_000);
-    assert_eq!(rt; control_law(212_000_000, 2, interval), 282_710_678);
-    assert_eq!(rt;
-        control_law(0, 4, time(60_000 * MILLISECOND)?),
-        30_000 * MILLISECOND
-    );
-    assert_eq!(rt; control_law(7, u32::MAX, time(1000)?), 7);
-    Ok(())
+fn control_law_rounds_down(rt: HostRuntime) {
+    let interval = time(&rt, 100 * MILLISECOND);
+    assert!(rt; control_law(112_000_000, 1, interval) == 212_000_000);
+    assert!(rt; control_law(212_000_000, 2, interval) == 282_710_678);
+    let longest = time(&rt, 60_000 * MILLISECOND);
+    assert!(rt; control_law(0, 4, longest) == 30_000 * MILLISECOND);
+    assert!(rt; control_law(7, u32::MAX, time(&rt, 1000)) == 7);
+}
+
+/// Wants a packet to be taken, or to be refused for this cause, at ten times its number.
+fn comes(
+    rt: &impl Abort,
+    tail: &mut DropTail<u32>,
+    packet: u32,
+    bytes: u16,
+    wanted: Option<EnqueueError>,
+) {
+    let now = 10 * u64::from(packet);
+    let answer = cause(tail.enqueue(packet, size(rt, bytes), now));
+    assert!(rt; answer == wanted);
+}
+
+/// The same of a queue under CoDel.
+fn comes_to_codel(
+    rt: &impl Abort,
+    queue: &mut Codel<u32>,
+    packet: u32,
+    bytes: u16,
+    wanted: Option<EnqueueError>,
+) {
+    let now = 10 * u64::from(packet);
+    let answer = cause(queue.enqueue(packet, size(rt, bytes), now));
+    assert!(rt; answer == wanted);
+}
+
+const FULL: Option<EnqueueError> = Some(EnqueueError::Full);
+
+/// Number, size and stamp of what a queue gives.
+fn parts(given: Option<Waiting<u32>>) -> Option<(u32, u16, u64)> {
+    match given {
+        Some(waiting) => Some((waiting.item, waiting.size.get(), waiting.stamp)),
+        None => None,
+    }
+}
+
+fn slots_limit(rt: &impl Abort, queue: &mut DropTail<u32>) {
+    assert!(rt; queue.enqueue_ready(size(rt, 40), 0) == Ok(()));
+    comes(rt, queue, 5, 40, None);
+    comes(rt, queue, 6, 1500, None);
+    comes(rt, queue, 7, 40, FULL);
+    assert!(rt; (queue.waiting(), queue.bytes()) == (2, 1540));
+    queue.set_limit(slots(rt, 1));
+    assert!(rt; parts(queue.dequeue()) == Some((5, 40, 50)));
+    comes(rt, queue, 8, 40, FULL);
+    assert!(rt; (queue.waiting(), queue.bytes()) == (1, 1500));
 }
 
 #[test]
-fn slots_limit_what_waits(rt: HostRuntime) -> Result<(), Fail> {
-    let mut queue = DropTail::new(rt.alloc(), slots(2)?);
-    assert_eq!(rt; queue.enqueue_ready(size(40)?, 0), Ok(()));
-    assert_eq!(rt; cause(queue.enqueue(0, size(40)?, 5)), None);
-    assert_eq!(rt; cause(queue.enqueue(1, size(1500)?, 6)), None);
-    assert_eq!(rt;
-        cause(queue.enqueue(2, size(40)?, 7)),
-        Some(EnqueueError::Full)
-    );
-    assert_eq!(rt; (queue.waiting(), queue.bytes()), (2, 1540));
-    queue.set_limit(slots(1)?);
-    let head = queue.dequeue().ok_or("nothing waits")?;
-    assert_eq!(rt; (head.item, head.size.get(), head.stamp), (0, 40, 5));
-    assert_eq!(rt;
-        cause(queue.enqueue(2, size(40)?, 8)),
-        Some(EnqueueError::Full)
-    );
-    assert_eq!(rt; (queue.waiting(), queue.bytes()), (1, 1500));
-    Ok(())
+fn slots_limit_what_waits(rt: HostRuntime) {
+    let mut queue = DropTail::new(rt.alloc(), slots(&rt, 2));
+    slots_limit(&rt, &mut queue);
+}
+
+fn kbytes_limit(rt: &impl Abort, queue: &mut DropTail<u32>) {
+    comes(rt, queue, 0, 1500, FULL);
+    comes(rt, queue, 1, 600, None);
+    comes(rt, queue, 2, 600, FULL);
+    comes(rt, queue, 3, 424, None);
+    assert!(rt; (queue.waiting(), queue.bytes()) == (2, 1024));
 }
 
 #[test]
-fn kbytes_limit_what_waits(rt: HostRuntime) -> Result<(), Fail> {
-    let kbyte = QueueLimit::KBytes(KByteLimit::new(1).ok_or("no limit")?);
-    let mut queue = DropTail::new(rt.alloc(), kbyte);
-    assert_eq!(rt;
-        cause(queue.enqueue(0, size(1500)?, 0)),
-        Some(EnqueueError::Full)
-    );
-    assert_eq!(rt; cause(queue.enqueue(1, size(600)?, 0)), None);
-    assert_eq!(rt;
-        cause(queue.enqueue(2, size(600)?, 0)),
-        Some(EnqueueError::Full)
-    );
-    assert_eq!(rt; cause(queue.enqueue(3, size(424)?, 0)), None);
-    assert_eq!(rt; (queue.waiting(), queue.bytes()), (2, 1024));
-    Ok(())
+fn kbytes_limit_what_waits(rt: HostRuntime) {
+    let kbyte = KByteLimit::new(1).expect(&rt, "a limit");
+    let mut queue = DropTail::new(rt.alloc(), QueueLimit::KBytes(kbyte));
+    kbytes_limit(&rt, &mut queue);
 }
 
 /// What became of a packet, and when.
@@ -86,167 +114,269 @@ enum Event {
     Given(u64, u32),
 }
 
-fn codel(alloc: Global) -> Result<Codel<u32>, Fail> {
-    Ok(Codel::new(
-        alloc,
-        slots(50)?,
-        time(5 * MILLISECOND)?,
-        time(100 * MILLISECOND)?,
-    ))
+fn codel(rt: &(impl Abort + AllocGlobal)) -> Codel<u32> {
+    let (target, interval) = (time(rt, 5 * MILLISECOND), time(rt, 100 * MILLISECOND));
+    Codel::new(rt.alloc(), slots(rt, 50), target, interval)
 }
 
-/// So many packets of 1000 bytes at 0, and a dequeue every 8 ms: all drops, and what is given
-/// from `from` on.
-fn serve(alloc: Global, packets: u32, from: u64) -> Result<Vec<Event>, Fail> {
-    let mut queue = codel(alloc)?;
-    for packet in 0..packets {
-        cause(queue.enqueue(packet, size(1000)?, 0)).map_or(Ok(()), |_| Err("refused"))?;
+/// So many packets of 1000 bytes come at a moment, numbered from `first` on.
+fn come(rt: &impl Abort, queue: &mut Codel<u32>, first: u32, count: u32, now: u64) {
+    for place in 0..count {
+        let packet = first.saturating_add(place);
+        let answer = cause(queue.enqueue(packet, size(rt, 1000), now));
+        assert!(rt; answer == None);
     }
-    let mut events = Vec::new(alloc);
-    for turn in 0..40 {
-        let now = 8 * MILLISECOND * turn;
-        let Dequeued { dropped, given } = queue.dequeue(now).or(Err("no memory"))?;
-        for waiting in dropped {
-            events.push(Event::Dropped(now, waiting.item))?;
-        }
-        if let Some(waiting) = given {
-            if from <= now {
-                events.push(Event::Given(now, waiting.item))?;
-            }
+}
+
+fn note(rt: &impl Abort, events: &mut Vec<Event>, event: Event) {
+    assert!(rt; events.push(event).is_ok());
+}
+
+/// Notes the drops of a dequeue at a moment, and what is given from `from` on.
+fn note_all(
+    rt: &impl Abort,
+    events: &mut Vec<Event>,
+    now: u64,
+    from: u64,
+    dequeued: &Dequeued<u32>,
+) {
+    for waiting in &dequeued.dropped {
+        note(rt, events, Event::Dropped(now, waiting.item));
+    }
+    if let Some(waiting) = &dequeued.given {
+        if from <= now {
+            note(rt, events, Event::Given(now, waiting.item));
         }
     }
-    Ok(events)
 }
 
-#[test]
-fn codel_drops_once_of_thirty(rt: HostRuntime) -> Result<(), Fail> {
-    let events = serve(rt.alloc(), 30, 208 * MILLISECOND)?;
-    let expected = [
-        Event::Dropped(112 * MILLISECOND, 14),
-        Event::Given(208 * MILLISECOND, 27),
-        Event::Given(216 * MILLISECOND, 28),
-        Event::Given(224 * MILLISECOND, 29),
-    ];
-    assert_eq!(rt; events.as_slice(), expected.as_slice());
-    Ok(())
+/// One dequeue at a moment.
+fn leave(rt: &impl Abort, queue: &mut Codel<u32>, now: u64, from: u64, events: &mut Vec<Event>)
+    requires { IsMoment now }
+{
+    let dequeued = queue.dequeue(now).ok().expect(rt, "memory");
+    note_all(rt, events, now, from, &dequeued);
 }
 
-#[test]
-fn codel_drops_twice_of_forty(rt: HostRuntime) -> Result<(), Fail> {
-    let events = serve(rt.alloc(), 40, 280 * MILLISECOND)?;
-    let expected = [
-        Event::Dropped(112 * MILLISECOND, 14),
-        Event::Dropped(216 * MILLISECOND, 28),
-        Event::Given(280 * MILLISECOND, 37),
-        Event::Given(288 * MILLISECOND, 38),
-        Event::Given(296 * MILLISECOND, 39),
-    ];
-    assert_eq!(rt; events.as_slice(), expected.as_slice());
-    Ok(())
+/// A dequeue every 8 ms from `first` times that to below `end` times it.
+fn serve(
+    rt: &impl Abort,
+    queue: &mut Codel<u32>,
+    first: u16,
+    end: u16,
+    from: u64,
+    events: &mut Vec<Event>,
+) {
+    for turn in first..end {
+        leave(rt, queue, 8 * MILLISECOND * u64::from(turn), from, events);
+    }
 }
 
+fn are(rt: &impl Abort, events: &Vec<Event>, wanted: &[Event]) {
+    assert!(rt; events.as_slice() == wanted);
+}
+
+/// Wants this of so many packets that come at 0.
+fn serves_all(rt: &(impl Abort + AllocGlobal), packets: u32, from: u64, wanted: &[Event]) {
+    let mut queue = codel(rt);
+    come(rt, &mut queue, 0, packets, 0);
+    let mut events = Vec::new(rt.alloc());
+    serve(rt, &mut queue, 0, 40, from, &mut events);
+    are(rt, &events, wanted);
+}
+
+const OF_THIRTY: [Event; 4] = [
+    Event::Dropped(112 * MILLISECOND, 14),
+    Event::Given(208 * MILLISECOND, 27),
+    Event::Given(216 * MILLISECOND, 28),
+    Event::Given(224 * MILLISECOND, 29),
+];
+
 #[test]
-fn disciplines_change_in_place(rt: HostRuntime) -> Result<(), Fail> {
-    let mut tail = DropTail::new(rt.alloc(), slots(3)?);
-    assert_eq!(rt; cause(tail.enqueue(0, size(100)?, 1)), None);
-    assert_eq!(rt; cause(tail.enqueue(1, size(200)?, 2)), None);
-    let mut queue = tail.into_codel(time(5 * MILLISECOND)?, time(100 * MILLISECOND)?);
-    assert_eq!(rt; queue.enqueue_ready(size(300)?, 3), Ok(()));
-    assert_eq!(rt; cause(queue.enqueue(2, size(300)?, 3)), None);
-    assert_eq!(rt;
-        cause(queue.enqueue(3, size(300)?, 3)),
-        Some(EnqueueError::Full)
-    );
-    queue.set_limit(slots(1)?);
-    queue.set_times(time(1000)?, time(1000)?);
+fn codel_drops_once_of_thirty(rt: HostRuntime) {
+    serves_all(&rt, 30, 208 * MILLISECOND, &OF_THIRTY);
+}
+
+const OF_FORTY: [Event; 5] = [
+    Event::Dropped(112 * MILLISECOND, 14),
+    Event::Dropped(216 * MILLISECOND, 28),
+    Event::Given(280 * MILLISECOND, 37),
+    Event::Given(288 * MILLISECOND, 38),
+    Event::Given(296 * MILLISECOND, 39),
+];
+
+#[test]
+fn codel_drops_twice_of_forty(rt: HostRuntime) {
+    serves_all(&rt, 40, 280 * MILLISECOND, &OF_FORTY);
+}
+
+const AT_THE_NANOSECOND: [Event; 6] = [
+    Event::Dropped(112 * MILLISECOND, 14),
+    Event::Dropped(216 * MILLISECOND, 28),
+    Event::Given(280 * MILLISECOND, 37),
+    Event::Given(282_710_677, 38),
+    Event::Dropped(282_710_678, 39),
+    Event::Given(282_710_678, 40),
+];
+
+/// Packets 14 and 28 are dropped, at 112 and at 216 ms. The next drop is due at 212 ms and 100 ms over the root of 2,
+/// which are 70710678.1 ns, and not a nanosecond before.
+#[test]
+fn codel_drops_at_the_nanosecond(rt: HostRuntime) {
+    let mut queue = codel(&rt);
+    come(&rt, &mut queue, 0, 44, 0);
+    let mut events = Vec::new(rt.alloc());
+    serve(&rt, &mut queue, 0, 36, 280 * MILLISECOND, &mut events);
+    leave(&rt, &mut queue, 282_710_677, 0, &mut events);
+    leave(&rt, &mut queue, 282_710_678, 0, &mut events);
+    are(&rt, &events, &AT_THE_NANOSECOND);
+}
+
+const BEGUN_AGAIN: [Event; 6] = [
+    Event::Dropped(112 * MILLISECOND, 14),
+    Event::Given(216 * MILLISECOND, 28),
+    Event::Given(320 * MILLISECOND, 41),
+    Event::Dropped(328 * MILLISECOND, 42),
+    Event::Given(328 * MILLISECOND, 43),
+    Event::Given(336 * MILLISECOND, 44),
+];
+
+/// Of thirty packets dropping ends at 216 ms, where 1000 bytes are left. So of those that come then one alone is dropped,
+/// the first that is dequeued 100 ms after 224 ms: were it dropping still, drops would be due since 212 ms.
+#[test]
+fn codel_begins_again_after_it_ended(rt: HostRuntime) {
+    let mut queue = codel(&rt);
+    come(&rt, &mut queue, 0, 30, 0);
+    let mut events = Vec::new(rt.alloc());
+    serve(&rt, &mut queue, 0, 28, 216 * MILLISECOND, &mut events);
+    assert!(rt; queue.bytes() == 1000);
+    come(&rt, &mut queue, 30, 20, 216 * MILLISECOND);
+    serve(&rt, &mut queue, 28, 43, 320 * MILLISECOND, &mut events);
+    are(&rt, &events, &BEGUN_AGAIN);
+}
+
+/// What waits in it comes from before; its limit, its times and its law begin anew.
+fn codel_goes_on(rt: &impl Abort, queue: &mut Codel<u32>) {
+    assert!(rt; queue.enqueue_ready(size(rt, 300), 3) == Ok(()));
+    comes_to_codel(rt, queue, 3, 300, None);
+    comes_to_codel(rt, queue, 4, 300, FULL);
+    queue.set_limit(slots(rt, 1));
+    queue.set_times(time(rt, 1000), time(rt, 1000));
     queue.reset_control();
-    assert_eq!(rt; (queue.waiting(), queue.bytes()), (3, 600));
-    assert_eq!(rt; queue.take().ok_or("nothing waits")?.stamp, 1);
-    let mut tail = queue.into_drop_tail();
-    assert_eq!(rt; tail.dequeue().ok_or("nothing waits")?.stamp, 2);
-    assert_eq!(rt; (tail.waiting(), tail.bytes()), (1, 300));
-    Ok(())
+    assert!(rt; (queue.waiting(), queue.bytes()) == (3, 600));
+    assert!(rt; parts(queue.take()) == Some((1, 100, 10)));
 }
 
-/// Takes blocks of memory, ever smaller ones, until not even a few bytes are given. None where the
-/// allocator has no such end.
-fn exhaust(alloc: Global) -> Result<Option<Vec<Vec<u64>>>, AllocError> {
-    const MOST_BLOCKS: usize = 60_000;
-    let mut blocks = Vec::with_capacity(alloc, MOST_BLOCKS)?;
+#[test]
+fn disciplines_change_in_place(rt: HostRuntime) {
+    let mut tail = DropTail::new(rt.alloc(), slots(&rt, 3));
+    comes(&rt, &mut tail, 1, 100, None);
+    comes(&rt, &mut tail, 2, 200, None);
+    let mut queue = tail.into_codel(time(&rt, 5 * MILLISECOND), time(&rt, 100 * MILLISECOND));
+    codel_goes_on(&rt, &mut queue);
+    let mut tail = queue.into_drop_tail();
+    assert!(rt; parts(tail.dequeue()) == Some((2, 200, 20)));
+    assert!(rt; (tail.waiting(), tail.bytes()) == (1, 300));
+}
+
+/// Takes blocks of memory, ever smaller ones, until not even a few bytes are given; false where the allocator has no
+/// such end.
+fn fill(alloc: Global, blocks: &mut Vec<Vec<u64>>) -> bool {
     let mut words: usize = 1 << 43;
     for _ in 0..MOST_BLOCKS {
         match Vec::with_capacity(alloc, words) {
-            Ok(block) => blocks.push(block)?,
-            Err(_) if words == 1 => return Ok(Some(blocks)),
+            Ok(block) => {
+                if blocks.push(block).is_err() {
+                    return false;
+                }
+            }
+            Err(_) if words == 1 => return true,
             Err(_) => words /= 2,
         }
     }
-    Ok(None)
+    false
+}
+
+const MOST_BLOCKS: usize = 60_000;
+
+/// A queue of each kind: `dropping` is above its target since 0, and drops at 300 ms.
+fn queues_refuse(
+    rt: &impl Abort,
+    tail: &mut DropTail<u32>,
+    fresh: &mut Codel<u32>,
+    dropping: &mut Codel<u32>,
+) {
+    let small = size(rt, 40);
+    let refused = Some(EnqueueError::NoMemory);
+    comes(rt, tail, 1, 40, refused);
+    assert!(rt; tail.enqueue_ready(small, 0) == Err(AllocError));
+    comes_to_codel(rt, fresh, 1, 40, refused);
+    assert!(rt; fresh.enqueue_ready(small, 0) == Err(AllocError));
+    assert!(rt; dropping.dequeue(300 * MILLISECOND).is_err());
+    assert!(rt; (dropping.waiting(), dropping.bytes()) == (3, 3000));
+}
+
+fn queues_go_on(
+    rt: &impl Abort,
+    tail: &mut DropTail<u32>,
+    fresh: &mut Codel<u32>,
+    dropping: &mut Codel<u32>,
+) {
+    comes(rt, tail, 1, 40, None);
+    comes_to_codel(rt, fresh, 1, 40, None);
+    let served = dropping
+        .dequeue(300 * MILLISECOND)
+        .ok()
+        .expect(rt, "memory");
+    assert!(rt; served.dropped.len() == 1);
+    assert!(rt; parts(served.given) == Some((2, 1000, 0)));
 }
 
 #[test]
-fn memory_that_runs_out_changes_nothing(rt: HostRuntime) -> Result<(), Fail> {
-    let small = size(40)?;
-    let late = 300 * MILLISECOND;
-    let mut tail = DropTail::new(rt.alloc(), slots(50)?);
-    let mut fresh = codel(rt.alloc())?;
-    let mut dropping = codel(rt.alloc())?;
-    for packet in 0..4 {
-        assert_eq!(rt; cause(dropping.enqueue(packet, size(1000)?, 0)), None);
-    }
+fn memory_that_runs_out_changes_nothing(rt: HostRuntime) {
+    let mut tail = DropTail::new(rt.alloc(), slots(&rt, 50));
+    let mut fresh = codel(&rt);
+    let mut dropping = codel(&rt);
+    come(&rt, &mut dropping, 0, 4, 0);
     assert!(rt; dropping.dequeue(100 * MILLISECOND).is_ok());
-
-    let Some(blocks) = exhaust(rt.alloc())? else {
-        return Ok(());
-    };
-    let refused = Some(EnqueueError::NoMemory);
-    assert_eq!(rt; cause(tail.enqueue(1, small, 0)), refused);
-    assert_eq!(rt; tail.enqueue_ready(small, 0), Err(AllocError));
-    assert_eq!(rt; cause(fresh.enqueue(1, small, 0)), refused);
-    assert_eq!(rt; fresh.enqueue_ready(small, 0), Err(AllocError));
-    assert!(rt; dropping.dequeue(late).is_err());
-    assert_eq!(rt; (dropping.waiting(), dropping.bytes()), (3, 3000));
+    let mut blocks = Vec::with_capacity(rt.alloc(), MOST_BLOCKS).expect(&rt, "memory");
+    let filled = fill(rt.alloc(), &mut blocks);
+    if filled {
+        queues_refuse(&rt, &mut tail, &mut fresh, &mut dropping);
+    }
     drop(blocks);
-
-    assert_eq!(rt; cause(tail.enqueue(1, small, 0)), None);
-    assert_eq!(rt; cause(fresh.enqueue(1, small, 0)), None);
-    let served = dropping.dequeue(late).or(Err("no memory"))?;
-    assert_eq!(rt; served.dropped.len(), 1);
-    assert_eq!(rt; served.given.ok_or("nothing is given")?.item, 2);
-    Ok(())
+    if filled {
+        queues_go_on(&rt, &mut tail, &mut fresh, &mut dropping);
+    }
 }
 
 /// What waits stands at its place, and another item that is put there keeps its size and its stamp.
-#[test]
-fn items_are_replaced_in_place(rt: HostRuntime) -> Result<(), Fail> {
-    let mut tail = DropTail::new(rt.alloc(), slots(3)?);
-    assert_eq!(rt; tail.at(0), None);
+fn tail_is_replaced(rt: &impl Abort, tail: &mut DropTail<u32>) {
+    assert!(rt; tail.at(0) == None);
     for packet in 0..3 {
-        assert_eq!(rt;
-            cause(tail.enqueue(packet, size(100 + packet as u16)?, 7)),
-            None
-        );
+        comes(rt, tail, packet, 100 + packet as u16, None);
     }
     assert!(rt; tail.waiting() == 3);
     tail.replace(1, 11);
-    assert_eq!(rt;
-        (tail.at(0), tail.at(1), tail.at(2), tail.at(3)),
-        (Some(0), Some(11), Some(2), None)
-    );
-    let mut queue = tail.into_codel(time(5 * MILLISECOND)?, time(100 * MILLISECOND)?);
+    let items = [tail.at(0), tail.at(1), tail.at(2), tail.at(3)];
+    assert!(rt; items == [Some(0), Some(11), Some(2), None]);
+}
+
+fn codel_is_replaced(rt: &impl Abort, queue: &mut Codel<u32>) {
     assert!(rt; queue.waiting() == 3);
     queue.replace(0, 10);
-    assert_eq!(rt;
-        (queue.at(0), queue.at(1), queue.at(3)),
-        (Some(10), Some(11), None)
-    );
-    assert_eq!(rt; (queue.waiting(), queue.bytes()), (3, 303));
-    for (item, bytes) in [(10, 100), (11, 101), (2, 102)] {
-        let first = queue.take().ok_or("nothing waits")?;
-        assert_eq!(rt;
-            (first.item, first.size.get(), first.stamp),
-            (item, bytes, 7)
-        );
-    }
-    Ok(())
+    let items = [queue.at(0), queue.at(1), queue.at(3)];
+    assert!(rt; items == [Some(10), Some(11), None]);
+    assert!(rt; (queue.waiting(), queue.bytes()) == (3, 303));
+    assert!(rt; parts(queue.take()) == Some((10, 100, 0)));
+    assert!(rt; parts(queue.take()) == Some((11, 101, 10)));
+    assert!(rt; parts(queue.take()) == Some((2, 102, 20)));
+}
+
+#[test]
+fn items_are_replaced_in_place(rt: HostRuntime) {
+    let mut tail = DropTail::new(rt.alloc(), slots(&rt, 3));
+    tail_is_replaced(&rt, &mut tail);
+    let mut queue = tail.into_codel(time(&rt, 5 * MILLISECOND), time(&rt, 100 * MILLISECOND));
+    codel_is_replaced(&rt, &mut queue);
 }

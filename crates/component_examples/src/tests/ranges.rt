@@ -1,138 +1,139 @@
 //! The ranges of a scenario's numbers, the order of dues, and the size of a record.
 
 use emu_model::*;
+use std::process::Abort;
 
-// Which of four numbers a maker takes. A closure each would be proved each.
-macro_rules! taken {
-    ($range:ident; $a:expr, $b:expr, $c:expr, $d:expr) => {
-        [
-            $range::new($a).is_some(),
-            $range::new($b).is_some(),
-            $range::new($c).is_some(),
-            $range::new($d).is_some(),
-        ]
-    };
+// What a maker takes at both ends of its range and next to them, for numbers of each width: whether those from `low` to
+// `high` alone. Where the integer holds nothing below or above, there is no next.
+fn keeps_8<const LOW: u8, const HIGH: u8>(
+    _made: Option<RangedU8<LOW, HIGH>>,
+    low: u8,
+    high: u8,
+) -> bool {
+    let takes_ends = takes_8::<LOW, HIGH>(low) && takes_8::<LOW, HIGH>(high);
+    let takes_below = low > 0 && takes_8::<LOW, HIGH>(low - 1);
+    let takes_above = high < u8::MAX && takes_8::<LOW, HIGH>(high + 1);
+    takes_ends && !takes_below && !takes_above
 }
 
-// Each range of a scenario: what its maker takes at both ends and next to them. Where the
-// integer holds nothing below or above the range, an end stands twice.
+fn takes_8<const LOW: u8, const HIGH: u8>(value: u8) -> bool {
+    RangedU8::<LOW, HIGH>::new(value).is_some()
+}
+
+fn keeps_16<const LOW: u16, const HIGH: u16>(
+    _made: Option<RangedU16<LOW, HIGH>>,
+    low: u16,
+    high: u16,
+) -> bool {
+    let takes_ends = takes_16::<LOW, HIGH>(low) && takes_16::<LOW, HIGH>(high);
+    let takes_below = low > 0 && takes_16::<LOW, HIGH>(low - 1);
+    let takes_above = high < u16::MAX && takes_16::<LOW, HIGH>(high + 1);
+    takes_ends && !takes_below && !takes_above
+}
+
+fn takes_16<const LOW: u16, const HIGH: u16>(value: u16) -> bool {
+    RangedU16::<LOW, HIGH>::new(value).is_some()
+}
+
+fn keeps_32<const LOW: u32, const HIGH: u32>(
+    _made: Option<RangedU32<LOW, HIGH>>,
+    low: u32,
+    high: u32,
+) -> bool {
+    let takes_ends = takes_32::<LOW, HIGH>(low) && takes_32::<LOW, HIGH>(high);
+    let takes_below = low > 0 && takes_32::<LOW, HIGH>(low - 1);
+    let takes_above = high < u32::MAX && takes_32::<LOW, HIGH>(high + 1);
+    takes_ends && !takes_below && !takes_above
+}
+
+fn takes_32<const LOW: u32, const HIGH: u32>(value: u32) -> bool {
+    RangedU32::<LOW, HIGH>::new(value).is_some()
+}
+
+fn keeps_64<const LOW: u64, const HIGH: u64>(
+    _made: Option<RangedU64<LOW, HIGH>>,
+    low: u64,
+    high: u64,
+) -> bool {
+    let takes_ends = takes_64::<LOW, HIGH>(low) && takes_64::<LOW, HIGH>(high);
+    let takes_below = low > 0 && takes_64::<LOW, HIGH>(low - 1);
+    let takes_above = high < u64::MAX && takes_64::<LOW, HIGH>(high + 1);
+    takes_ends && !takes_below && !takes_above
+}
+
+fn takes_64<const LOW: u64, const HIGH: u64>(value: u64) -> bool {
+    RangedU64::<LOW, HIGH>::new(value).is_some()
+}
+
+// Each range of a scenario.
 #[test]
 fn makers_keep_their_ranges(rt: HostRuntime) {
-    let inside = [false, true, true, false];
-    let from_zero = [true, true, true, false];
-    let to_the_last = [false, true, true, true];
-    for (name, taken, wanted) in [
-        ("size", taken!(Size; 39, 40, 1500, 1501), inside),
-        (
-            "rule number",
-            taken!(RuleNumber; 0, 1, 99999, 100000),
-            from_zero,
-        ),
-        (
-            "prefix length",
-            taken!(PrefixLength; 0, 1, 32, 33),
-            from_zero,
-        ),
-        (
-            "pipe number",
-            taken!(PipeNumber; 0, 1, 65534, 65535),
-            to_the_last,
-        ),
-        (
-            "flow number",
-            taken!(FlowNumber; 0, 1, 65534, 65535),
-            to_the_last,
-        ),
-        (
-            "bandwidth",
-            taken!(Bandwidth; 0, 1, 10000000000, 10000000001),
-            from_zero,
-        ),
-        ("delay", taken!(Delay; 0, 1, 60000, 60001), from_zero),
-        ("slots", taken!(SlotLimit; 0, 1, 1000, 1001), inside),
-        ("KBytes", taken!(KByteLimit; 0, 1, 1024, 1025), inside),
-        (
-            "loss rate",
-            taken!(LossRate; 0, 1, 1000000, 1000001),
-            from_zero,
-        ),
-        (
-            "target or interval",
-            taken!(CodelTime; 999, 1000, 60000000000, 60000000001),
-            inside,
-        ),
-        (
-            "segment size",
-            taken!(SegmentSize; 63, 64, 1460, 1461),
-            inside,
-        ),
-        (
-            "segments or count",
-            taken!(Amount; 0, 1, 1000000, 1000001),
-            inside,
-        ),
-        (
-            "gap",
-            taken!(Gap; 0, 1, 1000000000000, 1000000000001),
-            from_zero,
-        ),
-        (
-            "ssthresh",
-            taken!(Threshold; 0, 1, 1000000000, 1000000001),
-            inside,
-        ),
-        ("window", taken!(Window; 0, 1, 65534, 65535), to_the_last),
-        ("rto", taken!(Timeout; 0, 1, 60000, 60001), inside),
-        (
-            "packets",
-            taken!(PacketBudget; 0, 1, 65534, 65535),
-            to_the_last,
-        ),
-        (
-            "steps",
-            taken!(StepBudget; 0, 1, 10000000, 10000001),
-            inside,
-        ),
-    ] {
-        assert_eq!(rt; taken, wanted, "{name}");
-    }
+    assert!(rt; keeps_16(Size::new(0), 40, 1500));
+    assert!(rt; keeps_32(RuleNumber::new(0), 0, 99_999));
+    assert!(rt; keeps_8(PrefixLength::new(0), 0, 32));
+    assert!(rt; keeps_16(PipeNumber::new(0), 1, 65_535));
+    assert!(rt; keeps_16(FlowNumber::new(0), 1, 65_535));
+    assert!(rt; keeps_64(Bandwidth::new(0), 0, 10_000_000_000));
+    assert!(rt; keeps_16(Delay::new(0), 0, 60_000));
+    assert!(rt; keeps_16(SlotLimit::new(0), 1, 1000));
+    assert!(rt; keeps_16(KByteLimit::new(0), 1, 1024));
+    assert!(rt; keeps_32(LossRate::new(0), 0, 1_000_000));
+    assert!(rt; keeps_64(CodelTime::new(0), 1000, 60_000_000_000));
+    assert!(rt; keeps_16(SegmentSize::new(0), 64, 1460));
+    assert!(rt; keeps_32(Amount::new(0), 1, 1_000_000));
+    assert!(rt; keeps_64(Gap::new(0), 0, 1_000_000_000_000));
+    assert!(rt; keeps_32(Threshold::new(0), 1, 1_000_000_000));
+    assert!(rt; keeps_16(Window::new(0), 1, 65_535));
+    assert!(rt; keeps_16(Timeout::new(0), 1, 60_000));
+    assert!(rt; keeps_16(PacketBudget::new(0), 1, 65_535));
+    assert!(rt; keeps_32(StepBudget::new(0), 1, 10_000_000));
 }
 
 #[test]
 fn ports_stand_in_order(rt: HostRuntime) {
-    for (first, last, wanted) in [(10, 20, true), (20, 20, true), (20, 10, false)] {
-        let made = PortRange::new(first, last);
-        assert_eq!(rt; made.is_some(), wanted, "{first}-{last}");
+    assert!(rt; PortRange::new(10, 20).is_some());
+    assert!(rt; PortRange::new(20, 20).is_some());
+    assert!(rt; PortRange::new(20, 10).is_none());
+}
+
+// What is left of 10.1.2.3 at a length, which is kept.
+fn cleared(rt: &impl Abort, len: u8) -> u32 {
+    let length = PrefixLength::new(len).expect(rt, "a length");
+    let prefix = Prefix::new(0x0a010203, length);
+    assert!(rt; prefix.length().get() == len);
+    prefix.address()
+}
+
+#[test]
+fn prefix_clears_what_is_past_its_length(rt: HostRuntime) {
+    assert!(rt; cleared(&rt, 0) == 0);
+    assert!(rt; cleared(&rt, 8) == 0x0a000000);
+    assert!(rt; cleared(&rt, 15) == 0x0a000000);
+    assert!(rt; cleared(&rt, 16) == 0x0a010000);
+    assert!(rt; cleared(&rt, 31) == 0x0a010202);
+    assert!(rt; cleared(&rt, 32) == 0x0a010203);
+}
+
+fn due(moment: u64, class: Class, number: u32) -> Due {
+    Due {
+        moment,
+        source: Source { class, number },
     }
 }
 
-// 10.1.2.3, with as many of its bits as the length has.
-#[test]
-fn prefix_clears_what_is_past_its_length(rt: HostRuntime) {
-    for (len, wanted) in [
-        (0, 0),
-        (8, 0x0a000000),
-        (15, 0x0a000000),
-        (16, 0x0a010000),
-        (31, 0x0a010202),
-        (32, 0x0a010203),
-    ] {
-        let Some(length) = PrefixLength::new(len) else {
-            return assert!(rt; false, "{len} is a length");
-        };
-        let prefix = Prefix::new(0x0a010203, length);
-        assert_eq!(rt; prefix.address(), wanted, "/{len}");
-        assert_eq!(rt; prefix.length().get(), len);
+// Whether a due is before just those from a place on.
+fn is_before_all_from(due: &Due, rising: &[Due], place: usize) -> bool {
+    for (other, later) in rising.iter().enumerate() {
+        if due.is_before(later) != (place < other) {
+            return false;
+        }
     }
+    true
 }
 
 // By moment first, then by class, then by number.
 #[test]
 fn dues_stand_in_order(rt: HostRuntime) {
-    let due = |moment, class, number| Due {
-        moment,
-        source: Source { class, number },
-    };
     let rising = [
         due(5, Class::Emission, 9),
         due(6, Class::NextCommand, 0),
@@ -140,10 +141,8 @@ fn dues_stand_in_order(rt: HostRuntime) {
         due(6, Class::Exit, 257),
         due(6, Class::Finish, 0),
     ];
-    for (i, earlier) in rising.iter().enumerate() {
-        for (j, later) in rising.iter().enumerate() {
-            assert_eq!(rt; earlier.is_before(later), i < j, "{i} and {j}");
-        }
+    for (place, earlier) in rising.iter().enumerate() {
+        assert!(rt; is_before_all_from(earlier, &rising, place));
     }
 }
 
@@ -161,9 +160,7 @@ fn inject(size: Size) -> Command {
 // It reads what it tells the range of, and changes nothing.
 #[test]
 fn ranges_of_a_command_are_told(rt: HostRuntime) {
-    let Some(size) = Size::new(1500) else {
-        return assert!(rt; false, "1500 is a size");
-    };
+    let size = Size::new(1500).expect(&rt, "a size");
     let command = inject(size);
     command_in_range(&command);
     assert!(rt; command == inject(size));

@@ -2,7 +2,7 @@
 
 use emu_model::{Load, Packet, PacketBudget, Place, Protocol, RuleNumber, Size};
 use packet_store::*;
-use std::test::Fail;
+use std::process::Abort;
 
 fn packet(number: u64) -> Packet {
     let Some(size) = Size::new(1000) else {
@@ -61,80 +61,98 @@ fn flood<S: Shelf>(shelf: &mut S, owner: Owner) -> Option<u64> {
     None
 }
 
-#[test]
-fn own_shelf_keeps_its_budget(rt: HostRuntime) -> Result<(), Fail> {
-    let budget = PacketBudget::new(2).ok_or("budget")?;
-    let mut shelf = OwnShelf::new(rt.alloc(), budget);
-    shelf.reserve(1000)?;
-    let first = put(&mut shelf, 0, 10)?;
-    let second = put(&mut shelf, 0, 11)?;
-    assert!(rt; matches!(put(&mut shelf, 0, 12), Err(PutError::OverBudget)));
-    assert_eq!(rt; look(&shelf, 0, second), Some(11));
+fn budget(rt: &impl Abort, packets: u16) -> PacketBudget {
+    PacketBudget::new(packets).expect(rt, "a budget")
+}
 
-    // A free place is used again.
-    assert_eq!(rt; shelf.count(0), 2);
-    assert_eq!(rt; take(&mut shelf, 0, first), Some(10));
-    assert_eq!(rt; shelf.count(0), 1);
-    assert_eq!(rt; shelf.count(1), 0);
-    assert_eq!(rt; take(&mut shelf, 0, first), None);
-    assert!(rt; put(&mut shelf, 0, 13)? == first);
-    assert!(rt; matches!(put(&mut shelf, 1, 14), Err(PutError::OverBudget)));
-    Ok(())
+fn puts<S: Shelf>(rt: &impl Abort, shelf: &mut S, owner: Owner, number: u64) -> Key {
+    put(shelf, owner, number).ok().expect(rt, "a key")
+}
+
+fn is_over_budget<S: Shelf>(shelf: &mut S, owner: Owner) -> bool {
+    matches!(put(shelf, owner, 99), Err(PutError::OverBudget))
+}
+
+// A free place is used again.
+fn keeps_its_budget<S: Shelf>(rt: &impl Abort, shelf: &mut S) {
+    let first = puts(rt, shelf, 0, 10);
+    let second = puts(rt, shelf, 0, 11);
+    assert!(rt; is_over_budget(shelf, 0));
+    assert!(rt; look(shelf, 0, second) == Some(11));
+    assert!(rt; (shelf.count(0), shelf.count(1)) == (2, 0));
+    assert!(rt; take(shelf, 0, first) == Some(10));
+    assert!(rt; (shelf.count(0), shelf.count(1)) == (1, 0));
+    assert!(rt; take(shelf, 0, first) == None);
+    assert!(rt; puts(rt, shelf, 0, 13) == first);
+    assert!(rt; is_over_budget(shelf, 1));
 }
 
 #[test]
-fn a_flood_takes_no_place_of_another(rt: HostRuntime) -> Result<(), Fail> {
-    let mut store = Store::new(rt.alloc());
-    let quiet = store.admit(PacketBudget::new(2).ok_or("budget")?)?;
-    let loud = store.admit(PacketBudget::new(65535).ok_or("budget")?)?;
-    assert_eq!(rt; flood(&mut store, loud), Some(65535));
-    let kept = put(&mut store, quiet, 20)?;
-    assert_eq!(rt; look(&store, loud, kept), None);
-    assert_eq!(rt; flood(&mut store, quiet), Some(1));
-    assert_eq!(rt; store.count(quiet), 2);
-    assert_eq!(rt; store.count(loud), 65535);
+fn own_shelf_keeps_its_budget(rt: HostRuntime) {
+    let mut shelf = OwnShelf::new(rt.alloc(), budget(&rt, 2));
+    assert!(rt; shelf.reserve(1000).is_ok());
+    keeps_its_budget(&rt, &mut shelf);
+}
+
+// A new owner, at the second try where memory was refused.
+fn admitted(rt: &impl Abort, store: &mut Store, packets: u16) -> Owner {
+    match store.admit(budget(rt, packets)) {
+        Ok(owner) => owner,
+        Err(_) => store.admit(budget(rt, packets)).expect(rt, "memory"),
+    }
+}
+
+fn floods(rt: &impl Abort, store: &mut Store) {
+    let quiet = admitted(rt, store, 2);
+    let loud = admitted(rt, store, 65535);
+    assert!(rt; flood(store, loud) == Some(65535));
+    let kept = puts(rt, store, quiet, 20);
+    assert!(rt; look(store, loud, kept) == None);
+    assert!(rt; flood(store, quiet) == Some(1));
+    assert!(rt; (store.count(quiet), store.count(loud)) == (2, 65535));
 
     // What a dismissed owner held is gone, and its number is given out anew.
     store.dismiss(loud);
-    assert_eq!(rt; flood(&mut store, loud), Some(0));
-    assert_eq!(rt; look(&store, quiet, kept), Some(20));
-    assert_eq!(rt; store.admit(PacketBudget::new(3).ok_or("budget")?)?, loud);
-    assert_eq!(rt; flood(&mut store, loud), Some(3));
-    Ok(())
+    assert!(rt; flood(store, loud) == Some(0));
+    assert!(rt; look(store, quiet, kept) == Some(20));
+    assert!(rt; admitted(rt, store, 3) == loud);
+    assert!(rt; flood(store, loud) == Some(3));
+}
+
+#[test]
+fn a_flood_takes_no_place_of_another(rt: HostRuntime) {
+    let mut store = Store::new(rt.alloc());
+    floods(&rt, &mut store);
+}
+
+fn grows(rt: &impl Abort, store: &mut Store) {
+    let first = admitted(rt, store, 3);
+    let kept = puts(rt, store, first, 40);
+    let second = admitted(rt, store, 3);
+    assert!(rt; look(store, first, kept) == Some(40));
+    assert!(rt; flood(store, second) == Some(3));
 }
 
 // Passes with ample memory, and where any one allocation of it is refused: a refused call left all as
 // it was, and goes when it is made again.
 #[test]
-fn a_refused_growth_changes_nothing(rt: HostRuntime) -> Result<(), Fail> {
-    let budget = PacketBudget::new(3).ok_or("budget")?;
+fn a_refused_growth_changes_nothing(rt: HostRuntime) {
     let mut store = Store::new(rt.alloc());
-    let first = match store.admit(budget) {
-        Ok(owner) => owner,
-        Err(_) => store.admit(budget)?,
+    grows(&rt, &mut store);
+}
+
+fn puts_in_the_end<S: Shelf>(rt: &impl Abort, shelf: &mut S) {
+    let first = match put(shelf, 0, 50) {
+        Ok(key) => key,
+        Err(_) => puts(rt, shelf, 0, 50),
     };
-    let kept = put(&mut store, first, 40)?;
-    let second = match store.admit(budget) {
-        Ok(owner) => owner,
-        Err(_) => store.admit(budget)?,
-    };
-    assert_eq!(rt; look(&store, first, kept), Some(40));
-    assert_eq!(rt; flood(&mut store, second), Some(3));
-    Ok(())
+    assert!(rt; shelf.put_ready(0).is_ok() || shelf.put_ready(0).is_ok());
+    assert!(rt; look(shelf, 0, first) == Some(50));
+    assert!(rt; flood(shelf, 0) == Some(2));
 }
 
 #[test]
-fn a_refused_put_changes_nothing(rt: HostRuntime) -> Result<(), Fail> {
-    let budget = PacketBudget::new(3).ok_or("budget")?;
-    let mut shelf = OwnShelf::new(rt.alloc(), budget);
-    let first = match put(&mut shelf, 0, 50) {
-        Ok(key) => key,
-        Err(_) => put(&mut shelf, 0, 50)?,
-    };
-    if shelf.put_ready(0).is_err() {
-        shelf.put_ready(0)?;
-    }
-    assert_eq!(rt; look(&shelf, 0, first), Some(50));
-    assert_eq!(rt; flood(&mut shelf, 0), Some(2));
-    Ok(())
+fn a_refused_put_changes_nothing(rt: HostRuntime) {
+    let mut shelf = OwnShelf::new(rt.alloc(), budget(&rt, 3));
+    puts_in_the_end(&rt, &mut shelf);
 }
