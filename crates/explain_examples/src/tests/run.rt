@@ -77,6 +77,15 @@ fn no_pipe() -> Concern {
     Concern::NoPipe(PipeNumber::new(7).unwrap())
 }
 
+fn note(experiment: u64, subject: Subject, first: u64, count: u64) -> Note {
+    Note {
+        experiment,
+        subject,
+        first,
+        count,
+    }
+}
+
 #[test]
 fn by_the_scenario(rt: HostRuntime) {
     let wanted = [
@@ -91,17 +100,11 @@ fn by_the_scenario(rt: HostRuntime) {
 #[test]
 fn behind_a_run(rt: HostRuntime) {
     let notes = [
-        (1, Subject::DeniedAck(1), 7, 2),
-        (2, Subject::Spent, 7, 1),
-        (1, Subject::OverBudget, 6, 3),
-        (1, Subject::Spent, 8, 1),
-    ]
-    .map(|(experiment, subject, first, count)| Note {
-        experiment,
-        subject,
-        first,
-        count,
-    });
+        note(1, Subject::DeniedAck(1), 7, 2),
+        note(2, Subject::Spent, 7, 1),
+        note(1, Subject::OverBudget, 6, 3),
+        note(1, Subject::Spent, 8, 1),
+    ];
     let wanted = [
         of_command(3, no_way_back(Some(2))),
         of_all(Concern::OverBudget { first: 6, count: 3 }),
