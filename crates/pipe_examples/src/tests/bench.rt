@@ -12,6 +12,7 @@ use pipe_core::{Pipe, Shown};
 use std::alloc::Global;
 use std::marker::Model;
 use std::mem;
+use std::process::Abort;
 
 /// The destinations 10.0.0.2 and 10.0.0.3.
 pub const FIRST: u32 = 0x0a00_0002;
@@ -63,16 +64,20 @@ pub enum Act {
     Run {
         until: u64,
     },
-    /// A new configuration.
+    /// A new configuration, and whether it is refused.
     Configure {
         config: PipeConfig,
+        refusal: Option<Refusal>,
     },
-    /// The pipe tells what this instance shows.
+    /// What this instance shows.
     Show {
         index: usize,
+        shown: Option<Shown>,
     },
-    /// The pipe moves to a store and from there to a new shelf.
-    Travel,
+    /// The pipe moves to a store, where so many packets stand then, and from there to a new shelf.
+    Travel {
+        stood: usize,
+    },
     /// The pipe gives up all that it holds.
     Delete,
 }
@@ -87,62 +92,18 @@ pub fn thousand(number: u64, dst: u32) -> Act {
     }
 }
 
-/// What was full, what finished, what left, and what CoDel dropped: moments (ns) and packets' numbers; the
-/// instances of what finished; the first refusal of a configuration; what was shown; how many packets stood in a
-/// store; the numbers of what was given up.
-#[derive(Drop)]
-pub struct Log {
-    pub full: Vec<u64>,
-    pub finished: Vec<(u64, u64)>,
-    pub left: Vec<(u64, u64)>,
-    pub dropped: Vec<(u64, u64)>,
-    pub instances: Vec<usize>,
-    pub refusal: Option<Refusal>,
-    pub shown: Vec<Option<Shown>>,
-    pub stood: Vec<usize>,
-    pub gone: Vec<u64>,
+/// What became of a packet.
+#[derive(Clone, Copy, PartialEq)]
+pub enum Fate {
+    Full,
+    Finished,
+    Dropped,
+    Left,
+    Gone,
 }
 
-impl Log {
-    /// An empty log with room for 64 of each.
-    fn new(alloc: Global) -> Option<Self> {
-        let mut log = Log {
-            full: Vec::new(alloc),
-            finished: Vec::new(alloc),
-            left: Vec::new(alloc),
-            dropped: Vec::new(alloc),
-            instances: Vec::new(alloc),
-            refusal: None,
-            shown: Vec::new(alloc),
-            stood: Vec::new(alloc),
-            gone: Vec::new(alloc),
-        };
-        if log.make_room().is_none() {
-            drop(log);
-            return None;
-        }
-        Some(log)
-    }
-
-    fn make_room(&mut self) -> Option<()> {
-        room_for_64(&mut self.full)?;
-        room_for_64(&mut self.finished)?;
-        room_for_64(&mut self.left)?;
-        room_for_64(&mut self.dropped)?;
-        room_for_64(&mut self.instances)?;
-        room_for_64(&mut self.shown)?;
-        room_for_64(&mut self.stood)?;
-        room_for_64(&mut self.gone)
-    }
-}
-
-/// Room for 64 more. A growth that is refused is made again.
-fn room_for_64<T: Drop>(list: &mut Vec<T>) -> Option<()> {
-    if list.reserve(64).is_err() {
-        list.reserve(64).ok()?;
-    }
-    Some(())
-}
+/// What became of a packet of this number at this moment (ns), which is 0 where it was full or has gone.
+pub type Note = (Fate, u64, u64);
 
 /// The earlier of two, at one moment what leaves, and then the first.
 fn earlier(best: Option<Next>, next: Next) -> Option<Next> {
@@ -323,7 +284,7 @@ impl Bench {
 
     /// Makes the next exit or finish before a moment; None where there is none. A finish that is
     /// refused changes nothing, and is made again.
-    fn step(&mut self, until: u64, log: &mut Log) -> Option<()> {
+    fn step(&mut self, until: u64, notes: &mut Vec<Note>) -> Option<()> {
         let next = self.next()?;
         if next.moment >= until {
             return None;
@@ -334,7 +295,7 @@ impl Bench {
             if number != front {
                 return None;
             }
-            return log.left.push((next.moment, number)).ok();
+            return notes.push((Fate::Left, next.moment, number)).ok();
         }
         let before = self.pipe.shown(next.index);
         let number = match self.finish(next.index) {
@@ -347,16 +308,17 @@ impl Bench {
             }
         };
         for dropped in &self.drops {
-            log.dropped.push((next.moment, dropped.number)).ok()?;
+            notes
+                .push((Fate::Dropped, next.moment, dropped.number))
+                .ok()?;
         }
-        log.finished.push((next.moment, number)).ok()?;
-        log.instances.push(next.index).ok()
+        notes.push((Fate::Finished, next.moment, number)).ok()
     }
 
     /// Makes all that happens before a moment.
-    fn run(&mut self, until: u64, log: &mut Log) {
+    fn run(&mut self, until: u64, notes: &mut Vec<Note>) {
         for _ in 0..200 {
-            if self.step(until, log).is_none() {
+            if self.step(until, notes).is_none() {
                 break;
             }
         }
@@ -364,7 +326,7 @@ impl Bench {
 
     /// The pipe gives up all that it holds, at the second try where memory was refused, and nothing has changed
     /// before that.
-    fn give_up(&mut self, log: &mut Log) -> Option<()> {
+    fn give_up(&mut self, notes: &mut Vec<Note>) -> Option<()> {
         let (held, instances) = (self.shelf.count(0), self.pipe.instances());
         let gone = match self.delete() {
             Some(gone) => gone,
@@ -374,7 +336,7 @@ impl Bench {
             None => return None,
         };
         for packet in &gone {
-            log.gone.push(packet.number).ok()?;
+            notes.push((Fate::Gone, 0, packet.number)).ok()?;
         }
         if self.shelf.count(0) != 0 || self.pipe.instances() != 0 {
             return None;
@@ -382,64 +344,65 @@ impl Bench {
         Some(())
     }
 
-    /// Does one thing to the pipe; None where that is refused twice.
-    fn act(&mut self, alloc: Global, act: &Act, log: &mut Log) -> Option<()> {
-        match *act {
+    /// The pipe moves, at the second try where memory was refused.
+    fn travel_in_the_end(&mut self, alloc: Global) -> Option<usize> {
+        match self.travel(alloc) {
+            Some(stood) => Some(stood),
+            None => self.travel(alloc),
+        }
+    }
+
+    /// Does one thing to the pipe, which must come out as wanted; None where that is refused twice.
+    fn act(&mut self, alloc: Global, act: &Act, notes: &mut Vec<Note>) -> Option<()> {
+        let as_wanted = match *act {
             Act::Send {
                 now,
                 number,
                 dst,
                 size,
             } => match self.send(now, number, dst, size)? {
-                None => Some(()),
-                Some(DropCause::Full) => log.full.push(number).ok(),
-                Some(_) => None,
+                None => true,
+                Some(DropCause::Full) => notes.push((Fate::Full, 0, number)).is_ok(),
+                Some(_) => false,
             },
             Act::Run { until } => {
-                self.run(until, log);
-                Some(())
+                self.run(until, notes);
+                true
             }
-            Act::Configure { config } => {
-                log.refusal = log.refusal.or(self.configure(config));
-                Some(())
-            }
-            Act::Show { index } => log.shown.push(self.pipe.shown(index)).ok(),
-            Act::Travel => {
-                let stood = match self.travel(alloc) {
-                    Some(stood) => stood,
-                    None => self.travel(alloc)?,
-                };
-                log.stood.push(stood).ok()
-            }
-            Act::Delete => self.give_up(log),
-        }
+            Act::Configure { config, refusal } => self.configure(config) == refusal,
+            Act::Show { index, shown } => self.pipe.shown(index) == shown,
+            Act::Travel { stood } => self.travel_in_the_end(alloc) == Some(stood),
+            Act::Delete => self.give_up(notes).is_some(),
+        };
+        if as_wanted { Some(()) } else { None }
     }
 
     /// Does one thing after the other.
-    fn play(&mut self, alloc: Global, acts: &[Act], log: &mut Log) -> Option<()> {
+    fn play(&mut self, alloc: Global, acts: &[Act], notes: &mut Vec<Note>) -> Option<()> {
         for act in acts {
-            self.act(alloc, act, log)?;
+            self.act(alloc, act, notes)?;
         }
         Some(())
     }
 }
 
-/// What becomes of a pipe; None where something is refused twice.
-pub fn played(alloc: Global, config: PipeConfig, acts: &[Act]) -> Option<Log> {
-    let mut log = Log::new(alloc)?;
-    let done = match Bench::new(alloc, config) {
-        Some(mut bench) => {
-            let done = bench.play(alloc, acts, &mut log);
-            drop(bench);
-            done
-        }
-        None => None,
-    };
-    if done.is_none() {
-        drop(log);
-        return None;
+/// A list with room for 64. A growth that is refused is made again.
+fn room_for_64(alloc: Global) -> Vec<Note> {
+    let mut notes = Vec::new(alloc);
+    if notes.reserve(64).is_err() {
+        let _ = notes.reserve(64);
     }
-    Some(log)
+    notes
+}
+
+/// Wants this of a pipe of which these things are done.
+pub fn plays(rt: &(impl Abort + AllocGlobal), config: PipeConfig, acts: &[Act], wanted: &[Note]) {
+    let mut notes = room_for_64(rt.alloc());
+    let mut bench = Bench::new(rt.alloc(), config).expect(rt, "a pipe");
+    let played = bench.play(rt.alloc(), acts, &mut notes);
+    drop(bench);
+    assert!(rt; played.is_some());
+    assert!(rt; notes.as_slice() == wanted);
 }
 
 fn packet(number: u64, dst: u32, size: u16) -> Option<Packet> {

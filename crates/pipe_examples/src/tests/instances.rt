@@ -6,8 +6,7 @@ use emu_model::{
 };
 use packet_store::{Key, OwnShelf, Shelf};
 use pipe_instance::Instance;
-use std::alloc::Global;
-use std::test::Fail;
+use std::process::Abort;
 
 /// What a packet's arrival came to.
 #[derive(Clone, Copy, Debug, PartialEq)]
@@ -88,31 +87,35 @@ fn step(
     Some(())
 }
 
+/// A pipe of this rate (bit/s) and delay (ms), with 50 slots.
+fn plain(rt: &impl Abort, bw: u64, delay: u16) -> PipeConfig {
+    let slots = QueueLimit::Slots(SlotLimit::new(50).expect(rt, "a limit"));
+    pipe(bw, delay, slots, Discipline::TailDrop).expect(rt, "a pipe")
+}
+
+/// A packet of 1000 bytes comes, at the second try where memory was refused.
+fn one_arrives(rt: &impl Abort, instance: &mut Instance, shelf: &mut OwnShelf) {
+    let size = Size::new(1000).expect(rt, "a size");
+    if arrive(instance, shelf, 0, 7, size).is_none() {
+        assert!(rt; arrive(instance, shelf, 0, 7, size) == Some(Arrival::In));
+    }
+}
+
 /// Nothing came: a configuration changes the rate, and nothing is left.
 #[test]
-fn configured_and_given_up(rt: HostRuntime) -> Result<(), Fail> {
-    let slots = QueueLimit::Slots(SlotLimit::new(50).ok_or("slots")?);
-    let size = Size::new(1000).ok_or("size")?;
-    let first = pipe(1_000_000, 0, slots, Discipline::TailDrop).ok_or("first")?;
-    let second = pipe(2_000_000, 0, slots, Discipline::TailDrop).ok_or("second")?;
-    let number = PipeNumber::new(1).ok_or("number")?;
-    let budget = PacketBudget::new(1).ok_or("budget")?;
+fn configured_and_given_up(rt: HostRuntime) {
+    let (first, second) = (plain(&rt, 1_000_000, 0), plain(&rt, 2_000_000, 0));
+    let number = PipeNumber::new(1).expect(&rt, "a number");
+    let budget = PacketBudget::new(1).expect(&rt, "a budget");
     let mut instance = Instance::new(rt.alloc(), &first, 0, number, 0);
     instance.configure(&first, &second);
     let mut shelf = OwnShelf::new(rt.alloc(), budget);
-    if arrive(&mut instance, &mut shelf, 0, 7, size).is_none() {
-        assert_eq!(rt;
-            arrive(&mut instance, &mut shelf, 0, 7, size),
-            Some(Arrival::In)
-        );
-    }
-    assert_eq!(rt; instance.dues().finish, Some(4_000_000));
+    one_arrives(&rt, &mut instance, &mut shelf);
+    assert!(rt; instance.dues().finish == Some(4_000_000));
     let mut leftovers = instance.into_leftovers();
-    assert_eq!(rt; leftovers.next().map(|key| number_at(&shelf, key)), Some(7));
+    let key = leftovers.next().expect(&rt, "a packet");
+    assert!(rt; number_at(&shelf, key) == 7);
     assert!(rt; leftovers.next().is_none());
-    drop(leftovers);
-    drop(shelf);
-    Ok(())
 }
 
 /// Three packets, of which one is on its way, one in service and one waits, change places by their
@@ -151,13 +154,13 @@ fn change_places(
 
 /// They leave in the new order, at the old moments.
 #[test]
-fn keys_are_replaced_in_place(rt: HostRuntime) -> Result<(), Fail> {
-    let slots = QueueLimit::Slots(SlotLimit::new(50).ok_or("slots")?);
-    let config = pipe(1_000_000, 20, slots, Discipline::TailDrop).ok_or("pipe")?;
-    let number = PipeNumber::new(1).ok_or("number")?;
-    let budget = PacketBudget::new(3).ok_or("budget")?;
+fn keys_are_replaced_in_place(rt: HostRuntime) {
+    let config = plain(&rt, 1_000_000, 20);
+    let number = PipeNumber::new(1).expect(&rt, "a number");
+    let budget = PacketBudget::new(3).expect(&rt, "a budget");
     let mut instance = Instance::new(rt.alloc(), &config, 0, number, 0);
-    assert_eq!(rt; (instance.held(), instance.key_at(0).is_none()), (0, true));
+    assert!(rt; instance.held() == 0);
+    assert!(rt; instance.key_at(0).is_none());
     let mut shelf = OwnShelf::new(rt.alloc(), budget);
     let mut left = Vec::new(rt.alloc());
     let mut keys = Vec::new(rt.alloc());
@@ -169,11 +172,6 @@ fn keys_are_replaced_in_place(rt: HostRuntime) -> Result<(), Fail> {
         config.delay,
     );
     assert!(rt; changed.is_some());
-    assert_eq!(rt;
-        left.as_slice(),
-        [(28_000_000, 2), (36_000_000, 1), (44_000_000, 0)].as_slice()
-    );
-    drop(instance);
-    drop(shelf);
-    Ok(())
+    let wanted = [(28_000_000, 2), (36_000_000, 1), (44_000_000, 0)];
+    assert!(rt; left.as_slice() == wanted.as_slice());
 }

@@ -7,6 +7,7 @@ use emu_model::{
 };
 use packet_store::{OwnShelf, Shelf};
 use pipe_table::*;
+use std::process::Abort;
 use std::test::Fail;
 
 fn config(bw: u64, delay: u16) -> Option<PipeConfig> {
@@ -26,21 +27,21 @@ fn config(bw: u64, delay: u16) -> Option<PipeConfig> {
     })
 }
 
-fn packet(number: u64) -> Option<Packet> {
-    Some(Packet {
+fn packet(rt: &impl Abort, number: u64) -> Packet {
+    Packet {
         proto: Protocol::Udp,
         src: 0x0a00_0001,
         sport: 1000,
         dst: 0x0a00_0002,
         dport: 2000,
-        size: Size::new(1000)?,
+        size: Size::new(1000).expect(rt, "a size"),
         number,
         load: Load::Plain,
         place: Place {
-            number: RuleNumber::new(100)?,
+            number: RuleNumber::new(100).expect(rt, "a rule"),
             order: 0,
         },
-    })
+    }
 }
 
 fn command(moment: u64) -> Due {
@@ -69,43 +70,47 @@ fn configures(pipes: &mut PipeTable, number: u16, config: &PipeConfig) -> bool {
     pipes.lines() == lines && pipes.configure(number, config).is_ok()
 }
 
+fn slow(rt: &impl Abort) -> PipeConfig {
+    config(1_000_000, 10).expect(rt, "a pipe")
+}
+
+fn number(rt: &impl Abort, value: u16) -> PipeNumber {
+    PipeNumber::new(value).expect(rt, "a number")
+}
+
 // What is due without packets is what was due before; a listing has one line for each pipe, by number.
 #[test]
-fn pipes_stand_by_number(rt: HostRuntime) -> Result<(), Fail> {
+fn pipes_stand_by_number(rt: HostRuntime) {
     let mut pipes = PipeTable::new(rt.alloc(), 0);
-    let slow = config(1_000_000, 10).ok_or("config")?;
-    for number in [7, 1, 3] {
-        assert!(rt; configures(&mut pipes, number, &slow));
-    }
+    let slow = slow(&rt);
+    assert!(rt; configures(&mut pipes, 7, &slow));
+    assert!(rt; configures(&mut pipes, 1, &slow));
+    assert!(rt; configures(&mut pipes, 3, &slow));
     assert!(rt; is(pipes.earliest(command(9)), 9, Class::NextCommand, 0));
-    assert_eq!(rt; pipes.lines(), 3);
-    Ok(())
+    assert!(rt; pipes.lines() == 3);
 }
 
 // Where memory is refused nothing has changed.
 #[test]
-fn a_refused_pipe_is_not_made(rt: HostRuntime) -> Result<(), Fail> {
+fn a_refused_pipe_is_not_made(rt: HostRuntime) {
     let mut pipes = PipeTable::new(rt.alloc(), 0);
-    let slow = config(1_000_000, 10).ok_or("config")?;
-    let one = PipeNumber::new(1).ok_or("1")?;
-    match pipes.configure(one, &slow) {
-        Ok(()) => assert_eq!(rt; pipes.lines(), 1),
-        Err(ConfigureError::NoMemory) => assert_eq!(rt; pipes.lines(), 0),
-        Err(ConfigureError::Refused(_)) => assert!(rt; false),
-    }
-    Ok(())
+    let wanted = match pipes.configure(number(&rt, 1), &slow(&rt)) {
+        Ok(()) => 1,
+        Err(ConfigureError::NoMemory) => 0,
+        Err(ConfigureError::Refused(_)) => 99,
+    };
+    assert!(rt; pipes.lines() == wanted);
 }
 
 // Nothing is needed for a packet that finds no pipe.
 #[test]
-fn no_pipe_needs_no_room(rt: HostRuntime) -> Result<(), Fail> {
-    let mut shelf = OwnShelf::new(rt.alloc(), PacketBudget::new(2).ok_or("budget")?);
+fn no_pipe_needs_no_room(rt: HostRuntime) {
+    let mut shelf = OwnShelf::new(rt.alloc(), PacketBudget::new(2).expect(&rt, "a budget"));
     let mut pipes = PipeTable::new(rt.alloc(), 0);
-    let one = PipeNumber::new(1).ok_or("1")?;
-    let first = packet(0).ok_or("packet")?;
-    assert!(rt; pipes.arrive_ready(&mut shelf, 0, 0, one, &first).is_ok());
-    assert_eq!(rt; shelf.count(0), 0);
-    Ok(())
+    let first = packet(&rt, 0);
+    let ready = pipes.arrive_ready(&mut shelf, 0, 0, number(&rt, 1), &first);
+    assert!(rt; ready.is_ok());
+    assert!(rt; shelf.count(0) == 0);
 }
 
 // A packet of 1000 bytes at 0 finishes at 8000000, behind what was due before.
@@ -115,7 +120,7 @@ fn dues_are_appended(rt: HostRuntime) -> Result<(), Fail> {
     let mut pipes = PipeTable::new(rt.alloc(), 0);
     let slow = config(1_000_000, 10).ok_or("config")?;
     let one = PipeNumber::new(1).ok_or("1")?;
-    let first = packet(0).ok_or("packet")?;
+    let first = packet(&rt, 0);
     let mut dues = Vec::new(rt.alloc());
     let Ok(()) = dues.push(command(9)) else {
         return Ok(());
@@ -137,18 +142,20 @@ fn dues_are_appended(rt: HostRuntime) -> Result<(), Fail> {
     Ok(())
 }
 
+fn sixty_four_are_there(rt: &impl Abort, pipes: &mut PipeTable, slow: &PipeConfig) {
+    for number in 1..65 {
+        assert!(rt; configures(pipes, number, slow));
+    }
+}
+
 // A 65th pipe is refused, and one that is there can be configured anew.
 #[test]
-fn pipes_are_counted(rt: HostRuntime) -> Result<(), Fail> {
+fn pipes_are_counted(rt: HostRuntime) {
     let mut pipes = PipeTable::new(rt.alloc(), 0);
-    let slow = config(1_000_000, 10).ok_or("config")?;
-    for number in 1..65 {
-        assert!(rt; configures(&mut pipes, number, &slow));
-    }
-    let late = PipeNumber::new(65).ok_or("65")?;
-    let refused = pipes.configure(late, &slow);
+    let slow = slow(&rt);
+    sixty_four_are_there(&rt, &mut pipes, &slow);
+    let refused = pipes.configure(number(&rt, 65), &slow);
     assert!(rt; matches!(refused, Err(ConfigureError::Refused(Refusal::TooManyPipes))));
-    assert_eq!(rt; pipes.lines(), 64);
+    assert!(rt; pipes.lines() == 64);
     assert!(rt; configures(&mut pipes, 64, &slow));
-    Ok(())
 }
