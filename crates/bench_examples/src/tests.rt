@@ -10,7 +10,7 @@ use calls::{Advance, Kit, Move, Real, admit, adopt, last_turn, offer, retake, tu
 use emu_model::{Budget, Command, Ending, PacketBudget, Spec, StepBudget, Timed};
 use example_texts as texts;
 use guests::{Guest, invite, post_all, settle, text_of};
-use shard::Polled;
+use shard::{PackError, Polled};
 use std::process::Abort;
 use std::slice;
 
@@ -286,4 +286,53 @@ fn letters_of<K: Kit>(rt: &(impl Abort + AllocGlobal)) {
 #[test]
 fn letters(rt: HostRuntime) {
     letters_of::<Real>(&rt);
+}
+
+// The 82 records of its report: of the first three commands, two of each of 38 packets, two drops, and of the end.
+const CODEL_RECORDS: usize = 82;
+
+// Polls and turns the only resident until it has ended.
+fn last_of<K: Kit>(rt: &impl Abort, bench: &mut K::Bench) -> K::Dossier {
+    for _ in 0..1000 {
+        K::poll(bench, 0);
+        if let Some(dossier) = last_turn::<K>(bench) {
+            return dossier;
+        }
+    }
+    panic!(rt; "not ended");
+}
+
+// The ring has 64 slots, so 18 records were never published.
+fn unread_of<K: Kit>(rt: &(impl Abort + AllocGlobal)) {
+    let mut registry = Registry::new();
+    let (mut bench, _peer) = K::with_peer(rt.alloc()).expect(rt, "a bench");
+    let (text, report) = (texts::CODEL_TWO_DROPS, texts::CODEL_TWO_DROPS_REPORT);
+    let (mut guest, parcel) = invite::<K>(rt, &mut registry, text, report).expect(rt, "a guest");
+    assert!(rt; admit::<K>(&mut bench, parcel));
+    post_all::<K>(rt, &mut guest);
+    let dossier = last_of::<K>(rt, &mut bench);
+    assert!(rt; K::ended_records(&dossier).len() == CODEL_RECORDS);
+    assert!(rt; K::letters(&guest.tenant).is_empty());
+    let settled = settle::<K>(rt, guest, dossier);
+    assert!(rt; K::records(&settled.outcome).len() == CODEL_RECORDS);
+    let written = text_of::<K>(rt.alloc(), &settled).expect(rt, "memory");
+    assert!(rt; written.as_slice() == settled.wanted());
+}
+
+#[test]
+fn unread(rt: HostRuntime) {
+    unread_of::<Real>(&rt);
+}
+
+#[test]
+fn refusals_have_their_numbers(rt: HostRuntime) {
+    assert_eq!(rt; PackError::Vacant as u8, 31);
+    assert_eq!(rt; PackError::NoMemory as u8, 99);
+    assert_eq!(rt; PostError::Early as u8, 40);
+    assert_eq!(rt; PostError::MailFull as u8, 41);
+    assert_eq!(rt; PostError::TooLate as u8, 42);
+    assert_eq!(rt; PostError::Closed as u8, 45);
+    assert_eq!(rt; PostError::NoMemory as u8, 99);
+    assert_eq!(rt; OpenError::NamesOut as u8, 46);
+    assert_eq!(rt; OpenError::NoMemory as u8, 99);
 }

@@ -16,7 +16,7 @@ use emu_model::{
 use experiment::*;
 use packet_store::{OwnShelf, Owner, Shelf, Store};
 use std::alloc::Global;
-use std::test::Fail;
+use std::process::Abort;
 
 /// The experiment moves to the store, makes an event there, and moves back. None where memory was
 /// refused.
@@ -167,96 +167,108 @@ fn four_segments() -> Option<Command> {
     })
 }
 
-fn done(moment: u64, command: u64) -> Record {
-    Record::CommandDone { moment, command }
-}
-
-fn finished(moment: u64, packet: u64, pipe: PipeNumber) -> Record {
-    Record::PacketFinished {
-        moment,
-        packet,
-        pipe,
-        instance: 0,
-    }
-}
-
-fn segment(moment: u64, packet: u64, flow: FlowNumber, first: u64) -> Record {
-    Record::PacketDelivered {
-        moment,
-        packet,
-        load: Load::Seg { flow, first },
-    }
-}
-
-fn answer(moment: u64, packet: u64, flow: FlowNumber, upto: u64) -> Record {
-    Record::PacketDelivered {
-        moment,
-        packet,
-        load: Load::Ack { flow, upto },
-    }
-}
-
-fn window(moment: u64, flow: FlowNumber, cwnd: u64) -> Record {
-    Record::AckTaken {
-        moment,
-        flow,
-        cwnd,
-        ssthresh: 65535,
-    }
-}
-
 fn timed(moment: u64, command: Command) -> Timed {
     Timed { moment, command }
 }
 
-/// The lines of the example of four segments.
-#[test]
-fn four_segments_on_two_shelves(rt: HostRuntime) -> Result<(), Fail> {
-    let one = PipeNumber::new(1).ok_or("1")?;
-    let two = PipeNumber::new(2).ok_or("2")?;
-    let flow = FlowNumber::new(1).ok_or("flow")?;
-    let commands = [
-        timed(0, pipe(1, 10_000_000).ok_or("pipe")?),
-        timed(0, pipe(2, 0).ok_or("pipe")?),
-        timed(0, between(100, 0x0a00_0001, 0x0a00_0002, 1).ok_or("rule")?),
-        timed(0, between(200, 0x0a00_0002, 0x0a00_0001, 2).ok_or("rule")?),
-        timed(0, four_segments().ok_or("segments")?),
+/// The commands of the example of four segments.
+fn commands() -> Option<[Timed; 6]> {
+    Some([
+        timed(0, pipe(1, 10_000_000)?),
+        timed(0, pipe(2, 0)?),
+        timed(0, between(100, 0x0a00_0001, 0x0a00_0002, 1)?),
+        timed(0, between(200, 0x0a00_0002, 0x0a00_0001, 2)?),
+        timed(0, four_segments()?),
         timed(100_000_000, Command::End),
-    ];
-    let expected = [
-        done(0, 0),
-        done(0, 1),
-        done(0, 2),
-        done(0, 3),
-        done(0, 4),
-        finished(1_200_000, 0, one),
-        finished(2_400_000, 1, one),
-        finished(3_600_000, 2, one),
-        segment(11_200_000, 0, flow, 0),
-        finished(11_200_000, 3, two),
-        segment(12_400_000, 1, flow, 1460),
-        finished(12_400_000, 4, two),
-        segment(13_600_000, 2, flow, 2920),
-        finished(13_600_000, 5, two),
-        answer(21_200_000, 3, flow, 1460),
-        window(21_200_000, flow, 5840),
-        answer(22_400_000, 4, flow, 2920),
-        window(22_400_000, flow, 7300),
-        finished(22_400_000, 6, one),
-        answer(23_600_000, 5, flow, 4380),
-        window(23_600_000, flow, 8760),
-        segment(32_400_000, 6, flow, 4380),
-        finished(32_400_000, 7, two),
-        answer(42_400_000, 7, flow, 5840),
-        window(42_400_000, flow, 10220),
-        done(100_000_000, 5),
-    ];
-    let Some(records) = recorded(rt.alloc(), &commands) else {
-        return Ok(());
-    };
-    assert_eq!(rt; records.len(), expected.len());
-    for (record, line) in records.iter().zip(expected.iter()) {
-        assert!(rt; record == line);
+    ])
+}
+
+/// The kinds of records that it has.
+#[derive(Clone, Copy, PartialEq)]
+enum Kind {
+    Command,
+    Finish,
+    Segment,
+    Answer,
+    Window,
+}
+
+/// The kind of a record, its moment, and two numbers of it: of a command its own; of a finish its packet and pipe; of a
+/// delivery its packet, and its first byte or the one that it acknowledges; of an acknowledgement that was taken its
+/// window and threshold.
+type Line = (Kind, u64, u64, u64);
+
+/// The lines of that example.
+const LINES: [Line; 26] = [
+    (Kind::Command, 0, 0, 0),
+    (Kind::Command, 0, 1, 0),
+    (Kind::Command, 0, 2, 0),
+    (Kind::Command, 0, 3, 0),
+    (Kind::Command, 0, 4, 0),
+    (Kind::Finish, 1_200_000, 0, 1),
+    (Kind::Finish, 2_400_000, 1, 1),
+    (Kind::Finish, 3_600_000, 2, 1),
+    (Kind::Segment, 11_200_000, 0, 0),
+    (Kind::Finish, 11_200_000, 3, 2),
+    (Kind::Segment, 12_400_000, 1, 1460),
+    (Kind::Finish, 12_400_000, 4, 2),
+    (Kind::Segment, 13_600_000, 2, 2920),
+    (Kind::Finish, 13_600_000, 5, 2),
+    (Kind::Answer, 21_200_000, 3, 1460),
+    (Kind::Window, 21_200_000, 5840, 65535),
+    (Kind::Answer, 22_400_000, 4, 2920),
+    (Kind::Window, 22_400_000, 7300, 65535),
+    (Kind::Finish, 22_400_000, 6, 1),
+    (Kind::Answer, 23_600_000, 5, 4380),
+    (Kind::Window, 23_600_000, 8760, 65535),
+    (Kind::Segment, 32_400_000, 6, 4380),
+    (Kind::Finish, 32_400_000, 7, 2),
+    (Kind::Answer, 42_400_000, 7, 5840),
+    (Kind::Window, 42_400_000, 10220, 65535),
+    (Kind::Command, 100_000_000, 5, 0),
+];
+
+/// The line of a record; None of other kinds, other flows and other instances.
+fn line_of(record: &Record) -> Option<Line> {
+    match *record {
+        Record::CommandDone { moment, command } => Some((Kind::Command, moment, command, 0)),
+        Record::PacketFinished {
+            moment,
+            packet,
+            pipe,
+            instance: 0,
+        } => Some((Kind::Finish, moment, packet, u64::from(pipe.get()))),
+        Record::PacketDelivered {
+            moment,
+            packet,
+            load: Load::Seg { flow, first },
+        } if flow.get() == 1 => Some((Kind::Segment, moment, packet, first)),
+        Record::PacketDelivered {
+            moment,
+            packet,
+            load: Load::Ack { flow, upto },
+        } if flow.get() == 1 => Some((Kind::Answer, moment, packet, upto)),
+        Record::AckTaken {
+            moment,
+            flow,
+            cwnd,
+            ssthresh,
+        } if flow.get() == 1 => Some((Kind::Window, moment, cwnd, ssthresh)),
+        _ => None,
     }
-    Ok(())
+}
+
+fn are_the_lines(rt: &impl Abort, records: &[Record]) {
+    assert!(rt; records.len() == LINES.len());
+    for (record, line) in records.iter().zip(LINES.iter()) {
+        assert!(rt; line_of(record) == Some(*line));
+    }
+}
+
+#[test]
+fn four_segments_on_two_shelves(rt: HostRuntime) {
+    let commands = commands().expect(&rt, "in range");
+    if let Some(records) = recorded(rt.alloc(), &commands) {
+        are_the_lines(&rt, &records);
+    }
 }

@@ -13,7 +13,6 @@ use experiment::*;
 use packet_store::OwnShelf;
 use std::alloc::Global;
 use std::process::Abort;
-use std::test::Fail;
 
 /// An experiment beside its shelf.
 #[derive(Drop)]
@@ -90,15 +89,9 @@ impl Bench {
     }
 
     /// What was touched since this was asked last, at the second try where memory was refused.
-    fn touched_in_the_end(&mut self, alloc: Global) -> Option<Vec<Source>> {
-        let mut sources = Vec::new(alloc);
-        if self.experiment.touched(&mut sources).is_err() {
-            if !sources.is_empty() {
-                return None;
-            }
-            self.experiment.touched(&mut sources).ok()?;
-        }
-        Some(sources)
+    fn touched_in_the_end(&mut self, sources: &mut Vec<Source>) -> bool {
+        self.experiment.touched(sources).is_ok()
+            || (sources.is_empty() && self.experiment.touched(sources).is_ok())
     }
 
     /// What an event does. None where it halts and not all is as before, or something follows.
@@ -190,64 +183,54 @@ fn refuses_all_after_the_end(rt: &impl Abort, bench: &mut Bench) {
 
     // The reply, the line of the default rule, the reply.
     let records = bench.experiment.records();
-    assert_eq!(rt; records.len(), 3);
+    assert!(rt; records.len() == 3);
     assert!(rt; records[2] == done(5, 1));
     assert!(rt; bench.seen() == (3, 2, 2, 0));
 }
 
 /// Busy, then backward, then over.
 #[test]
-fn a_command_is_busy_then_backward_then_over(rt: HostRuntime) -> Result<(), Fail> {
-    let mut bench = Bench::new(rt.alloc(), 10, 1000).ok_or("bench")?;
+fn a_command_is_busy_then_backward_then_over(rt: HostRuntime) {
+    let mut bench = Bench::new(rt.alloc(), 10, 1000).expect(&rt, "a bench");
     refuses_two_commands(&rt, &mut bench);
     refuses_all_after_the_end(&rt, &mut bench);
     drop(bench);
-    Ok(())
 }
 
 /// The numbers that refusals have outside.
 #[test]
 fn refusals_have_their_numbers(rt: HostRuntime) {
-    assert_eq!(rt; ApplyError::Busy as u8, 27);
-    assert_eq!(rt; ApplyError::Backward as u8, 28);
-    assert_eq!(rt; ApplyError::Over as u8, 29);
-    assert_eq!(rt; ApplyError::NoMemory as u8, 99);
-}
-
-/// Takes commands of the moment 0, each with its event. Whether all went on.
-fn takes_all(bench: &mut Bench, commands: &[Command]) -> bool {
-    for command in commands {
-        if !bench.takes(0, *command) {
-            return false;
-        }
-    }
-    true
+    let numbers = [
+        ApplyError::Busy as u8,
+        ApplyError::Backward as u8,
+        ApplyError::Over as u8,
+        ApplyError::NoMemory as u8,
+    ];
+    assert!(rt; numbers == [27, 28, 29, 99]);
 }
 
 /// The packet enters a pipe of 1 Mbit/s and 10 ms at 0.
-fn sent(alloc: Global) -> Option<Bench> {
-    let commands = [config()?, rule()?, inject()?];
-    let mut bench = Bench::new(alloc, 10, 1000)?;
-    if takes_all(&mut bench, &commands) {
-        return Some(bench);
-    }
-    drop(bench);
-    None
+fn sent(rt: &(impl Abort + AllocGlobal)) -> Bench {
+    let mut bench = Bench::new(rt.alloc(), 10, 1000).expect(rt, "a bench");
+    assert!(rt; bench.takes(0, config().expect(rt, "in range")));
+    assert!(rt; bench.takes(0, rule().expect(rt, "in range")));
+    assert!(rt; bench.takes(0, inject().expect(rt, "in range")));
+    bench
 }
 
 /// The packet finishes, is delivered, and the end comes.
 fn goes_through(rt: &impl Abort, bench: &mut Bench) {
-    assert_eq!(rt; bench.experiment.counters().held, 1);
-    assert_eq!(rt; bench.experiment.held(), 1);
-    assert_eq!(rt; bench.experiment.clock(), 0);
+    assert!(rt; bench.experiment.counters().held == 1);
+    assert!(rt; bench.experiment.held() == 1);
+    assert!(rt; bench.experiment.clock() == 0);
     assert!(rt; bench.apply(20_000_000, Command::End).is_ok());
     assert!(rt; bench.event() == Event::Ran);
-    assert_eq!(rt; bench.experiment.clock(), 8_000_000);
+    assert!(rt; bench.experiment.clock() == 8_000_000);
     assert!(rt; bench.event() == Event::Ran);
-    assert_eq!(rt; bench.experiment.held(), 0);
+    assert!(rt; bench.experiment.held() == 0);
     assert!(rt; bench.event() == Event::Ended);
-    assert_eq!(rt; bench.experiment.clock(), 20_000_000);
-    assert_eq!(rt; bench.experiment.spec().seed, 0);
+    assert!(rt; bench.experiment.clock() == 20_000_000);
+    assert!(rt; bench.experiment.spec().seed == 0);
 }
 
 /// The commands and the records.
@@ -257,8 +240,8 @@ fn lists(bench: Bench) -> (Vec<Timed>, Vec<Record>) {
 
 /// A packet of 1000 bytes at 0: it finishes at 8000000, and is delivered at 18000000.
 #[test]
-fn one_packet(rt: HostRuntime) -> Result<(), Fail> {
-    let pipe = PipeNumber::new(1).ok_or("1")?;
+fn one_packet(rt: HostRuntime) {
+    let pipe = PipeNumber::new(1).expect(&rt, "a pipe");
     let finished = Record::PacketFinished {
         moment: 8_000_000,
         packet: 0,
@@ -270,15 +253,14 @@ fn one_packet(rt: HostRuntime) -> Result<(), Fail> {
         packet: 0,
         load: Load::Plain,
     };
-    let mut bench = sent(rt.alloc()).ok_or("bench")?;
+    let mut bench = sent(&rt);
     goes_through(&rt, &mut bench);
     let (commands, records) = lists(bench);
-    assert_eq!(rt; commands.len(), 4);
-    assert_eq!(rt; records.len(), 6);
+    assert!(rt; commands.len() == 4);
+    assert!(rt; records.len() == 6);
     assert!(rt; records[3] == finished);
     assert!(rt; records[4] == delivered);
     assert!(rt; records[5] == done(20_000_000, 3));
-    Ok(())
 }
 
 fn due(class: Class, number: u32, moment: u64) -> Due {
@@ -290,59 +272,47 @@ fn names(sources: &[Source], due: Due) -> bool {
     sources.iter().any(|source| *source == due.source)
 }
 
-/// The packet is due at its finish; all that is due is touched. None where memory was refused.
-fn is_due_at_its_finish(rt: &impl Abort, alloc: Global, bench: &mut Bench) -> Option<()> {
-    let end = due(Class::NextCommand, 0, 20_000_000);
-    let finish = due(Class::Finish, 256, 8_000_000);
-    let dues = bench.dues_in_the_end(alloc)?;
-    assert_eq!(rt; dues.len(), 2);
-    assert!(rt; dues[0] == end);
-    assert!(rt; dues[1] == finish);
-    let touched = bench.touched_in_the_end(alloc)?;
-    assert!(rt; names(&touched, finish));
-    assert!(rt; names(&touched, end));
-    assert!(rt; bench.experiment.noted() == dues.as_slice());
-    Some(())
+/// Wants these two to be due, and these to be touched or not.
+fn are_due(
+    rt: &(impl Abort + AllocGlobal),
+    bench: &mut Bench,
+    wanted: &[Due],
+    touched: &[(Due, bool)],
+) {
+    let dues = bench.dues_in_the_end(rt.alloc()).expect(rt, "memory");
+    assert!(rt; dues.as_slice() == wanted);
+    let mut sources = Vec::new(rt.alloc());
+    assert!(rt; bench.touched_in_the_end(&mut sources));
+    for (due, is_touched) in touched {
+        assert!(rt; names(&sources, *due) == *is_touched);
+    }
 }
 
-/// The packet is due at its exit; its pipe's two were touched. None where memory was refused.
-fn is_due_at_its_exit(rt: &impl Abort, alloc: Global, bench: &mut Bench) -> Option<()> {
+/// The packet of a bench that was sent one, up to its end: it is due at its finish, and all that is due is touched;
+/// then at its exit, and its pipe's two were touched.
+fn dues_to_the_end(rt: &(impl Abort + AllocGlobal), bench: &mut Bench) {
     let end = due(Class::NextCommand, 0, 20_000_000);
     let finish = due(Class::Finish, 256, 8_000_000);
     let exit = due(Class::Exit, 256, 18_000_000);
-    let dues = bench.dues_in_the_end(alloc)?;
-    assert_eq!(rt; dues.len(), 2);
-    assert!(rt; dues[0] == end);
-    assert!(rt; dues[1] == exit);
-    let touched = bench.touched_in_the_end(alloc)?;
-    assert!(rt; names(&touched, finish));
-    assert!(rt; names(&touched, exit));
-    assert!(rt; !names(&touched, end));
-    Some(())
-}
-
-/// The packet of a bench that was sent one, up to its end. None where memory was refused.
-fn dues_to_the_end(rt: &impl Abort, alloc: Global, bench: &mut Bench) -> Option<()> {
     assert!(rt; bench.apply(20_000_000, Command::End).is_ok());
-    is_due_at_its_finish(rt, alloc, bench)?;
+    are_due(rt, bench, &[end, finish], &[(finish, true), (end, true)]);
+    assert!(rt; bench.experiment.noted() == [end, finish].as_slice());
     assert!(rt; bench.event() == Event::Ran);
-    is_due_at_its_exit(rt, alloc, bench)?;
+    let touched = [(finish, true), (exit, true), (end, false)];
+    are_due(rt, bench, &[end, exit], &touched);
     assert!(rt; bench.event() == Event::Ran);
     assert!(rt; bench.event() == Event::Ended);
-    let dues = bench.dues_in_the_end(alloc)?;
+    let dues = bench.dues_in_the_end(rt.alloc()).expect(rt, "memory");
     assert!(rt; dues.is_empty());
-    Some(())
 }
 
 /// A packet in service is due at its finish, then at its exit. Its pipe's step touches both, and not
 /// the next command.
 #[test]
-fn dues_of_one_packet(rt: HostRuntime) -> Result<(), Fail> {
-    let mut bench = sent(rt.alloc()).ok_or("bench")?;
-    let seen = dues_to_the_end(&rt, rt.alloc(), &mut bench);
+fn dues_of_one_packet(rt: HostRuntime) {
+    let mut bench = sent(&rt);
+    dues_to_the_end(&rt, &mut bench);
     drop(bench);
-    seen.ok_or("memory")?;
-    Ok(())
 }
 
 /// It is held when the end comes.
@@ -351,19 +321,15 @@ fn is_held_in_the_end(rt: &impl Abort, bench: &mut Bench) {
     assert!(rt; bench.event() == Event::Ran);
     assert!(rt; bench.event() == Event::Ended);
     let counters = bench.experiment.counters();
-    assert_eq!(rt;
-        (counters.made, counters.delivered, counters.held),
-        (1, 0, 1)
-    );
+    assert!(rt; (counters.made, counters.delivered, counters.held) == (1, 0, 1));
 }
 
 /// With the end at the moment of the exit it isn't delivered: the command comes first.
 #[test]
-fn one_packet_held(rt: HostRuntime) -> Result<(), Fail> {
-    let mut bench = sent(rt.alloc()).ok_or("bench")?;
+fn one_packet_held(rt: HostRuntime) {
+    let mut bench = sent(&rt);
     is_held_in_the_end(&rt, &mut bench);
     drop(bench);
-    Ok(())
 }
 
 /// The budget's two steps are two listings.
@@ -375,7 +341,7 @@ fn spends_two_steps(rt: &impl Abort, bench: &mut Bench) {
     assert!(rt; bench.apply(0, Command::End) == Err(ApplyError::Over));
     assert!(rt; bench.event() == Event::Still);
     let records = bench.experiment.records();
-    assert_eq!(rt; records.len(), 5);
+    assert!(rt; records.len() == 5);
     assert!(rt; records[0] == done(0, 0));
     assert!(rt;
         matches!(
@@ -389,16 +355,15 @@ fn spends_two_steps(rt: &impl Abort, bench: &mut Bench) {
     );
     assert!(rt; records[2] == done(0, 1));
     assert!(rt; records[4] == Record::StepsSpent { moment: 0 });
-    assert_eq!(rt; bench.experiment.events(), 2);
+    assert!(rt; bench.experiment.events() == 2);
 }
 
 /// Two steps: the second listing ends with `spent`, and `end` has no step.
 #[test]
-fn step_budget(rt: HostRuntime) -> Result<(), Fail> {
-    let mut bench = Bench::new(rt.alloc(), 10, 2).ok_or("bench")?;
+fn step_budget(rt: HostRuntime) {
+    let mut bench = Bench::new(rt.alloc(), 10, 2).expect(&rt, "a bench");
     spends_two_steps(&rt, &mut bench);
     drop(bench);
-    Ok(())
 }
 
 /// The end is the one step there is.
@@ -406,16 +371,15 @@ fn ends_at_once(rt: &impl Abort, bench: &mut Bench) {
     assert!(rt; bench.apply(7, Command::End).is_ok());
     assert!(rt; bench.event() == Event::Ended);
     assert!(rt; matches!(bench.experiment.ending(), Some(Ending::Ended)));
-    assert_eq!(rt; bench.experiment.records().len(), 1);
+    assert!(rt; bench.experiment.records().len() == 1);
 }
 
 /// An `end` that is the last step of the budget isn't spent.
 #[test]
-fn last_step_is_the_end(rt: HostRuntime) -> Result<(), Fail> {
-    let mut bench = Bench::new(rt.alloc(), 10, 1).ok_or("bench")?;
+fn last_step_is_the_end(rt: HostRuntime) {
+    let mut bench = Bench::new(rt.alloc(), 10, 1).expect(&rt, "a bench");
     ends_at_once(&rt, &mut bench);
     drop(bench);
-    Ok(())
 }
 
 /// There is room at the second try at the latest, and nothing has changed.
@@ -429,13 +393,12 @@ fn has_room_in_the_end(rt: &impl Abort, bench: &mut Bench) {
 /// There is room for a command before it comes, at the second try where memory was refused; nothing has
 /// changed then, and the command needs no memory.
 #[test]
-fn a_command_has_room(rt: HostRuntime) -> Result<(), Fail> {
+fn a_command_has_room(rt: HostRuntime) {
     let Some(mut bench) = Bench::new(rt.alloc(), 10, 1000) else {
-        return Ok(());
+        return;
     };
     has_room_in_the_end(&rt, &mut bench);
     drop(bench);
-    Ok(())
 }
 
 /// Commands come in the end, and an event that halts leaves all as it was. Whether it goes on; None where an
@@ -450,13 +413,19 @@ fn obeys_or_halts(rt: &impl Abort, bench: &mut Bench, commands: &[Command]) -> O
     Some(true)
 }
 
+/// Two are due, and something was touched.
+fn are_two_due(rt: &impl Abort, alloc: Global, bench: &mut Bench) {
+    let dues = bench.dues_in_the_end(alloc).expect(rt, "memory");
+    assert!(rt; dues.len() == 2);
+    let mut touched = Vec::new(alloc);
+    assert!(rt; bench.touched_in_the_end(&mut touched));
+    assert!(rt; !touched.is_empty());
+}
+
 /// Three events more, or a halt before. Whether it came to its end; None where an answer was another.
 fn ends_or_halts(rt: &impl Abort, alloc: Global, bench: &mut Bench) -> Option<bool> {
     assert!(rt; bench.applies_in_the_end(20_000_000, Command::End));
-    let dues = bench.dues_in_the_end(alloc)?;
-    assert_eq!(rt; dues.len(), 2);
-    let touched = bench.touched_in_the_end(alloc)?;
-    assert!(rt; !touched.is_empty());
+    are_two_due(rt, alloc, bench);
     for _ in 0..3 {
         if bench.event_or_halt()? == Event::Halted {
             return Some(false);
@@ -478,14 +447,13 @@ fn plays_or_halts(rt: &impl Abort, alloc: Global, bench: &mut Bench) -> Option<b
 /// Passes with ample memory, and where any one allocation is refused: a command comes at the second
 /// try, and an event that halts leaves all as it was.
 #[test]
-fn refused_memory_changes_nothing(rt: HostRuntime) -> Result<(), Fail> {
+fn refused_memory_changes_nothing(rt: HostRuntime) {
     let Some(mut bench) = Bench::new(rt.alloc(), 10, 1000) else {
-        return Ok(());
+        return;
     };
     let played = plays_or_halts(&rt, rt.alloc(), &mut bench);
     drop(bench);
-    played.ok_or("event")?;
-    Ok(())
+    assert!(rt; played.is_some());
 }
 
 /// What is recorded of one packet through the pipe, traced from the first command on.
@@ -558,7 +526,7 @@ fn traces_or_halts(rt: &impl Abort, bench: &mut Bench, lines: &[Record]) -> Opti
     let sent = obeys_or_halts(rt, bench, &commands)?;
     let whole = sent && comes_out_or_halts(rt, bench)?;
     let records = bench.experiment.records();
-    assert_eq!(rt; records.len() == lines.len(), whole);
+    assert!(rt; (records.len() == lines.len()) == whole);
     assert!(rt; lines.starts_with(records));
     Some(whole)
 }
@@ -566,8 +534,8 @@ fn traces_or_halts(rt: &impl Abort, bench: &mut Bench, lines: &[Record]) -> Opti
 /// Passes with ample memory, and where any one allocation is refused: an event that halts leaves all as it
 /// was, and an experiment that is tried again records the making, the instance and the arrival.
 #[test]
-fn refused_trace_is_recorded_at_the_second_try(rt: HostRuntime) -> Result<(), Fail> {
-    let lines = lines_of_a_traced_packet().ok_or("lines")?;
+fn refused_trace_is_recorded_at_the_second_try(rt: HostRuntime) {
+    let lines = lines_of_a_traced_packet().expect(&rt, "in range");
     let mut whole = false;
     for _try in 0..2 {
         let Some(mut bench) = Bench::new(rt.alloc(), 10, 1000) else {
@@ -575,8 +543,7 @@ fn refused_trace_is_recorded_at_the_second_try(rt: HostRuntime) -> Result<(), Fa
         };
         let traced = traces_or_halts(&rt, &mut bench, &lines);
         drop(bench);
-        whole = whole || traced.ok_or("event")?;
+        whole = whole || traced.expect(&rt, "an event");
     }
     assert!(rt; whole);
-    Ok(())
 }

@@ -1,4 +1,4 @@
-use Rattle.std.proofs.Common.{◌≡◌, sym, ap, ◌∙◌, subst, arith}
+use Rattle.std.proofs.Common.{sym, ap, ◌∙◌, subst, arith}
 use Rattle.packet_store.specs.Pocket.{Pocket, empty_pocket}
 use Rattle.experiment.specs.Kept.{IsHousedIn}
 use Rattle.experiment_examples.proofs.rehousing_tests.recorded.Goals as goal
