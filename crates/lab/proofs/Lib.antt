@@ -1,5 +1,6 @@
 pub mod Answering
 pub mod Concludings
+pub mod Desking
 pub mod Endings
 pub mod Gatherings
 pub mod JoinedReports

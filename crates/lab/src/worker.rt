@@ -1,7 +1,8 @@
 //! What one worker does: it turns the residents of its bench, offers one of them now and then, and fetches others
 //! where it has nothing to do.
 
-ghost use Rattle.std.specs.Prelude.{◌≡◌, true, IfErr, IsTrue};
+ghost use Rattle.std.specs.Prelude.{◌≡◌, None, true, OnOk, IfErr, IsTrue};
+ghost use Rattle.lab.specs.Desks.{LosesNone, Readmits, HandsOver, parcel_of};
 ghost use Rattle.lab.specs.Plans.{IsWorkFault, IsMemory, is_honest};
 
 use crate::fault::RunFault;
@@ -118,15 +119,19 @@ struct Desk {
 impl Desk {
     // Admits a parcel that was handed back.
     fn admit_again(&mut self, parcel: Parcel<RingMail>) -> Result<(), RunFault>
-        ensures { IfErr result IsMemory }
+        ensures ok { OnOk result (Readmits parcel self.old self.new) }
+        ensures err { IfErr result IsMemory }
     {
-        let admitted = self.bench.admit(parcel).ok();
-        admitted.ok_or(RunFault::Memory)
+        let Ok(()) = self.bench.admit(parcel) else {
+            return Err(RunFault::Memory);
+        };
+        Ok(())
     }
 
     // Admits what could not be taken in.
     fn admit_refused(&mut self, refused: TakeInError<RingMail>) -> Result<(), RunFault>
-        ensures { IfErr result IsMemory }
+        ensures ok { OnOk result (Readmits (parcel_of refused) self.old self.new) }
+        ensures err { IfErr result IsMemory }
     {
         match refused {
             TakeInError::Crowded(parcel) => return self.admit_again(parcel),
@@ -135,8 +140,10 @@ impl Desk {
     }
 
     // Pushes the resident of a slot onto the deque.
+    #[tactic(auto, using(crate::proofs::Desking::loses_none, crate::proofs::Desking::loses_none_again))]
     fn offer(&mut self, slot: usize) -> Result<(), RunFault>
-        ensures { IfErr result IsMemory }
+        ensures ok { OnOk result (LosesNone self.old self.new) }
+        ensures err { IfErr result IsMemory }
     {
         match self.bench.offer(slot) {
             Ok(()) => return Ok(()),
@@ -147,8 +154,10 @@ impl Desk {
     }
 
     // Takes what another bench pushed first. Whether something came.
+    #[tactic(auto, using(crate::proofs::Desking::loses_none, crate::proofs::Desking::loses_none_adopted, crate::proofs::Desking::loses_none_again))]
     fn adopt(&mut self) -> Result<bool, RunFault>
-        ensures { IfErr result IsMemory }
+        ensures ok { OnOk result (LosesNone self.old self.new) }
+        ensures err { IfErr result IsMemory }
     {
         let Some(peer) = &mut self.peer else {
             return Ok(false);
@@ -166,8 +175,10 @@ impl Desk {
     }
 
     // Takes what it pushed first itself, or else what another bench did. Whether something came.
+    #[tactic(auto, using(crate::proofs::Desking::loses_none, crate::proofs::Desking::loses_none_both, crate::proofs::Desking::loses_none_again))]
     fn fetch(&mut self) -> Result<bool, RunFault>
-        ensures { IfErr result IsMemory }
+        ensures ok { OnOk result (LosesNone self.old self.new) }
+        ensures err { IfErr result IsMemory }
     {
         match self.bench.retake() {
             Ok(()) => return Ok(true),
@@ -181,8 +192,10 @@ impl Desk {
     }
 
     // Polls a slot.
+    #[tactic(auto, using(crate::proofs::Desking::loses_none))]
     fn poll(&mut self, slot: usize) -> Result<(), RunFault>
-        ensures { IfErr result IsMemory }
+        ensures ok { OnOk result (LosesNone self.old self.new) }
+        ensures err { IfErr result IsMemory }
     {
         match self.bench.poll(slot) {
             Polled::NoMemory(_) => return Err(RunFault::Memory),
@@ -191,8 +204,10 @@ impl Desk {
     }
 
     // Polls each resident. Whether any can make a turn now and could not before.
+    #[tactic(auto, using(crate::proofs::Desking::loses_none, crate::proofs::Desking::loses_none_both))]
     fn poll_all(&mut self) -> Result<bool, RunFault>
-        ensures { IfErr result IsMemory }
+        ensures ok { OnOk result (LosesNone self.old self.new) }
+        ensures err { IfErr result IsMemory }
     {
         let mut any = false;
         let mut left = self.bench.residents();
@@ -215,8 +230,10 @@ impl Desk {
 
     // After turns of a resident: it is polled, so that its next command comes and its records are published, and it is
     // offered where its time has come.
+    #[tactic(auto, using(crate::proofs::Desking::loses_none, crate::proofs::Desking::loses_none_both))]
     fn after(&mut self, name: u32, moves: u32) -> Result<(), RunFault>
-        ensures { IfErr result IsMemory }
+        ensures ok { OnOk result (LosesNone self.old self.new) }
+        ensures err { IfErr result IsMemory }
     {
         let Some(slot) = self.bench.slot_of(name) else {
             return Ok(());
@@ -241,6 +258,7 @@ impl Desk {
     }
 
     // Some turns of one resident. Whether something ran.
+    #[tactic(auto, using(crate::proofs::Desking::loses_none, crate::proofs::Desking::loses_none_both, crate::proofs::Desking::loses_none_ended))]
     fn turn<G: Gate, P: Progress>(
         &mut self,
         moves: u32,
@@ -248,7 +266,8 @@ impl Desk {
         gate: &G,
         progress: &P,
     ) -> Result<bool, RunFault>
-        ensures { IfErr result (IsWorkFault G.may_refuse) }
+        ensures ok { OnOk result (LosesNone self.old self.new) }
+        ensures err { IfErr result (IsWorkFault G.may_refuse) }
     {
         if self.dossiers.reserve(1).is_err() {
             return Err(RunFault::Memory);
@@ -280,6 +299,7 @@ impl Desk {
     }
 
     // Makes a turn, or else finds something to be turned. Whether there was anything to do.
+    #[tactic(auto, using(crate::proofs::Desking::loses_none_both))]
     fn work_on<G: Gate, P: Progress>(
         &mut self,
         moves: u32,
@@ -287,7 +307,8 @@ impl Desk {
         gate: &G,
         progress: &P,
     ) -> Result<bool, RunFault>
-        ensures { IfErr result (IsWorkFault G.may_refuse) }
+        ensures ok { OnOk result (LosesNone self.old self.new) }
+        ensures err { IfErr result (IsWorkFault G.may_refuse) }
     {
         if self.turn(moves, board, gate, progress)? {
             return Ok(true);
@@ -300,6 +321,7 @@ impl Desk {
     }
 
     // Works until there is nothing left to do.
+    #[tactic(auto, using(crate::proofs::Desking::loses_none, crate::proofs::Desking::loses_none_both))]
     fn work_all<G: Gate, R: Wait, P: Progress>(
         &mut self,
         rt: &R,
@@ -308,7 +330,8 @@ impl Desk {
         gate: &G,
         progress: &P,
     ) -> Result<(), RunFault>
-        ensures { IfErr result (IsWorkFault G.may_refuse) }
+        ensures ok { OnOk result (LosesNone self.old self.new) }
+        ensures err { IfErr result (IsWorkFault G.may_refuse) }
     {
         for _ in rt.forever() {
             if board.is_over() {
@@ -323,6 +346,7 @@ impl Desk {
 }
 
 /// Runs a bench until all experiments have ended, or there is a fault anywhere.
+#[tactic(auto, using(crate::proofs::Desking::hands_over))]
 pub(crate) fn work<G: Gate, R: Wait, P: Progress>(
     rt: &R,
     alloc: Global,
@@ -331,7 +355,9 @@ pub(crate) fn work<G: Gate, R: Wait, P: Progress>(
     board: &Board,
     gate: &G,
     progress: &P,
-) -> Report<G> {
+) -> Report<G>
+    ensures { result.given.fault ≡ None → HandsOver job.bench result.given }
+{
     let Job {
         number,
         bench,
