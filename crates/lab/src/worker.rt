@@ -149,7 +149,10 @@ impl Desk {
             Ok(()) => return Ok(()),
             Err(OfferError::Vacant) => return Ok(()),
             Err(OfferError::NoMemory) => return Err(RunFault::Memory),
-            Err(OfferError::DequeFull(parcel)) => return self.admit_again(parcel),
+            Err(OfferError::DequeFull(parcel)) => {
+                self.admit_again(parcel)?;
+                return Ok(());
+            }
         }
     }
 
