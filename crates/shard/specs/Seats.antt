@@ -8,7 +8,7 @@ use Rattle.timer_wheel.specs.Rows.{Row}
 use Rattle.shard.specs.Seen.{Seen}
 use Rattle.shard.specs.declared.resident.Resident.{Resident}
 use Rattle.experiment.specs.Kept.{view}
-use Rattle.shard.specs.Stand.{Stand, Seat, Final}
+use Rattle.shard.specs.Stand.{Stand, Seat, Final, seat_at, stands_of}
 use Rattle.shard.specs.Entries.{entries_of}
 use Rattle.shard.specs.Kept.{stand_of, IsGoing, next_kept}
 
@@ -40,11 +40,6 @@ module _ {M : Type 0} where
   seat_of pockets None = None
   seat_of pockets (Some r) = Some (seat (pockets r.owner) r)
 
-  -- the same without entries
-  abbrev pub parked : Option (Resident M) → Option (Resident M)
-  parked None = None
-  parked (Some r) = Some (record r { offset = None })
-
   unfoldable pub seats_of : (ℕ → Pocket) → List (Option (Resident M)) → List (Option (Seat M))
   seats_of pockets slots = map (seat_of pockets) slots
 
@@ -71,3 +66,11 @@ module _ {M : Type 0} where
     pub apart : (i j : ℕ) → i ≢ j → AreApart (resident_at slots i) (resident_at slots j)
     pub long : length slots ≡ 256
     pub early : clock < 2 ^ 62 + end_of_time
+
+  -- a time begins anew, and so many slots have their entries by it; who had an entry has one
+  pub record HasBegun (seen : M → Seen) (pockets : ℕ → Pocket) (rows : ℕ → Row) (clock : ℕ) (old now : List (Option (Resident M))) (n : ℕ) : Type 0 where
+    pub shard : IsShard seen pockets rows clock now
+    pub stands : stands_of (seats_of pockets now) ≡ stands_of (seats_of pockets old)
+    pub offsets : (k : ℕ) (s : Seat M) → k < n → seat_at (seats_of pockets now) k ≡ Some s → IfSome s.offset (λ o. o ≤ 0)
+    pub kept : (k : ℕ) (s : Seat M) → seat_at (seats_of pockets old) k ≡ Some s → IsSome s.offset
+        → (t : Seat M) × (seat_at (seats_of pockets now) k ≡ Some t) × IsSome t.offset

@@ -58,11 +58,12 @@ abbrev pub AreTurns : {M : Type 0} → (M → Seen) → ℕ → Stand M → Stan
 AreTurns {M} seen zero s t = t ≡ s
 AreTurns {M} seen (suc n) s u = (t : Stand M) × AreTurns seen n s t × IsTurn seen t u
 
--- the time of the agenda began anew: nobody is shown otherwise
+-- the time of the agenda began anew: nobody is shown otherwise, and who had an entry has one
 pub record IsRebased {M : Type 0} (old new : Seating M) : Type 0 where
   pub stands : stands_of new.seats ≡ stands_of old.seats
   pub clock : new.clock ≡ 0
   pub offsets : (k : ℕ) (s : Seat M) → seat_at new.seats k ≡ Some s → (s.offset ≡ None) ⊎ (s.offset ≡ Some 0)
+  pub kept : (k : ℕ) (s : Seat M) → seat_at old.seats k ≡ Some s → IsSome s.offset → (t : Seat M) × (seat_at new.seats k ≡ Some t) × IsSome t.offset
 
 -- the time begins anew just where the clock has come to 2^62
 abbrev pub Settles : {M : Type 0} → Seating M → Seating M → Type 0

@@ -106,6 +106,28 @@ impl<M: Mail> Resident<M> {
         self.offset = Some(offset);
     }
 
+    // Once the agenda's time began anew: sets its entry again, in place of the one that it had, which takes no memory.
+    // A parked one tries to have one.
+    pub(crate) fn begin_anew<A: Agenda>(&mut self, agenda: &mut A, slot: usize)
+        requires was { (p : Pocket) × (clock : ℕ)
+            × IsSeated M.seen p (A.entries agenda.old slot) clock self.old }
+        requires start { A.time agenda.old ≡ 0 }
+        ensures seated { (p : Pocket) →
+            IsGoing M.seen p self.old.experiment self.old.published self.old.mail
+            → IsSeated M.seen p (A.entries agenda.new slot) 0 self.new }
+        ensures same { self.new ≡ record self.old { offset = self.new.offset } }
+        ensures kept { IsSome self.old.offset → IsSome self.new.offset }
+        ensures others { (o : ℕ) → o ≢ slot → A.entries agenda.new o ≡ A.entries agenda.old o }
+        ensures time { A.time agenda.new ≡ 0 }
+    {
+        if self.offset.is_none() {
+            self.enter(agenda, slot);
+            return;
+        }
+        self.offset = Some(0);
+        self.set_again(agenda, slot);
+    }
+
     // Makes one step, and leaves its entry as it was.
     fn advance(&mut self, store: &mut Store) -> Event
         requires going { IsGoing M.seen

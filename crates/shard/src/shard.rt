@@ -1,10 +1,11 @@
 //! The residents of one worker, by slot.
 
-ghost use Rattle.std.specs.Prelude.{◌≡◌, ◌<◌, ℕ, None, Some, IsSome, IfSome, IfNone, length, map, slice_index_or};
+ghost use Rattle.std.specs.Prelude.{◌≡◌, ◌<◌, ℕ, None, Some, IsSome, IfSome, IfNone, length, slice_index_or};
 ghost use Rattle.std.specs.Prelude.{◌≢◌};
 ghost use Rattle.packet_store.specs.Books.{pocket_of};
+ghost use Rattle.packet_store.specs.Pocket.{Pocket};
 ghost use Rattle.shard.specs.Kept.{IsKept};
-ghost use Rattle.shard.specs.Seats.{parked, IsDossierOf};
+ghost use Rattle.shard.specs.Seats.{IsDossierOf, IsShard, HasBegun};
 
 use crate::dossier::Dossier;
 use crate::mail::Mail;
@@ -93,7 +94,7 @@ impl<A: Agenda, M: Mail> Model for Shard<A, M> {
 
 impl<A: Agenda, M: Mail> Shard<A, M> {
     ghost use Rattle.std.specs.Prelude.{◌≡◌, ◌≢◌, ℕ, ◌≤◌, ◌<◌, ◌^◌, None, Some, IfOk, IfErr, IfSome, IfNone, OnErr, IsSome, length, IsTrue, IsFalse};
-    ghost use Rattle.shard.specs.Stand.{seat_at, stands_of, Seat, IsTold};
+    ghost use Rattle.shard.specs.Stand.{seat_at, Seat, IsTold};
     ghost use Rattle.shard.specs.Turns.{TurnsSettled, ManyTurns, ManyTurnsSettled, Heard, NamesIt, TakenIn, ComesBack, HasVacancy, PackedAt, IsPoll, IsRebased};
 
     /// A shard without residents, whose clock is 0.
@@ -231,39 +232,12 @@ impl<A: Agenda, M: Mail> Shard<A, M> {
     }
 
     /// Begins the agenda's time anew: its clock is 0, and each entry is set again from what comes next, below
-    /// 2 * 10^15 ns. One that is refused memory is parked.
+    /// 2 * 10^15 ns, which takes no memory. A parked one has its entry again, or stays parked where memory is refused.
     pub fn rebase(&mut self)
         ensures { IsRebased self.old self.new }
     {
-        self.restart();
-        for slot in 0..MOST_RESIDENTS {
-            self.enter(slot);
-        }
-    }
-
-    // Parks everybody, and begins the time anew.
-    fn restart(&mut self)
-        ensures stands { stands_of self.new.seats ≡ stands_of self.old.seats }
-        ensures clock { self.new.clock ≡ 0 }
-        ensures parked { (k : ℕ) (s : Seat M) → seat_at self.new.seats k ≡ Some s →
-            s.offset ≡ None }
-    {
-        self.agenda.restart();
-        park_all(self.slots.as_mut_slice());
-    }
-
-    // Sets the entry of a slot's resident, if there is one, from the agenda's clock on.
-    fn enter(&mut self, slot: usize)
-        requires inside { slot < 256 }
-        ensures stands { stands_of self.new.seats ≡ stands_of self.old.seats }
-        ensures clock { self.new.clock ≡ self.old.clock }
-        ensures offset { (s : Seat M) → seat_at self.new.seats slot ≡ Some s →
-            IfSome s.offset (λ o. o ≤ self.old.clock) }
-        ensures others { (k : ℕ) → k ≢ slot → seat_at self.new.seats k ≡ seat_at self.old.seats k }
-    {
-        if let Some(resident) = &mut self.slots[slot] {
-            resident.enter(&mut self.agenda, slot);
-        }
+        self.agenda.rewind();
+        begin_all_anew(&mut self.slots, &mut self.agenda);
     }
 
     /// The slot of the resident of a name. That of the last turn is found at once; else the time grows with the
@@ -381,13 +355,20 @@ fn first_vacant<M: Mail>(slots: &[Option<Resident<M>>]) -> Option<usize>
     None
 }
 
-// Parks all residents.
-fn park_all<M: Mail>(slots: &mut [Option<Resident<M>>])
-    ensures { slots.new ≡ map parked slots.old }
+// Once the agenda's time began anew: sets the entry of each resident again.
+fn begin_all_anew<A: Agenda, M: Mail>(slots: &mut Vec<Option<Resident<M>>>, agenda: &mut A)
+    requires was { (pockets : ℕ → Pocket) × (clock : ℕ)
+        × IsShard M.seen pockets (A.entries agenda.old) clock slots.old.items }
+    requires start { A.time agenda.old ≡ 0 }
+    ensures begun { (pockets : ℕ → Pocket) (clock : ℕ) →
+        IsShard M.seen pockets (A.entries agenda.old) clock slots.old.items
+        → HasBegun M.seen pockets (A.entries agenda.new) clock slots.old.items slots.new.items 256 }
+    ensures time { A.time agenda.new ≡ 0 }
 {
-    for slot in slots.iter_mut() {
-        if let Some(resident) = slot {
-            resident.offset = None;
-        }
+    for slot in 0..MOST_RESIDENTS {
+        let Some(resident) = &mut slots[slot] else {
+            continue;
+        };
+        resident.begin_anew(agenda, slot);
     }
 }

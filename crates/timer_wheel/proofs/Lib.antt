@@ -16,3 +16,4 @@ mod MoveFacts
 mod WheelFacts
 mod TieFacts
 mod TieMoves
+mod PlaceAnew

@@ -118,6 +118,12 @@ pub trait Agenda: Drop {
         Some(entry)
     }
 
+    /// Puts the clock to 0. All entries stay.
+    fn rewind(&mut self)
+        ensures entries { (o : ℕ) → entries self.new o ≡ entries self.old o }
+        ensures time { time self.new ≡ 0 }
+        ensures spare { spare self.old ≤ spare self.new };
+
     /// Takes all entries away, and puts the clock to 0.
     fn restart(&mut self)
         ensures empty { (o : ℕ) → entries self.new o ≡ no_dues }

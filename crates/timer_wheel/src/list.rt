@@ -120,8 +120,12 @@ impl Agenda for ListAgenda {
         Some(entry)
     }
 
+    fn rewind(&mut self) {
+        self.clock = 0;
+    }
+
     fn restart(&mut self) {
         self.items.clear();
-        self.clock = 0;
+        self.rewind();
     }
 }

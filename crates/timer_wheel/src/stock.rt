@@ -149,7 +149,9 @@ impl Stock {
     }
 
     /// How many keys there are.
-    pub fn len(&self) -> usize {
+    pub fn len(&self) -> usize
+        ensures { result ≡ length self.now.slots }
+    {
         self.slots.len()
     }
 

@@ -10,7 +10,7 @@ ghost use Rattle.timer_wheel.specs.Ties.{Waits, tie_of};
 ghost use Rattle.timer_wheel.specs.Stands.{StandsAt, IsSeated, IsWheel, IsTurned, IsStill};
 
 use crate::place::place;
-use crate::slots::{LOOSE, TIES};
+use crate::slots::{FREE, LOOSE, TIES};
 use crate::stock::Stock;
 use crate::ties::{Tie, Ties};
 use crate::{Agenda, Entry, Owner};
@@ -30,7 +30,7 @@ use std::marker::Model;
 ///   entry goes down 7 times at most. Those of the clock's own moment, where the slot has more than one entry,
 ///   are the ties: they are put in order once, and popped one by one. What is set to that moment afterwards stands in its slot, and is compared with the
 ///   first tie at each pop.
-/// - `clear_owner` looks at the entries of the owners with its remainder by 2048, and `restart` at all.
+/// - `clear_owner` looks at the entries of the owners with its remainder by 2048, `rewind` and `restart` at all.
 #[derive(Drop)]
 pub struct Wheel {
     stock: Stock,
@@ -238,6 +238,23 @@ fn least(stock: &mut Stock, ties: &mut Ties, clock: u64) -> Option<Entry>
     Some(meet(stock, ties, clock, tie))
 }
 
+// Puts each entry into the slot of its due at a clock of 0.
+fn place_anew(stock: &mut Stock)
+    ensures placed { (k : ℕ) (e : Entry) (p : ℕ) → Holds stock.new.entries stock.new.slots k e p →
+        p ≡ place_of 0 e.due }
+    ensures rows { (o : ℕ) (s : Source) → due_of stock.new o s ≡ due_of stock.old o s }
+    ensures room { room_of stock.new ≡ room_of stock.old }
+{
+    for key in 0..stock.len() {
+        stock.known();
+        if stock.list(key) == FREE {
+            continue;
+        }
+        let due = stock.entry(key).due;
+        stock.put(key, place(0, due));
+    }
+}
+
 impl Agenda for Wheel {
     ghost entries = { λ w. due_of w.stock };
 
@@ -286,9 +303,14 @@ impl Agenda for Wheel {
         Some(entry)
     }
 
-    fn restart(&mut self) {
-        self.stock.clear();
+    fn rewind(&mut self) {
+        place_anew(&mut self.stock);
         self.ties.clear();
         self.clock = 0;
+    }
+
+    fn restart(&mut self) {
+        self.stock.clear();
+        self.rewind();
     }
 }

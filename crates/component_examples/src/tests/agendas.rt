@@ -116,9 +116,12 @@ fn replaces_and_clears<A: Agenda>(agenda: &mut A) -> bool {
     agenda.clear(0, expiry(9));
     let first = pop(agenda) == Some((70, 0, 3, 1)) && pop(agenda) == None;
     let clock = agenda.clock();
-    let again = put(agenda, 3, expiry(1), 80).is_ok();
+    let again = put(agenda, 3, expiry(1), 300).is_ok() && put(agenda, 2, expiry(1), 80).is_ok();
+    agenda.rewind();
+    let rewound = agenda.clock() == 0 && pop(agenda) == Some((80, 2, 3, 1));
     agenda.restart();
-    first && clock == 70 && again && agenda.clock() == 0 && pop(agenda) == None
+    let empty = agenda.clock() == 0 && pop(agenda) == None;
+    first && clock == 70 && again && rewound && empty
 }
 
 // A set that is refused memory is made again, and is made then.

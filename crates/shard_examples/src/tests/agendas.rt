@@ -2,6 +2,7 @@
 
 use emu_model::Source;
 use std::alloc::{AllocError, Global};
+use std::marker::Model;
 use timer_wheel::{Agenda, Entry, Owner};
 
 /// An agenda that refuses memory for each entry.
@@ -39,80 +40,103 @@ impl Agenda for GivesUp {
         None
     }
 
-    fn restart(&mut self) {
+    fn rewind(&mut self) {
         self.clock = 0;
+    }
+
+    fn restart(&mut self) {
+        self.rewind();
     }
 }
 
-/// An agenda that refuses memory for the first entry after each restart: who sees it refuse knows that time began anew.
+/// An agenda that refuses memory for the first entry after its clock was put to 0, of an owner that has none: who sees
+/// it refuse knows that time began anew. It knows an owner that has none by its being cleared just before, as a shard does.
 #[derive(Drop)]
 pub struct Anew<A: Agenda> {
-    alloc: Global,
-    /// None while there is no entry after a restart.
-    within: Option<A>,
+    within: A,
     refuses: bool,
+    // The owner that was cleared in the last call.
+    cleared: Option<Owner>,
+}
+
+impl<A: Agenda> Model for Anew<A> {
+    ghost use Rattle.std.specs.Prelude.{◌≡◌, IfSome};
+    ghost use Rattle.timer_wheel.specs.Rows.{no_dues};
+
+    ghost Value = { A };
+
+    ghost view = { λ a. a.within };
+
+    ghost invariant = { λ a. IfSome a.cleared (λ o. A.entries a.within o ≡ no_dues) };
+}
+
+impl<A: Agenda> Anew<A> {
+    ghost use Rattle.std.specs.Prelude.{◌≡◌, IsTrue};
+    ghost use Rattle.timer_wheel.specs.Rows.{no_dues};
+
+    // Whether an owner was cleared in the last call.
+    fn is_cleared(&self, owner: Owner) -> bool
+        ensures { IsTrue result → A.entries self.now owner ≡ no_dues }
+    {
+        let Some(cleared) = self.cleared else {
+            return false;
+        };
+        cleared == owner
+    }
 }
 
 impl<A: Agenda> Agenda for Anew<A> {
-    ghost use Rattle.std.specs.Option.{option_map_or};
-    ghost use Rattle.timer_wheel.specs.Rows.{no_dues};
+    ghost entries = { λ a. A.entries a };
 
-    ghost entries = { λ a o. option_map_or (λ w. A.entries w o) a.within no_dues };
-
-    ghost time = { λ a. option_map_or A.time a.within 0 };
+    ghost time = { λ a. A.time a };
 
     ghost spare = { λ a. 0 };
 
     fn new(alloc: Global, clock: u64) -> Result<Anew<A>, AllocError> {
         Ok(Anew {
-            alloc,
-            within: Some(A::new(alloc, clock)?),
+            within: A::new(alloc, clock)?,
             refuses: false,
+            cleared: None,
         })
     }
 
     fn clock(&self) -> u64 {
-        match &self.within {
-            Some(agenda) => agenda.clock(),
-            None => 0,
-        }
+        self.within.clock()
     }
 
     fn set(&mut self, owner: Owner, source: Source, due: u64) -> Result<(), AllocError> {
-        if let Some(agenda) = &mut self.within {
-            return agenda.set(owner, source, due);
-        }
-        if self.refuses {
+        if self.refuses && self.is_cleared(owner) {
             self.refuses = false;
             return Err(AllocError);
         }
-        let mut agenda = A::new(self.alloc, 0)?;
-        agenda.set(owner, source, due)?;
-        self.within = Some(agenda);
-        Ok(())
+        self.cleared = None;
+        self.within.set(owner, source, due)
     }
 
     fn clear(&mut self, owner: Owner, source: Source) {
-        if let Some(agenda) = &mut self.within {
-            agenda.clear(owner, source);
-        }
+        self.cleared = None;
+        self.within.clear(owner, source);
     }
 
     fn clear_owner(&mut self, owner: Owner) {
-        if let Some(agenda) = &mut self.within {
-            agenda.clear_owner(owner);
-        }
+        self.within.clear_owner(owner);
+        self.cleared = Some(owner);
     }
 
     fn move_to_least(&mut self) -> Option<Entry> {
-        match &mut self.within {
-            Some(agenda) => agenda.move_to_least(),
-            None => None,
-        }
+        self.cleared = None;
+        self.within.move_to_least()
+    }
+
+    fn rewind(&mut self) {
+        self.cleared = None;
+        self.within.rewind();
+        self.refuses = true;
     }
 
     fn restart(&mut self) {
-        self.within = None;
+        self.cleared = None;
+        self.within.restart();
         self.refuses = true;
     }
 }
