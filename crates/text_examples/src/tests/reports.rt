@@ -9,9 +9,9 @@ use report::{
     Moments, pipe_listing, report_text, rule_listing, write_counters, write_heading, write_record,
     write_records,
 };
+use std::alloc::AllocError;
 use std::process::Abort;
 use std::str;
-use std::test::Fail;
 
 const NO_DROPS: [u64; 8] = [0; 8];
 
@@ -116,8 +116,31 @@ fn same_text(rt: &impl Abort, written: &[u8], wanted: &str) {
     assert_eq!(rt; str::from_utf8(written).ok(), Some(wanted));
 }
 
+/// Wants this report of these records.
+fn reports(
+    rt: &(impl Abort + AllocGlobal),
+    name: &[u8],
+    records: &[Record],
+    counters: &Counters,
+    wanted: &str,
+) {
+    let text = report_text(rt.alloc(), name, records, counters).expect(rt, "memory");
+    same_text(rt, &text, wanted);
+}
+
+/// Wants these lines of these records, which are written one by one.
+fn writes(rt: &(impl Abort + AllocGlobal), records: &[Record], wanted: &str) {
+    let mut text = Vec::new(rt.alloc());
+    let mut moments = Moments::new();
+    for record in records {
+        let written = write_record(&mut text, &mut moments, record);
+        assert!(rt; written.is_ok());
+    }
+    same_text(rt, &text, wanted);
+}
+
 #[test]
-fn one_packet(rt: HostRuntime) -> Result<(), Fail> {
+fn one_packet(rt: HostRuntime) {
     let records = [
         done(0, 0),
         done(0, 1),
@@ -132,17 +155,13 @@ fn one_packet(rt: HostRuntime) -> Result<(), Fail> {
         held: 0,
         drops: NO_DROPS,
     };
-    let text = report_text(rt.alloc(), b"a", &records, &counters)?;
-    same_text(
-        &rt,
-        &text,
-        "experiment a\n0 ok 0\n0 ok 1\n0 ok 2\n8000000 finish 0 1.0\n18000000 deliver 0 plain\n20000000 ok 3\ncounters 1 1 0 0 0 0 0 0 0 0 0\n",
-    );
-    Ok(())
+    let wanted =
+        "experiment a\n0 ok 0\n0 ok 1\n0 ok 2\n8000000 finish 0 1.0\n18000000 deliver 0 plain\n20000000 ok 3\ncounters 1 1 0 0 0 0 0 0 0 0 0\n";
+    reports(&rt, b"a", &records, &counters, wanted);
 }
 
 #[test]
-fn listings(rt: HostRuntime) -> Result<(), Fail> {
+fn listings(rt: HostRuntime) {
     let second = RuleNumber::new(300).expect(&rt, "a rule's number");
     let counted = |action, number| Record::RuleLine {
         rule: rule(&rt, number, action),
@@ -168,15 +187,16 @@ fn listings(rt: HostRuntime) -> Result<(), Fail> {
     ];
     let rules =
         "rule 00100 1 1000 count ip from any to any\nrule 00100 1 1000 skipto 300 ip from any to any\nrule 00200 0 0 deny ip from any to any\nrule 00300 1 1000 pipe 1 ip from any to any\nrule 65535 0 0 deny ip from any to any\n";
-    same_text(&rt, &rule_listing(rt.alloc(), &records)?, rules);
+    let listing = rule_listing(rt.alloc(), &records).expect(&rt, "memory");
+    same_text(&rt, &listing, rules);
     let pipes =
         "pipe 1 bw 1000000 delay 0 queue 50 plr 0 mask 00/00000000/00000000/0000/0000 droptail\ninstance 1.0 waiting 0 bytes 0 busy 1 flight 0 drawn 1\n";
-    same_text(&rt, &pipe_listing(rt.alloc(), &records)?, pipes);
-    Ok(())
+    let listing = pipe_listing(rt.alloc(), &records).expect(&rt, "memory");
+    same_text(&rt, &listing, pipes);
 }
 
 #[test]
-fn one_slot(rt: HostRuntime) -> Result<(), Fail> {
+fn one_slot(rt: HostRuntime) {
     let records = [
         done(0, 4),
         Record::PacketDropped {
@@ -200,17 +220,13 @@ fn one_slot(rt: HostRuntime) -> Result<(), Fail> {
         held: 0,
         drops: [0, 0, 0, 0, 1, 0, 0, 0],
     };
-    let text = report_text(rt.alloc(), b"one-slot", &records, &counters)?;
-    same_text(
-        &rt,
-        &text,
-        "experiment one-slot\n0 ok 4\n0 drop 2 plain full\n0 ok 5\npipe 1 bw 1000000 delay 0 queue 1 plr 0 mask 00/00000000/00000000/0000/0000 droptail\ninstance 1.0 waiting 1 bytes 1000 busy 1 flight 0 drawn 3\n8000000 finish 0 1.0\n8000001 deliver 0 plain\n16000000 finish 1 1.0\n16000001 deliver 1 plain\n20000000 ok 6\ncounters 3 2 0 0 0 0 0 1 0 0 0\n",
-    );
-    Ok(())
+    let wanted =
+        "experiment one-slot\n0 ok 4\n0 drop 2 plain full\n0 ok 5\npipe 1 bw 1000000 delay 0 queue 1 plr 0 mask 00/00000000/00000000/0000/0000 droptail\ninstance 1.0 waiting 1 bytes 1000 busy 1 flight 0 drawn 3\n8000000 finish 0 1.0\n8000001 deliver 0 plain\n16000000 finish 1 1.0\n16000001 deliver 1 plain\n20000000 ok 6\ncounters 3 2 0 0 0 0 0 1 0 0 0\n";
+    reports(&rt, b"one-slot", &records, &counters, wanted);
 }
 
 #[test]
-fn reno_four_segments(rt: HostRuntime) -> Result<(), Fail> {
+fn reno_four_segments(rt: HostRuntime) {
     let records = [
         done(0, 4),
         finish(&rt, 1200000, 0, 1),
@@ -237,78 +253,103 @@ fn reno_four_segments(rt: HostRuntime) -> Result<(), Fail> {
         held: 0,
         drops: NO_DROPS,
     };
-    let text = report_text(rt.alloc(), b"r", &records, &counters)?;
-    same_text(
-        &rt,
-        &text,
-        "experiment r\n0 ok 4\n1200000 finish 0 1.0\n2400000 finish 1 1.0\n3600000 finish 2 1.0\n11200000 deliver 0 data 1 0\n11200000 finish 3 2.0\n12400000 deliver 1 data 1 1460\n12400000 finish 4 2.0\n13600000 deliver 2 data 1 2920\n13600000 finish 5 2.0\n21200000 deliver 3 ack 1 1460\n21200000 ack 1 5840 65535\n22400000 deliver 4 ack 1 2920\n22400000 ack 1 7300 65535\n22400000 finish 6 1.0\n42400000 deliver 7 ack 1 5840\n42400000 ack 1 10220 65535\n100000000 ok 5\ncounters 8 8 0 0 0 0 0 0 0 0 0\n",
-    );
-    Ok(())
+    let wanted =
+        "experiment r\n0 ok 4\n1200000 finish 0 1.0\n2400000 finish 1 1.0\n3600000 finish 2 1.0\n11200000 deliver 0 data 1 0\n11200000 finish 3 2.0\n12400000 deliver 1 data 1 1460\n12400000 finish 4 2.0\n13600000 deliver 2 data 1 2920\n13600000 finish 5 2.0\n21200000 deliver 3 ack 1 1460\n21200000 ack 1 5840 65535\n22400000 deliver 4 ack 1 2920\n22400000 ack 1 7300 65535\n22400000 finish 6 1.0\n42400000 deliver 7 ack 1 5840\n42400000 ack 1 10220 65535\n100000000 ok 5\ncounters 8 8 0 0 0 0 0 0 0 0 0\n";
+    reports(&rt, b"r", &records, &counters, wanted);
 }
 
 // What the worked reports lack: each cause and refusal, addresses and ports of all kinds, a mask
 // with all kinds of digits, the longest numbers.
+const REFUSALS: [Refusal; 10] = [
+    Refusal::BadNumber,
+    Refusal::BadSkip,
+    Refusal::RulesFull,
+    Refusal::NoRule,
+    Refusal::NoSuchPipe,
+    Refusal::MaskFixed,
+    Refusal::FlowThere,
+    Refusal::NoFlow,
+    Refusal::TooManyPipes,
+    Refusal::TooManyFlows,
+];
+
+fn refused(command: u64, refusal: Refusal) -> Record {
+    let moment = 5;
+    Record::CommandRefused {
+        moment,
+        command,
+        refusal,
+    }
+}
+
 #[test]
-fn each_kind_of_line(rt: HostRuntime) -> Result<(), Fail> {
+fn each_refusal(rt: HostRuntime) {
     let mut text = Vec::new(rt.alloc());
     let mut moments = Moments::new();
-    for (command, refusal) in [
-        (0, Refusal::BadNumber),
-        (1, Refusal::BadSkip),
-        (2, Refusal::RulesFull),
-        (3, Refusal::NoRule),
-        (4, Refusal::NoSuchPipe),
-        (5, Refusal::MaskFixed),
-        (6, Refusal::FlowThere),
-        (7, Refusal::NoFlow),
-        (8, Refusal::TooManyPipes),
-        (9, Refusal::TooManyFlows),
-    ] {
-        let moment = 5;
-        write_record(
-            &mut text,
-            &mut moments,
-            &Record::CommandRefused {
-                moment,
-                command,
-                refusal,
-            },
-        )?;
+    for (command, refusal) in REFUSALS.iter().enumerate() {
+        let record = refused(command as u64, *refusal);
+        assert!(rt; write_record(&mut text, &mut moments, &record).is_ok());
     }
-    for cause in [
-        DropCause::Denied,
-        DropCause::NoPipe,
-        DropCause::NoInstance,
-        DropCause::Lost,
-        DropCause::Full,
-        DropCause::Codel,
-        DropCause::Deleted,
-        DropCause::Budget,
-    ] {
-        let (moment, packet, load) = (6, 7, Load::Plain);
-        write_record(
-            &mut text,
-            &mut moments,
-            &Record::PacketDropped {
-                moment,
-                packet,
-                load,
-                cause,
-            },
-        )?;
+    same_text(
+        &rt,
+        &text,
+        "5 refused 0 10\n5 refused 1 11\n5 refused 2 12\n5 refused 3 13\n5 refused 4 20\n5 refused 5 21\n5 refused 6 22\n5 refused 7 23\n5 refused 8 24\n5 refused 9 25\n",
+    );
+}
+
+const CAUSES: [DropCause; 8] = [
+    DropCause::Denied,
+    DropCause::NoPipe,
+    DropCause::NoInstance,
+    DropCause::Lost,
+    DropCause::Full,
+    DropCause::Codel,
+    DropCause::Deleted,
+    DropCause::Budget,
+];
+
+fn dropped(cause: DropCause) -> Record {
+    let (moment, packet, load) = (6, 7, Load::Plain);
+    Record::PacketDropped {
+        moment,
+        packet,
+        load,
+        cause,
     }
+}
+
+#[test]
+fn each_cause_of_a_drop(rt: HostRuntime) {
+    let mut text = Vec::new(rt.alloc());
+    let mut moments = Moments::new();
+    for cause in &CAUSES {
+        let written = write_record(&mut text, &mut moments, &dropped(*cause));
+        assert!(rt; written.is_ok());
+    }
+    same_text(
+        &rt,
+        &text,
+        "6 drop 7 plain denied\n6 drop 7 plain nopipe\n6 drop 7 plain noinstance\n6 drop 7 plain lost\n6 drop 7 plain full\n6 drop 7 plain codel\n6 drop 7 plain deleted\n6 drop 7 plain budget\n",
+    );
+}
+
+fn strange_rule(rt: &impl Abort) -> Rule {
     let ports = PortRange::new(1024, 65535);
-    let mut strange = rule(&rt, 5, Action::Allow);
+    let mut strange = rule(rt, 5, Action::Allow);
     strange.proto = ProtocolMatch::OnlyTcp;
-    strange.src = prefix(&rt, 0x0a0b0c0d, 32);
+    strange.src = prefix(rt, 0x0a0b0c0d, 32);
     strange.sports = PortRange::new(80, 80);
-    strange.dst = prefix(&rt, 0xffffffff, 31);
+    strange.dst = prefix(rt, 0xffffffff, 31);
     strange.dports = ports;
-    let config = PipeConfig {
-        bw: Bandwidth::new(10000000000).expect(&rt, "a bandwidth"),
-        delay: Delay::new(60000).expect(&rt, "a delay"),
-        queue: QueueLimit::KBytes(KByteLimit::new(10).expect(&rt, "a limit")),
-        plr: LossRate::new(600000).expect(&rt, "a rate"),
+    strange
+}
+
+fn strange_config(rt: &impl Abort) -> PipeConfig {
+    PipeConfig {
+        bw: Bandwidth::new(10000000000).expect(rt, "a bandwidth"),
+        delay: Delay::new(60000).expect(rt, "a delay"),
+        queue: QueueLimit::KBytes(KByteLimit::new(10).expect(rt, "a limit")),
+        plr: LossRate::new(600000).expect(rt, "a rate"),
         mask: Mask {
             proto: 0x0f,
             src: 0x01234567,
@@ -317,12 +358,16 @@ fn each_kind_of_line(rt: HostRuntime) -> Result<(), Fail> {
             dport: 0x0a,
         },
         discipline: Discipline::ControlledDelay {
-            target: CodelTime::new(5000000).expect(&rt, "a time"),
-            interval: CodelTime::new(100000000).expect(&rt, "a time"),
+            target: CodelTime::new(5000000).expect(rt, "a time"),
+            interval: CodelTime::new(100000000).expect(rt, "a time"),
         },
-    };
+    }
+}
+
+#[test]
+fn each_kind_of_line(rt: HostRuntime) {
     let pipe = pipe_number(&rt, 65535);
-    for line in [
+    let records = [
         Record::PacketPassed {
             moment: u64::MAX,
             packet: u64::MAX,
@@ -337,11 +382,14 @@ fn each_kind_of_line(rt: HostRuntime) -> Result<(), Fail> {
         },
         Record::StepsSpent { moment: 0 },
         Record::RuleLine {
-            rule: strange,
+            rule: strange_rule(&rt),
             packets: 12,
             bytes: 345,
         },
-        Record::PipeLine { pipe, config },
+        Record::PipeLine {
+            pipe,
+            config: strange_config(&rt),
+        },
         Record::InstanceLine {
             pipe,
             instance: 255,
@@ -351,20 +399,15 @@ fn each_kind_of_line(rt: HostRuntime) -> Result<(), Fail> {
             flight: 3,
             drawn: 4,
         },
-    ] {
-        write_record(&mut text, &mut moments, &line)?;
-    }
-    same_text(
-        &rt,
-        &text,
-        "5 refused 0 10\n5 refused 1 11\n5 refused 2 12\n5 refused 3 13\n5 refused 4 20\n5 refused 5 21\n5 refused 6 22\n5 refused 7 23\n5 refused 8 24\n5 refused 9 25\n6 drop 7 plain denied\n6 drop 7 plain nopipe\n6 drop 7 plain noinstance\n6 drop 7 plain lost\n6 drop 7 plain full\n6 drop 7 plain codel\n6 drop 7 plain deleted\n6 drop 7 plain budget\n18446744073709551615 pass 18446744073709551615 65535.255\n1000000000 expire 1 1460 2920\n0 spent\nrule 00005 12 345 allow tcp from 10.11.12.13 80 to 255.255.255.254/31 1024-65535\npipe 65535 bw 10000000000 delay 60000 queue 10KBytes plr 600000 mask 0f/01234567/89abcdef/ffff/000a codel target 5000000 interval 100000000\ninstance 65535.255 waiting 1 bytes 2 busy 0 flight 3 drawn 4\n",
-    );
-    Ok(())
+    ];
+    let wanted =
+        "18446744073709551615 pass 18446744073709551615 65535.255\n1000000000 expire 1 1460 2920\n0 spent\nrule 00005 12 345 allow tcp from 10.11.12.13 80 to 255.255.255.254/31 1024-65535\npipe 65535 bw 10000000000 delay 60000 queue 10KBytes plr 600000 mask 0f/01234567/89abcdef/ffff/000a codel target 5000000 interval 100000000\ninstance 65535.255 waiting 1 bytes 2 busy 0 flight 3 drawn 4\n";
+    writes(&rt, &records, wanted);
 }
 
 // What `trace 1` adds: the least values, the greatest, and values that differ within a line.
 #[test]
-fn lines_of_a_trace(rt: HostRuntime) -> Result<(), Fail> {
+fn lines_of_a_trace(rt: HostRuntime) {
     let (first_pipe, last_pipe) = (pipe_number(&rt, 1), pipe_number(&rt, 65535));
     let (first_flow, last_flow) = (flow_number(&rt, 1), flow_number(&rt, 65535));
     let size = |bytes| Size::new(bytes).expect(&rt, "a size");
@@ -457,75 +500,77 @@ fn lines_of_a_trace(rt: HostRuntime) -> Result<(), Fail> {
             dport: 80,
         },
     ];
-    let mut text = Vec::new(rt.alloc());
-    let mut moments = Moments::new();
-    for record in &records {
-        write_record(&mut text, &mut moments, record)?;
-    }
     // 1000 is 3e8 in hexadecimal, and 80 is 50.
-    same_text(
+    writes(
         &rt,
-        &text,
+        &records,
         "0 make 0 plain udp 0.0.0.0 0 0.0.0.0 0 40\n18446744073709551615 make 18446744073709551615 data 65535 18446744073709551615 tcp 255.255.255.255 65535 255.255.255.255 65535 1500\n11200000 make 3 ack 1 1460 tcp 10.11.12.13 80 192.168.1.2 1024 41\n0 arrive 0 1.0\n18446744073709551615 arrive 18446744073709551615 65535.255\n12 arrive 34 1.56\n0 identify 1.0 00/00000000/00000000/0000/0000\n18446744073709551615 identify 65535.255 ff/ffffffff/ffffffff/ffff/ffff\n12 identify 1.34 06/0a0b0c0d/c0a80102/03e8/0050\n",
     );
-    Ok(())
 }
+
+const MOMENTS: [u64; 16] = [
+    7,
+    99999999,
+    100000000,
+    100000001,
+    199999999,
+    200000000,
+    200000000,
+    100000000,
+    300000000000012,
+    300000012345678,
+    300000099999999,
+    300000100000000,
+    5,
+    u64::MAX,
+    u64::MAX - 9551615,
+    u64::MAX - 9551616,
+];
 
 // The last eight digits of a moment change by themselves, or with those before them, forwards and
 // back; and the longest line of an event is far longer than most.
 #[test]
-fn digits_of_moments(rt: HostRuntime) -> Result<(), Fail> {
+fn digits_of_moments(rt: HostRuntime) {
     let mut text = Vec::new(rt.alloc());
     let mut moments = Moments::new();
-    for moment in [
-        7,
-        99999999,
-        100000000,
-        100000001,
-        199999999,
-        200000000,
-        200000000,
-        100000000,
-        300000000000012,
-        300000012345678,
-        300000099999999,
-        300000100000000,
-        5,
-        u64::MAX,
-        u64::MAX - 9551615,
-        u64::MAX - 9551616,
-    ] {
-        write_record(&mut text, &mut moments, &done(moment, 10))?;
+    for moment in &MOMENTS {
+        let written = write_record(&mut text, &mut moments, &done(*moment, 10));
+        assert!(rt; written.is_ok());
     }
-    let flow = flow_number(&rt, 65535);
     let load = Load::Seg {
-        flow,
+        flow: flow_number(&rt, 65535),
         first: u64::MAX,
     };
-    write_record(
-        &mut text,
-        &mut moments,
-        &Record::PacketDropped {
-            moment: u64::MAX,
-            packet: u64::MAX,
-            load,
-            cause: DropCause::NoInstance,
-        },
-    )?;
+    let longest = Record::PacketDropped {
+        moment: u64::MAX,
+        packet: u64::MAX,
+        load,
+        cause: DropCause::NoInstance,
+    };
+    assert!(rt; write_record(&mut text, &mut moments, &longest).is_ok());
     same_text(
         &rt,
         &text,
         "7 ok 10\n99999999 ok 10\n100000000 ok 10\n100000001 ok 10\n199999999 ok 10\n200000000 ok 10\n200000000 ok 10\n100000000 ok 10\n300000000000012 ok 10\n300000012345678 ok 10\n300000099999999 ok 10\n300000100000000 ok 10\n5 ok 10\n18446744073709551615 ok 10\n18446744073700000000 ok 10\n18446744073699999999 ok 10\n18446744073709551615 drop 18446744073709551615 data 65535 18446744073709551615 noinstance\n",
     );
-    Ok(())
+}
+
+/// A record more, and its line.
+fn add(
+    rt: &impl Abort,
+    records: &mut Vec<Record>,
+    wanted: &mut Vec<u8>,
+    record: Record,
+    line: Result<String, AllocError>,
+) {
+    let line = line.expect(rt, "memory");
+    assert!(rt; records.push(record).is_ok());
+    assert!(rt; wanted.extend_from_slice(line.as_bytes()).is_ok());
 }
 
 // Numbers of each length, and many lines at once: more events than are made together, and among them
 // lines of other kinds, one of them the last.
-#[test]
-fn many_lines_at_once(rt: HostRuntime) -> Result<(), Fail> {
-    let mut records = Vec::new(rt.alloc());
-    let mut wanted = Vec::new(rt.alloc());
+fn add_many(rt: &(impl Abort + AllocGlobal), records: &mut Vec<Record>, wanted: &mut Vec<u8>) {
     let mut number = 0u64;
     for turn in 0..100u64 {
         number = if turn % 20 == 0 {
@@ -533,55 +578,69 @@ fn many_lines_at_once(rt: HostRuntime) -> Result<(), Fail> {
         } else {
             number.wrapping_mul(10).wrapping_add(turn % 10)
         };
-        records.push(done(turn, number))?;
-        wanted.extend_from_slice(format!(in rt.alloc(); "{turn} ok {number}\n")?.as_bytes())?;
+        let line = format!(in rt.alloc(); "{turn} ok {number}\n");
+        add(rt, records, wanted, done(turn, number), line);
         if turn == 50 || turn == 99 {
-            records.push(Record::StepsSpent { moment: turn })?;
-            wanted.extend_from_slice(format!(in rt.alloc(); "{turn} spent\n")?.as_bytes())?;
+            let line = format!(in rt.alloc(); "{turn} spent\n");
+            add(
+                rt,
+                records,
+                wanted,
+                Record::StepsSpent { moment: turn },
+                line,
+            );
         }
     }
-    let mut text = Vec::new(rt.alloc());
-    let mut moments = Moments::new();
-    write_records(&mut text, &mut moments, &records)?;
-    assert!(rt; text.as_slice() == wanted.as_slice(), "all lines");
-    write_records(&mut text, &mut moments, &[])?;
-    assert_eq!(rt; text.len(), wanted.len(), "none");
-    Ok(())
 }
 
-/// What is refused leaves the text as it was. A run in which an allocation fails shows it.
 #[test]
-fn refused_lines_change_nothing(rt: HostRuntime) -> Result<(), Fail> {
+fn many_lines_at_once(rt: HostRuntime) {
+    let mut records = Vec::new(rt.alloc());
+    let mut wanted = Vec::new(rt.alloc());
+    add_many(&rt, &mut records, &mut wanted);
+    let mut text = Vec::new(rt.alloc());
+    let mut moments = Moments::new();
+    assert!(rt; write_records(&mut text, &mut moments, &records).is_ok());
+    assert!(rt; text.as_slice() == wanted.as_slice(), "all lines");
+    assert!(rt; write_records(&mut text, &mut moments, &[]).is_ok());
+    assert!(rt; text.len() == wanted.len(), "none");
+}
+
+/// What was refused has left a text of this length.
+fn is_kept(rt: &impl Abort, refused: bool, text: &Vec<u8>, length: usize) {
+    assert!(rt; !refused || text.len() == length);
+}
+
+fn keep_what_was_written(rt: &impl Abort, text: &mut Vec<u8>, moments: &mut Moments, command: u64) {
+    let length = text.len();
+    is_kept(rt, write_heading(text, b"again").is_err(), text, length);
+    let length = text.len();
+    let refused = write_record(text, moments, &done(0, command)).is_err();
+    is_kept(rt, refused, text, length);
+    let length = text.len();
     let counters = Counters {
         made: 0,
         delivered: 0,
         held: 0,
         drops: NO_DROPS,
     };
+    is_kept(rt, write_counters(text, &counters).is_err(), text, length);
+    let length = text.len();
+    let lines = [
+        done(0, command),
+        Record::StepsSpent { moment: 1 },
+        done(2, command),
+    ];
+    let refused = write_records(text, moments, &lines).is_err();
+    is_kept(rt, refused, text, length);
+}
+
+/// What is refused leaves the text as it was. A run in which an allocation fails shows it.
+#[test]
+fn refused_lines_change_nothing(rt: HostRuntime) {
     let mut text = Vec::new(rt.alloc());
     let mut moments = Moments::new();
     for command in 0..100 {
-        let length = text.len();
-        if write_heading(&mut text, b"again").is_err() {
-            assert_eq!(rt; text.len(), length, "a heading");
-        }
-        let length = text.len();
-        if write_record(&mut text, &mut moments, &done(0, command)).is_err() {
-            assert_eq!(rt; text.len(), length, "a record");
-        }
-        let length = text.len();
-        if write_counters(&mut text, &counters).is_err() {
-            assert_eq!(rt; text.len(), length, "counters");
-        }
-        let length = text.len();
-        let lines = [
-            done(0, command),
-            Record::StepsSpent { moment: 1 },
-            done(2, command),
-        ];
-        if write_records(&mut text, &mut moments, &lines).is_err() {
-            assert_eq!(rt; text.len(), length, "records");
-        }
+        keep_what_was_written(&rt, &mut text, &mut moments, command);
     }
-    Ok(())
 }

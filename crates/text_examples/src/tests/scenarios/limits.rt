@@ -4,90 +4,88 @@ use super::*;
 
 /// A right scenario of 16777216 bytes: one experiment, then comments of 512 bytes with their line
 /// feeds, so that a test is quick.
-fn greatest_text(alloc: Global) -> Result<String, AllocError> {
-    let mut text = format!(in alloc; "experiment a seed 0 budget 1\n@0 end\n#{:<474}\n", "")?;
-    let comment = format!(in alloc; "#{:<510}\n", "x")?;
-    let comments = comment.as_str().repeat(alloc, 32_767)?;
-    text.push_str(comments.as_str())?;
-    Ok(text)
+fn greatest_text(rt: &(impl Abort + AllocGlobal)) -> String {
+    let head = "experiment a seed 0 budget 1\n@0 end\n";
+    let mut text = format!(in rt.alloc(); "{head}#{:<474}\n", "").expect(rt, "memory");
+    let comment = format!(in rt.alloc(); "#{:<510}\n", "x");
+    append(rt, &mut text, comment, 32_767);
+    text
+}
+
+/// A line stands so often more at the end of a text.
+fn append(
+    rt: &(impl Abort + AllocGlobal),
+    text: &mut String,
+    line: Result<String, AllocError>,
+    count: usize,
+) {
+    let line = line.expect(rt, "memory");
+    for _ in 0..count {
+        assert!(rt; text.push_str(line.as_str()).is_ok());
+    }
 }
 
 #[test]
-fn greatest_text_is_read(rt: HostRuntime) -> Result<(), Fail> {
-    let text = greatest_text(rt.alloc())?;
-    assert_eq!(rt; text.as_str().len(), 16_777_216);
-    match parse_scenario(rt.alloc(), text.as_str().as_bytes()) {
-        Ok(scenario) => assert_eq!(rt; scenario.experiments().len(), 1),
-        Err(_) => assert!(rt; false),
-    }
-    Ok(())
+fn greatest_text_is_read(rt: HostRuntime) {
+    let text = greatest_text(&rt);
+    assert!(rt; text.as_str().len() == 16_777_216);
+    assert!(rt; experiments_in(rt.alloc(), text.as_str().as_bytes()) == Some(1));
 }
 
 /// One byte more is too big, and that comes before all else: here the last line is also cut, too
 /// long, and no line of a scenario.
 #[test]
-fn one_byte_more_is_too_big(rt: HostRuntime) -> Result<(), Fail> {
-    let mut text = greatest_text(rt.alloc())?;
-    text.push('\n')?;
+fn one_byte_more_is_too_big(rt: HostRuntime) {
+    let mut text = greatest_text(&rt);
+    assert!(rt; text.push('\n').is_ok());
     has_fault(&rt, text.as_str().as_bytes(), 0, Cause::TooBig);
-    let word = format!(in rt.alloc(); "{:<512}", "word")?;
-    let mut words = word.as_str().repeat(rt.alloc(), 32_768)?;
+    let mut words = String::new(rt.alloc());
+    append(
+        &rt,
+        &mut words,
+        format!(in rt.alloc(); "{:<512}", "word"),
+        32_768,
+    );
     has_fault(&rt, words.as_str().as_bytes(), 1, Cause::Cut);
-    words.push(' ')?;
+    assert!(rt; words.push(' ').is_ok());
     has_fault(&rt, words.as_str().as_bytes(), 0, Cause::TooBig);
-    Ok(())
 }
 
-/// So many experiments, each of two lines.
-pub fn experiments(alloc: Global, count: u32) -> Result<String, AllocError> {
-    let mut text = String::new(alloc);
+/// So many experiments, each of two lines, and lines behind them.
+pub fn experiments(rt: &(impl Abort + AllocGlobal), count: u32, behind: &str) -> String {
+    let mut text = String::new(rt.alloc());
     for i in 0..count {
-        let lines = format!(in alloc; "experiment e{i} seed 0 budget 1\n@0 end\n")?;
-        text.push_str(lines.as_str())?;
+        let lines = format!(in rt.alloc(); "experiment e{i} seed 0 budget 1\n@0 end\n");
+        append(rt, &mut text, lines, 1);
     }
-    Ok(text)
+    assert!(rt; text.push_str(behind).is_ok());
+    text
 }
 
 /// Wants this fault behind so many whole experiments.
-fn wants_behind(
-    rt: &(impl Abort + AllocGlobal),
-    count: u32,
-    lines: &str,
-    line: u64,
-    cause: Cause,
-) -> Result<(), Fail> {
-    let mut text = experiments(rt.alloc(), count)?;
-    text.push_str(lines)?;
+fn wants_behind(rt: &(impl Abort + AllocGlobal), count: u32, lines: &str, line: u64, cause: Cause) {
+    let text = experiments(rt, count, lines);
     wants(rt, text.as_str(), line, cause);
-    Ok(())
 }
 
 #[test]
-fn too_many_experiments(rt: HostRuntime) -> Result<(), Fail> {
-    let most = experiments(rt.alloc(), 256)?;
-    match parse_scenario(rt.alloc(), most.as_str().as_bytes()) {
-        Ok(scenario) => assert_eq!(rt; scenario.experiments().len(), 256),
-        Err(_) => assert!(rt; false),
-    }
+fn too_many_experiments(rt: HostRuntime) {
+    let most = experiments(&rt, 256, "");
+    assert!(rt; experiments_in(rt.alloc(), most.as_str().as_bytes()) == Some(256));
     let other = "experiment other seed 0 budget 1\n";
-    wants_behind(&rt, 256, other, 513, Cause::TooMany)?;
+    wants_behind(&rt, 256, other, 513, Cause::TooMany);
     // Its name stood before, too.
     let again = "experiment e0 seed 0 budget 1\n";
-    wants_behind(&rt, 256, again, 513, Cause::TooMany)?;
-    wants_behind(&rt, 255, again, 511, Cause::SameName)?;
+    wants_behind(&rt, 256, again, 513, Cause::TooMany);
+    wants_behind(&rt, 255, again, 511, Cause::SameName);
     // The 257th, while the 256th has no end; also under a name that stood before.
     let two = "experiment x seed 0 budget 1\nexperiment y seed 0 budget 1\n";
-    wants_behind(&rt, 255, two, 512, Cause::NoEnd)?;
+    wants_behind(&rt, 255, two, 512, Cause::NoEnd);
     let twice = "experiment x seed 0 budget 1\nexperiment e0 seed 0 budget 1\n";
-    wants_behind(&rt, 255, twice, 512, Cause::NoEnd)?;
+    wants_behind(&rt, 255, twice, 512, Cause::NoEnd);
     // What is wrong with the line itself comes first.
-    wants_behind(
-        &rt,
-        256,
-        "experiment e0 seed 0 budget 0\n",
-        513,
-        Cause::OutOfRange,
-    )?;
-    wants_behind(&rt, 256, "experiment e0 seed 0\n", 513, Cause::BadWord)?;
-    wants_behind(&rt, 256, "@0 show\n", 513, Cause::AfterEnd)
+    let none = "experiment e0 seed 0 budget 0\n";
+    wants_behind(&rt, 256, none, 513, Cause::OutOfRange);
+    wants_behind(&rt, 256, "experiment e0 seed 0\n", 513, Cause::BadWord);
+    wants_behind(&rt, 256, "@0 show\n", 513, Cause::AfterEnd);
 }

@@ -3,115 +3,40 @@
 use super::limits::experiments;
 use super::*;
 
-/// Wants this word of a cause, and these lines of it with the least and the greatest line.
-fn is_printed(rt: &(impl Abort + AllocGlobal), cause: Cause, words: [&str; 3]) -> Result<(), Fail> {
-    let word = format!(in rt.alloc(); "{cause}")?;
-    assert_eq!(rt; word.as_str(), words[0]);
+/// Wants what is printed to be the start and then the word.
+fn is_text(rt: &impl Abort, printed: Result<String, AllocError>, start: &str, word: &str) {
+    let printed = printed.expect(rt, "memory");
+    assert!(rt;
+        printed.as_str().strip_prefix(start) == Some(word),
+        "{start}{word}"
+    );
+}
+
+/// Wants this word of a cause, by itself and with the least and the greatest line.
+fn is_printed(rt: &(impl Abort + AllocGlobal), cause: Cause, word: &str) {
+    is_text(rt, format!(in rt.alloc(); "{cause}"), "", word);
     let least = Fault { line: 0, cause };
-    let least = format!(in rt.alloc(); "{least}")?;
-    assert_eq!(rt; least.as_str(), words[1]);
+    is_text(rt, format!(in rt.alloc(); "{least}"), "line 0: ", word);
     let line = u64::MAX;
     let greatest = Fault { line, cause };
-    let greatest = format!(in rt.alloc(); "{greatest}")?;
-    assert_eq!(rt; greatest.as_str(), words[2]);
-    Ok(())
+    let start = "line 18446744073709551615: ";
+    is_text(rt, format!(in rt.alloc(); "{greatest}"), start, word);
 }
 
 #[test]
-fn words_of_causes(rt: HostRuntime) -> Result<(), Fail> {
-    for (cause, words) in [
-        (
-            Cause::TooBig,
-            [
-                "toobig",
-                "line 0: toobig",
-                "line 18446744073709551615: toobig",
-            ],
-        ),
-        (
-            Cause::Cut,
-            ["cut", "line 0: cut", "line 18446744073709551615: cut"],
-        ),
-        (
-            Cause::TooLong,
-            [
-                "toolong",
-                "line 0: toolong",
-                "line 18446744073709551615: toolong",
-            ],
-        ),
-        (
-            Cause::BadByte,
-            [
-                "badbyte",
-                "line 0: badbyte",
-                "line 18446744073709551615: badbyte",
-            ],
-        ),
-        (
-            Cause::BadWord,
-            [
-                "badword",
-                "line 0: badword",
-                "line 18446744073709551615: badword",
-            ],
-        ),
-        (
-            Cause::OutOfRange,
-            [
-                "outofrange",
-                "line 0: outofrange",
-                "line 18446744073709551615: outofrange",
-            ],
-        ),
-        (
-            Cause::NoEnd,
-            ["noend", "line 0: noend", "line 18446744073709551615: noend"],
-        ),
-        (
-            Cause::TooMany,
-            [
-                "toomany",
-                "line 0: toomany",
-                "line 18446744073709551615: toomany",
-            ],
-        ),
-        (
-            Cause::SameName,
-            [
-                "samename",
-                "line 0: samename",
-                "line 18446744073709551615: samename",
-            ],
-        ),
-        (
-            Cause::NoExperiment,
-            [
-                "noexperiment",
-                "line 0: noexperiment",
-                "line 18446744073709551615: noexperiment",
-            ],
-        ),
-        (
-            Cause::AfterEnd,
-            [
-                "afterend",
-                "line 0: afterend",
-                "line 18446744073709551615: afterend",
-            ],
-        ),
-        (
-            Cause::Backwards,
-            [
-                "backwards",
-                "line 0: backwards",
-                "line 18446744073709551615: backwards",
-            ],
-        ),
-    ] {
-        is_printed(&rt, cause, words)?;
-    }
-    Ok(())
+fn words_of_causes(rt: HostRuntime) {
+    is_printed(&rt, Cause::TooBig, "toobig");
+    is_printed(&rt, Cause::Cut, "cut");
+    is_printed(&rt, Cause::TooLong, "toolong");
+    is_printed(&rt, Cause::BadByte, "badbyte");
+    is_printed(&rt, Cause::BadWord, "badword");
+    is_printed(&rt, Cause::OutOfRange, "outofrange");
+    is_printed(&rt, Cause::NoEnd, "noend");
+    is_printed(&rt, Cause::TooMany, "toomany");
+    is_printed(&rt, Cause::SameName, "samename");
+    is_printed(&rt, Cause::NoExperiment, "noexperiment");
+    is_printed(&rt, Cause::AfterEnd, "afterend");
+    is_printed(&rt, Cause::Backwards, "backwards");
 }
 
 /// What is printed of these bytes.
@@ -123,21 +48,24 @@ fn printed(alloc: Global, bytes: &[u8]) -> Result<String, AllocError> {
     }
 }
 
+/// Wants this to be printed of a text.
+fn prints(rt: &(impl Abort + AllocGlobal), text: &str, line: &str) {
+    is_text(rt, printed(rt.alloc(), text.as_bytes()), "", line);
+}
+
+/// Two whole experiments of one name.
+const TWICE: &str = "experiment a seed 0 budget 1\n@0 end\nexperiment a seed 0 budget 1\n@0 end\n";
+
 /// A text for each cause but `toobig`, with the line that is printed of it; a text that is too big stands in `limits`.
 #[test]
-fn lines_of_texts(rt: HostRuntime) -> Result<(), Fail> {
-    let long = format!(in rt.alloc(); "#{:<512}\n", "")?;
-    for (text, line) in [
+fn lines_of_texts(rt: HostRuntime) {
+    for (text, line) in &[
         ("experiment a seed 0 budget 1", "line 1: cut"),
-        (long.as_str(), "line 1: toolong"),
         ("# a comment\n\t\n", "line 2: badbyte"),
         ("word\n", "line 1: badword"),
         ("\n\nexperiment a seed 0 budget 0\n", "line 3: outofrange"),
         ("experiment a seed 0 budget 1\n", "line 2: noend"),
-        (
-            "experiment a seed 0 budget 1\n@0 end\nexperiment a seed 0 budget 1\n@0 end\n",
-            "line 3: samename",
-        ),
+        (TWICE, "line 3: samename"),
         ("@0 end\n", "line 1: noexperiment"),
         (
             "experiment a seed 0 budget 1\n@0 end\n@0 end\n",
@@ -149,11 +77,10 @@ fn lines_of_texts(rt: HostRuntime) -> Result<(), Fail> {
         ),
         ("experiment a seed 0 budget 1\n@0 end\n", "no fault"),
     ] {
-        let written = printed(rt.alloc(), text.as_bytes())?;
-        assert_eq!(rt; written.as_str(), line);
+        prints(&rt, text, line);
     }
-    let many = experiments(rt.alloc(), 257)?;
-    let written = printed(rt.alloc(), many.as_str().as_bytes())?;
-    assert_eq!(rt; written.as_str(), "line 513: toomany");
-    Ok(())
+    let long = format!(in rt.alloc(); "#{:<512}\n", "").expect(&rt, "memory");
+    prints(&rt, long.as_str(), "line 1: toolong");
+    let many = experiments(&rt, 257, "");
+    prints(&rt, many.as_str(), "line 513: toomany");
 }
