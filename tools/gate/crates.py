@@ -1,21 +1,17 @@
-"""What the tools of the gate share: the crates of crates.txt, how large they are, and what the machine has."""
+"""What the tools of the gate share: the crates of crates.txt, and what the machine has."""
 import os
 import pathlib
 import re
 import subprocess
-from typing import Dict, Iterable, Iterator, List, Optional
+from typing import Dict, Iterable, List, Optional
 
 # What a check of a crate reads.
 PARTS = ("src", "specs", "proofs")
 GIGABYTE = 1_000_000_000
-# Where a control group bounds the processors (a quota, its period) and the memory (the most, what is held).
+# Where a control group bounds the processors: a quota, its period.
 QUOTAS = (
     ("/sys/fs/cgroup/cpu.max", r"^(\d+)", "/sys/fs/cgroup/cpu.max", r"^\d+ (\d+)"),
     ("/sys/fs/cgroup/cpu/cpu.cfs_quota_us", r"^(\d+)", "/sys/fs/cgroup/cpu/cpu.cfs_period_us", r"^(\d+)"),
-)
-BOUNDS = (
-    ("/sys/fs/cgroup/memory.max", r"^(\d+)", "/sys/fs/cgroup/memory.current", r"^(\d+)"),
-    ("/sys/fs/cgroup/memory/memory.limit_in_bytes", r"^(\d+)", "/sys/fs/cgroup/memory/memory.usage_in_bytes", r"^(\d+)"),
 )
 
 
@@ -50,16 +46,6 @@ def below(uses: Dict[str, List[str]], names: Iterable[str]) -> List[str]:
     return found
 
 
-def files_of(folder: pathlib.Path, parts: Iterable[str] = PARTS) -> Iterator[pathlib.Path]:
-    """The files of these parts of a crate, in order."""
-    for part in parts:
-        yield from sorted(it for it in (folder / part).rglob("*") if it.is_file())
-
-
-def count_lines(folder: pathlib.Path, parts: Iterable[str] = ("src", "proofs")) -> int:
-    return sum(it.read_bytes().count(b"\n") for it in files_of(folder, parts))
-
-
 def number_in(file: str, pattern: str) -> Optional[int]:
     try:
         found = re.search(pattern, pathlib.Path(file).read_text(encoding="utf-8"), re.M)
@@ -76,16 +62,6 @@ def processors() -> int:
         if quota and period:
             found = min(found, max(quota // period, 1))
     return found
-
-
-def free_memory() -> int:
-    """The free memory in bytes, under the group's bound too."""
-    found = [1024 * (number_in("/proc/meminfo", r"^MemAvailable:\s+(\d+)") or 4_000_000)]
-    for file, words, of_held, held_words in BOUNDS:
-        most, held = number_in(file, words), number_in(of_held, held_words)
-        if most and held is not None:
-            found.append(most - held)
-    return max(min(found), 0)
 
 
 def kit_version() -> str:
