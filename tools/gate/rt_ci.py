@@ -18,6 +18,9 @@ from typing import IO, Iterable, Iterator, List, Optional, Sequence
 
 import crates
 
+RT_CI = ("rt", "ci")
+# The same with the longest chain of crates first: sooner where a program alone is proved, and nothing fills the processors beside it.
+CHAIN_FIRST = (sys.executable, str(pathlib.Path(__file__).resolve().parent / "chain_first"))
 # What rt ci reads beside a crate's sources, to run its program.
 RUN = ("args", "stdin", "stdout", "status", "data")
 # What rt ci says of a crate; of its tests it says the same behind a colon.
@@ -61,10 +64,14 @@ def temporary_folder(prefix: str) -> Iterator[pathlib.Path]:
 
 
 @contextlib.contextmanager
-def started(words: Iterable[str], copy: pathlib.Path, temporary: pathlib.Path, **more: str) -> "Iterator[subprocess.Popen[bytes]]":
+def started(
+    words: Iterable[str], copy: pathlib.Path, temporary: pathlib.Path, command: Sequence[str] = RT_CI, **more: str
+) -> "Iterator[subprocess.Popen[bytes]]":
     """Starts rt ci in a session of its own, so that it ends when this is left, with all that it started."""
+    if shutil.which("rt") is None:
+        raise FileNotFoundError("rt, the command of the Rattle kit, is not on the PATH")
     process = subprocess.Popen(
-        ["rt", "ci", *words],
+        [*command, *words],
         cwd=copy,
         stdin=subprocess.DEVNULL,
         stdout=subprocess.PIPE,
