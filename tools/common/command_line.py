@@ -6,12 +6,12 @@ import shutil
 import proved
 
 
-def parser_of(about: str | None, **how: str) -> argparse.ArgumentParser:
+def parser_of(about: str | None, usage: str | None = None) -> argparse.ArgumentParser:
     """A parser whose help is the text at a tool's head."""
-    return argparse.ArgumentParser(description=about, formatter_class=argparse.RawDescriptionHelpFormatter, **how)
+    return argparse.ArgumentParser(description=about, formatter_class=argparse.RawDescriptionHelpFormatter, usage=usage)
 
 
-def program_of(parser: argparse.ArgumentParser, named: str | None = None) -> str:
+def program_of(parser: argparse.ArgumentParser, named: str | os.PathLike[str] | None = None) -> str:
     """The whole path of the program that is named, else of $DNLAB, else of the proved one; an end where there is none."""
     return path_of(parser, proved.program(named))
 

@@ -9,7 +9,7 @@ ROOT = pathlib.Path(__file__).resolve().parents[2]
 SCRIPT = ROOT / "dnlab"
 
 
-def program(named=None):
+def program(named: str | os.PathLike[str] | None = None) -> str:
     """The path of the program: the one that is named, else the one of the environment variable DNLAB, else this
     repository's. In place of the script ./dnlab, which may answer without a proof and starts the program a little
     later, it is the proved program, made first where it isn't there; where that fails the tool ends with its status."""
@@ -23,7 +23,7 @@ def program(named=None):
     return str(ROOT / "crates" / "dnlab" / "out" / "dnlab")
 
 
-def soak():
+def soak() -> str:
     """The path of the program of crates/soak: the one of the environment variable SOAK, else this repository's, proved
     and built first where it isn't there or a source is newer."""
     named = os.environ.get("SOAK")

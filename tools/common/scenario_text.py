@@ -7,6 +7,7 @@ has is not judged here.
 import pathlib
 import re
 import sys
+from collections.abc import Iterable
 
 sys.path.insert(0, str(pathlib.Path(__file__).resolve().parents[2] / "python"))
 
@@ -20,7 +21,7 @@ BODY = re.compile(rb"[0-9]+ (?:ok|refused|make|identify|arrive|finish|pass|deliv
 CLOSING = re.compile(rb"[0-9]+ (?:ok [0-9]+|spent)")
 
 
-def trouble(experiments, report):
+def trouble(experiments: Iterable[tuple[str, int]], report: bytes) -> str | None:
     """What a report lacks of being whole, in a sentence; None where it lacks nothing."""
     if report and not report.endswith(b"\n"):
         return "the last line has no LF"
