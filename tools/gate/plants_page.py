@@ -74,7 +74,7 @@ def write(page: pathlib.Path, crates: pathlib.Path, refused: Iterable[Refused]) 
     text = HEAD
     for name in sorted(sections):
         stand = {it.stem for it in (crates / name).glob("plants/*.edit")}
-        rows = [row for edit, row in sorted(sections[name].rows.items()) if edit in stand]
-        if rows:
-            text += f"\n## {name}, {sections[name].day}\n\n| Edit | Refused in | At |\n|---|---|---|\n" + "".join(f"{it}\n" for it in rows)
+        standing = [row for edit, row in sorted(sections[name].rows.items()) if edit in stand]
+        if standing:
+            text += f"\n## {name}, {sections[name].day}\n\n| Edit | Refused in | At |\n|---|---|---|\n" + "".join(f"{it}\n" for it in standing)
     page.write_text(text, encoding="utf-8")
