@@ -1,6 +1,11 @@
 """Runs a program with one of its allocations refused, by an allocator that is put before the C library's."""
 import os
 import subprocess
+from collections.abc import Sequence
+from typing import Literal, NamedTuple
+
+# How a run ended; in words where it took longer than its limit.
+Status = int | Literal["no end"]
 
 # Refuses the allocation whose number is in REFUSED, and at the end writes how many were asked for to the descriptor COUNT.
 ALLOCATOR = r"""
@@ -38,18 +43,27 @@ void _exit(int status) {
 """
 
 
-def library(room):
+class Outcome(NamedTuple):
+    """Standard output, standard error and status of a run, and how many allocations it asked for."""
+    out: bytes
+    err: bytes
+    status: Status
+    asked: int
+
+
+def library(room: str) -> str:
     """The allocator, compiled by `cc` into a folder."""
     path = f"{room}/refusing.so"
     subprocess.run(["cc", "-O2", "-shared", "-fPIC", "-x", "c", "-", "-o", path], input=ALLOCATOR.encode(), check=True)
     return path
 
 
-def run(allocator, words, text, number, limit=20):
+def run(allocator: str, words: Sequence[str], text: bytes, number: int, limit: float = 20) -> Outcome:
     """Standard output, standard error and status of a run over the text whose allocation of this number is refused
     (0: none), and how many it asked for; a status of 'no end' where it takes longer than the limit (s)."""
     reading, writing = os.pipe()
     how = {"LD_PRELOAD": allocator, "REFUSED": str(number), "COUNT": str(writing)}
+    status: Status
     try:
         done = subprocess.run(words, input=text, capture_output=True, env=how, pass_fds=[writing], timeout=limit,
                               check=False)
@@ -60,4 +74,4 @@ def run(allocator, words, text, number, limit=20):
         os.close(writing)
     with open(reading, "rb") as counts:
         count = counts.read()
-    return out, err, status, int(count or 0)
+    return Outcome(out, err, status, int(count or 0))

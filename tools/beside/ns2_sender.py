@@ -10,38 +10,39 @@ SECOND = 10**9
 
 
 class Ns2Sender:
-    def __init__(self, smss, segments, ssthresh, window, rto):
+    def __init__(self, smss: int, segments: int, ssthresh: int, window: int, rto: int | None) -> None:
         self.smss, self.total, self.most = smss, segments, window // smss
         self.size, self.threshold = 3.0, ssthresh // smss
         self.next, self.highest, self.max_sent = 0, -1, -1
         self.duplicates = self.inflated = 0
-        self.out = []
-        self.timer = None
+        self.out: list[int] = []
+        self.timer: int | None = None
         self.is_stopped = False
         self.backoff, self.rto = 1, 1.0
         self.srtt = self.rttvar = 0
-        self.timed = None
+        # The segment that is timed, and when it went out.
+        self.timed: tuple[int, int] | None = None
         self.last_timed = -1
         self.send_much()
 
     @property
-    def cwnd(self):
+    def cwnd(self) -> int:
         return round((self.size + self.inflated) * self.smss)
 
     @property
-    def ssthresh(self):
+    def ssthresh(self) -> int:
         return self.threshold * self.smss
 
-    def may_emit(self):
+    def may_emit(self) -> bool:
         return bool(self.out)
 
-    def send_much(self):
+    def send_much(self) -> None:
         window = min(int(self.size) + self.inflated, self.most)
         while self.next <= self.highest + window and self.next < self.total:
             self.out.append(self.next)
             self.next += 1
 
-    def emit(self, now):
+    def emit(self, now: int) -> int:
         number = self.out.pop(0)
         if number > self.max_sent:
             self.max_sent = number
@@ -52,11 +53,11 @@ class Ns2Sender:
             self.set_timer(now)
         return number * self.smss
 
-    def set_timer(self, now):
+    def set_timer(self, now: int) -> None:
         time = max(self.rto, 1.0) * self.backoff
         self.timer = now + round(min(time, 60.0) * SECOND)
 
-    def ack(self, upto, now):
+    def ack(self, upto: int, now: int) -> None:
         number = upto // self.smss - 1
         if number > self.highest:
             self.inflated = 0
@@ -73,7 +74,7 @@ class Ns2Sender:
         if self.duplicates == 0 or self.duplicates > 2:
             self.send_much()
 
-    def new_data(self, number, now):
+    def new_data(self, number: int, now: int) -> None:
         self.duplicates = 0
         self.highest = number
         self.next = max(self.next, number + 1)
@@ -86,7 +87,7 @@ class Ns2Sender:
             self.set_timer(now)
         self.size += 1 if self.size < self.threshold else 1 / self.size
 
-    def measure(self, begun, now):
+    def measure(self, begun: float, now: float) -> None:
         """In ticks, with 3 and 2 binary places, as ns-2 keeps them."""
         ticks = max(1, int((now - begun + (begun + BOOT) % TICK) / TICK))
         if self.srtt:
@@ -97,11 +98,11 @@ class Ns2Sender:
             self.srtt, self.rttvar = ticks << 3, ticks << 1
         self.rto = (((self.rttvar << 3) + self.srtt) >> 3) * TICK
 
-    def halve(self):
+    def halve(self) -> None:
         half = min(self.size + self.inflated, self.most) / 2
         self.threshold, self.size = max(2, int(half)), half
 
-    def expire(self, now):
+    def expire(self, now: int) -> None:
         self.inflated = self.duplicates = 0
         self.halve()
         self.size = 1.0
