@@ -2,8 +2,9 @@
 deletions, equal moments, rules that go on, several experiments; some of them damaged afterwards.
 
 Moments are drawn from a few, and times of service are often whole milliseconds, so that commands, exits and
-finishes meet at one moment. draw(random.Random(..)) gives the bytes of a text.
+finishes meet at one moment. draw_text(random.Random(..)) gives the bytes of a text.
 """
+from random import Random
 
 MS = 10**6
 ADDRESSES = ("10.0.0.1", "10.0.0.2", "10.0.1.1", "10.0.1.2", "192.168.7.9", "0.0.0.0", "255.255.255.255")
@@ -17,15 +18,20 @@ SERVICE = ("bw 8Mbit/s", "bw 1Mbit/s", "bw 1MByte/s", "bw 125KByte/s", "bw 3Mbit
            "bw 1Gbit/s", "bw 10Gbit/s", "bw 56Kbit/s", "bw 0", "bw 997bit/s")
 NUMBERS = (1, 2, 50, 100, 100, 100, 150, 200, 200, 300, 400, 65534)
 
+# Each pipe's mask, written as in its configuration.
+Masks = dict[int, str]
+# A command behind its moment.
+Timed = tuple[int, str]
 
-def ports(draw):
+
+def ports(draw: Random) -> str:
     if draw.random() < 0.75:
         return ""
     first = draw.choice(PORTS)
     return f" {first}" if draw.random() < 0.5 else f" {first}-{draw.choice([p for p in PORTS if p >= first])}"
 
 
-def action(draw, number):
+def action(draw: Random, number: int) -> str:
     roll = draw.random()
     if roll < 0.5:
         return f"pipe {draw.choice(PIPES[:3]) if roll < 0.48 else draw.choice(PIPES)}"
@@ -36,14 +42,14 @@ def action(draw, number):
     return "allow" if roll < 0.96 else "deny"
 
 
-def rule(draw):
+def rule(draw: Random) -> str:
     number = draw.choice(NUMBERS) if draw.random() < 0.97 else draw.choice((0, 65535, 65536, 99999))
     source, target = (draw.choice(PREFIXES) if draw.random() < 0.5 else "any" for _ in range(2))
     return (f"add {number} {action(draw, number)} {draw.choice(('ip', 'ip', 'tcp', 'udp'))} "
             f"from {source}{ports(draw)} to {target}{ports(draw)}")
 
 
-def mask(draw):
+def mask(draw: Random) -> str:
     """None most of the time: a pipe with instances refuses another."""
     roll = draw.random()
     if roll < 0.1:
@@ -56,7 +62,7 @@ def mask(draw):
     return "mask " + " ".join(f"{name} {draw.choice(fields[name])}" for name in names)
 
 
-def discipline(draw):
+def discipline(draw: Random) -> str:
     roll = draw.random()
     if roll < 0.5:
         return "droptail" if roll < 0.1 else ""
@@ -66,7 +72,7 @@ def discipline(draw):
     return " ".join(["codel", *words[:draw.choice((0, 1, 2, 2, 2))]])
 
 
-def config(draw, masks, pipe):
+def config(draw: Random, masks: Masks, pipe: int) -> str:
     """A configuration; of one pipe most have one mask."""
     if pipe not in masks or draw.random() < 0.05:
         masks[pipe] = mask(draw)
@@ -81,7 +87,7 @@ def config(draw, masks, pipe):
     return f"pipe {pipe} config " + " ".join(word for word in words if word)
 
 
-def ends(draw):
+def ends(draw: Random) -> str:
     """Both ends of what is sent, most of the time between the two nets that rules are for."""
     if draw.random() < 0.85:
         both = [draw.choice(ADDRESSES[:2]), draw.choice(ADDRESSES[2:4])]
@@ -90,7 +96,7 @@ def ends(draw):
     return " ".join(f"{address} {draw.choice(PORTS)}" for address in both)
 
 
-def flow(draw, number):
+def flow(draw: Random, number: int) -> str:
     words = [draw.choice(("", f"ssthresh {draw.choice((1, 1000, 2000, 4000, 8000, 10**9))}")),
              draw.choice(("", "", f"window {draw.choice((1, 1460, 3000, 10000, 65535))}")),
              draw.choice(("", "rto adaptive", "rto adaptive", f"rto {draw.choice((1, 25, 200, 1000, 60000))}"))]
@@ -99,7 +105,7 @@ def flow(draw, number):
             f"segments {draw.choice((1, 2, 5, 10, 20, 40, 60))} " + " ".join(words))
 
 
-def source(draw):
+def source(draw: Random) -> str:
     number = draw.choice((1, 2, 3, 4, 5, 300, 65535))
     roll = draw.random()
     if roll < 0.45:
@@ -110,7 +116,7 @@ def source(draw):
     return f"inject {draw.choice(('tcp', 'udp'))} {ends(draw)} {draw.choice(SIZES)}"
 
 
-def later(draw, masks):
+def later(draw: Random, masks: Masks) -> str:
     """A command on what is there."""
     roll = draw.random()
     if roll < 0.3:
@@ -123,7 +129,7 @@ def later(draw, masks):
                         f"trace {draw.choice((0, 1))}"))
 
 
-def moments(draw):
+def moments(draw: Random) -> list[int]:
     """A few moments, some of them near each other, that commands share."""
     base = draw.choice((MS, 10 * MS, 100 * MS, 10**9))
     few = [draw.randint(0, 20) * base for _ in range(draw.randint(1, 6))]
@@ -131,7 +137,7 @@ def moments(draw):
     return few + near + [draw.randint(0, 20 * base)]
 
 
-def crowd(draw, moment):
+def crowd(draw: Random, moment: int) -> list[Timed]:
     """More senders than a pipe has instances, in any order."""
     pairs = [(host // 256, host % 256) for host in range(270)]
     draw.shuffle(pairs)
@@ -139,14 +145,14 @@ def crowd(draw, moment):
         (moment, f"inject udp 10.7.{net}.{host} 1 10.0.1.1 2 40") for net, host in pairs]
 
 
-def both_ways(draw):
+def both_ways(draw: Random) -> list[str]:
     """Rules by which flows between the first four addresses get there and back."""
     there, back = draw.choice(PIPES[:3]), draw.choice(PIPES[:3])
     return [f"add 100 pipe {there} ip from 10.0.0.0/24 to any", f"add 200 pipe {back} ip from any to any"]
 
 
-def experiment(draw, name):
-    masks = {}
+def experiment(draw: Random, name: str) -> list[str]:
+    masks: Masks = {}
     first = [config(draw, masks, pipe) for pipe in PIPES[:4] if draw.random() < 0.9]
     first += both_ways(draw) if draw.random() < 0.85 else []
     first += [rule(draw) for _ in range(draw.choice((0, 0, 1, 2, 6)))]
@@ -172,7 +178,7 @@ DAMAGE = ("", " ", "  ", "0", "00", "-1", "65536", "1000000000000000", "10000000
           "experiment", "10.0.0.256", "10.0.0.0/33", "9-8", "0x", "0xfffffffff", "1.0000001", "adaptive", "61s", "0us")
 
 
-def damaged(draw, lines):
+def damaged(draw: Random, lines: list[str]) -> bytes:
     """The lines with one thing wrong, as bytes; sometimes it does no harm."""
     lines = list(lines)
     place = draw.randrange(len(lines))
@@ -201,7 +207,7 @@ def damaged(draw, lines):
     return text[:place] + draw.choice((b"", b"\n", b" ", b"\t", b"\r", b"\xff", b"0", b"#")) + text[place + 1:]
 
 
-def draw_text(draw):
+def draw_text(draw: Random) -> bytes:
     """A text; one of six is damaged."""
     lines = []
     for number in range(draw.choice((1, 1, 1, 2, 3))):

@@ -1,27 +1,67 @@
 """Parts of tools/second/second: what moves packets in one experiment, written from docs/use/RULES.md and docs/use/ORDER.md."""
 import heapq
 from collections import deque
-from types import SimpleNamespace
+from collections.abc import Callable, Iterator
+from dataclasses import dataclass
+from typing import NamedTuple
 
-from second_parts import MOST_INSTANCES, Codel, Instance
-from second_text import FIELDS, Rule, dotted
+from second_parts import MOST_INSTANCES, Codel, FlowSender, Instance
+from second_text import FIELDS, PLAIN, Config, Load, Packet, Rule, dotted
 
 CAUSES = ("denied", "nopipe", "noinstance", "lost", "full", "codel", "deleted", "budget")
 TRANSPORTS = {6: "tcp", 17: "udp"}
 DEFAULT = "add 65535 deny ip from any to any".split()
 
+# Source and its port, destination and its port.
+Ends = tuple[int, int, int, int]
+# A packet's masked fields, by which its instance is found.
+Name = tuple[int, ...]
+# A moment, a class and a number, by which ORDER.md sorts what is due.
+Due = tuple[int, int, int]
+
+
+class Event(NamedTuple):
+    """What is due, what does it, and where: a pipe's number and an instance's place, or a source's number and 0."""
+
+    due: Due
+    call: Callable[[int, int], None]
+    where: tuple[int, int]
+
+
+@dataclass
+class Train:
+    proto: int
+    ends: Ends
+    size: int
+    # How many packets are still to go out, the time between two, and when the next goes out.
+    left: int
+    gap: int
+    next: int
+
+
+@dataclass
+class Flow:
+    sender: FlowSender
+    ends: Ends
+    # The first bytes of segments that came before their turn, and the first byte that hasn't come.
+    kept: set[int]
+    missing: int
+
+
+Source = Train | Flow
+
 
 class Pipe:
-    def __init__(self, config):
+    def __init__(self, config: Config) -> None:
         self.config = config
-        self.places = {}
-        self.instances = []
+        self.places: dict[Name, int] = {}
+        self.instances: list[Instance] = []
 
-    def name_of(self, packet):
+    def name_of(self, packet: Packet) -> Name:
         """Its masked fields."""
         return tuple(getattr(packet, field) & self.config.mask[word] for word, (field, _) in FIELDS.items())
 
-    def find(self, packet):
+    def find(self, packet: Packet) -> int | None:
         """The place of the packet's instance; None where there may be no more."""
         name = self.name_of(packet)
         if name not in self.places:
@@ -31,7 +71,7 @@ class Pipe:
             self.instances.append(Instance())
         return self.places[name]
 
-    def configure(self, config):
+    def configure(self, config: Config) -> None:
         for instance in self.instances:
             instance.cut_period()
             if config.discipline() != self.config.discipline():
@@ -39,35 +79,38 @@ class Pipe:
         self.config = config
 
 
-def load_text(load):
-    return " ".join(str(word) for word in load)
+def load_text(load: Load) -> str:
+    return load.kind if load == PLAIN else f"{load.kind} {load.flow} {load.byte}"
 
 
-def identifier_text(name):
+def identifier_text(name: Name) -> str:
     return "/".join(f"{value:0{digits}x}" for value, (_, digits) in zip(name, FIELDS.values()))
 
 
 class Net:
     """One experiment: what is there, and the lines of its report."""
 
-    def __init__(self, seed, budget):
+    pipes: dict[int, Pipe]
+    sources: dict[int, Source]
+
+    def __init__(self, seed: int, budget: int) -> None:
         self.seed, self.budget = seed, budget
         self.rules, self.adds = [Rule(DEFAULT, 0)], 0
         self.pipes, self.sources = {}, {}
         # What was due in pipes when an instance last changed; some of it may have gone since.
-        self.noted = []
-        self.link = deque()
+        self.noted: list[Due] = []
+        self.link: deque[tuple[int, Packet]] = deque()
         self.one_pass, self.trace, self.now, self.is_over = 1, 0, 0, False
         self.made = self.held = self.delivered = 0
         self.drops = [0] * 8
-        self.lines = []
+        self.lines: list[str] = []
 
-    def say(self, *words):
+    def say(self, *words: object) -> None:
         self.lines.append(" ".join(str(word) for word in (self.now, *words)))
 
-    def make(self, proto, src, sport, dst, dport, size, load):
-        packet = SimpleNamespace(proto=proto, src=src, sport=sport, dst=dst, dport=dport, size=size, load=load,
-                                 serial=self.made, place=(0, 0))
+    def make(self, proto: int, src: int, sport: int, dst: int, dport: int, size: int, load: Load) -> None:
+        packet = Packet(proto=proto, src=src, sport=sport, dst=dst, dport=dport, size=size, load=load,
+                        serial=self.made, place=(0, 0))
         self.made += 1
         self.held += 1
         if self.trace:
@@ -78,12 +121,12 @@ class Net:
         else:
             self.search(packet)
 
-    def drop(self, packet, cause):
+    def drop(self, packet: Packet, cause: str) -> None:
         self.held -= 1
         self.drops[CAUSES.index(cause)] += 1
         self.say("drop", packet.serial, load_text(packet.load), cause)
 
-    def search(self, packet):
+    def search(self, packet: Packet) -> None:
         """The rules behind the packet's place."""
         least = 0
         for rule in self.rules:
@@ -92,7 +135,7 @@ class Net:
             rule.packets += 1
             rule.bytes += packet.size
             if rule.action == "skipto":
-                least = rule.target
+                least = rule.goal()
             elif rule.action != "count":
                 break
         if rule.action == "deny":
@@ -101,9 +144,9 @@ class Net:
             self.link.append((self.now + 1, packet))
         else:
             packet.place = rule.place
-            self.arrive(packet, rule.target)
+            self.arrive(packet, rule.goal())
 
-    def arrive(self, packet, number):
+    def arrive(self, packet: Packet, number: int) -> None:
         pipe = self.pipes.get(number)
         if not pipe:
             return self.drop(packet, "nopipe")
@@ -125,16 +168,17 @@ class Net:
             instance.serve(self.now, pipe.config, False)
             self.note(number, place)
 
-    def finish(self, number, place):
+    def finish(self, number: int, place: int) -> None:
         pipe = self.pipes[number]
         instance = pipe.instances[place]
+        assert instance.serving is not None
         self.say("finish", instance.serving.serial, f"{number}.{place}")
         instance.enter_line(instance.serving, self.now, pipe.config)
         for packet in instance.serve(self.now, pipe.config, True):
             self.drop(packet, "codel")
         self.note(number, place)
 
-    def exit(self, number, place):
+    def exit(self, number: int, place: int) -> None:
         if not number:
             return self.deliver(self.link.popleft()[1])
         _, packet = self.pipes[number].instances[place].line.popleft()
@@ -144,39 +188,45 @@ class Net:
         self.say("pass", packet.serial, f"{number}.{place}")
         self.search(packet)
 
-    def deliver(self, packet):
+    def flow_of(self, number: int) -> Flow:
+        """The source of this number, which is a flow."""
+        source = self.sources[number]
+        assert isinstance(source, Flow)
+        return source
+
+    def deliver(self, packet: Packet) -> None:
         self.held -= 1
         self.delivered += 1
         self.say("deliver", packet.serial, load_text(packet.load))
-        if packet.load[0] == "data":
-            flow = self.sources[packet.load[1]]
-            flow.kept.add(packet.load[2])
+        if packet.load.kind == "data":
+            flow = self.flow_of(packet.load.flow)
+            flow.kept.add(packet.load.byte)
             while flow.missing in flow.kept:
                 flow.kept.remove(flow.missing)
                 flow.missing += flow.sender.smss
             dst, dport, src, sport = flow.ends
-            self.make(6, src, sport, dst, dport, 40, ("ack", packet.load[1], flow.missing))
-        elif packet.load[0] == "ack" and not self.sources[packet.load[1]].sender.is_stopped:
-            sender = self.sources[packet.load[1]].sender
-            sender.ack(packet.load[2], self.now)
-            self.say("ack", packet.load[1], sender.cwnd, sender.ssthresh)
+            self.make(6, src, sport, dst, dport, 40, Load("ack", packet.load.flow, flow.missing))
+        elif packet.load.kind == "ack" and not self.flow_of(packet.load.flow).sender.is_stopped:
+            sender = self.flow_of(packet.load.flow).sender
+            sender.ack(packet.load.byte, self.now)
+            self.say("ack", packet.load.flow, sender.cwnd, sender.ssthresh)
 
-    def expire(self, number, _):
-        sender = self.sources[number].sender
+    def expire(self, number: int, _: int) -> None:
+        sender = self.flow_of(number).sender
         sender.expire(self.now)
         self.say("expire", number, sender.cwnd, sender.ssthresh)
 
-    def emit(self, number, _):
+    def emit(self, number: int, _: int) -> None:
         source = self.sources[number]
-        if source.sender:
+        if isinstance(source, Flow):
             sender = source.sender
-            self.make(6, *source.ends, sender.smss + 40, ("data", number, sender.emit(self.now)))
+            self.make(6, *source.ends, sender.smss + 40, Load("data", number, sender.emit(self.now)))
         else:
             source.left -= 1
             source.next += source.gap
-            self.make(source.proto, *source.ends, source.size, ("plain",))
+            self.make(source.proto, *source.ends, source.size, PLAIN)
 
-    def due_of(self, kind, number, place):
+    def due_of(self, kind: int, number: int, place: int) -> int | None:
         """The next exit (1) or finish (2) of an instance, None where there is none."""
         pipe = self.pipes.get(number)
         if not pipe or place >= len(pipe.instances):
@@ -186,13 +236,13 @@ class Net:
             return instance.line[0][0] if instance.line else None
         return instance.finish
 
-    def note(self, number, place):
+    def note(self, number: int, place: int) -> None:
         for kind in 1, 2:
             moment = self.due_of(kind, number, place)
             if moment is not None:
                 heapq.heappush(self.noted, (moment, kind, number * 256 + place))
 
-    def least_of_pipes(self):
+    def least_of_pipes(self) -> Due | None:
         """The least that is still due of what was noted."""
         while self.noted:
             moment, kind, where = self.noted[0]
@@ -201,20 +251,20 @@ class Net:
             heapq.heappop(self.noted)
         return None
 
-    def dues(self):
-        """What is due but the command, of pipes the least: (moment, class, number), what it is, and where."""
+    def dues(self) -> Iterator[Event]:
+        """What is due but the command, of pipes the least."""
         if self.link:
-            yield (self.link[0][0], 1, 0), self.exit, (0, 0)
+            yield Event((self.link[0][0], 1, 0), self.exit, (0, 0))
         least = self.least_of_pipes()
         if least:
-            yield least, self.exit if least[1] == 1 else self.finish, divmod(least[2], 256)
+            yield Event(least, self.exit if least[1] == 1 else self.finish, divmod(least[2], 256))
         for number, source in self.sources.items():
-            sender = source.sender
-            if not sender:
+            if isinstance(source, Train):
                 if source.left:
-                    yield (source.next, 4, number), self.emit, (number, 0)
-            elif not sender.is_stopped:
+                    yield Event((source.next, 4, number), self.emit, (number, 0))
+            elif not source.sender.is_stopped:
+                sender = source.sender
                 if sender.timer is not None:
-                    yield (sender.timer, 3, number), self.expire, (number, 0)
+                    yield Event((sender.timer, 3, number), self.expire, (number, 0))
                 if sender.may_emit():
-                    yield (self.now, 4, number), self.emit, (number, 0)
+                    yield Event((self.now, 4, number), self.emit, (number, 0))

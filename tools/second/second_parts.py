@@ -2,6 +2,9 @@
 docs/use/RENO.md alone, for reading and not for speed."""
 from collections import deque
 from math import isqrt
+from typing import Protocol
+
+from second_text import Config, Packet
 
 MOST_INSTANCES = 256
 MAXPACKET = 1500
@@ -9,7 +12,7 @@ WORD = 2**32 - 1
 SECOND = 10**9
 
 
-def quarter(x, a, b, c, d):
+def quarter(x: list[int], a: int, b: int, c: int, d: int) -> None:
     """The quarter round of RFC 8439."""
     for at, one, other, turn in ((a, b, d, 16), (c, d, b, 12), (a, b, d, 8), (c, d, b, 7)):
         x[at] = (x[at] + x[one]) & WORD
@@ -17,7 +20,7 @@ def quarter(x, a, b, c, d):
         x[other] = ((x[other] << turn) | (x[other] >> (32 - turn))) & WORD
 
 
-def loss_word(seed, stream, place):
+def loss_word(seed: int, stream: int, place: int) -> int:
     """The word at a place of ChaCha20, with a 64-bit counter and a 64-bit nonce."""
     block = place // 16
     start = [0x61707865, 0x3320646E, 0x79622D32, 0x6B206574, seed & WORD, seed >> 32, 0, 0, 0, 0, 0, 0,
@@ -34,19 +37,27 @@ def loss_word(seed, stream, place):
 class Codel:
     """The state of RFC 8289, section 5."""
 
-    def __init__(self):
+    def __init__(self) -> None:
         self.first_above = self.drop_next = self.count = self.lastcount = 0
         self.dropping = False
 
 
-def control_law(moment, count, interval):
+def control_law(moment: int, count: int, interval: int) -> int:
     return moment + isqrt(interval * interval // count)
 
 
 class Instance:
     """A queue, a server and a delay line."""
 
-    def __init__(self):
+    # Packets and when they came.
+    waiting: deque[tuple[Packet, int]]
+    # What is served and when that ends; None where nothing is.
+    serving: Packet | None
+    finish: int | None
+    # When packets leave, and these.
+    line: deque[tuple[int, Packet]]
+
+    def __init__(self) -> None:
         self.waiting = deque()
         self.bytes = self.drawn = 0
         self.codel = Codel()
@@ -56,20 +67,20 @@ class Instance:
         self.line = deque()
         self.last_exit = 0
 
-    def is_lost(self, seed, stream, plr):
+    def is_lost(self, seed: int, stream: int, plr: int) -> bool:
         self.drawn += 1
         return loss_word(seed, stream, self.drawn - 1) * 10**6 < plr * 2**32
 
-    def has_room(self, size, config):
+    def has_room(self, size: int, config: Config) -> bool:
         if config.kbytes:
             return self.bytes + size <= 1024 * config.queue
         return len(self.waiting) < config.queue
 
-    def enqueue(self, packet, now):
+    def enqueue(self, packet: Packet, now: int) -> None:
         self.waiting.append((packet, now))
         self.bytes += packet.size
 
-    def take_head(self, now, config):
+    def take_head(self, now: int, config: Config) -> tuple[Packet | None, bool]:
         """`dodequeue`: the packet and whether it may be dropped."""
         state = self.codel
         if not self.waiting:
@@ -85,8 +96,9 @@ class Instance:
             return packet, False
         return packet, now >= state.first_above
 
-    def dequeue(self, now, config):
+    def dequeue(self, now: int, config: Config) -> tuple[list[Packet], Packet | None]:
         """What is dropped, and the packet for the server or None."""
+        packet: Packet | None
         if not config.is_codel:
             if not self.waiting:
                 return [], None
@@ -98,12 +110,14 @@ class Instance:
         if state.dropping:
             state.dropping = may_drop
             while state.dropping and now >= state.drop_next:
+                assert packet is not None
                 dropped.append(packet)
                 state.count = min(state.count + 1, WORD)
                 packet, state.dropping = self.take_head(now, config)
                 if state.dropping:
                     state.drop_next = control_law(state.drop_next, state.count, config.interval)
         elif may_drop:
+            assert packet is not None
             dropped.append(packet)
             packet, _ = self.take_head(now, config)
             state.dropping = True
@@ -114,7 +128,7 @@ class Instance:
             state.lastcount = state.count
         return dropped, packet
 
-    def serve(self, now, config, goes_on):
+    def serve(self, now: int, config: Config, goes_on: bool) -> list[Packet]:
         """Dequeues for the server, which goes on with a busy period or begins one; what CoDel dropped."""
         dropped, packet = self.dequeue(now, config)
         self.serving = packet
@@ -127,18 +141,52 @@ class Instance:
             self.finish = self.begun + taken
         return dropped
 
-    def cut_period(self):
+    def cut_period(self) -> None:
         self.is_cut = self.serving is not None
 
-    def enter_line(self, packet, now, config):
+    def enter_line(self, packet: Packet, now: int, config: Config) -> None:
         self.last_exit = max(self.last_exit, now + max(config.delay * 10**6, 1))
         self.line.append((self.last_exit, packet))
+
+
+class FlowSender(Protocol):
+    """What a flow needs of its sender; Sender has it, and so has the other one, of tools/beside."""
+
+    is_stopped: bool
+
+    @property
+    def smss(self) -> int: ...
+
+    @property
+    def cwnd(self) -> int: ...
+
+    @property
+    def ssthresh(self) -> int: ...
+
+    @property
+    def timer(self) -> int | None: ...
+
+    def may_emit(self) -> bool: ...
+
+    def emit(self, now: int, /) -> int: ...
+
+    def ack(self, number: int, now: int, /) -> None: ...
+
+    def expire(self, now: int, /) -> None: ...
 
 
 class Sender:
     """A Reno sender, in bytes."""
 
-    def __init__(self, smss, segments, ssthresh, window, rto):
+    # When the timer expires; None where it is off.
+    timer: int | None
+    # The number that ends the segment whose time is taken, and when it went out; None where none is.
+    sample: tuple[int, int] | None
+    # None before the first measurement.
+    srtt: int | None
+    rttvar: int | None
+
+    def __init__(self, smss: int, segments: int, ssthresh: int, window: int, rto: int | None) -> None:
         self.smss, self.total, self.window = smss, smss * segments, window
         self.una = self.nxt = self.max = self.duplicates = 0
         self.cwnd = (4 if smss <= 1095 else 3) * smss
@@ -148,13 +196,13 @@ class Sender:
         self.first_time = self.time = SECOND if rto is None else rto * 10**6
         self.timer = self.sample = self.srtt = self.rttvar = None
 
-    def may_emit(self):
+    def may_emit(self) -> bool:
         if self.is_stopped:
             return False
         fits = self.nxt < self.total and self.nxt + self.smss - self.una <= min(self.cwnd, self.window)
         return self.resend or fits
 
-    def emit(self, now):
+    def emit(self, now: int) -> int:
         """The first byte of the segment that goes out."""
         if self.resend:
             self.resend, first = False, self.una
@@ -168,16 +216,16 @@ class Sender:
             self.timer = now + self.time
         return first
 
-    def half(self):
+    def half(self) -> int:
         return max((self.max - self.una) // 2, 2 * self.smss)
 
-    def ack(self, number, now):
+    def ack(self, number: int, now: int) -> None:
         if self.una < number <= self.max and number % self.smss == 0:
             self.new_data(number, now)
         elif number == self.una < self.max:
             self.duplicate()
 
-    def new_data(self, number, now):
+    def new_data(self, number: int, now: int) -> None:
         if self.recovery:
             self.cwnd, self.recovery = self.ssthresh, False
         elif self.cwnd < self.ssthresh:
@@ -192,16 +240,17 @@ class Sender:
             self.measure(now - self.sample[1])
         self.timer = now + self.time if self.una < self.max else None
 
-    def measure(self, rtt):
+    def measure(self, rtt: int) -> None:
         self.sample = None
         if self.srtt is None:
             self.srtt, self.rttvar = rtt, rtt // 2
         else:
+            assert self.rttvar is not None
             self.rttvar = (3 * self.rttvar + abs(self.srtt - rtt)) // 4
             self.srtt = (7 * self.srtt + rtt) // 8
         self.time = min(max(self.srtt + max(1, 4 * self.rttvar), SECOND), 60 * SECOND)
 
-    def duplicate(self):
+    def duplicate(self) -> None:
         self.duplicates = min(WORD, self.duplicates + 1)
         if self.recovery:
             self.cwnd = min(WORD, self.cwnd + self.smss)
@@ -210,7 +259,7 @@ class Sender:
             self.cwnd = min(WORD, self.ssthresh + 3 * self.smss)
             self.resend, self.recovery, self.sample = True, True, None
 
-    def expire(self, now):
+    def expire(self, now: int) -> None:
         if not self.timed:
             self.ssthresh = self.half()
         self.cwnd, self.nxt, self.duplicates = self.smss, self.una, 0

@@ -1,41 +1,73 @@
 """Parts of tools/second/second: rules and configurations as they are read and listed, written from docs/use/RULES.md,
 docs/use/SCENARIO.md and docs/use/REPORT.md. The words are taken to be a line of a scenario."""
 from collections import deque
+from dataclasses import dataclass
+from typing import NamedTuple
 
 import scenario_text
 
-PROTOCOLS = {"ip": None, "tcp": 6, "udp": 17}
+PROTOCOLS = {"tcp": 6, "udp": 17}
+# What a rule asks for; None is any.
+RULE_PROTOCOLS: dict[str, int | None] = {"ip": None, **PROTOCOLS}
 FIELDS = {"proto": ("proto", 2), "src-ip": ("src", 8), "dst-ip": ("dst", 8), "src-port": ("sport", 4),
           "dst-port": ("dport", 4)}
 
+# Words of a line that are still to be read.
+Words = deque[str]
 
-def number_of(address):
+
+class Load(NamedTuple):
+    """What a packet carries: of a flow ("data" or "ack") its number and that of a byte, else nothing ("plain")."""
+
+    kind: str
+    flow: int
+    byte: int
+
+
+PLAIN = Load("plain", 0, 0)
+
+
+@dataclass
+class Packet:
+    proto: int
+    src: int
+    sport: int
+    dst: int
+    dport: int
+    size: int
+    load: Load
+    serial: int
+    # The place of the rule behind which its search goes on.
+    place: tuple[int, int]
+
+
+def number_of(address: str) -> int:
     parts = [int(part) for part in address.split(".")]
     return parts[0] << 24 | parts[1] << 16 | parts[2] << 8 | parts[3]
 
 
-def dotted(number):
+def dotted(number: int) -> str:
     return ".".join(str(number >> shift & 255) for shift in (24, 16, 8, 0))
 
 
 class End:
     """One end of a rule: address with length, and ports."""
 
-    def __init__(self, words):
+    def __init__(self, words: Words) -> None:
         word = words.popleft()
         address, _, length = ("0.0.0.0/0" if word == "any" else word).partition("/")
         self.length = int(length or 32)
         self.mask = (2**32 - 1) >> self.length ^ (2**32 - 1)
         self.address = number_of(address) & self.mask
-        self.ports = None
+        self.ports: tuple[int, int] | None = None
         if words and words[0] != "to":
             first, _, last = words.popleft().partition("-")
             self.ports = (int(first), int(last or first))
 
-    def has(self, address, port):
+    def has(self, address: int, port: int) -> bool:
         return address & self.mask == self.address and (not self.ports or self.ports[0] <= port <= self.ports[1])
 
-    def text(self):
+    def text(self) -> str:
         address = "any" if not self.length else dotted(self.address) + (f"/{self.length}" if self.length < 32 else "")
         if not self.ports:
             return address
@@ -44,8 +76,8 @@ class End:
 
 
 class Rule:
-    def __init__(self, words, order):
-        words = deque(words[1:])
+    def __init__(self, line: list[str], order: int) -> None:
+        words = deque(line[1:])
         self.number = int(words.popleft())
         self.place = (self.number, order)
         self.action = words.popleft()
@@ -57,17 +89,22 @@ class Rule:
         self.sink = End(words)
         self.packets = self.bytes = 0
 
-    def matches(self, packet):
-        return (PROTOCOLS[self.proto] in (None, packet.proto) and self.source.has(packet.src, packet.sport)
+    def goal(self) -> int:
+        """The rule or the pipe that skipto or pipe leads to."""
+        assert self.target is not None
+        return self.target
+
+    def matches(self, packet: Packet) -> bool:
+        return (RULE_PROTOCOLS[self.proto] in (None, packet.proto) and self.source.has(packet.src, packet.sport)
                 and self.sink.has(packet.dst, packet.dport))
 
-    def text(self):
+    def text(self) -> str:
         action = self.action if self.target is None else f"{self.action} {self.target}"
         return (f"rule {self.number:05} {self.packets} {self.bytes} {action} {self.proto} "
                 f"from {self.source.text()} to {self.sink.text()}")
 
 
-def split_unit(word):
+def split_unit(word: str) -> tuple[int, str]:
     digits = word.rstrip("KMGBytesbit/mu")
     return int(digits), word[len(digits):]
 
@@ -75,31 +112,31 @@ def split_unit(word):
 class Config:
     """What `pipe P config` says; what isn't written takes its default."""
 
-    def __init__(self, words):
+    def __init__(self, line: list[str]) -> None:
         self.bw, self.delay, self.queue, self.kbytes, self.plr = 0, 0, 50, False, 0
         self.is_codel, self.target, self.interval = False, 5 * 10**6, 100 * 10**6
         self.mask = dict.fromkeys(FIELDS, 0)
-        words = deque(words)
+        words = deque(line)
         while words:
             getattr(self, "take_" + words.popleft())(words)
 
-    def take_bw(self, words):
+    def take_bw(self, words: Words) -> None:
         number, unit = split_unit(words.popleft())
         scale = scenario_text.SCALES[unit[:1] if unit[:1] in ("K", "M", "G") else ""]
         self.bw = number * scale * (8 if unit.endswith("Byte/s") else 1)
 
-    def take_delay(self, words):
+    def take_delay(self, words: Words) -> None:
         self.delay = split_unit(words.popleft())[0]
 
-    def take_queue(self, words):
+    def take_queue(self, words: Words) -> None:
         self.queue, unit = split_unit(words.popleft())
         self.kbytes = bool(unit)
 
-    def take_plr(self, words):
+    def take_plr(self, words: Words) -> None:
         whole, _, part = words.popleft().partition(".")
         self.plr = int(whole) * 10**6 + int(part.ljust(6, "0"))
 
-    def take_mask(self, words):
+    def take_mask(self, words: Words) -> None:
         if words[0] == "all":
             words.popleft()
             self.mask = {name: 16**digits - 1 for name, (_, digits) in FIELDS.items()}
@@ -107,20 +144,20 @@ class Config:
             name = words.popleft()
             self.mask[name] = int(words.popleft(), 16)
 
-    def take_droptail(self, words):
+    def take_droptail(self, words: Words) -> None:
         pass
 
-    def take_codel(self, words):
+    def take_codel(self, words: Words) -> None:
         self.is_codel = True
         while words and words[0] in ("target", "interval"):
             name = words.popleft()
             number, unit = split_unit(words.popleft())
             setattr(self, name, number * scenario_text.TIMES[unit])
 
-    def discipline(self):
+    def discipline(self) -> str:
         return f"codel target {self.target} interval {self.interval}" if self.is_codel else "droptail"
 
-    def text(self):
+    def text(self) -> str:
         mask = "/".join(f"{self.mask[name]:0{digits}x}" for name, (_, digits) in FIELDS.items())
         queue = f"{self.queue}KBytes" if self.kbytes else self.queue
         return f"bw {self.bw} delay {self.delay} queue {queue} plr {self.plr} mask {mask} {self.discipline()}"
