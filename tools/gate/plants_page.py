@@ -6,11 +6,11 @@ from typing import Iterable, NamedTuple
 
 HEAD = """# Wrong bodies, and what refuses each
 
-For an auditor: edits of `plants/` that were tried, and where the proof of each fails first: in which function, and at what. `returns-clause-exact` is that function's clause `exact`, `returns` its only clause; `pre-` and the like are a condition (`requires`) of what it calls, or one of the language's: an index, a sum. Written by
+For an auditor: the edits of `plants/` that were tried, and where the proof of each fails first: in which function, and at what. `returns-clause-exact` is that function's clause `exact`, `returns` its only clause; `pre-` and the like are a condition (`requires`) of what it calls, or one of the language's: an index, a sum. Written by
 
     tools/gate/plants --all --table docs/proof/PLANTS.md
 
-over what it tried; the day of a crate's last try stands beside its name. An edit that has no row was tried before this page, or never.
+over what it tried; the day of a crate's last try stands beside its name. An edit without a row is newer than the last try.
 """
 PLACE = re.compile(r"(?:\./)?((?:src|specs|proofs)/\S+?):(\d+):\d+: (?:error: |note: )?(.*)")
 SECTION = re.compile(r"^## (\w+)(?:, (\S+))?$")
