@@ -6,7 +6,7 @@ from typing import Iterable, NamedTuple
 
 HEAD = """# Wrong bodies, and what refuses each
 
-For an auditor: the edits of `plants/` that were tried, and where the proof of each fails first: in which function, and at what. `returns-clause-exact` is that function's clause `exact`, `returns` its only clause; `pre-` and the like are a condition (`requires`) of what it calls, or one of the language's: an index, a sum. Written by
+For an auditor: the edits of `plants/` that were tried, and where the proof of each fails first: in which function, by its whole name where it fails in the function's answers or invariants (`proofs/`), and at what. `returns-clause-exact` is that function's clause `exact`, `returns` its only clause; `pre-` and the like are a condition (`requires`) of what it calls, or one of the language's: an index, a sum. Written by
 
     tools/gate/plants --all --table docs/proof/PLANTS.md
 
@@ -40,6 +40,14 @@ def function_at(file: pathlib.Path, line: int) -> str | None:
     return found[-1] if found else None
 
 
+def name_of(path: str) -> str:
+    """A file by its path; what is said of a function in proofs/ by the function's whole name, and a module there by its own."""
+    if not path.startswith("proofs/"):
+        return path
+    *folders, file = path.removeprefix("proofs/").removesuffix(".antt").split("/")
+    return "::".join(folders if folders and file in ("Answers", "Invariants") else [*folders, file])
+
+
 def row_of(it: Refused, folder: pathlib.Path) -> str:
     """A row of the table: the edit, the function or file in which it is refused, and at what."""
     place = PLACE.search(it.said)
@@ -48,7 +56,7 @@ def row_of(it: Refused, folder: pathlib.Path) -> str:
     path, line, text = place.groups()
     where = function_at(folder / path, int(line)) if path.startswith("src/") else None
     label = re.search(r"\(`([^`]+)`", text) or re.search(r"`([^`]+)`", text)
-    return f"| {it.edit} | `{where or path}` | {f'`{label[1]}`' if label else text.replace('|', ' ')} |"
+    return f"| {it.edit} | `{where or name_of(path)}` | {f'`{label[1]}`' if label else text.replace('|', ' ')} |"
 
 
 def read(page: pathlib.Path) -> dict[str, Section]:
