@@ -1,4 +1,5 @@
 """What the tools of the gate share: the crates of crates.txt, and what the machine has."""
+import hashlib
 import os
 import pathlib
 import re
@@ -44,6 +45,17 @@ def below(uses: Dict[str, List[str]], names: Iterable[str]) -> List[str]:
     for name in names:
         visit(name)
     return found
+
+
+def cache_folder() -> pathlib.Path:
+    """Where what is made of checkouts is kept: `dnlab` in the user's cache folder (XDG base directories)."""
+    named = os.environ.get("XDG_CACHE_HOME", "")
+    return (pathlib.Path(named) if os.path.isabs(named) else pathlib.Path.home() / ".cache") / "dnlab"
+
+
+def checkout_name(root: pathlib.Path) -> str:
+    """A name for this checkout in the cache folder, by its path."""
+    return hashlib.sha256(os.fsencode(root)).hexdigest()[:16]
 
 
 def number_in(file: str, pattern: str) -> Optional[int]:
