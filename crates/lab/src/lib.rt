@@ -13,7 +13,6 @@ mod outcome;
 mod output;
 mod plan;
 mod progress;
-mod telling;
 mod tenants;
 mod texts;
 mod together;

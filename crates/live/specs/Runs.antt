@@ -1,0 +1,55 @@
+-- An experiment whose commands come one by one, and what was written of it (our choice).
+use Rattle.std.specs.Prelude.{◌≡◌, ℕ, ◌≤◌, Bool, true, List, [], ◌++◌, flat_map}
+use Rattle.emu_model.specs.declared.commands.Timed.{Timed}
+use Rattle.emu_model.specs.declared.records.Record.{Record}
+use Rattle.packet_store.specs.Pocket.{Pocket}
+use Rattle.experiment.specs.Kept.{KeptExperiment, IsHousedIn, IsWaiting, IsAloneAfter, last_moment}
+use Rattle.report.specs.Lines.{line_of}
+use Rattle.report_writer.specs.Written.{Written, Counts}
+
+-- the experiment over its own packets, what was written and not yet handed out, and whether all records are written
+pub record KeptRun : Type 0 where
+  pub experiment : KeptExperiment
+  pub pocket : Pocket
+  pub report : Written
+  pub shows_all : Bool
+
+-- these records were told; time has come to a moment, and whatever comes then or later finds the experiment as running
+-- it alone has it
+pub record IsAt (t : ℕ) (earlier : List Record) (r : KeptRun) : Type 0 where
+  pub housed : IsHousedIn r.pocket r.experiment
+  pub counts : Counts earlier r.report
+  pub waits : IsWaiting t earlier r.pocket r.experiment
+  pub latest : last_moment 0 r.experiment.consumed ≤ t
+
+-- the same of one whose commands were taken
+pub record IsAfter (earlier : List Record) (r : KeptRun) : Type 0 where
+  pub housed : IsHousedIn r.pocket r.experiment
+  pub counts : Counts earlier r.report
+  pub alone : IsAloneAfter earlier r.pocket r.experiment
+
+-- what is written of records, where all are
+abbrev pub Tells : List Record → KeptRun → KeptRun → Type 0
+Tells more old new = old.shows_all ≡ true → new.report.text ≡ old.report.text ++ flat_map line_of more
+
+-- from one moment to another: what happened was told, and no command came
+pub record Goes (t u : ℕ) (old new : KeptRun) : Type 0 where
+  pub spec : new.experiment.spec ≡ old.experiment.spec
+  pub consumed : new.experiment.consumed ≡ old.experiment.consumed
+  pub shows : new.shows_all ≡ old.shows_all
+  pub tells : (earlier : List Record) → IsAt t earlier old →
+      (more : List Record) × IsAt u (earlier ++ more) new × Tells more old new
+
+-- what was recorded was told, and is forgotten
+pub record Forgets (old new : KeptRun) : Type 0 where
+  pub experiment : new.experiment ≡ record old.experiment { net = record old.experiment.net { log = new.experiment.net.log } }
+  pub records : new.experiment.net.log.records ≡ []
+  pub pocket : new.pocket ≡ old.pocket
+  pub shows : new.shows_all ≡ old.shows_all
+  pub tells : Tells old.experiment.net.log.records old new
+  pub counts : (rs : List Record) → Counts rs old.report → Counts (rs ++ old.experiment.net.log.records) new.report
+  pub housed : (p : Pocket) → IsHousedIn p old.experiment → IsHousedIn p new.experiment
+  pub after : (earlier : List Record) (p : Pocket) → IsAloneAfter earlier p old.experiment →
+      IsAloneAfter (earlier ++ old.experiment.net.log.records) p new.experiment
+  pub waits : (t : ℕ) (earlier : List Record) (p : Pocket) → IsWaiting t earlier p old.experiment →
+      IsWaiting t (earlier ++ old.experiment.net.log.records) p new.experiment

@@ -1,0 +1,10 @@
+//! Sessions: experiments whose commands come line by line, while an outside program reacts to what they record (our
+//! choice).
+#![tactic(auto)]
+
+mod answer;
+mod marks;
+mod run;
+
+pub use answer::{Answer, put_answer};
+pub use run::{Run, Stop};
