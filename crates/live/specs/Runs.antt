@@ -3,6 +3,7 @@ use Rattle.std.specs.Prelude.{◌≡◌, ℕ, ◌≤◌, Bool, true, List, [], �
 use Rattle.emu_model.specs.declared.commands.Timed.{Timed}
 use Rattle.emu_model.specs.declared.records.Record.{Record}
 use Rattle.packet_store.specs.Pocket.{Pocket}
+use Rattle.packet_store.specs.Own.{Own, own_pocket}
 use Rattle.experiment.specs.Kept.{KeptExperiment, IsHousedIn, IsWaiting, IsAloneAfter, last_moment}
 use Rattle.report.specs.Lines.{line_of}
 use Rattle.report_writer.specs.Written.{Written, Counts}
@@ -10,23 +11,23 @@ use Rattle.report_writer.specs.Written.{Written, Counts}
 -- the experiment over its own packets, what was written and not yet handed out, and whether all records are written
 pub record KeptRun : Type 0 where
   pub experiment : KeptExperiment
-  pub pocket : Pocket
+  pub shelf : Own
   pub report : Written
   pub shows_all : Bool
 
 -- these records were told; time has come to a moment, and whatever comes then or later finds the experiment as running
 -- it alone has it
 pub record IsAt (t : ℕ) (earlier : List Record) (r : KeptRun) : Type 0 where
-  pub housed : IsHousedIn r.pocket r.experiment
+  pub housed : IsHousedIn (own_pocket r.shelf) r.experiment
   pub counts : Counts earlier r.report
-  pub waits : IsWaiting t earlier r.pocket r.experiment
+  pub waits : IsWaiting t earlier (own_pocket r.shelf) r.experiment
   pub latest : last_moment 0 r.experiment.consumed ≤ t
 
 -- the same of one whose commands were taken
 pub record IsAfter (earlier : List Record) (r : KeptRun) : Type 0 where
-  pub housed : IsHousedIn r.pocket r.experiment
+  pub housed : IsHousedIn (own_pocket r.shelf) r.experiment
   pub counts : Counts earlier r.report
-  pub alone : IsAloneAfter earlier r.pocket r.experiment
+  pub alone : IsAloneAfter earlier (own_pocket r.shelf) r.experiment
 
 -- what is written of records, where all are
 abbrev pub Tells : List Record → KeptRun → KeptRun → Type 0
@@ -44,7 +45,7 @@ pub record Goes (t u : ℕ) (old new : KeptRun) : Type 0 where
 pub record Forgets (old new : KeptRun) : Type 0 where
   pub experiment : new.experiment ≡ record old.experiment { net = record old.experiment.net { log = new.experiment.net.log } }
   pub records : new.experiment.net.log.records ≡ []
-  pub pocket : new.pocket ≡ old.pocket
+  pub shelf : new.shelf ≡ old.shelf
   pub shows : new.shows_all ≡ old.shows_all
   pub tells : Tells old.experiment.net.log.records old new
   pub counts : (rs : List Record) → Counts rs old.report → Counts (rs ++ old.experiment.net.log.records) new.report

@@ -34,10 +34,12 @@ impl Marks {
         requires { number < 4294967296 }
     {
         let place = number as usize;
-        while self.marked.len() <= place {
+        for _ in self.marked.len()..place + 1 {
             self.marked.push(false)?;
         }
-        self.marked[place] = true;
+        if let Some(is_marked) = self.marked.get_mut(place) {
+            *is_marked = true;
+        }
         Ok(())
     }
 }

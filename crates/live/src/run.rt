@@ -1,11 +1,11 @@
 //! An experiment whose commands come one by one: time passes as far as it is asked to, and what happens is written.
 
-ghost use Rattle.std.specs.Prelude.{◌≡◌, ◌×◌, ℕ, ◌^◌, ◌≤◌, ◌++◌, [], ◌∷◌, List, None, IsSome, IfOk, OnOk, true, flat_map};
+ghost use Rattle.std.specs.Prelude.{◌≡◌, ℕ, ◌+◌, ◌^◌, ◌≤◌, [], List, None, IfOk, OnOk, true};
 ghost use Rattle.emu_model.specs.declared.records.Record.{Record};
-ghost use Rattle.report.specs.Lines.{heading_of, line_of, counters_of};
-ghost use Rattle.experiment.specs.Kept.{IsHousedIn, last_moment};
+ghost use Rattle.report.specs.Lines.{heading_of};
 ghost use Rattle.report_writer.specs.Written.{CanWrite};
-ghost use Rattle.live.specs.Runs.{IsAt, Forgets, Goes};
+ghost use Rattle.live.specs.Runs.{KeptRun, IsAt, Forgets, Goes};
+ghost use Rattle.experiment.specs.declared.experiment.Event.TheVariants.{Ran};
 
 use crate::marks::Marks;
 use emu_model::{Ending, Load, Record, Spec, Timed, packets_add_up};
@@ -42,22 +42,21 @@ pub struct Run {
 }
 
 impl Model for Run {
-    ghost use Rattle.packet_store.specs.Own.{own_pocket};
     ghost use Rattle.live.specs.Runs.{KeptRun};
 
     ghost Value = { KeptRun };
 
     ghost view = { λ r. record {
       experiment = r.experiment;
-      pocket = own_pocket r.shelf;
+      shelf = r.shelf;
       report = r.report;
       shows_all = r.shows_all;
     } };
 }
 
 // Whether a record says that a packet, without a load, was delivered or dropped, and which.
-fn plain_fate(record: &Record) -> Option<u64> {
-    match record {
+fn plain_fate(line: &Record) -> Option<u64> {
+    match line {
         Record::PacketDelivered {
             packet,
             load: Load::Plain,
@@ -73,16 +72,16 @@ fn plain_fate(record: &Record) -> Option<u64> {
 }
 
 // Whether a record says that a packet was delivered or dropped.
-fn is_fate(record: &Record) -> bool {
-    match record {
+fn is_fate(line: &Record) -> bool {
+    match line {
         Record::PacketDelivered { .. } | Record::PacketDropped { .. } => true,
         _ => false,
     }
 }
 
 // Whether it says so of an injected packet.
-fn is_fate_of(mine: &Marks, record: &Record) -> bool {
-    match plain_fate(record) {
+fn is_fate_of(mine: &Marks, line: &Record) -> bool {
+    match plain_fate(line) {
         Some(packet) => mine.has(packet),
         None => false,
     }
@@ -90,9 +89,9 @@ fn is_fate_of(mine: &Marks, record: &Record) -> bool {
 
 // Whether a record is told to one who asked for what concerns the injected packets alone: their deliveries and drops,
 // refusals, listings, and that the steps are spent.
-fn concerns(mine: &Marks, record: &Record) -> bool {
-    match record {
-        Record::PacketDelivered { .. } | Record::PacketDropped { .. } => is_fate_of(mine, record),
+fn concerns(mine: &Marks, line: &Record) -> bool {
+    match line {
+        Record::PacketDelivered { .. } | Record::PacketDropped { .. } => is_fate_of(mine, line),
         Record::CommandRefused { .. }
         | Record::StepsSpent { .. }
         | Record::RuleLine { .. }
@@ -103,23 +102,35 @@ fn concerns(mine: &Marks, record: &Record) -> bool {
 }
 
 // How long after its moment (ns) a record stops time, if it does.
-fn hold_of(mine: &Marks, record: &Record, stop: Stop) -> Option<u64> {
+fn hold_of(mine: &Marks, line: &Record, stop: Stop) -> Option<u64> {
     match stop {
         Stop::Moment => None,
-        Stop::Mine(hold) => is_fate_of(mine, record).then_some(hold),
-        Stop::Any(hold) => is_fate(record).then_some(hold),
+        Stop::Mine(hold) => is_fate_of(mine, line).then_some(hold),
+        Stop::Any(hold) => is_fate(line).then_some(hold),
     }
 }
 
 // The same of the first of some records that does.
 fn first_hold(mine: &Marks, records: &[Record], stop: Stop) -> Option<u64> {
-    for record in records {
-        let hold = hold_of(mine, record, stop);
+    for line in records {
+        let hold = hold_of(mine, line, stop);
         if hold.is_some() {
             return hold;
         }
     }
     None
+}
+
+// Appends the lines of the records that concern injected packets.
+fn put_chosen(report: &mut ReportWriter, mine: &Marks, records: &[Record]) -> Result<(), AllocError>
+    ensures { OnOk result (report.new ≡ record report.old { text = report.new.text }) }
+{
+    for line in records {
+        if concerns(mine, line) {
+            report.put(line)?;
+        }
+    }
+    Ok(())
 }
 
 impl Run {
@@ -156,6 +167,7 @@ impl Run {
     }
 
     // Writes what was recorded, which is then forgotten.
+    #[tactic(auto, using(crate::proofs::RunFacts::can_write_same))]
     fn write(&mut self) -> Result<(), AllocError>
         requires { CanWrite self.old.report self.old.experiment }
         ensures { OnOk result (Forgets self.old self.new) }
@@ -164,13 +176,52 @@ impl Run {
             self.report.write(&mut self.experiment)?;
             return Ok(());
         }
-        for record in self.experiment.records() {
-            if concerns(&self.mine, record) {
-                self.report.put(record)?;
-            }
-        }
+        put_chosen(&mut self.report, &self.mine, self.experiment.records())?;
         self.report.count(&mut self.experiment);
         Ok(())
+    }
+
+    // Writes what was recorded, once there is a batch of it.
+    fn write_batch(&mut self) -> Result<(), AllocError>
+        requires { CanWrite self.old.report self.old.experiment }
+        ensures goes { OnOk result ((t u : ℕ) (was : KeptRun) → Goes t u was self.old →
+            Goes t u was self.new) }
+        ensures steps { OnOk result ((self.new.experiment.steps ≡ self.old.experiment.steps)
+            × (self.new.experiment.spec ≡ self.old.experiment.spec)) }
+    {
+        if self.experiment.records().len() < BATCH {
+            return Ok(());
+        }
+        self.write()
+    }
+
+    // What is due first below a moment happens. Answers that moment where nothing is, and else one past the event: to it
+    // time has come.
+    fn next_before(&mut self, reached: u64, limit: u64) -> Result<(Event, u64), AllocError>
+        requires at { (earlier : List Record) × IsAt reached earlier self.old }
+        requires on { reached ≤ limit }
+        requires early { limit ≤ 10 ^ 15 }
+        ensures between { IfOk result (λ r. (reached ≤ r.1) × (r.1 ≤ limit)) }
+        ensures goes { IfOk result (λ r. (t : ℕ) (was : KeptRun) → Goes t reached was self.old →
+            Goes t r.1 was self.new) }
+        ensures runs { IfOk result (λ r. r.0 ≡ Ran →
+            (self.new.experiment.steps ≡ self.old.experiment.steps + 1)
+            × (self.new.experiment.steps ≤ self.new.experiment.spec.budget.steps)
+            × (self.new.experiment.spec ≡ self.old.experiment.spec)) }
+    {
+        let event = self.experiment.event_before(&mut self.shelf, 0, limit);
+        match event {
+            Event::Halted => Err(AllocError),
+            Event::Still => Ok((event, limit)),
+            Event::Ran => Ok((event, reached.max(self.experiment.clock() + 1))),
+            Event::Ended => Ok((event, reached.max(self.experiment.clock() + 1))),
+        }
+    }
+
+    // How long after the last event time is to stop, if one of the records from a place on stops it.
+    fn hold_since(&self, seen: usize, stop: Stop) -> Option<u64> {
+        let fresh = self.experiment.records().get(seen..)?;
+        first_hold(&self.mine, fresh, stop)
     }
 
     /// Time passes from one moment to another (ns), or until `stop`: what is due below the latter happens, one after the
@@ -184,32 +235,22 @@ impl Run {
     {
         packets_add_up();
         let mut reached = from;
-        let mut limit = limit;
+        let mut last = limit;
         let mut stop = stop;
-        let mut seen = 0;
         loop {
-            if self.experiment.records().len() >= BATCH {
-                self.write()?;
-                seen = 0;
-            }
-            match self.experiment.event_before(&mut self.shelf, 0, limit) {
+            self.write_batch()?;
+            let seen = self.experiment.records().len();
+            let (event, now) = self.next_before(reached, last)?;
+            reached = now;
+            match event {
                 Event::Ran => {}
-                Event::Halted => return Err(AllocError),
-                Event::Ended => {
-                    reached = reached.max(self.experiment.clock() + 1);
-                    break;
-                }
-                Event::Still => {
-                    reached = limit;
-                    break;
-                }
+                _ => break,
             }
-            reached = reached.max(self.experiment.clock() + 1);
-            if let Some(hold) = first_hold(&self.mine, &self.experiment.records()[seen..], stop) {
-                limit = limit.min(reached.max(self.experiment.clock().saturating_add(hold)));
+            if let Some(hold) = self.hold_since(seen, stop) {
+                let after = self.experiment.clock().saturating_add(hold);
+                last = last.min(reached.max(after));
                 stop = Stop::Moment;
             }
-            seen = self.experiment.records().len();
         }
         self.write()?;
         Ok(reached)
