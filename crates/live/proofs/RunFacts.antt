@@ -12,8 +12,8 @@ use Rattle.packet_store.specs.Own.{Own, own_pocket}
 use Rattle.experiment.specs.Kept.{KeptExperiment, view, IsHousedIn, IsWaiting, IsAloneAfter, last_moment}
 use Rattle.report.specs.Lines.{line_of}
 use Rattle.report_writer.specs.Written.{Written, Counts, CanWrite}
-use Rattle.report_writer.proofs.CallerLemmas.{adds_waiting}
-use Rattle.live.specs.Runs.{KeptRun, IsAt, IsAfter, Tells, Goes, Forgets}
+use Rattle.report_writer.proofs.CallerLemmas.{adds_alone, adds_waiting}
+use Rattle.live.specs.Runs.{KeptRun, IsAt, IsAfter, Tells, Goes, Takes, Forgets}
 
 -- the counts alone matter
 pub can_write_same : (t u : Written) (e : KeptExperiment) → u ≡ record t { text = u.text } → CanWrite t e → CanWrite u e
@@ -108,3 +108,49 @@ goes-nowhere t r = record {
 pub stands : (t u : ℕ) (old new : KeptRun) → ((earlier : List Record) × IsAt t earlier old) → Goes t u old new →
     (earlier : List Record) × IsAt u earlier new
 stands t u old new at g = let h = g.tells at.0 at.1 in (at.0 ++ h.0, h.1)
+
+last-push : (m : ℕ) (cs : List Timed) (c : Timed) → last_moment m (cs ++ c ∷ []) ≡ c.moment
+last-push m [] c = refl
+last-push m (d ∷ cs) c = last-push d.moment cs c
+
+-- what was recorded since a command is told too, and the experiment waits again, where it goes on
+pub takes-written : PacketsAddUp → WaitsBegin → (c : Timed) (was old new : KeptRun) → old.experiment.spec ≡ was.experiment.spec →
+    old.experiment.consumed ≡ was.experiment.consumed ++ c ∷ [] → old.shows_all ≡ was.shows_all → old.report ≡ was.report →
+    ((t : ℕ) (earlier : List Record) → IsAt t earlier was → t ≤ c.moment → IsAfter earlier old) →
+    (old.experiment.ending ≡ None → old.experiment.next ≡ None) → Forgets old new → Takes c was new
+takes-written law begins c was old new spec consumed shows report after rests f =
+    let rs : List Record = old.experiment.net.log.records in
+    let came : new.experiment.consumed ≡ was.experiment.consumed ++ c ∷ [] = ap (λ (e : KeptExperiment). e.consumed) f.experiment ∙ consumed in
+    record {
+      spec = ap (λ (e : KeptExperiment). e.spec) f.experiment ∙ spec;
+      consumed = came;
+      shows = f.shows ∙ shows;
+      tells = λ t earlier at up.
+          let h : IsAfter earlier old = after t earlier at up in
+          let now : IsAfter (earlier ++ rs) new = record {
+            housed = subst (λ (s : Own). IsHousedIn (own_pocket s) new.experiment) (sym f.shelf) (f.housed (own_pocket old.shelf) h.housed);
+            counts = f.counts earlier h.counts;
+            alone = subst (λ (s : Own). IsAloneAfter (earlier ++ rs) (own_pocket s) new.experiment) (sym f.shelf)
+                (f.after earlier (own_pocket old.shelf) h.alone);
+          } in (
+            rs,
+            now,
+            λ all. f.tells (shows ∙ all) ∙ ap (λ (w : Written). w.text ++ flat_map line_of rs) report,
+            λ going. record {
+              housed = now.housed;
+              counts = now.counts;
+              waits = waiting_begins begins c.moment (earlier ++ rs) (own_pocket new.shelf) new.experiment
+                  (ap (λ (e : KeptExperiment). e.next) f.experiment ∙ rests (sym (ap (λ (e : KeptExperiment). e.ending) f.experiment) ∙ going)) now.alone;
+              latest = let same = ap (last_moment 0) came ∙ last-push 0 was.experiment.consumed c in omega (arith, same);
+            },
+          );
+    }
+
+pub can_write_after : PacketsAddUp → (earlier : List Record) (r : KeptRun) → IsAfter earlier r → CanWrite r.report r.experiment
+can_write_after law earlier r h = record {
+  pocket = own_pocket r.shelf;
+  housed = h.housed;
+  earlier = earlier;
+  counts = h.counts;
+  adds = adds_alone law earlier (own_pocket r.shelf) r.experiment h.alone;
+}

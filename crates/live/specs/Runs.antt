@@ -1,11 +1,15 @@
 -- An experiment whose commands come one by one, and what was written of it (our choice).
-use Rattle.std.specs.Prelude.{◌≡◌, ℕ, ◌≤◌, Bool, true, List, [], ◌++◌, flat_map}
+use Rattle.std.specs.Prelude.{◌≡◌, ℕ, ◌*◌, ◌^◌, ◌≤◌, Bool, true, Option, None, List, [], ◌∷◌, ◌++◌, flat_map}
 use Rattle.emu_model.specs.declared.commands.Timed.{Timed}
 use Rattle.emu_model.specs.declared.records.Record.{Record}
 use Rattle.packet_store.specs.Pocket.{Pocket}
 use Rattle.packet_store.specs.Own.{Own, own_pocket}
-use Rattle.experiment.specs.Kept.{KeptExperiment, IsHousedIn, IsWaiting, IsAloneAfter, last_moment}
+use Rattle.experiment.specs.Kept.{KeptExperiment, view, IsHousedIn, IsWaiting, IsAloneAfter, last_moment}
 use Rattle.report.specs.Lines.{line_of}
+use Rattle.report.specs.Lines as lines
+use Rattle.emu_model.specs.Net.{counters_of}
+use Rattle.emu_model.specs.Dues.{dues_of, least_due}
+use Rattle.emu_model.specs.Step.{State}
 use Rattle.report_writer.specs.Written.{Written, Counts}
 
 -- the experiment over its own packets, what was written and not yet handed out, and whether all records are written
@@ -54,3 +58,25 @@ pub record Forgets (old new : KeptRun) : Type 0 where
       IsAloneAfter (earlier ++ old.experiment.net.log.records) p new.experiment
   pub waits : (t : ℕ) (earlier : List Record) (p : Pocket) → IsWaiting t earlier p old.experiment →
       IsWaiting t (earlier ++ old.experiment.net.log.records) p new.experiment
+
+-- a command came and was done or refused, and what happened was told
+pub record Takes (c : Timed) (old new : KeptRun) : Type 0 where
+  pub spec : new.experiment.spec ≡ old.experiment.spec
+  pub consumed : new.experiment.consumed ≡ old.experiment.consumed ++ c ∷ []
+  pub shows : new.shows_all ≡ old.shows_all
+  pub tells : (t : ℕ) (earlier : List Record) → IsAt t earlier old → t ≤ c.moment →
+      (more : List Record) × IsAfter (earlier ++ more) new × Tells more old new
+      × (new.experiment.ending ≡ None → IsAt c.moment (earlier ++ more) new)
+
+-- the line of the counters
+abbrev pub closing_of : KeptRun → List ℕ
+closing_of r = lines.counters_of (record (counters_of (view (own_pocket r.shelf) r.experiment).net) {
+  delivered = r.report.delivered;
+  drops = r.report.drops;
+})
+
+-- when the event is due that is due first; every due lies below 2 * 10^15 ns
+abbrev pub first_moment : KeptRun → ℕ
+first_moment r =
+    let s : State = view (own_pocket r.shelf) r.experiment in
+    (least_due (2 * 10 ^ 15) (dues_of s.clock s.net)).moment

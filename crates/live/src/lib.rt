@@ -7,4 +7,4 @@ mod marks;
 mod run;
 
 pub use answer::{Answer, put_answer};
-pub use run::{Run, Stop};
+pub use run::{Run, Stop, Taken};

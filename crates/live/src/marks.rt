@@ -30,11 +30,9 @@ impl Marks {
 
     /// Marks a number. `AllocError` where memory was refused: the numbers up to it may be listed then, and no other is
     /// marked.
-    pub fn mark(&mut self, number: u64) -> Result<(), AllocError>
-        requires { number < 4294967296 }
-    {
+    pub fn mark(&mut self, number: u64) -> Result<(), AllocError> {
         let place = number as usize;
-        for _ in self.marked.len()..place + 1 {
+        for _ in self.marked.len()..place.saturating_add(1) {
             self.marked.push(false)?;
         }
         if let Some(is_marked) = self.marked.get_mut(place) {

@@ -1,14 +1,17 @@
 //! An experiment whose commands come one by one: time passes as far as it is asked to, and what happens is written.
 
-ghost use Rattle.std.specs.Prelude.{◌≡◌, ℕ, ◌+◌, ◌^◌, ◌≤◌, [], List, None, IfOk, OnOk, true};
+ghost use Rattle.std.specs.Prelude.{◌≡◌, ℕ, ◌+◌, ◌*◌, ◌^◌, ◌≤◌, ◌++◌, [], List, None, IfOk, IfSome, OnOk, OnErr, true};
 ghost use Rattle.emu_model.specs.declared.records.Record.{Record};
 ghost use Rattle.report.specs.Lines.{heading_of};
 ghost use Rattle.report_writer.specs.Written.{CanWrite};
-ghost use Rattle.live.specs.Runs.{KeptRun, IsAt, Forgets, Goes};
+ghost use Rattle.live.specs.Runs.{KeptRun, IsAt, Forgets, Goes, Takes, closing_of, first_moment};
+ghost use Rattle.packet_store.specs.Own.{own_pocket};
+ghost use Rattle.session_laws.specs.Waits.{IsSettled};
+ghost use Rattle.experiment.specs.Kept.{view, IsHousedIn, IsAloneAfter};
 ghost use Rattle.experiment.specs.declared.experiment.Event.TheVariants.{Ran};
 
 use crate::marks::Marks;
-use emu_model::{Ending, Load, Record, Spec, Timed, packets_add_up};
+use emu_model::{Command, Ending, Load, Record, Spec, Timed, packets_add_up};
 use experiment::{ApplyError, Event, Experiment};
 use packet_store::OwnShelf;
 use report_writer::ReportWriter;
@@ -28,6 +31,17 @@ pub enum Stop {
     Mine(u64),
     /// So long (ns, 1 at least) after the first delivery or drop of any packet.
     Any(u64),
+}
+
+/// What became of a command.
+#[derive(Clone, Copy, PartialEq)]
+pub enum Taken {
+    /// It was done.
+    Done,
+    /// It was done, and made the packet with this serial number.
+    Packet(u64),
+    /// It was refused, with this code.
+    Refused(u64),
 }
 
 /// An experiment with its packets, and the lines that were written of it and not yet handed out.
@@ -131,6 +145,35 @@ fn put_chosen(report: &mut ReportWriter, mine: &Marks, records: &[Record]) -> Re
         }
     }
     Ok(())
+}
+
+// Marks the packet that a command injects, if it does.
+fn mark_injected(mine: &mut Marks, command: &Command, number: u64) -> Result<(), AllocError> {
+    match command {
+        Command::Inject(_) => mine.mark(number),
+        _ => Ok(()),
+    }
+}
+
+// Events are made until the command that came is done, or the experiment has ended.
+fn obey(experiment: &mut Experiment, shelf: &mut OwnShelf) -> Result<(), AllocError>
+    requires { IsHousedIn (own_pocket shelf.old) experiment.old }
+    ensures housed { OnOk result (IsHousedIn (own_pocket shelf.new) experiment.new) }
+    ensures after { OnOk result ((earlier : List Record) →
+        IsAloneAfter earlier (own_pocket shelf.old) experiment.old →
+        IsAloneAfter earlier (own_pocket shelf.new) experiment.new) }
+    ensures spec { OnOk result (experiment.new.spec ≡ experiment.old.spec) }
+    ensures consumed { OnOk result (experiment.new.consumed ≡ experiment.old.consumed) }
+    ensures done { OnOk result (experiment.new.ending ≡ None → experiment.new.next ≡ None) }
+{
+    loop {
+        match experiment.event(shelf, 0) {
+            Event::Ran => {}
+            Event::Halted => return Err(AllocError),
+            Event::Ended => return Ok(()),
+            Event::Still => return Ok(()),
+        }
+    }
 }
 
 impl Run {
@@ -254,5 +297,72 @@ impl Run {
         }
         self.write()?;
         Ok(reached)
+    }
+
+    // What became of a command, by what was recorded since.
+    fn outcome(&self, command: &Command, number: u64) -> Taken {
+        if let Some(Record::CommandRefused { refusal, .. }) = self.experiment.records().first() {
+            return Taken::Refused(u64::from(*refusal as u8));
+        }
+        match command {
+            Command::Inject(_) => Taken::Packet(number),
+            _ => Taken::Done,
+        }
+    }
+
+    /// A command comes, at the moment to which time has come or later: what is due before it happens, and it is done or
+    /// refused. `AllocError` where memory was refused.
+    pub fn take(&mut self, command: &Timed) -> Result<Taken, AllocError>
+        requires at { (t : ℕ) × (earlier : List Record) × IsAt t earlier self.old
+            × (t ≤ command.now.moment) }
+        requires going { self.old.experiment.ending ≡ None }
+        requires early { command.now.moment ≤ 10 ^ 15 }
+        ensures { OnOk result (Takes command.now self.old self.new) }
+    {
+        packets_add_up();
+        waits_begin();
+        let number = self.experiment.made();
+        mark_injected(&mut self.mine, &command.command, number)?;
+        match self.experiment.apply(command) {
+            Ok(()) => {}
+            Err(ApplyError::NoMemory) => return Err(AllocError),
+            Err(ApplyError::Over) => unreachable!(),
+            Err(ApplyError::Busy) => unreachable!(),
+            Err(ApplyError::Backward) => unreachable!(),
+        }
+        obey(&mut self.experiment, &mut self.shelf)?;
+        let taken = self.outcome(&command.command, number);
+        self.write()?;
+        Ok(taken)
+    }
+
+    /// Writes the line of the counters. `AllocError` leaves what was written of it.
+    pub fn conclude(&mut self) -> Result<(), AllocError>
+        requires { IsHousedIn (own_pocket self.old.shelf) self.old.experiment }
+        ensures { OnOk result (self.new ≡ record self.old {
+          report = record self.old.report {
+            text = self.old.report.text ++ closing_of self.old;
+          };
+        }) }
+    {
+        self.report.write_counters(&self.experiment.counters())
+    }
+
+    /// Appends what was written so far, which is then empty. `AllocError` where it has no room there: it stays then.
+    pub fn hand_out(&mut self, out: &mut Vec<u8>) -> Result<(), AllocError>
+        ensures ok { OnOk result ((out.new.items ≡ out.old.items ++ self.old.report.text)
+            × (self.new ≡ record self.old { report = record self.old.report { text = [] } })) }
+        ensures err { OnErr result ((out.new.items ≡ out.old.items) × (self.new ≡ self.old)) }
+    {
+        self.report.hand_out(out)
+    }
+
+    /// When the event is due (ns) that is due first, if there is one.
+    pub fn next_moment(&self) -> Option<u64>
+        ensures some { IfSome result (λ m. m ≡ first_moment self.now) }
+        ensures none { result ≡ None → IsSettled (2 * 10 ^ 15)
+            (view (own_pocket self.now.shelf) self.now.experiment) }
+    {
+        self.experiment.next_moment()
     }
 }

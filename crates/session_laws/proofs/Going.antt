@@ -13,7 +13,7 @@ use Rattle.emu_model.specs.Step.{State, take_event, step, step_with}
 use Rattle.emu_model.specs.Alone.{alone, trace_of}
 use Rattle.emu_model.specs.RunLaws.{with_more, LaterCommandsWait}
 use Rattle.session_laws.specs.Waits.{event_of_class, event_at, step_before, IsAloneUntil, GoesOn}
-use Rattle.session_laws.specs.Sessions.{Deed, Passes, Comes, Stand, beginning, does, IsAllowed, AreAllowed, done, SessionsAreAlone, EndedSessionsAreWhole, TranscriptsAreWhole}
+use Rattle.session_laws.specs.Sessions.{Deed, Passes, Comes, Stand, beginning, does, IsAllowed, AreAllowed, done, SessionsAreAlone, EndedSessionsAreWhole, TranscriptsAreWhole, EndedStatesAreWhole}
 use Rattle.session_laws.proofs.Waiting.{event-left, steps_before_wait, commands_go_on, waits_rise}
 
 either-left : (b : Bool) (x y : State) → y.left ≡ x.left → (if b then x else y).left ≡ x.left
@@ -61,6 +61,7 @@ stays spec cs n (suc k) h le = go (nat_lt k n) refl (λ l. stays spec cs n k h l
   where
     still : (s : State) → is_some s.ending ≡ true → step s ≡ s
     still s e = (λ i. if e i then s else step_with s.left s)
+
     go : (b : Bool) → nat_lt k n ≡ b → (n ≤ k → alone spec cs k ≡ alone spec cs n) → alone spec cs (suc k) ≡ alone spec cs n
     go true e again =
         let l : k < n = ltb-true k n e in
@@ -87,3 +88,6 @@ transcripts_are_whole law spec ds c a allowed h n le =
     let s = step (with_more (c ∷ []) y.state) in
     ap trace_of (stays spec (y.came ++ c ∷ []) s.steps n (subst (λ (x : State). IsSome x.ending) g.alone_is h) le)
     ∙ sym (ap trace_of g.alone_is)
+
+pub ended_states_are_whole : EndedStatesAreWhole
+ended_states_are_whole spec commands rest s n h is le = whole spec commands rest s n h is le

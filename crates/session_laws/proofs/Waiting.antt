@@ -27,6 +27,7 @@ before-command z m e = go (or_cases _ _ e)
         go2 : (nat_lt r 0 ≡ true) ⊎ ((r == 0 && nat_lt n 0) ≡ true) → ⊥
         go2 (inl x) = let y : r < 0 = ltb-true r 0 x in omega (arith, y)
         go2 (inr x) = let y : n < 0 = ltb-true n 0 (and_parts _ _ x).1 in omega (arith, y)
+
     go : (nat_lt z.moment m ≡ true) ⊎ ((z.moment == m && (nat_lt (rank z.source.class) 0 || (rank z.source.class == 0 && nat_lt z.source.number 0))) ≡ true) → z.moment < m
     go (inl h) = ltb-true z.moment m h
     go (inr h) = absurd (none (rank z.source.class) z.source.number (and_parts _ _ h).1)
@@ -51,6 +52,7 @@ raised m y (z ∷ zs) h other = go (is_before z (due NextCommand 0 m)) refl (λ 
     goes : (b : Bool) → m ≤ z.moment → m ≤ (if b then z else y).moment
     goes true l = l
     goes false l = h
+
     go : (b : Bool) → is_before z (due NextCommand 0 m) ≡ b →
         ((x : Due) → m ≤ x.moment → (best_of is_before (due NextCommand 0 m) zs).source.class ≢ NextCommand →
         best_of is_before x zs ≡ best_of is_before (due NextCommand 0 m) zs) →
@@ -75,6 +77,7 @@ lowered u x (z ∷ zs) h below = go (is_before z (due NextCommand 0 u)) refl (λ
     goes : (b : Bool) → u ≤ z.moment → u ≤ (if b then z else x).moment
     goes true l = l
     goes false l = h
+
     go : (b : Bool) → is_before z (due NextCommand 0 u) ≡ b →
         ((y : Due) → u ≤ y.moment → (best_of is_before y zs).moment < u →
         best_of is_before (due NextCommand 0 u) zs ≡ best_of is_before y zs) →
@@ -144,9 +147,9 @@ module _ (t : ℕ) (spec : Spec) (came : List Timed) (s : State) (none : s.left 
       let n : ℕ = s.steps in
       let same : next_event s c ≡ d = raised t (due NextCommand 0 c.moment) (dues_of s.clock s.net) late_enough other in
       let stepped : step (with_more (c ∷ rest) s) ≡ with_more (c ∷ rest) (event_at d s) =
-          (λ i. if is_some (going i) then with_more (c ∷ rest) s else step_with (none i ++ c ∷ rest) (with_more (c ∷ rest) s))
-          ∙ (λ i. count_step (take_due (same i) c rest (with_more (c ∷ rest) s)))
-          ∙ event-more d.source.class d c rest s other in
+      (λ i. if is_some (going i) then with_more (c ∷ rest) s else step_with (none i ++ c ∷ rest) (with_more (c ∷ rest) s))
+      ∙ (λ i. count_step (take_due (same i) c rest (with_more (c ∷ rest) s)))
+      ∙ event-more d.source.class d c rest s other in
       sym stepped
       ∙ ap step (waits c rest late_enough)
       ∙ sym (ap (alone spec (came ++ c ∷ rest)) (event-steps d.source.class d s other ∙ add-one s.steps))
@@ -186,13 +189,13 @@ pub commands_go_on : LaterCommandsWait → CommandsGoOn
 commands_go_on law t spec came s c none going h settled waits =
     let u : State = with_more (c ∷ []) s in
     let stepped : step u ≡ count_step (take_command c.moment c [] u) =
-        (λ i. if is_some (going i) then u else step_with (none i ++ c ∷ []) u)
-        ∙ (λ i. count_step (take_due (settled i) c [] u)) in
+    (λ i. if is_some (going i) then u else step_with (none i ++ c ∷ []) u)
+    ∙ (λ i. count_step (take_due (settled i) c [] u)) in
     let steps : (step u).steps ≡ suc s.steps =
-        ap (λ (x : State). x.steps) stepped ∙ count_step-steps (take_command c.moment c [] u) ∙ add-one s.steps in
+    ap (λ (x : State). x.steps) stepped ∙ count_step-steps (take_command c.moment c [] u) ∙ add-one s.steps in
     let is : step u ≡ alone spec (came ++ c ∷ []) (suc s.steps) = ap step (waits c [] h) in
     let takes : (alone spec (came ++ c ∷ []) (suc s.steps)).steps ≡ suc s.steps =
-        ap (λ (x : State). x.steps) (sym is) ∙ steps in
+    ap (λ (x : State). x.steps) (sym is) ∙ steps in
     record {
       none = ap (λ (x : State). x.left) stepped ∙ count_step-left (take_command c.moment c [] u);
       waits = subst (λ x. IsAloneUntil c.moment spec (came ++ c ∷ []) x) (sym is)
@@ -230,9 +233,9 @@ module _ (law : RecordsAreNotRead) (t : ℕ) (rs : List Record) (s : State) (non
       let x-left : x.left ≡ [] = event-left least.source.class least (with_earlier rs s) ∙ none in
       let y-left : y.left ≡ [] = event-left least.source.class least s ∙ none in
       let same : with_more (last ∷ []) x ≡ with_earlier rs (with_more (last ∷ []) y) =
-          sym (stepped (with_earlier rs s) none going refl other)
-          ∙ law rs (with_more (last ∷ []) s)
-          ∙ ap (with_earlier rs) (stepped s none going refl other) in
+      sym (stepped (with_earlier rs s) none going refl other)
+      ∙ law rs (with_more (last ∷ []) s)
+      ∙ ap (with_earlier rs) (stepped s none going refl other) in
       (λ i. record x { left = x-left i })
       ∙ ap (λ (z : State). record z { left = [] }) same
       ∙ sym (λ i. with_earlier rs (record y { left = y-left i }))

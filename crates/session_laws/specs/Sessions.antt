@@ -60,3 +60,8 @@ TranscriptsAreWhole = (spec : Spec) (ds : List Deed) (c : Timed) → AreAllowed 
     IsAllowed (Comes c) (done ds (beginning spec)) →
     let x = does (Comes c) (done ds (beginning spec)) in IsSome x.state.ending →
     (n : ℕ) → x.state.steps ≤ n → trace_of (alone spec x.came n) ≡ trace_of x.state
+
+-- a state that has ended, and shows what running alone shows but for commands that never come, has the whole trace
+abbrev pub EndedStatesAreWhole : Type 0
+EndedStatesAreWhole = (spec : Spec) (commands rest : List Timed) (s : State) (n : ℕ) → IsSome s.ending →
+    with_more rest s ≡ alone spec commands s.steps → s.steps ≤ n → trace_of (alone spec commands n) ≡ trace_of s

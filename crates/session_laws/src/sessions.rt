@@ -1,6 +1,6 @@
 //! Sessions: the laws of `waits`, over any list of deeds.
 
-ghost use Rattle.session_laws.specs.Sessions.{SessionsAreAlone, EndedSessionsAreWhole, TranscriptsAreWhole};
+ghost use Rattle.session_laws.specs.Sessions.{SessionsAreAlone, EndedSessionsAreWhole, TranscriptsAreWhole, EndedStatesAreWhole};
 
 use emu_model::later_commands_wait;
 
@@ -25,3 +25,8 @@ pub fn transcripts_are_whole()
 {
     later_commands_wait();
 }
+
+/// A state that has ended has the whole trace, whatever commands come after it.
+pub fn ended_states_are_whole()
+    ensures { EndedStatesAreWhole }
+{}
