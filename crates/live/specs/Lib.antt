@@ -1,2 +1,4 @@
 pub mod Runs
 pub mod Lines
+pub mod Requests
+pub mod Opens

@@ -4,7 +4,11 @@
 
 mod answer;
 mod marks;
+mod open;
+mod request;
 mod run;
+mod session;
 
 pub use answer::{Answer, put_answer};
 pub use run::{Run, Stop, Taken};
+pub use session::Session;
