@@ -14,7 +14,7 @@ ghost use Rattle.dnlab.specs.Status.{status_after};
 use clap::Error;
 use clap::error::ErrorKind;
 use kept::{Keeper, Kept};
-use lab::{Device, OpenGate, Plan, RunFault, check, run_alone_told, run_told};
+use lab::{Device, OpenGate, Plan, RunFault, check, live, run_alone_told, run_told};
 use meter::Meter;
 use std::alloc::{AllocError, Global};
 use std::process::ExitCode;
@@ -159,6 +159,7 @@ fn main(rt: HostRuntime) -> ExitCode {
             run_alone_told(alloc, &mut reader, &mut writer, &meter)
         }
         Task::Check { .. } => check(alloc, &mut reader, &mut writer),
+        Task::Live => live(alloc, &mut reader, &mut writer),
     };
     let kept = reader.into_inner().into_kept();
     let watched = writer.into_inner().into_watched();

@@ -23,6 +23,8 @@ pub enum Task {
     Check {
         explain: bool,
     },
+    /// To answer each line of a session as it comes.
+    Live,
 }
 
 impl Task {
@@ -32,6 +34,7 @@ impl Task {
             Task::Run { explain, .. } => *explain,
             Task::Alone { explain, .. } => *explain,
             Task::Check { explain } => *explain,
+            Task::Live => false,
         }
     }
 
@@ -39,7 +42,7 @@ impl Task {
     pub fn runs(&self) -> bool {
         match self {
             Task::Run { .. } | Task::Alone { .. } => true,
-            Task::Check { .. } => false,
+            Task::Check { .. } | Task::Live => false,
         }
     }
 }
@@ -120,6 +123,9 @@ fn command<'a>(alloc: Global) -> Result<Command<'a>, Error> {
             "Reads a scenario on standard input and prints `ok`, its experiments and its commands",
         )
         .arg(explain_word(alloc))?;
+    let live = Command::new(alloc, "live").about(
+        "Reads lines of a scenario as they come, answers each at once, and lets time pass as far as it is asked to: a program of your own can react (`#> help` lists what can be asked)",
+    );
     let program = Command::new(alloc, "dnlab")
         .about(ABOUT)
         .version("0.1.0")
@@ -128,7 +134,8 @@ fn command<'a>(alloc: Global) -> Result<Command<'a>, Error> {
         .arg_required_else_help(true)
         .subcommand(run_command(alloc)?)?
         .subcommand(alone)?
-        .subcommand(check)?;
+        .subcommand(check)?
+        .subcommand(live)?;
     Ok(program)
 }
 
@@ -147,6 +154,7 @@ pub fn task_of(alloc: Global, words: &[String]) -> Result<Task, Error> {
             progress: given.get_flag("progress"),
             explain: given.get_flag("explain"),
         }),
+        Some(("live", _)) => Ok(Task::Live),
         Some((_, given)) => Ok(Task::Check {
             explain: given.get_flag("explain"),
         }),

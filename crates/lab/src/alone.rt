@@ -126,13 +126,7 @@ fn report_by_itself<P: Progress>(
     let mut experiment = Experiment::new(alloc, script.spec)?;
     let mut report = ReportWriter::new(alloc, script.name.as_bytes())?;
     let commands = script.commands.as_slice();
-    play(
-        &mut experiment,
-        &mut shelf,
-        &mut report,
-        commands,
-        progress,
-    )?;
+    play(&mut experiment, &mut shelf, &mut report, commands, progress)?;
     report.write(&mut experiment)?;
     report.into_report(&experiment.counters())
 }

@@ -1,19 +1,19 @@
 -- What was told of an experiment whose commands come one by one.
-use Rattle.std.proofs.Common.{◌≡◌, ℕ, ◌+◌, ◌≤◌, ◌<◌, List, [], ◌∷◌, ◌++◌, Bool, true, Option, Some, None, refl, sym, ap, ◌∙◌, subst, append_assoc, append-nil, arith}
+use Rattle.std.proofs.Common.{◌≡◌, ℕ, ◌≤◌, List, [], ◌∷◌, ◌++◌, None, refl, sym, ap, ◌∙◌, subst, append_assoc, append-nil, arith}
 use Rattle.std.specs.Prelude.{flat_map}
 use Rattle.std.proofs.lemmas.List.Concat.{flat_map-append}
 use Rattle.emu_model.specs.declared.commands.Timed.{Timed}
 use Rattle.emu_model.specs.declared.records.Record.{Record}
 use Rattle.emu_model.specs.Step.{State}
-use Rattle.emu_model.specs.RunLaws.{PacketsAddUp, with_earlier}
+use Rattle.emu_model.specs.RunLaws.{PacketsAddUp}
 use Rattle.session_laws.specs.Waits.{IsAloneUntil, WaitsBegin}
 use Rattle.packet_store.specs.Pocket.{Pocket}
 use Rattle.packet_store.specs.Own.{Own, own_pocket}
-use Rattle.experiment.specs.Kept.{KeptExperiment, view, IsHousedIn, IsWaiting, IsAloneAfter, last_moment}
+use Rattle.experiment.specs.Kept.{KeptExperiment, IsHousedIn, IsWaiting, IsAloneAfter, last_moment}
 use Rattle.report.specs.Lines.{line_of}
 use Rattle.report_writer.specs.Written.{Written, Counts, CanWrite}
 use Rattle.report_writer.proofs.CallerLemmas.{adds_alone, adds_waiting}
-use Rattle.live.specs.Runs.{KeptRun, IsAt, IsAfter, Tells, Goes, Takes, Forgets}
+use Rattle.live.specs.Runs.{KeptRun, IsAt, IsAfter, Goes, Takes, Forgets}
 
 -- the counts alone matter
 pub can_write_same : (t u : Written) (e : KeptExperiment) → u ≡ record t { text = u.text } → CanWrite t e → CanWrite u e

@@ -1,5 +1,5 @@
 -- What a request may ask (our choice).
-use Rattle.std.specs.Prelude.{ℕ, ◌≤◌, ◌^◌}
+use Rattle.std.specs.Prelude.{◌≤◌, ◌^◌}
 use Rattle.live.specs.declared.request.Request.{Request}
 use Rattle.live.specs.declared.request.Request.TheVariants.{Until, UntilMine, UntilAny, Next, Use, Show, Help}
 

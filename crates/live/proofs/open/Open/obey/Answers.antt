@@ -1,4 +1,4 @@
-use Rattle.std.proofs.Common.{◌≡◌, ◌++◌, ap, ◌∙◌, sym, subst, arith}
+use Rattle.std.proofs.Common.{◌≡◌, ◌++◌, ap, ◌∙◌, subst, arith}
 use Rattle.live.specs.declared.open.Phase.TheVariants.{Going}
 use Rattle.live.specs.Opens.{KeptOpen, IsOpen}
 use Rattle.live.proofs.open.Open.obey.Goals as goal

@@ -1,11 +1,9 @@
-use Rattle.std.proofs.Common.{◌≡◌, List, ℕ, ◌++◌, subst, sym, ap, ◌∙◌}
+use Rattle.std.proofs.Common.{◌≡◌, ◌++◌, subst, sym, ap, ◌∙◌}
 use Rattle.std.specs.Prelude.{Result, Ok, Err, OnOk}
-use Rattle.emu_model.specs.declared.records.Counters.{Counters}
 use Rattle.emu_model.specs.Net.{counters_of}
 use Rattle.report.specs.Lines as lines
 use Rattle.packet_store.specs.Own.{own_pocket}
 use Rattle.experiment.specs.Kept.{view, IsHousedIn}
-use Rattle.report_writer.specs.Written.{Written}
 use Rattle.live.specs.Runs.{KeptRun, closing_of}
 use Rattle.live.specs.contracts.run.Run.{the_view}
 use Rattle.live.proofs.run.Run.conclude.Goals as goal

@@ -1,4 +1,4 @@
-use Rattle.std.proofs.Common.{◌≡◌, ℕ, [], sym, ap, subst, arith}
+use Rattle.std.proofs.Common.{[], sym, ap, subst, arith}
 use Rattle.packet_store.specs.Own.{own_pocket}
 use Rattle.experiment.specs.Kept.{IsHousedIn, last_moment}
 use Rattle.live.proofs.RunFacts.{waiting_begins}

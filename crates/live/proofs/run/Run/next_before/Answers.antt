@@ -1,10 +1,7 @@
-use Rattle.std.proofs.Common.{◌≡◌, ℕ, ◌+◌, ◌≤◌, ◌<◌, List, max, sym, ap, ◌∙◌, subst, refl, arith}
-use Rattle.std.specs.Prelude.{Result, Ok, Err, IfOk}
+use Rattle.std.proofs.Common.{◌≡◌, ℕ, ◌+◌, ◌≤◌, ◌<◌, max, sym, ap, ◌∙◌, subst, refl, arith}
+use Rattle.std.specs.Prelude.{Result, IfOk}
 use Rattle.std.specs.declared.alloc.AllocError.{AllocError}
-use Rattle.emu_model.specs.declared.records.Record.{Record}
-use Rattle.packet_store.specs.Own.{own_pocket}
 use Rattle.experiment.specs.declared.experiment.Event.{Event}
-use Rattle.experiment.specs.Kept.{IsWaiting}
 use Rattle.experiment.specs.Moves.{IsPast}
 use Rattle.live.specs.Runs.{KeptRun, Goes}
 use Rattle.live.specs.contracts.run.Run.{the_view}

@@ -1,10 +1,9 @@
-use Rattle.std.proofs.Common.{◌≡◌, ℕ, Option, Some, None, subst, sym, ap, ◌∙◌}
+use Rattle.std.proofs.Common.{◌≡◌, ℕ, Option, Some, None, subst, ap, ◌∙◌}
 use Rattle.std.specs.Prelude.{IfSome}
 use Rattle.packet_store.specs.Own.{own_pocket}
 use Rattle.session_laws.specs.Waits.{IsSettled}
 use Rattle.experiment.specs.Kept.{view}
 use Rattle.live.specs.Runs.{KeptRun, first_moment}
-use Rattle.live.specs.contracts.run.Run.{the_view}
 use Rattle.live.proofs.run.Run.next_moment.Goals as goal
 
 if_some : (P Q : ℕ → Type 0) (o : Option ℕ) → ((x : ℕ) → P x → Q x) → IfSome o P → IfSome o Q

@@ -1,6 +1,4 @@
-use Rattle.std.proofs.Common.{◌≡◌, ℕ, ◌≤◌, List, ◌++◌, ap, ◌∙◌, refl, arith, append-nil, sym, subst}
-use Rattle.emu_model.specs.declared.records.Record.{Record}
-use Rattle.live.specs.Runs.{KeptRun, IsAt, Goes}
+use Rattle.std.proofs.Common.{arith}
 use Rattle.live.proofs.RunFacts.{can_write_at, goes-nowhere, goes-written, stands}
 use Rattle.live.proofs.run.Run.pass.Goals as goal
 

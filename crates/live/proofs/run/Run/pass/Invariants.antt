@@ -1,4 +1,4 @@
-use Rattle.std.proofs.Common.{ℕ, ◌-◌, ◌≤◌}
+use Rattle.std.proofs.Common.{◌-◌, ◌≤◌}
 use Rattle.live.specs.Runs.{Goes}
 use Rattle.live.proofs.run.Run.pass.Given as goal
 

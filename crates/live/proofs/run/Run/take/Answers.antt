@@ -1,9 +1,7 @@
-use Rattle.std.proofs.Common.{◌≡◌, ℕ, ◌≤◌, ◌∷◌, ◌++◌, [], List, None, refl, sym, ap, ◌∙◌, subst}
-use Rattle.emu_model.specs.declared.commands.Timed.{Timed}
-use Rattle.emu_model.specs.declared.records.Record.{Record}
+use Rattle.std.proofs.Common.{◌∷◌, ◌++◌, [], sym, ap, ◌∙◌, subst}
 use Rattle.packet_store.specs.Own.{own_pocket}
 use Rattle.experiment.specs.Kept.{KeptExperiment}
-use Rattle.live.specs.Runs.{KeptRun, IsAt, IsAfter}
+use Rattle.live.specs.Runs.{KeptRun, IsAt}
 use Rattle.live.specs.contracts.run.Run.{the_view}
 use Rattle.live.proofs.RunFacts.{can_write_after, takes-written}
 use Rattle.live.proofs.run.Run.take.Goals as goal

@@ -1,5 +1,5 @@
 use Rattle.std.specs.Prelude.{Result, Ok, Err, OnOk}
-use Rattle.live.specs.Runs.{KeptRun, Goes, Forgets}
+use Rattle.live.specs.Runs.{Forgets}
 use Rattle.live.proofs.RunFacts.{goes-written}
 use Rattle.live.proofs.run.Run.write_batch.Goals as goal
 
