@@ -1,1 +1,2 @@
 mod RunFacts
+mod Reporting

@@ -2,3 +2,4 @@ pub mod Runs
 pub mod Lines
 pub mod Requests
 pub mod Opens
+pub mod RunLaws

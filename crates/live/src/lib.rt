@@ -7,8 +7,10 @@ mod marks;
 mod open;
 mod request;
 mod run;
+mod run_laws;
 mod session;
 
 pub use answer::{Answer, put_answer};
 pub use run::{Run, Stop, Taken};
+pub use run_laws::{ended_runs_are_reports, spent_runs_are_reports};
 pub use session::Session;

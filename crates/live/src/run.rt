@@ -173,6 +173,9 @@ fn obey(experiment: &mut Experiment, shelf: &mut OwnShelf) -> Result<(), AllocEr
             Event::Ended => return Ok(()),
             Event::Still => return Ok(()),
         }
+        if !experiment.has_next() {
+            return Ok(());
+        }
     }
 }
 
@@ -215,6 +218,9 @@ impl Run {
         requires { CanWrite self.old.report self.old.experiment }
         ensures { OnOk result (Forgets self.old self.new) }
     {
+        if self.experiment.records().is_empty() {
+            return Ok(());
+        }
         if self.shows_all {
             self.report.write(&mut self.experiment)?;
             return Ok(());

@@ -130,26 +130,34 @@ drops-both rs qs = λ i.
     ∷ sym (count-both (is_drop_of Budget) rs qs) i
     ∷ []
 
--- all was written
-pub written-all : (head : List ℕ) (t : Written) (p : Pocket) (e : KeptExperiment) (h : IsWritten head t p e) → e.net.log.records ≡ [] →
-    trace_of (with_earlier h.earlier (view p e))
-    ≡ record { records = h.earlier; counters = record (counters_of (view p e).net) { delivered = t.delivered; drops = t.drops } }
-written-all head t p e h none =
-    let all : h.earlier ++ e.net.log.records ≡ h.earlier = ap (λ (l : List Record). h.earlier ++ l) none ∙ append-nil h.earlier in
+-- all was counted
+pub counted-all : (earlier : List Record) (t : Written) (p : Pocket) (e : KeptExperiment) → Counts earlier t → e.net.log.records ≡ [] →
+    trace_of (with_earlier earlier (view p e))
+    ≡ record { records = earlier; counters = record (counters_of (view p e).net) { delivered = t.delivered; drops = t.drops } }
+counted-all earlier t p e h none =
+    let all : earlier ++ e.net.log.records ≡ earlier = ap (λ (l : List Record). earlier ++ l) none ∙ append-nil earlier in
     λ i. record {
       records = all i;
       counters = record (counters_of (view p e).net) {
-        delivered = (ap delivered_of all ∙ sym h.writes.counts.delivered) i;
-        drops = (ap all_drops_of all ∙ sym h.writes.counts.drops) i;
+        delivered = (ap delivered_of all ∙ sym h.delivered) i;
+        drops = (ap all_drops_of all ∙ sym h.drops) i;
       };
     }
+
+-- the lines of what was counted are the report, once the line of the counters stands behind them
+pub counted-report : (name : List ℕ) (earlier : List Record) (t : Written) (p : Pocket) (e : KeptExperiment) → Counts earlier t → e.net.log.records ≡ [] →
+    (k : Counters) → k ≡ counters_of (view p e).net → (whole : Trace) → trace_of (with_earlier earlier (view p e)) ≡ whole →
+    heading_of name ++ flat_map line_of earlier ++ lines.counters_of (record k { delivered = t.delivered; drops = t.drops })
+    ≡ report_of name whole.records whole.counters
+counted-report name earlier t p e h none k counted whole left =
+    let traced : Counters → Trace = λ (x : Counters). record { records = earlier; counters = record x { delivered = t.delivered; drops = t.drops } } in
+    ap (λ (x : Trace). report_of name x.records x.counters) (ap traced counted ∙ sym (counted-all earlier t p e h none) ∙ left)
 
 -- what was written is the report, once the line of the counters stands behind it
 pub written-report : (name head : List ℕ) (t : Written) (p : Pocket) (e : KeptExperiment) (h : IsWritten head t p e) → e.net.log.records ≡ [] → head ≡ heading_of name →
     (k : Counters) → k ≡ counters_of (view p e).net → (whole : Trace) → trace_of (with_earlier h.earlier (view p e)) ≡ whole →
     t.text ++ lines.counters_of (record k { delivered = t.delivered; drops = t.drops }) ≡ report_of name whole.records whole.counters
 written-report name head t p e h none is k counted whole left =
-    let all : Counters = record k { delivered = t.delivered; drops = t.drops } in
-    let traced : Counters → Trace = λ (x : Counters). record { records = h.earlier; counters = record x { delivered = t.delivered; drops = t.drops } } in
-    ap (λ (l : List ℕ). l ++ lines.counters_of all) (h.writes.text ∙ ap (λ (l : List ℕ). l ++ flat_map line_of h.earlier) is)
-    ∙ ap (λ (x : Trace). report_of name x.records x.counters) (ap traced counted ∙ sym (written-all head t p e h none) ∙ left)
+    ap (λ (l : List ℕ). l ++ lines.counters_of (record k { delivered = t.delivered; drops = t.drops }))
+    (h.writes.text ∙ ap (λ (l : List ℕ). l ++ flat_map line_of h.earlier) is)
+    ∙ counted-report name h.earlier t p e h.writes.counts none k counted whole left
