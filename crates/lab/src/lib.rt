@@ -24,7 +24,7 @@ pub use device::Device;
 pub use ends::{Inlet, Outlet, Trouble};
 pub use fault::RunFault;
 pub use joining_law::reports_join;
-pub use talk::live;
 pub use outcome::Outcome;
 pub use plan::{Gate, OpenGate, Plan};
 pub use progress::{Progress, Silent};
+pub use talk::live;
