@@ -26,7 +26,9 @@ const TOLD: u64 = 65_536;
 const BATCH: usize = 256;
 
 // Tells now and then how many steps were made.
-fn tell<P: Progress>(experiment: &Experiment, progress: &P) {
+fn tell<P: Progress>(experiment: &Experiment, progress: &P)
+    requires { experiment.now.steps ≤ experiment.now.spec.budget.steps }
+{
     let steps = experiment.events();
     if steps % TOLD == 0 {
         progress.stepped(steps, u64::from(experiment.spec().budget.steps.get()));

@@ -17,6 +17,7 @@ mod talk;
 mod tenants;
 mod texts;
 mod together;
+mod whole;
 mod worker;
 
 pub use calls::{check, run, run_alone, run_alone_told, run_told};
@@ -28,3 +29,5 @@ pub use outcome::Outcome;
 pub use plan::{Gate, OpenGate, Plan};
 pub use progress::{Progress, Silent};
 pub use talk::live;
+pub use texts::Text;
+pub use whole::{Reports, reports_of, reports_told};
