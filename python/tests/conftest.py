@@ -12,7 +12,7 @@ ROOT = Path(__file__).resolve().parent.parent.parent
 sys.path.insert(0, str(ROOT / "python"))
 
 from dnlab import report, scenario  # noqa: E402
-from dnlab.programs import proved_program  # noqa: E402
+from dnlab.programs import program as program_of  # noqa: E402
 from dnlab.view import View  # noqa: E402
 
 
@@ -47,8 +47,8 @@ def view_of(name: str, joined: bool = True) -> View:
 
 @pytest.fixture(scope="session")
 def program() -> str:
-    """The program that DNLAB names, else the proved one."""
-    return proved_program()
+    """The program that DNLAB names, else the one that ./dnlab starts."""
+    return program_of()
 
 
 @pytest.fixture(scope="session")

@@ -8,8 +8,8 @@ each part is run by `dnlab alone`, and the reports are put together in order: th
 A text may have more than 256 experiments and 16777216 bytes, which `dnlab` itself refuses: then there are as many
 parts as it takes. The whole text is checked first by `dnlab check`, so that a fault has the line of the whole text;
 of several texts the fault has its text's name before it. The report is written when it is whole, or not at all. The
-program is that of the environment variable DNLAB, else the proved one of the repository, made first where it isn't
-there. Here and by ssh the engine is GNU parallel (Debian: parallel, and for ssh rsync on both sides).
+program is that of the environment variable DNLAB, else the proved one of the repository, else a
+checked build of its sources. Here and by ssh the engine is GNU parallel (Debian: parallel, and for ssh rsync on both sides).
 docs/use/MANY_MACHINES.md says more.
 
 Example: tools/spread scenario.txt --parts 8 --ssh 4/alpha,4/beta --program /usr/bin/dnlab --out report.txt
@@ -27,7 +27,7 @@ from typing import Optional, Sequence
 
 from dnlab.engines import Job, Stop, put_together, run
 from dnlab.errors import Failed
-from dnlab.programs import proved_program
+from dnlab.programs import program as program_of
 from dnlab.scenario import MOST_BYTES, MOST_EXPERIMENTS, Judged
 from dnlab.splitting import Fault, Part, experiments_in, heading_fault, lines_in, repeated, shares, texts_of
 
@@ -152,9 +152,9 @@ def experiments_of(args: argparse.Namespace, program: str) -> list[Part]:
 
 
 def spread(args: argparse.Namespace, named: Optional[str] = None) -> None:
-    """Runs the scenarios in parts, by the program that is named, else the proved one; `Stop` says what went wrong."""
+    """Runs the scenarios in parts, by the program that is named, else that of `dnlab.programs.program`; `Stop` says what went wrong."""
     try:
-        program = named or proved_program()
+        program = named or program_of()
     except Failed as failed:
         raise Stop(failed.status, f"spread: {failed.said}\n") from failed
     everything = experiments_of(args, program)
