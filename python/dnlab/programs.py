@@ -2,8 +2,9 @@
 import os
 import shutil
 import subprocess
+import sys
 from pathlib import Path
-from typing import Optional
+from typing import NoReturn, Optional
 
 from dnlab.errors import Failed
 
@@ -42,6 +43,19 @@ def program(named: Optional[str] = None) -> str:
         if place and os.path.isfile(place) and os.access(place, os.X_OK):
             return str(place)
     raise Failed(3, "there is no program dnlab: install it, or name it by the environment variable DNLAB")
+
+
+def start() -> NoReturn:
+    """The script `dnlab` of an installed package: becomes the program, with the same words."""
+    try:
+        found = str(_CARRIED) if os.access(_CARRIED, os.X_OK) else program()
+        os.execv(found, ["dnlab", *sys.argv[1:]])
+    except Failed as failed:
+        print(f"dnlab: {failed.said}", file=sys.stderr)
+        sys.exit(failed.status)
+    except OSError as error:
+        print(f"dnlab: {_CARRIED} can't be started: {error.strerror} (it needs Linux on x86-64)", file=sys.stderr)
+        sys.exit(3)
 
 
 def _of_repository() -> str:

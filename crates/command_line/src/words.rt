@@ -110,7 +110,7 @@ fn run_command<'a>(alloc: Global) -> Result<Command<'a>, Error> {
     Ok(run)
 }
 
-fn command<'a>(alloc: Global) -> Result<Command<'a>, Error> {
+fn command<'a>(alloc: Global, version: &'a str) -> Result<Command<'a>, Error> {
     let alone = Command::new(alloc, "alone")
         .about("Reads a scenario on standard input, runs each experiment and prints its report")
         .arg(progress_word(alloc))?
@@ -122,7 +122,7 @@ fn command<'a>(alloc: Global) -> Result<Command<'a>, Error> {
         .arg(explain_word(alloc))?;
     let program = Command::new(alloc, "dnlab")
         .about(ABOUT)
-        .version("0.1.0")
+        .version(version)
         .after_help(EXAMPLE)
         .subcommand_required(true)
         .arg_required_else_help(true)
@@ -134,8 +134,8 @@ fn command<'a>(alloc: Global) -> Result<Command<'a>, Error> {
 
 /// What the words want, the program's name first; else what is to be said of them: a mistake, help, the
 /// version or want of memory.
-pub fn task_of(alloc: Global, words: &[String]) -> Result<Task, Error> {
-    let matches = command(alloc)?.try_get_matches_from(words)?;
+pub fn task_of(alloc: Global, version: &str, words: &[String]) -> Result<Task, Error> {
+    let matches = command(alloc, version)?.try_get_matches_from(words)?;
     match matches.subcommand() {
         Some(("run", given)) => Ok(Task::Run {
             workers: given.get_one::<usize>("workers").unwrap_or(WORKERS),
