@@ -5,9 +5,13 @@ import sys
 from pathlib import Path
 from typing import Optional, Sequence
 
+if not __package__:
+    # Called by the file's name: the package stands above.
+    sys.path[0] = str(Path(__file__).resolve().parent.parent)
+
+from dnlab import __version__  # noqa: E402  (the path is set first)
+
 COMMANDS = ("summary", "plot", "spread", "sweep", "compare", "expect", "view", "pcap")
-# Debian's packages serve Debian's own Python, which may not be the first on the PATH.
-SYSTEM = "/usr/bin/python3"
 NEEDS = {"summary": ("numpy",), "plot": ("numpy", "matplotlib"), "spread": (),
          "sweep": ("numpy", "pandas", "scipy", "jinja2"), "compare": ("numpy",), "expect": ("numpy",),
          "view": ("numpy", "plotly"), "pcap": ("numpy", "dpkt")}
@@ -22,10 +26,10 @@ HELP = """Tools for reports of dnlab, in Python.
   python3 -m dnlab view REPORT [SCENARIO ..]      makes a page to look at runs in a browser, packet by packet
   python3 -m dnlab pcap REPORT [SCENARIO ..]      writes packets as Wireshark and tcptrace read them
 
-Each has --help. In Python: import dnlab; help(dnlab).
+Each has --help and --version. In Python: import dnlab; help(dnlab).
 
 Example: python3 -m dnlab summary report.txt scenario.txt
-Exit status: that of the command; 2 wrong usage.
+Exit status: that of the command; 2 wrong usage, 3 a module is missing.
 """
 
 
@@ -39,14 +43,10 @@ def missing(modules: Sequence[str]) -> Optional[str]:
     return None
 
 
-def begin_anew(command: str, module: str) -> int:
-    """Begins anew under Debian's Python, where this is another one; else says what to install."""
-    here = os.path.realpath(sys.executable)
-    if here != os.path.realpath(SYSTEM) and os.path.exists(SYSTEM):
-        sys.stdout.flush()
-        os.execv(SYSTEM, [SYSTEM, *sys.argv])
-    print(f"{command}: {module} is missing (Debian: apt-get install python3-{module})", file=sys.stderr)
-    return 1
+def said_of(command: str, module: str) -> str:
+    """What is said of a module that isn't there: which Python lacks it, and how it is had."""
+    return (f"{command}: {module} is missing in {sys.executable} (pip install {module}; Debian, for /usr/bin/python3: "
+            f"apt-get install python3-{module})")
 
 
 def main(words: Optional[Sequence[str]] = None) -> int:
@@ -58,9 +58,13 @@ def main(words: Optional[Sequence[str]] = None) -> int:
     if not words or words[0] not in COMMANDS:
         print(HELP, end="", file=sys.stderr)
         return 2
+    if list(words[1:]) == ["--version"]:
+        print(f"dnlab-{words[0]} {__version__}")
+        return 0
     lacking = missing(NEEDS[words[0]])
     if lacking is not None:
-        return begin_anew(words[0], lacking)
+        print(said_of(words[0], lacking), file=sys.stderr)
+        return 3
     module = importlib.import_module(f"dnlab.commands.{words[0]}")
     try:
         status: int = module.main(words[1:])
@@ -116,6 +120,4 @@ def pcap() -> int:
 
 
 if __name__ == "__main__":
-    if not __package__:
-        sys.path[0] = str(Path(__file__).resolve().parent.parent)
     sys.exit(main())

@@ -8,14 +8,15 @@ from typing import NoReturn, Optional
 
 from dnlab.errors import Failed
 
-# The repository, where this package stands in one; beside an installed package stands the installed program.
+# The repository, where this package stands in one. By tools/install it stands in PREFIX/share/dnlab/python, and the program in PREFIX/bin.
 ROOT = Path(__file__).resolve().parent.parent.parent
 _SCRIPT = ROOT / "dnlab"
 # A package for pip carries the program within itself.
 _CARRIED = Path(__file__).resolve().parent / "bin" / "dnlab"
 
 
-def _is_repository() -> bool:
+def is_repository() -> bool:
+    """Whether this package stands in its repository."""
     return _SCRIPT.is_file() and (ROOT / "crates").is_dir()
 
 
@@ -35,11 +36,11 @@ def program(named: Optional[str] = None) -> str:
     ./dnlab starts, the proved program or a checked build, made first where it isn't there; no proof is started. An installed
     package has the one that it carries or that stands beside it, else `dnlab` on the PATH. `Failed` says what is lacking."""
     given = named_program(named)
-    if given and not (_is_repository() and os.path.samefile(given, _SCRIPT)):
+    if given and not (is_repository() and os.path.samefile(given, _SCRIPT)):
         return given
-    if _is_repository():
+    if is_repository():
         return _of_repository()
-    for place in (_CARRIED, ROOT.parent / "bin" / "dnlab", shutil.which("dnlab")):
+    for place in (_CARRIED, ROOT.parent.parent / "bin" / "dnlab", shutil.which("dnlab")):
         if place and os.path.isfile(place) and os.access(place, os.X_OK):
             return str(place)
     raise Failed(3, "there is no program dnlab: install it, or name it by the environment variable DNLAB")

@@ -10,6 +10,8 @@ from hypothesis import settings
 
 ROOT = Path(__file__).resolve().parent.parent.parent
 sys.path.insert(0, str(ROOT / "python"))
+# The tools are started by the Python that the tests have.
+os.environ["PATH"] = os.pathsep.join([os.path.dirname(sys.executable), os.environ["PATH"]])
 
 from dnlab import report, scenario  # noqa: E402
 from dnlab.programs import program as program_of  # noqa: E402

@@ -10,3 +10,10 @@ program_of() {
     echo "$2"
   fi
 }
+
+# puts Debian's own Python first, where the first on the PATH lacks what the tools want and Debian's has it
+choose_python() {
+  if ! python3 -c 'import numpy' 2>/dev/null && /usr/bin/python3 -c 'import numpy' 2>/dev/null; then
+    export PATH=/usr/bin:$PATH
+  fi
+}

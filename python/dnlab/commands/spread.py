@@ -25,6 +25,7 @@ import tempfile
 from pathlib import Path
 from typing import Optional, Sequence
 
+from dnlab.commands.words import Parser
 from dnlab.engines import Job, Stop, put_together, run
 from dnlab.errors import Failed
 from dnlab.programs import program as program_of
@@ -33,8 +34,8 @@ from dnlab.splitting import Fault, Part, experiments_in, heading_fault, lines_in
 
 
 def parser_of_words() -> argparse.ArgumentParser:
-    parser = argparse.ArgumentParser(prog="spread", description=__doc__, usage=argparse.SUPPRESS,
-                                     formatter_class=argparse.RawDescriptionHelpFormatter, allow_abbrev=False)
+    parser = Parser(prog="spread", description=__doc__, usage=argparse.SUPPRESS,
+                    formatter_class=argparse.RawDescriptionHelpFormatter, allow_abbrev=False)
     parser.add_argument("scenarios", metavar="SCENARIO", nargs="+", help="a scenario, or - for standard input")
     parser.add_argument("--parts", type=int, default=16, metavar="N",
                         help="how many parts (16), at most as many as there are experiments")

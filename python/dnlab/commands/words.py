@@ -3,13 +3,35 @@ import argparse
 import re
 from fractions import Fraction
 
+from dnlab.programs import is_repository
 from dnlab.units import TIMES
+
+
+class Parser(argparse.ArgumentParser):
+    """A parser whose help names the commands as they are installed, but in the repository as they stand there."""
+
+    def format_help(self) -> str:
+        return as_installed(super().format_help())
+
+
+def as_installed(text: str) -> str:
+    """A help text with the installed commands' names, where the package isn't in its repository.
+
+    >>> renamed("usage: plot [-h]\\n./dnlab alone < s.txt | tools/plot - s.txt")
+    'usage: dnlab-plot [-h]\\ndnlab alone < s.txt | dnlab-plot - s.txt'
+    """
+    return text if is_repository() else renamed(text)
+
+
+def renamed(text: str) -> str:
+    """A help text with the names of installed commands."""
+    text = re.sub(r"(?m)^usage: (?=[a-z]+\b)", "usage: dnlab-", text)
+    return re.sub(r"\btools/(?=[a-z]+\b)", "dnlab-", text).replace("./dnlab ", "dnlab ")
 
 
 def parser_of(name: str, about: str, more: str) -> argparse.ArgumentParser:
     """A parser whose help has an example and the exit statuses at its end."""
-    return argparse.ArgumentParser(prog=name, description=about, epilog=more,
-                                   formatter_class=argparse.RawDescriptionHelpFormatter)
+    return Parser(prog=name, description=about, epilog=more, formatter_class=argparse.RawDescriptionHelpFormatter)
 
 
 def add_texts(parser: argparse.ArgumentParser) -> None:
