@@ -9,10 +9,11 @@ from numpy.typing import NDArray
 from dnlab.digits import Flags, Ints
 from dnlab.errors import Faulty, Refused
 from dnlab.lines import MAKE, OK, RULE
+from dnlab.links import compare_links
 from dnlab.makings import ACKNOWLEDGES, DATA, is_spent, makings_of
 from dnlab.marks import Refusal, marks_of, refused_of
 from dnlab.notes import KINDS, NO_SCENARIO, Note
-from dnlab.packets import Packets, Visits, nowhere, packets_of, visits_of
+from dnlab.packets import Packets, Visits, never_seen, packets_of, visits_of
 from dnlab.report import Counters, Experiment, Piece, read_piece
 from dnlab.scenario import Plan, Sends
 
@@ -41,6 +42,8 @@ class View:
     def __post_init__(self) -> None:
         makings = makings_of(self.experiment, self.plan) if self.plan is not None else None
         self.packets: Packets = packets_of(self.experiment, makings)
+        if self.plan is not None and makings is not None:
+            compare_links(self.experiment, self.plan, makings, self.packets, self.visits)
         # Whether it is known of each packet when it was made, how long it is and who sent it.
         self.is_told = self.plan is not None or bool((self.packets.made >= 0).all())
         makes = int(np.count_nonzero(self.experiment.columns.word == MAKE))
@@ -112,11 +115,12 @@ class View:
         found = marks_of(self)
         if not self.is_told:
             found.append(NO_SCENARIO)
-        lost = nowhere(self.packets, self.visits)
-        if lost:
-            found.append(Note("no pipe", f"{lost} packets have no line that names their pipe (held at the end, or"
-                              " deleted while they waited): no pipe's queue counts them"))
         return found
+
+    @cached_property
+    def never_seen(self) -> Ints:
+        """The packets in a pipe that no line names, so that no pipe's queue counts them. Shape (n,)."""
+        return never_seen(self.packets, self.visits)
 
     def marks(self, of: str = "") -> str:
         """The words that a row carries, with spaces between: those of the experiment, and those of a sender."""
