@@ -223,7 +223,9 @@ class Links:
         if not len(rows):
             return
         moments, size = columns.moment[rows], self.packets.size[columns.packet[rows]]
-        unknown = np.sort(self.makings.moment[never_seen(self.packets, self.visits)])
+        # What waits to the end, in an instance that no line names or one that nothing leaves.
+        waiting = self.visits.packet[(self.visits.finish < 0) & (self.visits.exit < 0)]
+        unknown = np.sort(self.makings.moment[np.concatenate((never_seen(self.packets, self.visits), waiting))])
         more = np.searchsorted(unknown, moments, side="right")
         greatest = 1500
         could = np.zeros(len(rows), dtype=np.bool_)

@@ -9,6 +9,7 @@ from typing import TYPE_CHECKING, Iterable, NamedTuple, Optional, Sequence
 
 import numpy as np
 
+from dnlab.likely import likely_of
 from dnlab.lines import CAUSES, OK, REFUSED
 from dnlab.makings import ACKNOWLEDGES
 from dnlab.notes import Note
@@ -87,7 +88,7 @@ def told_of(refused: Sequence[Refusal], commands: int) -> str:
 
 def marks_of(view: View) -> list[Note]:
     """The notes of an experiment that mark rows, in the order of the most to the least grave."""
-    return [*_refused(view), *_ends(view), *_losses(view)]
+    return [*_refused(view), *_ends(view), *_losses(view), *likely_of(view)]
 
 
 def _refused(view: View) -> list[Note]:

@@ -8,14 +8,15 @@ from numpy.typing import NDArray
 
 from dnlab.digits import Flags, Ints
 from dnlab.errors import Faulty, Refused
-from dnlab.lines import MAKE, OK, RULE
+from dnlab.lines import MAKE, OK, REFUSED, RULE
 from dnlab.links import compare_links
 from dnlab.makings import ACKNOWLEDGES, DATA, is_spent, makings_of
 from dnlab.marks import Refusal, marks_of, refused_of
 from dnlab.notes import KINDS, NO_SCENARIO, Note
 from dnlab.packets import Packets, Visits, never_seen, packets_of, visits_of
 from dnlab.report import Counters, Experiment, Piece, read_piece
-from dnlab.scenario import Plan, Sends
+from dnlab.scenario import Command, Plan, Sends
+from dnlab.settings import Change, changes_of
 
 __all__ = ["KINDS", "NO_SCENARIO", "Ended", "Note", "View", "flows_of", "view_of"]
 
@@ -90,6 +91,19 @@ class View:
         done = set(columns.number[columns.word == OK].tolist())
         return {command.sends.name(): (command.moment, command.sends) for number, command in enumerate(self.plan.commands)
                 if command.sends is not None and command.sends.number is not None and number in done}
+
+    @cached_property
+    def done(self) -> list[tuple[int, Command]]:
+        """The commands of the scenario that were done, each with its row."""
+        columns = self.experiment.columns
+        rows = np.flatnonzero((columns.word == OK) | (columns.word == REFUSED)).tolist()
+        commands = self.plan.commands if self.plan else []
+        return [(row, command) for row, command in zip(rows, commands) if columns.word[row] == OK]
+
+    @cached_property
+    def changes(self) -> dict[int, list[Change]]:
+        """Of each pipe of the scenario its configurations and deletions that were done, in order."""
+        return changes_of(self.done)
 
     @cached_property
     def is_back(self) -> Flags:
