@@ -75,22 +75,24 @@ def _by_pipes(view: View) -> Iterator[Note]:
     largest = max((command.sends.size for _, command in view.done if command.sends is not None), default=0)
     for pipe, changes in view.changes.items():
         for stretch in stretches_of(changes):
-            for before, change in zip(stretch, stretch[1:]):
-                yield from _reconfigured(pipe, before, change)
+            for place, change in enumerate(stretch[1:], 1):
+                yield from _reconfigured(pipe, stretch[:place], change)
             if len({change.config.bw for change in stretch if change.config}) > 1:
                 yield from _outages(pipe, stretch, largest)
 
 
-def _reconfigured(pipe: int, before: Change, after: Change) -> Iterator[Note]:
-    assert before.config is not None and after.config is not None
-    named = dict(after.config.given)
-    usual = Config(0)
-    lost = [name for name in DEFAULTS if name not in named and _value(before.config, name) != _value(usual, name)]
+def _reconfigured(pipe: int, earlier: Sequence[Change], change: Change) -> Iterator[Note]:
+    """Options that fall back to a default which the pipe hasn't had yet; back to what was is what an outage's end does."""
+    known = [one.config for one in earlier if one.config is not None]
+    config, before, usual = change.config, known[-1], Config(0)
+    assert config is not None
+    lost = [name for name in DEFAULTS if name not in dict(config.given)
+            and all(_value(one, name) != _value(usual, name) for one in known)]
     if lost:
         back = ", ".join(f"{name} ({DEFAULTS[name]})" for name in lost)
-        yield Note("reconfigured", f"line {after.config.line}: this `config` of pipe {pipe} sets {back} back to the default,"
-                   f" since it doesn't name what line {before.config.line} had given ({before.config.words(*lost)}):"
-                   " write every option again", "reconfigured")
+        yield Note("reconfigured", f"line {config.line}: this `config` of pipe {pipe} sets {back} back to the default, since"
+                   f" it doesn't name what line {before.line} had given ({before.words(*lost)}): write every option again",
+                   "reconfigured")
 
 
 def _value(config: Config, name: str) -> object:
