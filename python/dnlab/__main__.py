@@ -5,6 +5,8 @@ import sys
 from pathlib import Path
 from typing import Optional, Sequence
 
+# What the machine lacks; `dnlab.errors` has it, and the path may not be set yet here.
+MACHINE = 3
 COMMANDS = ("summary", "plot", "spread", "sweep", "compare", "expect", "view", "pcap")
 # Debian's packages serve Debian's own Python, which may not be the first on the PATH.
 SYSTEM = "/usr/bin/python3"
@@ -25,7 +27,8 @@ HELP = """Tools for reports of dnlab, in Python.
 Each has --help. In Python: import dnlab; help(dnlab).
 
 Example: python3 -m dnlab summary report.txt scenario.txt
-Exit status: that of the command; 2 wrong usage.
+Exit status: that of the command; 1 a bound that fails or runs that differ, and nothing else; 2 wrong usage or a faulty
+input; 3 what this machine lacks (a package, room to write), or ended from outside.
 """
 
 
@@ -39,14 +42,16 @@ def missing(modules: Sequence[str]) -> Optional[str]:
     return None
 
 
-def begin_anew(command: str, module: str) -> int:
-    """Begins anew under Debian's Python, where this is another one; else says what to install."""
+def begin_anew(command: str, module: str, words: Sequence[str]) -> int:
+    """Begins anew under Debian's Python, where this is another one; else says what to install. The package is the one that
+    stands here, whatever script called it."""
     here = os.path.realpath(sys.executable)
     if here != os.path.realpath(SYSTEM) and os.path.exists(SYSTEM):
         sys.stdout.flush()
-        os.execv(SYSTEM, [SYSTEM, *sys.argv])
-    print(f"{command}: {module} is missing (Debian: apt-get install python3-{module})", file=sys.stderr)
-    return 1
+        os.execv(SYSTEM, [SYSTEM, os.path.abspath(__file__), command, *words])
+    print(f"{command}: {module} is missing (Debian: apt-get install python3-{module}; pip install {module})",
+          file=sys.stderr)
+    return MACHINE
 
 
 def main(words: Optional[Sequence[str]] = None) -> int:
@@ -60,7 +65,7 @@ def main(words: Optional[Sequence[str]] = None) -> int:
         return 2
     lacking = missing(NEEDS[words[0]])
     if lacking is not None:
-        return begin_anew(words[0], lacking)
+        return begin_anew(words[0], lacking, words[1:])
     module = importlib.import_module(f"dnlab.commands.{words[0]}")
     try:
         status: int = module.main(words[1:])
@@ -68,11 +73,24 @@ def main(words: Optional[Sequence[str]] = None) -> int:
         return status
     except KeyboardInterrupt:
         print(f"{words[0]}: ended from outside", file=sys.stderr)
-        return 3
+        return MACHINE
     except BrokenPipeError:
-        # Who read the output has left; nothing more is written, by Python's own flush neither.
-        os.dup2(os.open(os.devnull, os.O_WRONLY), sys.stdout.fileno())
-        return 1
+        # Who read the output has left.
+        write_no_more()
+        return MACHINE
+    except OSError as fault:
+        write_no_more()
+        where = f"{fault.filename}: " if fault.filename else "writing to standard output: "
+        print(f"{words[0]}: {where}{fault.strerror}", file=sys.stderr)
+        return MACHINE
+    except MemoryError:
+        print(f"{words[0]}: there isn't memory enough: name some experiments by --experiment", file=sys.stderr)
+        return MACHINE
+
+
+def write_no_more() -> None:
+    """Nothing more goes to standard output, by Python's own flush neither."""
+    os.dup2(os.open(os.devnull, os.O_WRONLY), sys.stdout.fileno())
 
 
 def summary() -> int:

@@ -5,10 +5,12 @@ import tempfile
 from pathlib import Path
 from typing import BinaryIO, Iterator, Optional, Union
 
-from dnlab.errors import Failed
+from dnlab.errors import Failed, Refused
+from dnlab.origin import Origin, origin_of, write_beside
 from dnlab.programs import program
+from dnlab.report import pieces
 from dnlab.results import Report
-from dnlab.scenario import MOST_BYTES, MOST_EXPERIMENTS
+from dnlab.scenario import MOST_BYTES, MOST_EXPERIMENTS, read
 from dnlab.splitting import experiments_in, texts_of
 
 def run(text: Union[str, bytes, Path], workers: int = 1, moves: Optional[int] = None,
@@ -19,10 +21,12 @@ def run(text: Union[str, bytes, Path], workers: int = 1, moves: Optional[int] = 
              once, and is then run in several texts, one after the other
     workers  how many threads run its experiments, 1 to 16
     moves    after how many turns a thread offers an experiment to the others
-    out      the report's file; else it is a temporary one, which lives as long as the report
+    out      the report's file; what made it is kept beside it, as OUT.json. Else it is a temporary one, which lives as
+             long as the report, and the report's `origin` has what made it
     dnlab    the program; else see `dnlab.programs.program`
 
-    A scenario that the program refuses raises `Failed`, whose `said` has `line L: CAUSE` (L counts in `text`).
+    A scenario that the program refuses raises `Failed`, whose `said` has `line L: CAUSE` (L counts in `text`), and what
+    `--explain` says. So does a program that ends with status 0 and whose report lacks an experiment.
     """
     data = text.read_bytes() if isinstance(text, Path) else text.encode() if isinstance(text, str) else text
     called = program(dnlab)
@@ -38,10 +42,28 @@ def run(text: Union[str, bytes, Path], workers: int = 1, moves: Optional[int] = 
         with open(beside, "wb") as file:
             for line, part in _parts(data):
                 _run_one([called, *words], part, line, file)
+        origin = _origin(data, beside, [called, *words])
         os.replace(beside, report)
+        if out is not None:
+            write_beside(report, origin)
     finally:
         beside.unlink(missing_ok=True)
-    return Report(report, scenario, room)
+    return Report(report, scenario, room, origin)
+
+
+def _origin(data: bytes, report: Path, command: list[str]) -> Origin:
+    """What is kept of a run. A program that says nothing of a text which is no scenario, or that doesn't report all of it,
+    isn't dnlab, or was stopped."""
+    try:
+        plans = read(data)
+        names = {piece.name for piece in pieces(report)}
+    except Refused as refused:
+        raise Failed(0, f"{command[0]} took what is no scenario, or wrote no report (is it dnlab?): {refused}") from None
+    lost = [name for name in plans if name not in names]
+    if lost:
+        raise Failed(0, f"{command[0]} wrote no report of experiment {lost[0]}, and {len(lost)} of {len(plans)} are lacking:"
+                     " is it dnlab?")
+    return origin_of(plans, command[0], command)
 
 
 def _parts(data: bytes) -> Iterator[tuple[int, bytes]]:
@@ -60,4 +82,12 @@ def _run_one(words: list[str], text: bytes, before: int, out: BinaryIO) -> None:
         if said.startswith("line ") and before:
             number, _, cause = said[5:].partition(":")
             said = f"line {int(number) + before}:{cause}" if number.isdigit() else said
+        elif done.returncode == 1:
+            said = _explained(words[0], text) or said
         raise Failed(done.returncode, said)
+
+
+def _explained(called: str, text: bytes) -> str:
+    """What the program says of a faulty text by `--explain`; '' where it says nothing."""
+    done = subprocess.run([called, "check", "--explain"], input=text, capture_output=True, check=False)
+    return done.stderr.decode(errors="replace").strip() if done.returncode == 1 else ""

@@ -2,14 +2,25 @@
 import argparse
 import re
 from fractions import Fraction
+from typing import NoReturn
 
+from dnlab import __version__
 from dnlab.units import TIMES
+
+
+class Parser(argparse.ArgumentParser):
+    """A parser that names only what must be there where it lacks."""
+
+    def error(self, message: str) -> NoReturn:
+        super().error(message.replace("required: REPORT, SCENARIO", "required: REPORT")
+                      .replace("required: A, B, SCENARIO", "required: A, B"))
 
 
 def parser_of(name: str, about: str, more: str) -> argparse.ArgumentParser:
     """A parser whose help has an example and the exit statuses at its end."""
-    return argparse.ArgumentParser(prog=name, description=about, epilog=more,
-                                   formatter_class=argparse.RawDescriptionHelpFormatter)
+    parser = Parser(prog=name, description=about, epilog=more, formatter_class=argparse.RawDescriptionHelpFormatter)
+    parser.add_argument("--version", action="version", version=f"dnlab-{name} {__version__}")
+    return parser
 
 
 def add_texts(parser: argparse.ArgumentParser) -> None:
