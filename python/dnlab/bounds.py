@@ -79,7 +79,8 @@ class Judged(NamedTuple):
         metric = self.bound.metric
         return {"bound": self.bound.text, "where": self.bound.where, "holds": self.holds,
                 "experiment": self.row["experiment"], "of": self.row["of"], "metric": metric.word,
-                "measured": plain_number(self.measured), "asked": plain_number(self.bound.value), "said": self.said}
+                "measured": plain_amount(metric, self.measured), "asked": plain_amount(metric, self.bound.value),
+                "said": self.said}
 
 
 class Failing(NamedTuple):
@@ -95,8 +96,10 @@ class Failing(NamedTuple):
         return self._asdict()
 
 
-def plain_number(value: Optional[Fraction]) -> Union[int, float, None]:
-    """An amount for JSON: whole where it is."""
+def plain_amount(metric: Metric, value: Optional[Fraction]) -> Union[int, float, str, None]:
+    """An amount for JSON, in base units: whole where it is; of an ending its word."""
+    if value is not None and metric.kind == "ending":
+        return shown(value, metric.kind)
     return None if value is None else int(value) if value.denominator == 1 else float(value)
 
 

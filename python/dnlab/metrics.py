@@ -51,16 +51,26 @@ class Metric(NamedTuple):
         """Whether rows of this kind can have it at all."""
         kind = kind_of(row["of"])
         only, _ = _OF_KIND.get(self.word, ((kind,), ""))
-        return kind in only and kind not in _NOT_OF.get(self.word, ())
+        # Where packets go both ways, `all` has counts alone, and what is new is that of `there`.
+        both = row["of"] == "all" and row.get("bytes") is None and row.get("seed") is not None and row["packets"] > 0
+        return (kind in only and kind not in _NOT_OF.get(self.word, ())
+                and not (both and self.kind in ("time", "rate", "size"))
+                and not (row["of"] == "back" and self.word in (*_NOT_OF, "jain")))
 
     def is_delay(self) -> bool:
         """Whether it is of the packets that were delivered alone."""
         return self.word.startswith("delay.") or self.word == "jitter"
 
+    def only(self) -> str:
+        """Which rows have it, in words."""
+        return _OF_KIND[self.word][1] if self.word in _OF_KIND else f"no row here has {self.word}"
+
     def why(self, row: Row) -> str:
         """Why a row hasn't a value, as far as it is known."""
+        if row["of"] == "all" and not self.applies(row) and self.word not in _OF_KIND:
+            return "`all` has both directions: name `there` or `back`"
         if not self.applies(row):
-            return _OF_KIND[self.word][1] if self.word in _OF_KIND else f"rows of this kind have no {self.word}"
+            return self.only() if self.word in _OF_KIND else f"rows of this kind have no {self.word}"
         if row.get("seed") is None:
             return "give the scenario, or run it under `trace 1`"
         if self.word == "completion":
@@ -71,8 +81,6 @@ class Metric(NamedTuple):
             return "nothing was delivered"
         if self.word == "jitter" and row.get("delivered") == 1:
             return "one packet alone has no jitter"
-        if row["of"] == "all" and self.kind in ("time", "rate", "size"):
-            return "`all` has both directions: name `there` or `back`"
         if self.word.startswith("drops") or self.word == "loss":
             return "no line says which pipe dropped a packet, but under `trace 1`; name `all`, or who sends"
         return "no line tells it"
