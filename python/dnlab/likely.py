@@ -143,7 +143,7 @@ def _window_limited(view: View) -> Iterator[Note]:
         held = int(times[cwnd // sends.smss > sends.window // sends.smss].sum())
         if 2 * held > until - begin:
             yield Note("window-limited", f"{name}: its window of {sends.window} bytes, and not the network, held it back for"
-                       f" {100 * held // (until - begin)} % of its time: a longer queue or a faster link changes little",
+                       f" {100 * held // (until - begin)} % of its time: a longer queue gives it nothing more",
                        "window-limited", name)
 
 
