@@ -21,6 +21,8 @@ from dnlab.settings import Change, Config, changes_of, stretches_of
 _FULL = CAUSES.index("full")
 # Below so many bytes 8 * 10^9 times their number stays below 2^63.
 _MOST_BYTES = 2**63 // (8 * 10**9) - 1
+# The size of a packet, in bytes, at most.
+_GREATEST = 1500
 _NOT_THIS = ": the report isn't this scenario's"
 
 
@@ -36,7 +38,8 @@ class _Life:
     """The visits to one instance between deletions of its pipe, in the order of service; shapes (n,).
 
     `at` and `row` are places among the visits and the rows of their finishes; `arrival`, `finish`, `start` (of service)
-    are in ns; `came` and `config` are places in `changes` of what held at the arrival and at the start (-1 of none)."""
+    are in ns; `came` and `config` are places in `changes` of what held at the arrival and at the start (-1 of none). `idle`
+    says whether it came to a server at rest, `is_new` whether it begins a busy period."""
     changes: list[Change]
     at: Ints
     row: Ints
@@ -46,6 +49,7 @@ class _Life:
     size: Ints
     came: Ints
     config: Ints
+    idle: Flags
     is_new: Flags
 
     def moments(self) -> Ints:
@@ -59,6 +63,18 @@ class _Life:
         """A setting of each change; of an optional one -1 for None."""
         return np.array([-1 if (value := getattr(change.config, name)) is None else value for change in self.changes],
                         dtype=np.int64)
+
+    def waiting(self, moments: Ints) -> tuple[Ints, Ints]:
+        """How many packets wait at moments at most, and their bytes: of what begins to be served at just that moment only
+        what came to an idle server isn't counted."""
+        bytes_to = np.concatenate((np.zeros(1, dtype=np.int64), np.cumsum(self.size)))
+        came = np.searchsorted(self.arrival, moments, side="right")
+        gone = np.minimum(np.searchsorted(self.start, moments), came)
+        at_once = self.start[self.idle]
+        bytes_at_once = np.concatenate((np.zeros(1, dtype=np.int64), np.cumsum(self.size[self.idle])))
+        first, last = np.searchsorted(at_once, moments), np.searchsorted(at_once, moments, side="right")
+        return (came - gone - (last - first),
+                bytes_to[came] - bytes_to[gone] - (bytes_at_once[last] - bytes_at_once[first]))
 
     def config_at(self, place: int) -> Config:
         found = self.changes[place].config
@@ -147,7 +163,7 @@ class Links:
         idle = (arrival > before) | (emitted & (arrival == before))
         idle[0] = True
         start = np.maximum(arrival, before)
-        one = _Life(changes, at, rows, arrival, finish, start, self.packets.size[packet], start, start, idle)
+        one = _Life(changes, at, rows, arrival, finish, start, self.packets.size[packet], start, start, idle, idle)
         # All commands of a moment come before what else comes then, but an injected packet among them.
         own = np.array([change.row for change in changes], dtype=np.int64)
         one.came = np.where(injected, np.searchsorted(own, self.row_of[packet]) - 1, one.holds(arrival))
@@ -227,21 +243,21 @@ class Links:
         waiting = self.visits.packet[(self.visits.finish < 0) & (self.visits.exit < 0)]
         unknown = np.sort(self.makings.moment[np.concatenate((never_seen(self.packets, self.visits), waiting))])
         more = np.searchsorted(unknown, moments, side="right")
-        greatest = 1500
         could = np.zeros(len(rows), dtype=np.bool_)
         codel = np.flatnonzero((self.visits.finish < 0) & (self.visits.exit >= 0))
         for life in lives:
             own = codel[self.visits.pipe[codel] == self.visits.pipe[life.at[0]]]
             came, gone = np.sort(self.visits.arrival[own]), np.sort(self.visits.exit[own])
-            waits = (np.searchsorted(life.arrival, moments, side="right") - np.searchsorted(life.start, moments)
-                     + np.searchsorted(came, moments, side="right") - np.searchsorted(gone, moments) + more)
-            for some, many in (_limits(life, life.holds(moments)), _limits(life, life.holds(moments - 1))):
-                could |= ((some >= 0) & (waits >= some)) | ((many >= 0) & (waits * greatest + size > many))
+            others = more + np.searchsorted(came, moments, side="right") - np.searchsorted(gone, moments)
+            waits, held = life.waiting(moments)
+            for slots, most in (_limits(life, life.holds(moments)), _limits(life, life.holds(moments - 1))):
+                could |= (slots >= 0) & (waits + others >= slots)
+                could |= (most >= 0) & (held + others * _GREATEST + size > most)
         # A pipe whose instances no line names may hold all that no line names.
         configs = [change.config for changes in self.changes.values() for change in changes if change.config]
         for config in configs:
             could |= (more >= config.slots if config.slots is not None
-                      else more * greatest + size > (config.bytes or 0))
+                      else more * _GREATEST + size > (config.bytes or 0))
         bad = np.flatnonzero(~could)
         if len(bad):
             lines = sorted(config.line for config in configs)
