@@ -108,7 +108,7 @@ def _outages(pipe: int, stretch: Sequence[Change], largest: int) -> Iterator[Not
                        " that comes", "outage")
         elif config.bw and following is not None:
             time, holds = -(-8 * 10**9 * largest // config.bw), following.moment - change.moment
-            if time > holds:
+            if time > holds > 0:
                 yield Note("outage", f"line {config.line}: at {config.words('bw')} a packet of {largest} bytes takes"
                            f" {spoken(time)}, and this rate of pipe {pipe} holds for {spoken(holds)}: the packet in"
                            " service keeps its finish, so the link stands until then", "outage")
