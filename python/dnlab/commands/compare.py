@@ -238,6 +238,15 @@ def untold(given: argparse.Namespace, runs: Sequence[Run], found: Sequence[Pair]
     return None
 
 
+def tell_unjudged(given: argparse.Namespace, found: Sequence[Pair]) -> None:
+    """Says on standard error which metrics that a pattern names no row tells, for want of the scenario."""
+    told = {pair.metric for pair in found}
+    names = dict.fromkeys(metric.word for one in given.tolerance if one.is_pattern for metric in one.metrics
+                          if metric not in told and metric.kind in ("time", "rate", "size"))
+    if names and not given.scenarios:
+        print(f"compare: without the scenario no row tells {', '.join(names)}, so these are not judged", file=sys.stderr)
+
+
 def main(words_given: Sequence[str]) -> int:
     given = words(words_given)
     first, second = Run(given.a, given.scenarios[:1]), Run(given.b, given.scenarios[-1:])
@@ -257,6 +266,7 @@ def main(words_given: Sequence[str]) -> int:
     if said is not None:
         print(f"compare: {said}", file=sys.stderr)
         return INPUT
+    tell_unjudged(given, found)
     if given.json:
         print(as_json(parts, missing))
     else:
