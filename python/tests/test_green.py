@@ -108,7 +108,7 @@ def test_a_tolerance_that_judges_nothing(files: Callable[..., list[Path]]) -> No
             (["--tolerance", "delay.p95=5%"], 1, ""), (["--tolerance", "delay.p95=100s"], 0, ""),
             (["--tolerance", "completion=5%"], 2, "only a flow has a completion"),
             (["--tolerance", "again=5", "--of", "train *"], 2, "only a flow sends again"),
-            (["--tolerance", "jain=5%"], 2, "no line tells it"), (["--tolerance", "utilisation=5%"], 0, ""),
+            (["--tolerance", "jain=5%"], 2, "no line tells it"), (["--tolerance", "utilisation=5%"], 1, ""),
             (["--tolerance", "delay.p95=5%", "--of", "train 8"], 2, "no row is like train 8")):
         got = tool("compare", first, second, plan, other, *words)
         assert got[0] == status and said in got[2], (words, got)
