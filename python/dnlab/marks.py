@@ -82,8 +82,8 @@ def told_of(refused: Sequence[Refusal], commands: int) -> str:
     """What is said of refused commands, the first of them one by one; `commands` is how many there were."""
     said = "; ".join(one.told() for one in refused[:_MOST_TOLD])
     more = f"; and {len(refused) - _MOST_TOLD} more, codes {codes_of(refused)}" if len(refused) > _MOST_TOLD else ""
-    were = "command was" if len(refused) == 1 else "commands were"
-    return f"{len(refused)} of {commands} {were} refused, so what they ask for wasn't done: {said}{more}"
+    were = "was" if len(refused) == 1 else "were"
+    return f"{len(refused)} of {commands} commands {were} refused and did nothing: {said}{more}"
 
 
 def marks_of(view: View) -> list[Note]:

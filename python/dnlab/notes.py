@@ -13,7 +13,7 @@ class Note(NamedTuple):
 
 # What is said of many experiments that have a note of one kind.
 KINDS = {
-    "refused": "commands were refused, so something that the scenario has wasn't done",
+    "refused": "commands were refused and did nothing",
     "spent": "their steps were spent before their end",
     "no way back": "no rule allows a flow's way back",
     "denied": "packets were denied: no rule matched, or a `deny`",

@@ -132,6 +132,6 @@ def test_columns_of_the_summary(alone: Alone, tmp_path: Path) -> None:
     rows = {(row["experiment"], row["of"]): row for row in json.loads(out)}
     assert status == 0 and [(rows[name, "train 9"]["refused"], rows[name, "train 9"]["codes"], rows[name, "train 9"]["marks"])
                             for name in "ab"] == [(0, "", ""), (1, "22:1", "refused")]
-    assert "experiment b: 1 of 7 command was refused" in err and "line 14" in err
+    assert "experiment b: 1 of 7 commands was refused and did nothing: line 14: `train 9" in err
     status, out, _ = tool("summary", tmp_path / "r", tmp_path / "s")
     assert [line.split()[-1] for line in out.split("\n")[1:-1]] == ["-"] * 3 + ["refused"] * 3
