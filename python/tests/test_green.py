@@ -67,6 +67,29 @@ def test_refused_commands_fail(files: Callable[..., list[Path]]) -> None:
     assert tool("expect", *texts, "all: refused == 0", "--allow", "refused")[0] == 1
 
 
+def test_pages_and_pictures_say_it(files: Callable[..., list[Path]], tmp_path: Path) -> None:
+    texts = files(REFUSED)
+    status, _, err = tool("view", *texts, "--out", tmp_path / "p.html")
+    assert status == 0 and "2 of 6 commands were refused" in err
+    assert "2 of 6 commands were refused" in (tmp_path / "p.html").read_text()
+    status, _, err = tool("plot", *texts, "--out", tmp_path / "p.svg")
+    assert status == 0 and "2 of 6 commands were refused" in err
+
+
+def test_in_notebooks(files: Callable[..., list[Path]], tmp_path: Path) -> None:
+    import dnlab
+
+    report, plan = files(REFUSED)
+    packed = tmp_path / "r.gz"
+    packed.write_bytes(gzip.compress(report.read_bytes()))
+    opened = dnlab.read(packed, plan)
+    one = opened["a"]
+    assert [(row.line, row.code) for row in one.refused] == [(5, 10), (6, 22)] and one.marks == "refused"
+    rows = opened.summary()
+    assert rows.marks.unique().tolist() == ["refused"] and rows.refused.unique().tolist() == [2]
+    assert rows.codes.unique().tolist() == ["10:1 22:1"] and len(one.packets()) == 5
+
+
 def test_spent_runs_fail(files: Callable[..., list[Path]]) -> None:
     texts = files(SPENT)
     status, out, _ = tool("expect", *texts, "all: drops == 0", "all: ended == end")

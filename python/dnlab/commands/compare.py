@@ -47,8 +47,8 @@ faulty input; 3 what this machine lacks (a package, room to write)."""
 
 
 class Part(NamedTuple):
-    """What is found of two experiments, without their columns: how many rows were asked for, metrics, where they part (`moment`, ns, and the first
-    line of each; None where nowhere), and the same for people."""
+    """What is found of two experiments, without their columns: how many rows were asked for, metrics, where
+    they part (`moment`, ns, and the first line of each; None where nowhere), and the same for people."""
     name: str
     rows: int
     pairs: list[Pair]

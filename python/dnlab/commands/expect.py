@@ -20,12 +20,13 @@ EXAMPLE = f"""A bound is {FORM}.
   METRIC  {', '.join(WORDS[:10])},
           {', '.join(WORDS[10:17])}, loss (drops of what was made),
           {', '.join(WORDS[18:24])},
-          {', '.join(WORDS[24:])} (N up to 100).
+          {', '.join(WORDS[24:27])},
+          {', '.join(WORDS[27:])} (N up to 100).
           jitter is that of RFC 3550, utilisation of a pipe what it served by what its rate could have carried,
           refused how many commands were, ended `end` or `spent`
   SIGN    < <= > >= == !=
-  VALUE   a number with its unit: {'; '.join(named(kind) for kind in UNITS if kind not in ('count', 'index'))};
-          counts of packets and jain have none
+  VALUE   a number with its unit: {'; '.join(named(kind) for kind in UNITS if kind not in ('count', 'index', 'ending'))};
+          counts of packets, jain and endings have none
 A file has a bound in each line; what begins with # is skipped. Each bound is said, with what was measured: the value
 nearest to the bound where it names several rows. What can't be told fails. A run in which commands were refused, or
 whose steps were spent before its end, fails whatever the bounds say, unless --allow names that.

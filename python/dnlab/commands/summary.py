@@ -35,8 +35,8 @@ instance (two rows where packets of both directions came through it), both direc
 What can't be told is `-` (nothing in --csv, null in --json, where times are nanoseconds): without the scenario
 sizes and the moments at which packets were made, unless all of the report was made under `trace 1`. --csv and
 --json have besides the mean and the jitter (RFC 3550) of the time under way, utilisation (of a pipe: what it served
-by what its rate could have carried), refused (how many commands were) and their codes, seed, budgets and settings of each row's experiment, and `varied`, what of its pipes isn't the
-same in all experiments.
+by what its rate could have carried), refused (how many commands were) and their codes, seed, budgets and settings of
+each row's experiment, and `varied`, what of its pipes isn't the same in all experiments.
 
 Example:
   ./dnlab alone < scenario.txt | tools/summary - scenario.txt
