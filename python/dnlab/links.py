@@ -18,9 +18,10 @@ from dnlab.report import Experiment
 from dnlab.scenario import Command, Plan
 from dnlab.settings import Change, Config, changes_of, stretches_of
 
-_FULL = CAUSES.index("full")
+_FULL, _LOST, _CODEL = (CAUSES.index(cause) for cause in ("full", "lost", "codel"))
 # Below so many bytes 8 * 10^9 times their number stays below 2^63.
 _MOST_BYTES = 2**63 // (8 * 10**9) - 1
+_NEVER = 2**62
 # The size of a packet, in bytes, at most.
 _GREATEST = 1500
 _NOT_THIS = ": the report isn't this scenario's"
@@ -111,6 +112,7 @@ class Links:
                 self.exits(life)
                 self.queue(life)
         self.full(lives)
+        self.losses()
         if self.faults:
             first = min(self.faults, key=lambda fault: fault.row)
             raise self.experiment.refused(first.row, first.cause + _NOT_THIS)
@@ -265,6 +267,24 @@ class Links:
             queues = ", ".join(f"line {line}" for line in lines[:4])
             self.faults.append(_Fault(int(rows[bad[0]]), f"packet {packet} is dropped as `full` at {moments[bad[0]]}, where"
                                       f" no queue of the scenario is full then ({queues})"))
+
+    def losses(self) -> None:
+        """Drops as `lost` or `codel` where no pipe loses, or none has CoDel."""
+        columns = self.experiment.columns
+        for cause, name, says in ((_LOST, "plr", "no pipe of the scenario has a plr"),
+                                  (_CODEL, "codel", "no pipe of the scenario has CoDel")):
+            rows = np.flatnonzero((columns.word == DROP) & (columns.more == cause))
+            could = np.zeros(len(rows), dtype=np.bool_)
+            for changes in self.changes.values():
+                for change, following in zip(changes, [*changes[1:], None]):
+                    if change.config is not None and getattr(change.config, name):
+                        # At the moment of the next change it may still have held.
+                        until = following.moment if following is not None else _NEVER
+                        could |= (columns.moment[rows] >= change.moment) & (columns.moment[rows] <= until)
+            bad = rows[~could]
+            if len(bad):
+                packet = int(columns.packet[bad[0]])
+                self.faults.append(_Fault(int(bad[0]), f"packet {packet} is dropped as `{CAUSES[cause]}`, where {says} then"))
 
     def sender(self, packet: int) -> str:
         """Which line of the scenario sends a packet, and its size."""

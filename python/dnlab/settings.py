@@ -12,13 +12,14 @@ DEFAULTS = {"bw": "no limit", "delay": "0 ms", "queue": "50 slots", "plr": "0"}
 @dataclass(frozen=True)
 class Config:
     """A `config` of a pipe, and its line: `bw` in bit/s (0 is no limit), `delay` in ns, `slots` or `bytes` of its queue
-    (the other is None), `plr` in millionths; `given` has the options that it names, with their words."""
+    (the other is None), `plr` in millionths, whether it is CoDel's; `given` has the options that it names, with their words."""
     line: int
     bw: int = 0
     delay: int = 0
     slots: Optional[int] = 50
     bytes: Optional[int] = None
     plr: int = 0
+    codel: bool = False
     given: tuple[tuple[str, str], ...] = ()
 
     def words(self, *names: str) -> str:
@@ -53,7 +54,7 @@ def config_of(line: int, text: str) -> Config:
         else:
             number = value.partition("K")[0]
             own |= {"slots": None, "bytes": int(number) * 1024} if number != value else {"slots": int(value)}
-    return Config(line, given=tuple(given), **own)  # type: ignore[arg-type]
+    return Config(line, codel="codel" in words, given=tuple(given), **own)  # type: ignore[arg-type]
 
 
 def rate_of(word: str) -> int:

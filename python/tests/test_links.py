@@ -61,6 +61,8 @@ OTHERS = [
     (THIN, "delay 20", "delay 21", 67, "where the scenario has 22600000 (line 2: delay 21; it finished at 1600000)"),
     (THIN, "queue 100", "queue 90", 224, "when 90 packets waited"),
     (THIN, "2 200 count", "2 210 count", 54, "packet 0 finishes at 1600000, where the scenario has 1680000"),
+    (TRAIN.replace("delay 10", "delay 10 plr 1"), " plr 1", "", 5, "packet 0 is dropped as `lost`, where no pipe of the scenario"),
+    (THIN.replace("queue 100", "queue 200 codel"), " codel", "", 0, "is dropped as `codel`, where no pipe of the scenario has CoDel"),
     (CHANGED, "4Mbit/s", "2Mbit/s", 8, "packet 2 finishes at 4000000, where the scenario has 6000000 (line 5: bw 2Mbit/s"),
     (CHANGED, "delay 20", "delay 30", 12, "packet 1 leaves its pipe at 22000000, where the scenario has 32000000 (line 5: delay 30"),
     (TWO, "delay 5", "delay 6", 15, "leaves its pipe at 18000000, where the scenario has 19000000 (line 4: delay 6"),
@@ -74,7 +76,8 @@ def test_another_scenario(alone: Alone, ran: str, old: str, new: str, line: int,
     with pytest.raises(Refused) as refused:
         joined(alone, ran, ran.replace(old, new, 1))
     assert said in refused.value.cause and "isn't this scenario's" in refused.value.cause
-    assert refused.value.line == line, str(refused.value)
+    # Line 0: some line, of a drop by CoDel, whose moment isn't worked out here.
+    assert refused.value.line == line or not line, str(refused.value)
 
 
 @pytest.mark.parametrize("text", [TRAIN, FOUR, THIN, CHANGED, TWO])
