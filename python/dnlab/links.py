@@ -10,13 +10,14 @@ from typing import Optional
 
 import numpy as np
 
-from dnlab.digits import Flags, Ints
+from dnlab.digits import Ints
+from dnlab.life import Life, limits
 from dnlab.lines import CAUSES, DELIVER, DROP, FINISH, OK, PASS, REFUSED, pipe_name
 from dnlab.makings import DATA, PLAIN, Makings
 from dnlab.packets import HELD, Packets, Visits, never_seen
 from dnlab.report import Experiment
 from dnlab.scenario import Command, Plan
-from dnlab.settings import Change, Config, changes_of, stretches_of
+from dnlab.settings import Change, changes_of, stretches_of
 
 _FULL, _LOST, _CODEL = (CAUSES.index(cause) for cause in ("full", "lost", "codel"))
 # Below so many bytes 8 * 10^9 times their number stays below 2^63.
@@ -32,55 +33,6 @@ class _Fault:
     """The first row that tells otherwise, and the cause."""
     row: int
     cause: str
-
-
-@dataclass
-class _Life:
-    """The visits to one instance between deletions of its pipe, in the order of service; shapes (n,).
-
-    `at` and `row` are places among the visits and the rows of their finishes; `arrival`, `finish`, `start` (of service)
-    are in ns; `came` and `config` are places in `changes` of what held at the arrival and at the start (-1 of none). `idle`
-    says whether it came to a server at rest, `is_new` whether it begins a busy period."""
-    changes: list[Change]
-    at: Ints
-    row: Ints
-    arrival: Ints
-    finish: Ints
-    start: Ints
-    size: Ints
-    came: Ints
-    config: Ints
-    idle: Flags
-    is_new: Flags
-
-    def moments(self) -> Ints:
-        return np.array([change.moment for change in self.changes], dtype=np.int64)
-
-    def holds(self, moments: Ints) -> Ints:
-        """Which change holds at moments, behind all commands of them; -1 before the first."""
-        return np.searchsorted(self.moments(), moments, side="right") - 1
-
-    def values(self, name: str) -> Ints:
-        """A setting of each change; of an optional one -1 for None."""
-        return np.array([-1 if (value := getattr(change.config, name)) is None else value for change in self.changes],
-                        dtype=np.int64)
-
-    def waiting(self, moments: Ints) -> tuple[Ints, Ints]:
-        """How many packets wait at moments at most, and their bytes: of what begins to be served at just that moment only
-        what came to an idle server isn't counted."""
-        bytes_to = np.concatenate((np.zeros(1, dtype=np.int64), np.cumsum(self.size)))
-        came = np.searchsorted(self.arrival, moments, side="right")
-        gone = np.minimum(np.searchsorted(self.start, moments), came)
-        at_once = self.start[self.idle]
-        bytes_at_once = np.concatenate((np.zeros(1, dtype=np.int64), np.cumsum(self.size[self.idle])))
-        first, last = np.searchsorted(at_once, moments), np.searchsorted(at_once, moments, side="right")
-        return (came - gone - (last - first),
-                bytes_to[came] - bytes_to[gone] - (bytes_at_once[last] - bytes_at_once[first]))
-
-    def config_at(self, place: int) -> Config:
-        found = self.changes[place].config
-        assert found is not None
-        return found
 
 
 class Links:
@@ -117,7 +69,7 @@ class Links:
             first = min(self.faults, key=lambda fault: fault.row)
             raise self.experiment.refused(first.row, first.cause + _NOT_THIS)
 
-    def lives(self) -> list[_Life]:
+    def lives(self) -> list[Life]:
         """All instances' lives; a finish in a pipe that isn't there is a fault."""
         columns, visits = self.experiment.columns, self.visits
         rows = self.experiment.rows(FINISH)
@@ -133,7 +85,7 @@ class Links:
                 found += self.lives_of(int(visits.pipe[at[0]]), own, at)
         return found
 
-    def lives_of(self, code: int, rows: Ints, at: Ints) -> list[_Life]:
+    def lives_of(self, code: int, rows: Ints, at: Ints) -> list[Life]:
         changes = self.changes.get(code // 256, [])
         ends = np.array([change.row for change in changes if change.config is None], dtype=np.int64)
         life = np.searchsorted(ends, rows)
@@ -150,7 +102,7 @@ class Links:
             found += [made] if made is not None else []
         return found
 
-    def life(self, changes: list[Change], rows: Ints, at: Ints) -> Optional[_Life]:
+    def life(self, changes: list[Change], rows: Ints, at: Ints) -> Optional[Life]:
         """The visits with their starts; None where an arrival isn't known."""
         visits = self.visits
         packet, arrival, finish = visits.packet[at], visits.arrival[at], visits.finish[at]
@@ -165,7 +117,7 @@ class Links:
         idle = (arrival > before) | (emitted & (arrival == before))
         idle[0] = True
         start = np.maximum(arrival, before)
-        one = _Life(changes, at, rows, arrival, finish, start, self.packets.size[packet], start, start, idle, idle)
+        one = Life(changes, at, rows, arrival, finish, start, self.packets.size[packet], start, start, idle, idle)
         # All commands of a moment come before what else comes then, but an injected packet among them.
         own = np.array([change.row for change in changes], dtype=np.int64)
         one.came = np.where(injected, np.searchsorted(own, self.row_of[packet]) - 1, one.holds(arrival))
@@ -175,7 +127,7 @@ class Links:
         one.is_new = idle | np.concatenate((np.ones(1, dtype=np.bool_), changed))
         return one
 
-    def finishes(self, life: _Life) -> None:
+    def finishes(self, life: Life) -> None:
         first = np.flatnonzero(life.is_new)
         period = np.cumsum(life.is_new) - 1
         served = np.cumsum(life.size)
@@ -191,7 +143,7 @@ class Links:
                                       f" scenario has {expected[place]} (line {config.line}: {config.words('bw')};"
                                       f" {self.sender(packet)})"))
 
-    def exits(self, life: _Life) -> None:
+    def exits(self, life: Life) -> None:
         places = np.maximum(life.holds(life.finish), 0)
         delays = np.maximum(life.values("delay"), 1)[places]
         expected = np.maximum.accumulate(life.finish + delays)
@@ -216,14 +168,14 @@ class Links:
         columns = self.experiment.columns
         return len(self.done) > 0 and self.done[-1][1].word == "end" and int(columns.word[self.done[-1][0]]) == OK
 
-    def queue(self, life: _Life) -> None:
+    def queue(self, life: Life) -> None:
         """Packets that were taken where the queue was full by the scenario."""
         begun = np.searchsorted(life.start, life.arrival, side="right")
         number = np.arange(len(life.at))
         waits = number - np.minimum(begun, number)
         sizes = np.concatenate((np.zeros(1, dtype=np.int64), np.cumsum(life.size)))
         wait_bytes = sizes[number] - sizes[np.minimum(begun, number)]
-        slots, most = _limits(life, life.came)
+        slots, most = limits(life, life.came)
         bad = np.flatnonzero((waits > 0) & (((slots >= 0) & (waits >= slots))
                                             | ((most >= 0) & (wait_bytes + life.size > most))))
         if len(bad):
@@ -234,7 +186,7 @@ class Links:
                                       f" {waits[place]} packets waited, where the scenario drops it as `full` (line"
                                       f" {config.line}: {config.words('queue')})"))
 
-    def full(self, lives: list[_Life]) -> None:
+    def full(self, lives: list[Life]) -> None:
         """Drops as `full` where no pipe can have been full."""
         columns = self.experiment.columns
         rows = np.flatnonzero((columns.word == DROP) & (columns.more == _FULL))
@@ -252,7 +204,7 @@ class Links:
             came, gone = np.sort(self.visits.arrival[own]), np.sort(self.visits.exit[own])
             others = more + np.searchsorted(came, moments, side="right") - np.searchsorted(gone, moments)
             waits, held = life.waiting(moments)
-            for slots, most in (_limits(life, life.holds(moments)), _limits(life, life.holds(moments - 1))):
+            for slots, most in (limits(life, life.holds(moments)), limits(life, life.holds(moments - 1))):
                 could |= (slots >= 0) & (waits + others >= slots)
                 could |= (most >= 0) & (held + others * _GREATEST + size > most)
         # A pipe whose instances no line names may hold all that no line names.
@@ -308,12 +260,6 @@ def _service(served: Ints, rate: Ints) -> Ints:
         found: Ints = -(-8 * 10**9 * served // rate)
         return found
     return np.array([-(-8 * 10**9 * one // by) for one, by in zip(served.tolist(), rate.tolist())], dtype=np.int64)
-
-
-def _limits(life: _Life, changes: Ints) -> tuple[Ints, Ints]:
-    """Slots and bytes of the queue by places of what holds; -1 for what isn't limited."""
-    places = np.maximum(changes, 0)
-    return life.values("slots")[places], life.values("bytes")[places]
 
 
 def compare_links(experiment: Experiment, plan: Plan, makings: Makings, packets: Packets, visits: Visits) -> None:
