@@ -1,13 +1,13 @@
 """Runs the program `dnlab` on scenario texts."""
-import os
-import subprocess
-import tempfile
 from pathlib import Path
 from typing import BinaryIO, Iterator, Optional, Union
 
+from dnlab import children
 from dnlab.errors import Failed
+from dnlab.outputs import whole_file
 from dnlab.programs import program
 from dnlab.results import Report
+from dnlab.rooms import Room
 from dnlab.scenario import MOST_BYTES, MOST_EXPERIMENTS
 from dnlab.splitting import experiments_in, texts_of
 
@@ -29,18 +29,13 @@ def run(text: Union[str, bytes, Path], workers: int = 1, moves: Optional[int] = 
     words = ["run", "--workers", str(workers)] if workers > 1 else ["alone"]
     if workers > 1 and moves is not None:
         words += ["--moves", str(moves)]
-    room = tempfile.TemporaryDirectory(prefix="dnlab.")
-    scenario = Path(room.name) / "scenario.txt"
+    room = Room()
+    scenario = room.path / "scenario.txt"
     scenario.write_bytes(data)
-    report = Path(out) if out is not None else Path(room.name) / "report.txt"
-    beside = report.with_name(f"{report.name}.{os.getpid()}")
-    try:
-        with open(beside, "wb") as file:
-            for line, part in _parts(data):
-                _run_one([called, *words], part, line, file)
-        os.replace(beside, report)
-    finally:
-        beside.unlink(missing_ok=True)
+    report = Path(out) if out is not None else room.path / "report.txt"
+    with whole_file(report) as file:
+        for line, part in _parts(data):
+            _run_one([called, *words], part, line, file)
     return Report(report, scenario, room)
 
 
@@ -54,10 +49,10 @@ def _parts(data: bytes) -> Iterator[tuple[int, bytes]]:
 
 
 def _run_one(words: list[str], text: bytes, before: int, out: BinaryIO) -> None:
-    done = subprocess.run(words, input=text, stdout=out, stderr=subprocess.PIPE, check=False)
-    said = done.stderr.decode(errors="replace").strip()
-    if done.returncode:
+    done = children.run(words, text, out)
+    said = done.said()
+    if done.status:
         if said.startswith("line ") and before:
             number, _, cause = said[5:].partition(":")
             said = f"line {int(number) + before}:{cause}" if number.isdigit() else said
-        raise Failed(done.returncode, said)
+        raise Failed(done.status, said)
