@@ -63,7 +63,7 @@ def batches_of(waiting: Sequence["Waiting"], count: int) -> list[list[list["Wait
     """Experiments in so many parts, each of several texts."""
     from dnlab.sweeps import together
 
-    batches = list(together(waiting, 1))
+    batches = list(together(waiting, ceil(count / 4)))
     ends = groups([len(batch) for batch in batches], count)
     return [batches[begin:end] for begin, end in zip([0, *ends], ends)]
 

@@ -35,7 +35,8 @@ def files_of(program: Path) -> list[Path]:
         with open(path, "rb") as file:
             is_script = file.read(2) == b"#!"
         if is_script:
-            words = re.findall(r"[^\s\"'`$|&;<>(){}\[\]=]+", path.read_text(errors="replace"))
+            text = re.sub(r"\$(\w+|\{[^}]*\}|.)", " ", path.read_text(errors="replace"))
+            words = re.findall(r"[^\s\"'`|&;<>(){}\[\]=]+", text)
             named = [path.parent / word.lstrip("/") for word in words] + [Path(word) for word in words if word[0] == "/"]
             named += [Path(place) for place in map(shutil.which, dict.fromkeys(words)) if place]
             waiting += [one.resolve() for one in dict.fromkeys(named) if _is_program(one)]
@@ -83,13 +84,17 @@ class Kept:
 
     def __init__(self, path: Union[str, Path, None]) -> None:
         self.path = path
-        self.damaged = 0
+        self._damaged: set[str] = set()
         self._base: Optional[sqlite3.Connection] = None
         if path is None or Path(path).exists():
             self.open()
 
     def __getstate__(self) -> dict[str, Any]:
-        return {"path": self.path, "damaged": 0, "_base": None}
+        return {"path": self.path, "_damaged": set(), "_base": None}
+
+    @property
+    def damaged(self) -> int:
+        return len(self._damaged)
 
     def open(self) -> sqlite3.Connection:
         """Opens the file, and makes it where it isn't there."""
@@ -152,5 +157,5 @@ class Kept:
                 return found
         except (AttributeError, ValueError):
             pass  # It isn't text, or no JSON.
-        self.damaged += 1
+        self._damaged.add(key)
         return None

@@ -53,8 +53,8 @@ class Maker:
         except Killed as killed:
             self.close()
             raise Killed(3, f"{told}: its text wasn't made: {killed.said}") from None
-        if isinstance(outcome.fault, Faulty) and str(outcome.fault).endswith("MemoryError"):
-            raise Faulty(f"{outcome.fault}: a text may want {MOST_MEMORY} bytes at most")
+        if isinstance(outcome.fault, Faulty) and str(outcome.fault).endswith(": MemoryError: MemoryError"):
+            raise Faulty(f"{str(outcome.fault).removesuffix(': MemoryError: MemoryError')}: a text may want {MOST_MEMORY} bytes at most")
         text: str = outcome.get()
         return text
 

@@ -68,6 +68,11 @@ def shown(value: Any) -> Any:
     return int(value) if value.is_integer() else format(Decimal(repr(value)), "f")
 
 
+@jinja2.pass_context
+def _shown(_: Any, value: Any) -> Any:
+    return shown(value)
+
+
 def nanoseconds(unit: int) -> Callable[[Any], int]:
     """The filter of a unit: so many of it in whole nanoseconds.
 
@@ -128,7 +133,7 @@ class _Loader(jinja2.FileSystemLoader):
     def get_source(self, environment: jinja2.Environment,
                    template: str) -> tuple[str, str, Callable[[], bool]]:
         if template != self.own:
-            if any(part.startswith(".") for part in template.split("/")):
+            if any(part.startswith(".") and part not in (".", "..") for part in template.split("/")):
                 raise jinja2.TemplateRuntimeError(f"{template}: a hidden file isn't included")
             real = os.path.realpath(os.path.join(self.folder, template))
             if not real.startswith(self.folder + os.sep):
@@ -148,13 +153,15 @@ class Template:
         is_text = isinstance(source, str) and "\n" in source
         self.path = None if is_text else Path(source)
         self.name = "template" if self.path is None else str(self.path)
+        self._source = source
         folder = Path(".") if self.path is None else self.path.parent
         self._loader = _Loader(folder, "" if self.path is None else self.path.name)
         # The sandbox keeps a template from all but what is given to it; also from what hangs on the machine or the day.
         self._environment = jinja2.sandbox.SandboxedEnvironment(
-            loader=self._loader, undefined=jinja2.StrictUndefined, keep_trailing_newline=True, finalize=shown,
-            # Nothing is calculated before a text is made, which has its limits (`making`).
-            optimized=False)
+            loader=self._loader, undefined=jinja2.StrictUndefined, keep_trailing_newline=True,
+            # Nothing is calculated before a text is made, which has its limits (`making`): so nothing is optimized, and
+            # what is printed takes the context, which isn't there before.
+            optimized=False, finalize=_shown)
         self._environment.filters.update(s=nanoseconds(10**9), ms=nanoseconds(10**6), us=nanoseconds(10**3),
                                          random=_no_chance)
         self._environment.globals.pop("lipsum")
@@ -171,10 +178,18 @@ class Template:
         except UnicodeDecodeError as fault:
             raise Faulty(f"{self.name}: it is no text: byte {fault.start} is none of UTF-8") from None
 
+    def __reduce__(self) -> "tuple[type[Template], tuple[Union[str, Path]]]":
+        """What is compiled is made anew in another process."""
+        return Template, (self._source,)
+
     def _names(self, text: str, seen: set[str]) -> set[str]:
         """The names that a template takes from outside, those of what it includes too."""
         parsed = self._environment.parse(text)
-        found = jinja2.meta.find_undeclared_variables(parsed)
+        # As jinja2.meta.find_undeclared_variables, which would calculate what is constant.
+        finder: Any = jinja2.meta.TrackingCodeGenerator(self._environment)
+        finder.optimizer = None
+        finder.visit(parsed)
+        found: set[str] = set(finder.undeclared_identifiers)
         for name in jinja2.meta.find_referenced_templates(parsed):
             if name is not None and name not in seen:
                 seen.add(name)
