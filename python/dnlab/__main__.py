@@ -10,7 +10,7 @@ MACHINE = 3
 COMMANDS = ("summary", "plot", "spread", "sweep", "compare", "expect", "view", "pcap")
 # Debian's packages serve Debian's own Python, which may not be the first on the PATH.
 SYSTEM = "/usr/bin/python3"
-NEEDS = {"summary": ("numpy",), "plot": ("numpy", "matplotlib"), "spread": (),
+NEEDS = {"summary": ("numpy",), "plot": ("numpy", "matplotlib"), "spread": ("numpy",),
          "sweep": ("numpy", "pandas", "scipy", "jinja2"), "compare": ("numpy",), "expect": ("numpy",),
          "view": ("numpy", "plotly"), "pcap": ("numpy", "dpkt")}
 HELP = """Tools for reports of dnlab, in Python.
@@ -47,7 +47,9 @@ def begin_anew(command: str, module: str, words: Sequence[str]) -> int:
     stands here, whatever script called it."""
     here = os.path.realpath(sys.executable)
     if here != os.path.realpath(SYSTEM) and os.path.exists(SYSTEM):
-        sys.stdout.flush()
+        from dnlab import ending
+
+        ending.before_exec()
         os.execv(SYSTEM, [SYSTEM, os.path.abspath(__file__), command, *words])
     print(f"{command}: {module} is missing (Debian: apt-get install python3-{module}; pip install {module})",
           file=sys.stderr)
@@ -63,6 +65,9 @@ def main(words: Optional[Sequence[str]] = None) -> int:
     if not words or words[0] not in COMMANDS:
         print(HELP, end="", file=sys.stderr)
         return 2
+    from dnlab import ending
+
+    ending.watch(words[0])
     lacking = missing(NEEDS[words[0]])
     if lacking is not None:
         return begin_anew(words[0], lacking, words[1:])
@@ -71,9 +76,6 @@ def main(words: Optional[Sequence[str]] = None) -> int:
         status: int = module.main(words[1:])
         sys.stdout.flush()
         return status
-    except KeyboardInterrupt:
-        print(f"{words[0]}: ended from outside", file=sys.stderr)
-        return MACHINE
     except BrokenPipeError:
         # Who read the output has left.
         write_no_more()

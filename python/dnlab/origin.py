@@ -14,6 +14,7 @@ from pathlib import Path
 from typing import Any, Mapping, NamedTuple, Optional, Sequence, Union
 
 from dnlab.errors import Faulty
+from dnlab.outputs import whole_file
 from dnlab.scenario import Plan
 
 # What says that a file is such a record, and in which form.
@@ -85,13 +86,8 @@ def beside(report: Union[str, Path]) -> Path:
 def write_beside(report: Union[str, Path], origin: Origin) -> None:
     """Writes what made a report beside it, whole or not at all; `OSError` as it comes. The report must be whole."""
     told = {_KEY: _FORM, **origin._replace(report=file_checksum(report))._asdict()}
-    path = beside(report)
-    half = path.with_name(f"{path.name}.{os.getpid()}")
-    try:
-        half.write_text(json.dumps(told, indent=1) + "\n", encoding="utf-8")
-        os.replace(half, path)
-    finally:
-        half.unlink(missing_ok=True)
+    with whole_file(beside(report)) as file:
+        file.write((json.dumps(told, indent=1) + "\n").encode())
 
 
 def read_beside(report: Union[str, Path]) -> Optional[Origin]:

@@ -7,9 +7,9 @@ from matplotlib.backends.backend_agg import FigureCanvasAgg
 from matplotlib.figure import Figure
 from matplotlib.ticker import NullLocator
 
+from dnlab.outputs import whole_file
 from dnlab.series import Panel, Series, Span, panel_of
 from dnlab.view import View
-from dnlab.work import whole_file
 
 # Texts stay texts, and nothing in a file hangs on the day or on chance: the same report gives the same bytes.
 STYLE = {"svg.fonttype": "none", "svg.hashsalt": "dnlab", "font.size": 8, "legend.fontsize": 6, "axes.titlesize": 8}

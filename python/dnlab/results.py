@@ -19,7 +19,7 @@ from dnlab.scenario import Plan
 from dnlab.summing import lacking, summed, varied
 from dnlab.tables import PERCENTILES, Tables, columns_of, losses, windows
 from dnlab.view import Ended, Note, View, view_of
-from dnlab.work import Given, pieces_of, plans_of
+from dnlab.work import Given, bytes_of, pieces_of, plans_of
 
 Names = Union[str, Path, Sequence[Union[str, Path]]]
 
@@ -121,6 +121,17 @@ class Experiment:
         return pictures.figure_of([self.view], what)
 
 
+def _made_anew(report: bytes, scenarios: Sequence[bytes]) -> "Report":
+    """A report that came from another process, in files of its own."""
+    from dnlab.rooms import Room
+
+    room = Room()
+    files = [room.path / "report.txt", *(room.path / f"scenario{place}.txt" for place in range(len(scenarios)))]
+    for file, data in zip(files, [report, *scenarios]):
+        file.write_bytes(data)
+    return Report(files[0], files[1:], room)
+
+
 class Report(Mapping[str, Experiment]):
     """A report with its scenario: `report["name"]` reads that experiment, one at a time stays in memory.
 
@@ -146,6 +157,10 @@ class Report(Mapping[str, Experiment]):
         if not self._pieces:
             warnings.warn(f"{self.given.report}: it is empty, and has no experiment: was the scenario empty, or all in"
                           " comments?", stacklevel=3)
+
+    def __reduce__(self) -> "tuple[Any, tuple[bytes, list[bytes]]]":
+        """So that it passes to another process or machine whole: with the bytes of its files."""
+        return _made_anew, (bytes_of(self.given.report), [bytes_of(name) for name in self.given.scenarios])
 
     @cached_property
     def _varied(self) -> dict[str, str]:

@@ -1,15 +1,16 @@
 """Runs the program `dnlab` on scenario texts."""
 import os
-import subprocess
-import tempfile
 from pathlib import Path
 from typing import BinaryIO, Iterator, Optional, Union
 
+from dnlab import children
 from dnlab.errors import Failed, Refused
 from dnlab.origin import Origin, origin_of, write_beside
+from dnlab.outputs import whole_file
 from dnlab.programs import program
 from dnlab.report import pieces
 from dnlab.results import Report
+from dnlab.rooms import Room
 from dnlab.scenario import MOST_BYTES, MOST_EXPERIMENTS, read
 from dnlab.splitting import experiments_in, texts_of
 
@@ -33,25 +34,22 @@ def run(text: Union[str, bytes, Path], workers: int = 1, moves: Optional[int] = 
     words = ["run", "--workers", str(workers)] if workers > 1 else ["alone"]
     if workers > 1 and moves is not None:
         words += ["--moves", str(moves)]
-    room = tempfile.TemporaryDirectory(prefix="dnlab.")
-    scenario = Path(room.name) / "scenario.txt"
+    room = Room()
+    scenario = room.path / "scenario.txt"
     scenario.write_bytes(data)
-    report = Path(out) if out is not None else Path(room.name) / "report.txt"
-    beside = report.with_name(f"{report.name}.{os.getpid()}")
-    try:
-        with open(beside, "wb") as file:
-            for line, part in _parts(data):
-                _run_one([called, *words], part, line, file)
-        origin = _origin(data, beside, [called, *words])
-        os.replace(beside, report)
-        if out is not None:
-            write_beside(report, origin)
-    finally:
-        beside.unlink(missing_ok=True)
+    report = Path(out) if out is not None else room.path / "report.txt"
+    with whole_file(report) as file:
+        for line, part in _parts(data):
+            _run_one([called, *words], part, line, file)
+        with os.fdopen(os.dup(file.fileno()), "rb") as written:
+            written.seek(0)
+            origin = _origin(data, written, [called, *words])
+    if out is not None:
+        write_beside(report, origin)
     return Report(report, scenario, room, origin)
 
 
-def _origin(data: bytes, report: Path, command: list[str]) -> Origin:
+def _origin(data: bytes, report: BinaryIO, command: list[str]) -> Origin:
     """What is kept of a run. A program that says nothing of a text which is no scenario, or that doesn't report all of it,
     isn't dnlab, or was stopped."""
     try:
@@ -76,18 +74,18 @@ def _parts(data: bytes) -> Iterator[tuple[int, bytes]]:
 
 
 def _run_one(words: list[str], text: bytes, before: int, out: BinaryIO) -> None:
-    done = subprocess.run(words, input=text, stdout=out, stderr=subprocess.PIPE, check=False)
-    said = done.stderr.decode(errors="replace").strip()
-    if done.returncode:
+    done = children.run(words, text, out)
+    said = done.said()
+    if done.status:
         if said.startswith("line ") and before:
             number, _, cause = said[5:].partition(":")
             said = f"line {int(number) + before}:{cause}" if number.isdigit() else said
-        elif done.returncode == 1:
+        elif done.status == 1:
             said = _explained(words[0], text) or said
-        raise Failed(done.returncode, said)
+        raise Failed(done.status, said)
 
 
 def _explained(called: str, text: bytes) -> str:
     """What the program says of a faulty text by `--explain`; '' where it says nothing."""
-    done = subprocess.run([called, "check", "--explain"], input=text, capture_output=True, check=False)
-    return done.stderr.decode(errors="replace").strip() if done.returncode == 1 else ""
+    done = children.run([called, "check", "--explain"], text)
+    return done.said() if done.status == 1 else ""

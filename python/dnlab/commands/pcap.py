@@ -8,10 +8,11 @@ import numpy as np
 
 from dnlab.commands.words import add_texts, parser_of, taken
 from dnlab.errors import Faulty, Lacking, status_of
+from dnlab.outputs import whole_file
 from dnlab.report import Piece
 from dnlab.summing import tell, whole
 from dnlab.view import View, view_of
-from dnlab.work import Given, pieces_of, plans_of, whole_file
+from dnlab.work import Given, pieces_of, plans_of
 
 EXAMPLE = """The scenario must have `@0 trace 1` as the first command of the experiment, and leave it on: only then the report has
 every packet's addresses and size. What else a capture has is made up: Ethernet, no SYN and no FIN, sequence numbers
