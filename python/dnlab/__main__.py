@@ -50,7 +50,9 @@ def begin_anew(command: str, module: str, words: Sequence[str]) -> int:
         from dnlab import ending
 
         ending.before_exec()
-        os.execv(SYSTEM, [SYSTEM, os.path.abspath(__file__), command, *words])
+        # Where no compiled copies are to be left (in the repository) that holds for the other Python too.
+        options = ["-B"] if sys.dont_write_bytecode else []
+        os.execv(SYSTEM, [SYSTEM, *options, os.path.abspath(__file__), command, *words])
     print(f"{command}: {module} is missing (Debian: apt-get install python3-{module}; pip install {module})",
           file=sys.stderr)
     return MACHINE
