@@ -11,8 +11,10 @@ if not __package__:
 
 from dnlab import __version__  # noqa: E402  (the path is set first)
 
+# What the machine lacks; `dnlab.errors` has it, which numpy's want must not keep from being said.
+MACHINE = 3
 COMMANDS = ("summary", "plot", "spread", "sweep", "compare", "expect", "view", "pcap")
-NEEDS = {"summary": ("numpy",), "plot": ("numpy", "matplotlib"), "spread": (),
+NEEDS = {"summary": ("numpy",), "plot": ("numpy", "matplotlib"), "spread": ("numpy",),
          "sweep": ("numpy", "pandas", "scipy", "jinja2"), "compare": ("numpy",), "expect": ("numpy",),
          "view": ("numpy", "plotly"), "pcap": ("numpy", "dpkt")}
 HELP = """Tools for reports of dnlab, in Python.
@@ -29,7 +31,8 @@ HELP = """Tools for reports of dnlab, in Python.
 Each has --help and --version. In Python: import dnlab; help(dnlab).
 
 Example: python3 -m dnlab summary report.txt scenario.txt
-Exit status: that of the command; 2 wrong usage, 3 a module is missing.
+Exit status: that of the command; 1 a bound that fails or runs that differ, and nothing else; 2 wrong usage or a faulty
+input; 3 what this machine lacks (a package, room to write), or ended from outside.
 """
 
 
@@ -61,22 +64,35 @@ def main(words: Optional[Sequence[str]] = None) -> int:
     if list(words[1:]) == ["--version"]:
         print(f"dnlab-{words[0]} {__version__}")
         return 0
+    from dnlab import ending
+
+    ending.watch(words[0])
     lacking = missing(NEEDS[words[0]])
     if lacking is not None:
         print(said_of(words[0], lacking), file=sys.stderr)
-        return 3
+        return MACHINE
     module = importlib.import_module(f"dnlab.commands.{words[0]}")
     try:
         status: int = module.main(words[1:])
         sys.stdout.flush()
         return status
-    except KeyboardInterrupt:
-        print(f"{words[0]}: ended from outside", file=sys.stderr)
-        return 3
     except BrokenPipeError:
-        # Who read the output has left; nothing more is written, by Python's own flush neither.
-        os.dup2(os.open(os.devnull, os.O_WRONLY), sys.stdout.fileno())
-        return 1
+        # Who read the output has left.
+        write_no_more()
+        return MACHINE
+    except OSError as fault:
+        write_no_more()
+        where = f"{fault.filename}: " if fault.filename else "writing to standard output: "
+        print(f"{words[0]}: {where}{fault.strerror}", file=sys.stderr)
+        return MACHINE
+    except MemoryError:
+        print(f"{words[0]}: there isn't memory enough: name some experiments by --experiment", file=sys.stderr)
+        return MACHINE
+
+
+def write_no_more() -> None:
+    """Nothing more goes to standard output, by Python's own flush neither."""
+    os.dup2(os.open(os.devnull, os.O_WRONLY), sys.stdout.fileno())
 
 
 def summary() -> int:
