@@ -6,7 +6,6 @@ at any place could be swallowed there. In a notebook nobody calls `watch`, and b
 """
 import os
 import signal
-import sys
 import threading
 from contextlib import contextmanager, suppress
 from types import FrameType
