@@ -234,7 +234,7 @@ def test_a_package_that_is_missing(files: Callable[..., list[Path]], tmp_path: P
         done = subprocess.run(["/usr/bin/python3", "-B", "-m", "dnlab", name, *map(str, files(CALL)), "all: drops == 0"],
                               capture_output=True, text=True, check=False,
                               env={**os.environ, "PYTHONPATH": f"{tmp_path / 'lib'}:{ROOT / 'python'}"})
-        assert done.returncode == 3 and done.stderr.startswith(f"{name}: numpy is missing (Debian: "), name
+        assert done.returncode == 3 and done.stderr.startswith(f"{name}: numpy is missing in "), name
 
 
 def test_patterns_name_flows(files: Callable[..., list[Path]]) -> None:

@@ -5,7 +5,7 @@ ghost use Rattle.shard.specs.Stand.{opened_stand};
 ghost use Rattle.bench.specs.Rings.{ring_seen, IsOpened};
 ghost use Rattle.bench.specs.Tenants.{posted, letters_read};
 ghost use Rattle.bench.specs.Registries.{OpenFails};
-ghost use Rattle.rtrb.specs.Ring.{IsPair};
+ghost use Rattle.rtrb.specs.Ring.{IsPair, producer_capacity};
 
 use crate::mail::{Moments, RingMail};
 use crate::tenant::Tenant;
@@ -72,6 +72,7 @@ impl Registry {
         ensures parcel { IfOk result (λ r. IsOpened self.old.next spec r.1) }
         ensures commands { IfOk result (λ r. IsPair r.0.to r.1.mail.from) }
         ensures letters { IfOk result (λ r. IsPair r.1.mail.to r.0.from) }
+        ensures slots { IfOk result (λ r. producer_capacity r.1.mail.to ≡ 64) }
         ensures next { IfOk result
             (λ _. (self.new.next ≡ self.old.next + 1) × (self.old.next < 10 ^ 6)) }
         ensures err { OnErr result (self.new.next ≡ self.old.next) }

@@ -14,7 +14,7 @@ ghost use Rattle.command_line.specs.Status.{status_after};
 use clap::Error;
 use clap::error::ErrorKind;
 use kept::{Keeper, Kept};
-use lab::{Device, OpenGate, Plan, RunFault, check, run_alone_told, run_told};
+use lab::{Device, OpenGate, Plan, RunFault, check, live, run_alone_told, run_told};
 use meter::Meter;
 use std::alloc::{AllocError, Global};
 use std::process::ExitCode;
@@ -25,6 +25,9 @@ use std::{env, io};
 use tell::{faults_text, hint_at, print, tell_refusals, tell_warnings};
 use watched::{Watched, Watcher};
 use words::{Task, stray_word, task_of};
+
+/// The exit status of a strict run in which a command was refused, or an experiment spent its steps.
+const NOT_STRICT: u8 = 5;
 
 /// The exit status after a call.
 fn status_of(outcome: &Result<(), RunFault>) -> u8
@@ -65,6 +68,19 @@ fn tell_all(
     tell_warnings(rt, alloc, kept, notes)
 }
 
+// Says of a strict run that commands were refused or steps were spent, if so, and how the program ends.
+fn end_strictly(rt: &impl Eprint, watched: &Watched) -> ExitCode {
+    let refused = watched.refusals().len();
+    let spent = watched.spent();
+    if refused == 0 && spent == 0 {
+        return ExitCode::from(0);
+    }
+    let _ = eprintln!(rt;
+        "dnlab: --strict: commands refused: {refused}, experiments that spent their steps: {spent} (--explain says which)"
+    );
+    ExitCode::from(NOT_STRICT)
+}
+
 // Says why a call gave no answer, and where it is asked for what is wrong with the text, which commands were refused and
 // what is silently wrong. Where memory for that is refused the program says so.
 fn end_with(
@@ -73,15 +89,16 @@ fn end_with(
     outcome: Result<(), RunFault>,
     kept: &Kept,
     watched: &Watched,
-    has_run: bool,
+    task: &Task,
 ) -> ExitCode {
     if kept.lacks_memory() || watched.lacks_memory() {
         return end(rt, Err(RunFault::Memory));
     }
     match outcome {
-        Ok(()) if tell_all(rt, alloc, kept, watched, has_run).is_err() => {
+        Ok(()) if tell_all(rt, alloc, kept, watched, task.runs()).is_err() => {
             end(rt, Err(RunFault::Memory))
         }
+        Ok(()) if task.is_strict() => end_strictly(rt, watched),
         Err(RunFault::Scenario(fault)) if kept.is_wanted() => {
             let Ok(shown) = faults_text(alloc, kept.text(), &fault) else {
                 return end(rt, Err(RunFault::Memory));
@@ -131,9 +148,8 @@ where
         Ok(task) => task,
         Err(error) => return say(rt, &error, words.as_slice()),
     };
-    let has_run = task.runs();
     let kept = Kept::new(alloc, task.explains());
-    let watched = Watched::new(alloc, task.explains());
+    let watched = Watched::new(alloc, task.explains() || task.is_strict());
     if watched.lacks_memory() {
         return end(rt, Err(RunFault::Memory));
     }
@@ -158,8 +174,9 @@ where
             run_alone_told(alloc, &mut reader, &mut writer, &meter)
         }
         Task::Check { .. } => check(alloc, &mut reader, &mut writer),
+        Task::Live => live(alloc, &mut reader, &mut writer),
     };
     let kept = reader.into_inner().into_kept();
     let watched = writer.into_inner().into_watched();
-    end_with(rt, alloc, outcome, &kept, &watched, has_run)
+    end_with(rt, alloc, outcome, &kept, &watched, &task)
 }

@@ -107,7 +107,7 @@ fn is_plain(byte: u8) -> bool {
 }
 
 fn is_command(word: &str) -> bool {
-    word == "alone" || word == "run" || word == "check"
+    word == "alone" || word == "run" || word == "check" || word == "live"
 }
 
 /// Says how a text is given to a command, where a word behind it is too many.

@@ -218,6 +218,10 @@ one_byte_at_least = refl
 flight_to_top : halved_ssthresh flow (record two_sent { snd_nxt = 0; snd_max = 8000 }) ≡ 4000
 flight_to_top = refl
 
+-- half of an odd number of bytes is rounded down (RFC 5681, equation 4; our choice): 8001 / 2
+odd_flight : halved_ssthresh flow (record two_sent { snd_nxt = 0; snd_max = 8001 }) ≡ 4000
+odd_flight = refl
+
 -- lastcount is the count that dropping begins with, 5 - 2
 last_count_is_new : (enter_drop_state times 1599 (dropped_before 5 2)).last_count ≡ 3
 last_count_is_new = refl

@@ -104,11 +104,11 @@ step-command p q old d c mid new r next class becomes closes =
 
 -- something else that was due came, and the step closed
 pub step-event : (p q : Pocket) (old : KeptExperiment) (d : Due) (c : Timed) (mid new : KeptNet) (r : Option Ending) →
-    old.next ≡ Some c → old.ending ≡ None → d.source.class ≢ NextCommand →
+    old.ending ≡ None → d.source.class ≢ NextCommand →
     net_of q mid ≡ event_of (setting old.spec d.moment) d.source.class d.source.number (net_of p old.net) →
     Closes None (old.steps + 1 == old.spec.budget.steps) d.moment mid new r →
     Steps d c p old q (record old { net = new; clock = d.moment; steps = old.steps + 1; ending = r })
-step-event p q old d c mid new r next going class becomes closes =
+step-event p q old d c mid new r going class becomes closes =
     let b : Bool = old.steps + 1 == old.spec.budget.steps in
     let t : State = take_event d.moment d.source.class d.source.number (view p old) in
     record {

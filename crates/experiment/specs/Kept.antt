@@ -11,6 +11,7 @@ use Rattle.emu_model.specs.Step.{State}
 use Rattle.emu_model.specs.Alone.{alone}
 use Rattle.emu_model.specs.RunLaws.{with_earlier}
 use Rattle.emu_model.specs.DueLaws.{AreRising, IsEarly}
+use Rattle.session_laws.specs.Waits.{IsAloneUntil}
 use Rattle.packet_store.specs.Pocket.{Pocket}
 use Rattle.network.specs.Kept.{KeptNet, net_of, net_keys, IsHoused}
 
@@ -55,6 +56,12 @@ IsAlone p e = view p e ≡ alone e.spec e.consumed e.steps
 -- the same where what was recorded before was forgotten
 abbrev pub IsAloneAfter : List Record → Pocket → KeptExperiment → Type 0
 IsAloneAfter earlier p e = with_earlier earlier (view p e) ≡ alone e.spec e.consumed e.steps
+
+-- no command is left, and whatever comes next at a moment or later, what is shown is the state of running it alone, where
+-- what was recorded before was forgotten
+pub record IsWaiting (t : ℕ) (earlier : List Record) (p : Pocket) (e : KeptExperiment) : Type 0 where
+  pub none : e.next ≡ None
+  pub alone : IsAloneUntil t e.spec e.consumed (with_earlier earlier (view p e))
 
 -- the owner's packets are just those of the experiment, and it may hold as many as it was given
 pub record IsHousedIn (p : Pocket) (e : KeptExperiment) : Type 0 where

@@ -1,5 +1,5 @@
 -- What an event of an experiment does, by its answer.
-use Rattle.std.specs.Prelude.{◌≡◌, ℕ, ◌+◌, ◌⊎◌, Bool, true, false, Option, Some, None, IsSome, [], ◌∷◌}
+use Rattle.std.specs.Prelude.{◌≡◌, ℕ, ◌+◌, ◌<◌, ◌⊎◌, Bool, true, false, Option, Some, None, IsSome, [], ◌∷◌}
 use Rattle.emu_model.specs.declared.commands.Timed.{Timed}
 use Rattle.emu_model.specs.declared.sources.Due.{Due}
 use Rattle.emu_model.specs.declared.records.Ending.{Ending}
@@ -8,6 +8,7 @@ use Rattle.emu_model.specs.declared.records.Record.TheVariants.{StepsSpent}
 use Rattle.emu_model.specs.declared.sources.Class.TheVariants.{NextCommand}
 use Rattle.emu_model.specs.Dues.{due}
 use Rattle.emu_model.specs.Step.{step, take_due, count_step}
+use Rattle.session_laws.specs.Waits.{step_before, IsSettled}
 use Rattle.packet_store.specs.Pocket.{Pocket}
 use Rattle.network.specs.Kept.{KeptNet}
 use Rattle.network.specs.Changes.{Notes}
@@ -32,6 +33,26 @@ Makes Ran p old q new = IsStep p old q new × (new.ending ≡ None)
 Makes Ended p old q new = IsStep p old q new × IsSome (shown_ending new.ending)
 Makes Halted p old q new = Halts p old q new
 Makes Still p old q new = (new ≡ old) × (q ≡ p) × ((old.next ≡ None) ⊎ IsSome old.ending)
+
+-- what is due first below a moment happened
+pub record IsPassed (t : ℕ) (p : Pocket) (old : KeptExperiment) (q : Pocket) (new : KeptExperiment) : Type 0 where
+  pub passed : view q new ≡ step_before t (view p old)
+  pub counted : new.steps ≡ old.steps + 1
+  pub going : old.ending ≡ None
+
+-- a moment behind that of the event which was made, if one was
+abbrev pub IsPast : Event → ℕ → ℕ → Type 0
+IsPast Ran clock u = clock < u
+IsPast Ended clock u = clock < u
+IsPast Halted clock u = Unit {0}
+IsPast Still clock u = Unit {0}
+
+-- or it could not, or nothing is due below that moment
+abbrev pub Passes : ℕ → Event → Pocket → KeptExperiment → Pocket → KeptExperiment → Type 0
+Passes t Ran p old q new = IsPassed t p old q new × (new.ending ≡ None)
+Passes t Ended p old q new = IsPassed t p old q new × IsSome (shown_ending new.ending)
+Passes t Halted p old q new = Halts p old q new
+Passes t Still p old q new = (new ≡ old) × (q ≡ p) × (IsSettled t (view p old) ⊎ IsSome old.ending)
 
 -- the step whose event is this due, c being the next command
 pub record Steps (d : Due) (c : Timed) (p : Pocket) (old : KeptExperiment) (q : Pocket) (new : KeptExperiment) : Type 0 where

@@ -11,7 +11,7 @@ ghost use Rattle.packet_store.specs.Pocket.{Pocket, empty_pocket, OthersStay};
 ghost use Rattle.network.specs.Kept.{net_of, IsHoused};
 ghost use Rattle.network.specs.Due.{IsDue};
 ghost use Rattle.network.specs.Ready.{TakesNoMemory};
-ghost use Rattle.experiment.specs.Kept.{view, IsAlone, IsAloneAfter, IsHousedIn, last_moment};
+ghost use Rattle.experiment.specs.Kept.{view, IsAlone, IsAloneAfter, IsHousedIn, IsWaiting, last_moment};
 ghost use Rattle.experiment.specs.Moves.{Makes, Steps, Halts, IsNext, Closes};
 
 use crate::told::command_due;
@@ -158,6 +158,9 @@ impl Experiment {
         ensures alone { (p : Pocket) → IsAlone p self.old → IsAlone p self.new }
         ensures after { (earlier : List Record) (p : Pocket) →
             IsAloneAfter earlier p self.old → IsAloneAfter earlier p self.new }
+        ensures waited { OnOk result ((t : ℕ) (earlier : List Record) (p : Pocket) →
+            t ≤ command.now.moment → IsWaiting t earlier p self.old →
+            IsAloneAfter earlier p self.new) }
         ensures over { result ≡ Err ApplyError.Over → IsSome self.old.ending }
         ensures busy { result ≡ Err ApplyError.Busy →
             (self.old.ending ≡ None) × IsSome self.old.next }
@@ -327,7 +330,7 @@ impl Experiment {
 
     // Something else that is due comes, as the step's event.
     #[inline(always)]
-    fn take_event<S: Shelf>(
+    pub(crate) fn take_event<S: Shelf>(
         &mut self,
         shelf: &mut S,
         owner: Owner,
@@ -336,11 +339,12 @@ impl Experiment {
         requires early { due.moment ≤ 10 ^ 15 }
         requires class { due.source.class ≢ NextCommand }
         requires due { IsDue due self.old.net }
-        requires next { IsSome self.old.next }
         requires going { self.old.ending ≡ None }
         requires housed { IsHousedIn (S.pocket shelf.old owner) self.old }
-        ensures ok { OnOk result ((c : Timed) → self.old.next ≡ Some c →
+        ensures ok { OnOk result ((c : Timed) →
             Steps due c (S.pocket shelf.old owner) self.old (S.pocket shelf.new owner) self.new) }
+        ensures next { self.new.next ≡ self.old.next }
+        ensures clock { OnOk result (self.new.clock ≡ due.moment) }
         ensures halted { OnErr result
             (Halts (S.pocket shelf.old owner) self.old (S.pocket shelf.new owner) self.new) }
         ensures housed { IsHousedIn (S.pocket shelf.new owner) self.new }

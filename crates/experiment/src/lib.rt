@@ -6,5 +6,6 @@ mod experiment;
 mod rehousing;
 mod told;
 mod touched;
+mod waiting;
 
 pub use experiment::{ApplyError, Event, Experiment};

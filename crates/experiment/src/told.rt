@@ -1,6 +1,6 @@
 //! What is told of an experiment.
 
-ghost use Rattle.std.specs.Prelude.{◌≡◌, ◌*◌, ◌^◌, ◌<◌, ◌≤◌, ◌++◌, [], List, is_some, option_to_list, IfOk, IfSome, OnOk, OnErr};
+ghost use Rattle.std.specs.Prelude.{◌≡◌, ℕ, ◌*◌, ◌^◌, ◌<◌, ◌≤◌, ◌++◌, [], List, is_some, option_to_list, IfOk, IfSome, OnOk, OnErr};
 ghost use Rattle.std.specs.List.{AllByRecursion};
 ghost use Rattle.emu_model.specs.Moments.{IsMoment};
 ghost use Rattle.emu_model.specs.declared.sources.Class.TheVariants.{NextCommand};
@@ -9,7 +9,7 @@ ghost use Rattle.emu_model.specs.Net.{counters_of};
 ghost use Rattle.emu_model.specs.Dues.{dues_of};
 ghost use Rattle.packet_store.specs.Pocket.{Pocket};
 ghost use Rattle.network.specs.Kept.{net_of};
-ghost use Rattle.experiment.specs.Kept.{view, IsAlone, IsAloneAfter, IsHousedIn};
+ghost use Rattle.experiment.specs.Kept.{view, IsAlone, IsAloneAfter, IsHousedIn, IsWaiting};
 ghost use Rattle.experiment.specs.Dues.{command_dues, dues_in, next_due_in};
 
 use crate::Experiment;
@@ -29,7 +29,7 @@ impl Experiment {
 
     /// What was recorded is forgotten, as if it had been written down; its room stays. Each event goes on as it would
     /// have gone on.
-    #[tactic(auto, using(crate::proofs::AloneFacts::after_forgotten))]
+    #[tactic(auto, using(crate::proofs::AloneFacts::after_forgotten, crate::proofs::PassFacts::waits_forgotten))]
     pub fn forget_records(&mut self)
         ensures rest { self.new
             ≡ record self.old { net = record self.old.net { log = self.new.net.log } } }
@@ -38,6 +38,8 @@ impl Experiment {
         ensures housed { (p : Pocket) → IsHousedIn p self.old → IsHousedIn p self.new }
         ensures after { (earlier : List Record) (p : Pocket) → IsAloneAfter earlier p self.old →
             IsAloneAfter (earlier ++ self.old.net.log.records) p self.new }
+        ensures waits { (t : ℕ) (earlier : List Record) (p : Pocket) → IsWaiting t earlier p self.old →
+            IsWaiting t (earlier ++ self.old.net.log.records) p self.new }
     {
         self.net.forget_records();
     }

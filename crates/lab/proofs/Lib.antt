@@ -12,5 +12,4 @@ pub mod Settled
 pub mod Settlings
 pub mod ReportTexts
 pub mod Turns
-pub mod Tellings
 pub mod Writing

@@ -1,7 +1,6 @@
 pub mod Bytes
 pub mod JoiningLaw
 pub mod Troubles
-pub mod Telling
 pub mod Runs
 pub mod Reports
 pub mod Plans

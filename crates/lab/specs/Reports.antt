@@ -83,3 +83,9 @@ ReadsFault read faults.Write = ⊥
 ReadsFault read faults.Memory = Unit {0}
 ReadsFault read faults.Strange = ⊥
 ReadsFault read faults.Gate = ⊥
+
+-- what a text may fail of by itself: it has this fault, or memory was refused
+abbrev pub IsTextFault : List ℕ → RunFault → Type 0
+IsTextFault text (faults.Scenario f) = HasFault text f
+IsTextFault text faults.Memory = Unit {0}
+IsTextFault text _ = ⊥

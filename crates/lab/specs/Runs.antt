@@ -3,16 +3,16 @@ use Rattle.std.specs.Prelude.{◌≡◌, ℕ, ◌⊎◌, ◌≤◌, List, [], �
 use Rattle.emu_model.specs.declared.commands.Timed.{Timed}
 use Rattle.packet_store.specs.Pocket.{Pocket}
 use Rattle.experiment.specs.Kept.{KeptExperiment, IsHousedIn, shown_ending}
-use Rattle.lab.specs.Telling.{Told, IsTold}
+use Rattle.report_writer.specs.Written.{Written, IsWritten}
 
 -- it has ended, or wants its next command
 abbrev pub IsAtRest : KeptExperiment → Type 0
 IsAtRest e = IsSome (shown_ending e.ending) ⊎ ((e.ending ≡ None) × (e.next ≡ None))
 
-pub record Advances (was : Told) (p : Pocket) (old : KeptExperiment) (is : Told) (q : Pocket) (new : KeptExperiment) : Type 0 where
+pub record Advances (was : Written) (p : Pocket) (old : KeptExperiment) (is : Written) (q : Pocket) (new : KeptExperiment) : Type 0 where
   pub at_rest : old.ending ≡ None → IsAtRest new
   pub housed : IsHousedIn q new
-  pub told : (head : List ℕ) → IsTold head was p old → IsTold head is q new
+  pub written : (head : List ℕ) → IsWritten head was p old → IsWritten head is q new
   pub spec : new.spec ≡ old.spec
   pub consumed : new.consumed ≡ old.consumed
   pub few : new.steps ≤ new.spec.budget.steps
@@ -29,9 +29,9 @@ abbrev pub IsOver : KeptExperiment → List Timed → Type 0
 IsOver e rest = IsSome (shown_ending e.ending) ⊎ ((e.next ≡ None) × (rest ≡ []))
 
 -- it was given the commands, but for those after its end
-pub record Plays (commands : List Timed) (was : Told) (p : Pocket) (old : KeptExperiment) (is : Told) (q : Pocket) (new : KeptExperiment) : Type 0 where
+pub record Plays (commands : List Timed) (was : Written) (p : Pocket) (old : KeptExperiment) (is : Written) (q : Pocket) (new : KeptExperiment) : Type 0 where
   pub housed : IsHousedIn q new
-  pub told : (head : List ℕ) → IsTold head was p old → IsTold head is q new
+  pub written : (head : List ℕ) → IsWritten head was p old → IsWritten head is q new
   pub spec : new.spec ≡ old.spec
   pub rest : List Timed
   pub all : commands ≡ new.consumed ++ rest

@@ -7,38 +7,40 @@ ghost use Rattle.packet_store.specs.Pocket.{Pocket};
 ghost use Rattle.experiment.specs.Kept.{IsHousedIn};
 ghost use Rattle.control.specs.Order.{AreInOrder};
 ghost use Rattle.lab.specs.Runs.{Advances, IsNew, Plays};
-ghost use Rattle.lab.specs.Telling.{CanTell, IsTold};
+ghost use Rattle.report_writer.specs.Written.{CanWrite, IsWritten};
 ghost use Rattle.lab.specs.Reports.{report_alone};
 
 use crate::progress::Progress;
-use crate::telling::Telling;
 use crate::texts::Text;
 use control::Experiment as Script;
 use emu_model::{Timed, later_commands_wait, packets_add_up};
 use experiment::{ApplyError, Event, Experiment};
 use packet_store::OwnShelf;
+use report_writer::ReportWriter;
 use std::alloc::{AllocError, Global};
 
 /// After how many steps it is told again how many were made.
 const TOLD: u64 = 65_536;
 
-/// So many records are told together: they stay where they were written a moment before.
+/// So many records are written together: they stay where they were recorded a moment before.
 const BATCH: usize = 256;
 
 // Tells now and then how many steps were made.
-fn tell<P: Progress>(experiment: &Experiment, progress: &P) {
+fn tell<P: Progress>(experiment: &Experiment, progress: &P)
+    requires { experiment.now.steps ≤ experiment.now.spec.budget.steps }
+{
     let steps = experiment.events();
     if steps % TOLD == 0 {
         progress.stepped(steps, u64::from(experiment.spec().budget.steps.get()));
     }
 }
 
-// Tells what was recorded, once there is a batch of it.
+// Writes what was recorded, once there is a batch of it.
 #[inline(always)]
-fn tell_batch(experiment: &mut Experiment, telling: &mut Telling) -> Result<(), AllocError>
-    requires { CanTell telling.old experiment.old }
-    ensures told { OnOk result ((head : List ℕ) (p : Pocket) →
-        IsTold head telling.old p experiment.old → IsTold head telling.new p experiment.new) }
+fn write_batch(experiment: &mut Experiment, report: &mut ReportWriter) -> Result<(), AllocError>
+    requires { CanWrite report.old experiment.old }
+    ensures written { OnOk result ((head : List ℕ) (p : Pocket) →
+        IsWritten head report.old p experiment.old → IsWritten head report.new p experiment.new) }
     ensures rest { OnOk result (experiment.new ≡ record experiment.old {
       net = record experiment.old.net { log = experiment.new.net.log };
     }) }
@@ -48,7 +50,7 @@ fn tell_batch(experiment: &mut Experiment, telling: &mut Telling) -> Result<(), 
     if experiment.records().len() < BATCH {
         return Ok(());
     }
-    telling.tell(experiment)?;
+    report.write(experiment)?;
     Ok(())
 }
 
@@ -57,17 +59,19 @@ fn tell_batch(experiment: &mut Experiment, telling: &mut Telling) -> Result<(), 
 fn advance<P: Progress>(
     experiment: &mut Experiment,
     shelf: &mut OwnShelf,
-    telling: &mut Telling,
+    report: &mut ReportWriter,
     progress: &P,
 ) -> Result<(), AllocError>
     requires housed { IsHousedIn (own_pocket shelf.old) experiment.old }
-    requires told { (head : List ℕ) × IsTold head telling.old (own_pocket shelf.old) experiment.old }
+    requires written { (head : List ℕ)
+        × IsWritten head report.old (own_pocket shelf.old) experiment.old }
     ensures { OnOk result
-        (Advances telling.old (own_pocket shelf.old) experiment.old
-        telling.new (own_pocket shelf.new) experiment.new) }
+        (Advances report.old (own_pocket shelf.old) experiment.old
+        report.new (own_pocket shelf.new) experiment.new) }
 {
+    packets_add_up();
     loop {
-        tell_batch(experiment, telling)?;
+        write_batch(experiment, report)?;
         match experiment.event(shelf, 0) {
             Event::Ran => tell(experiment, progress),
             Event::Halted => return Err(AllocError),
@@ -80,17 +84,17 @@ fn advance<P: Progress>(
 fn play<P: Progress>(
     experiment: &mut Experiment,
     shelf: &mut OwnShelf,
-    telling: &mut Telling,
+    report: &mut ReportWriter,
     commands: &[Timed],
     progress: &P,
 ) -> Result<(), AllocError>
     requires housed { IsHousedIn (own_pocket shelf.old) experiment.old }
     requires new { IsNew experiment.old }
-    requires told { (head : List ℕ) × IsTold head telling.old (own_pocket shelf.old) experiment.old }
+    requires written { (head : List ℕ) × IsWritten head report.old (own_pocket shelf.old) experiment.old }
     requires in_order { AreInOrder 0 commands.now }
     ensures { OnOk result
-        (Plays commands.now telling.old (own_pocket shelf.old) experiment.old
-        telling.new (own_pocket shelf.new) experiment.new) }
+        (Plays commands.now report.old (own_pocket shelf.old) experiment.old
+        report.new (own_pocket shelf.new) experiment.new) }
 {
     for command in commands {
         match experiment.apply(command) {
@@ -100,7 +104,7 @@ fn play<P: Progress>(
             Err(ApplyError::Busy) => unreachable!(),
             Err(ApplyError::Backward) => unreachable!(),
         }
-        advance(experiment, shelf, telling, progress)?;
+        advance(experiment, shelf, report, progress)?;
         if experiment.ending().is_some() {
             break;
         }
@@ -122,17 +126,11 @@ fn report_by_itself<P: Progress>(
     packets_add_up();
     let mut shelf = OwnShelf::new(alloc, script.spec.budget.packets);
     let mut experiment = Experiment::new(alloc, script.spec)?;
-    let mut telling = Telling::new(alloc, script.name.as_bytes())?;
+    let mut report = ReportWriter::new(alloc, script.name.as_bytes())?;
     let commands = script.commands.as_slice();
-    play(
-        &mut experiment,
-        &mut shelf,
-        &mut telling,
-        commands,
-        progress,
-    )?;
-    telling.tell(&mut experiment)?;
-    telling.into_report(&experiment.counters())
+    play(&mut experiment, &mut shelf, &mut report, commands, progress)?;
+    report.write(&mut experiment)?;
+    report.into_report(&experiment.counters())
 }
 
 /// The reports of experiments that run by themselves, one after the other. `AllocError` where memory was refused.

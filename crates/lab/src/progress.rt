@@ -1,12 +1,15 @@
 //! Who is told how far a run is.
 
+ghost use Rattle.std.specs.Prelude.{◌≤◌};
+
 /// Is told how far a run is. Nothing that is written depends on it.
 pub trait Progress {
     /// So many experiments of so many have ended.
     fn ended(&self, ended: u64, total: u64);
 
     /// The experiment that runs by itself has made so many steps, of so many at most. Called each 65536 steps.
-    fn stepped(&self, steps: u64, most: u64);
+    fn stepped(&self, steps: u64, most: u64)
+        requires { steps ≤ most };
 }
 
 /// Nobody.

@@ -59,7 +59,7 @@ admit_in w n i d p Still home sh h within found is k =
     record { world = subst IsWorld (sym same) h; admission = (same, inr (inr k.2)) }
 admit_in w n i d p NoMemory home sh h within found is k =
     let same = unchanged w n i d home sh found (k.0 ∙ sym is) k.1 in
-    record { world = subst IsWorld (sym same) h; admission = same }
+    record { world = subst IsWorld (sym same) h; admission = (same, within, (d, p, found, is), k.2) }
 
 pub record AfterBringing (w v : Places) (i from : ℕ) (did : Did) : Type 0 where
   pub world : IsWorld v
@@ -98,7 +98,7 @@ bring_in w n i from names d p NoMemory home sh h within deep front found is k =
     let s : Tenant = tenant_with d (InDeque from) (Standing p) in
     let v : Places = record { desks = set w.desks n (at_home d (Handed p)); shards = w.shards; deques = set w.deques from names } in
     let b : Brings from w v n HandedOut s names = record { queued = refl; changed = o.changed; front = front; deques = refl } in
-    let done : AfterBringing w v i from NoMemory = record { world = o.world; bringing = (n, s, names, b, refl) } in
+    let done : AfterBringing w v i from NoMemory = record { world = o.world; bringing = (n, s, names, b, refl, within, k.2) } in
     let same : set w.shards i sh ≡ w.shards = set_same w.shards i sh (record { seats = []; clock = 0 }) k.1 in
     let all : v ≡ moved_world w n (at_home d home) i sh (set w.deques from names) = λ x. record { desks = set w.desks n (at_home d (sym k.0 x)); shards = sym same x; deques = set w.deques from names } in
     subst (λ x. AfterBringing w x i from NoMemory) all done

@@ -1,6 +1,6 @@
 -- One step of a world, by cases: which name changed and how, and that nothing else did.
 use Rattle.std.specs.Prelude.{◌≡◌, ◌≢◌, ℕ, ◌^◌, ◌<◌, ◌≤◌, ◌⊎◌, false, Some, None, IsSome}
-use Rattle.std.specs.Prelude.{List, [], ◌∷◌, ◌++◌, length, slice_set}
+use Rattle.std.specs.Prelude.{List, [], ◌∷◌, ◌++◌, length, slice_set, slice_get}
 use Rattle.emu_model.specs.declared.commands.Spec.{Spec}
 use Rattle.emu_model.specs.declared.commands.Timed.{Timed}
 use Rattle.emu_model.specs.declared.records.Record.{Record}
@@ -107,13 +107,17 @@ IsRead n Still old new =
     (new ≡ old) × ((s : Tenant) → tenant_at old n ≡ Some s → (shown s.life).mail.unread ≡ [])
 IsRead n NoMemory old new = ⊥
 
+-- a slot is free
+abbrev pub HasVacancy : Seating MailBook → Type 0
+HasVacancy sh = (k : ℕ) × (k < 256) × (seat_at sh.seats k ≡ None)
+
 -- a parcel came to a shard's least vacant slot, or stays in the caller's hands: no slot is vacant, or memory was
 -- refused
 abbrev pub Houses : Stand MailBook → ℕ → Did → Home → Seating MailBook → Seating MailBook → Type 0
 Houses p i Done home old new = (slot : ℕ) × (s : Seat MailBook) × TakenIn p old new slot s × (home ≡ Seated i slot)
 Houses p i Still home old new =
     (home ≡ Handed p) × (new ≡ old) × ((k : ℕ) → k < 256 → IsSome (seat_at old.seats k))
-Houses p i NoMemory home old new = (home ≡ Handed p) × (new ≡ old)
+Houses p i NoMemory home old new = (home ≡ Handed p) × (new ≡ old) × HasVacancy old
 
 -- one that was handed out is resident
 pub record Admits (i : ℕ) (old new : Places) (n slot : ℕ) (s : Tenant)
@@ -136,7 +140,10 @@ IsAdmission n i Done old new =
     (slot : ℕ) × (s : Tenant) × (sh : Seating MailBook) × (p : Stand MailBook) × (seat : Seat MailBook)
     × Admits i old new n slot s sh p seat
 IsAdmission n i Still old new = (new ≡ old) × IsNotAdmitted n i old
-IsAdmission n i NoMemory old new = new ≡ old
+IsAdmission n i NoMemory old new =
+    (new ≡ old) × (i < length old.shards)
+    × ((d : Desk) × (p : Stand MailBook) × (slice_get old.desks n ≡ Some d) × (d.home ≡ Handed p))
+    × HasVacancy (shard_at old.shards i)
 
 -- a resident went to the back of its shard's deque, or is handed out where that is refused
 pub record Offers (i slot : ℕ) (old new : Places) (n : ℕ) (place : Place) (s : Tenant)
@@ -183,6 +190,7 @@ IsBringing i from Still old new =
     (new ≡ old) × ((length old.shards ≤ i) ⊎ (deque_at old.deques from ≡ []))
 IsBringing i from NoMemory old new =
     (n : ℕ) × (s : Tenant) × (names : List ℕ) × Brings from old new n HandedOut s names × (new.shards ≡ old.shards)
+    × (i < length old.shards) × HasVacancy (shard_at old.shards i)
 
 -- a resident made a step
 pub record Steps (i : ℕ) (old new : Places) (n slot : ℕ) (s : Tenant) (a b : Stand MailBook) : Type 0 where

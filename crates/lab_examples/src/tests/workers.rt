@@ -206,3 +206,27 @@ fn refused_together(rt: HostRuntime) -> Result<(), Fail> {
     assert!(rt; written.as_slice() == texts::FOUR_EXPERIMENTS_REPORT.as_bytes());
     Ok(())
 }
+
+/// A gate that says no to the turns of bench 0 alone.
+#[derive(Clone, Copy)]
+struct HalfShut;
+
+impl Gate for HalfShut {
+    ghost use Rattle.std.specs.Prelude.{true};
+
+    ghost may_refuse = { true };
+
+    fn ran(&self, bench: u32, _name: u32) -> bool {
+        bench != 0
+    }
+}
+
+/// A fault of one worker has the others leave off.
+#[test]
+fn gate_says_no_to_one(rt: HostRuntime) -> Result<(), Fail> {
+    let plan = Plan::new(2, 0).ok_or("a plan")?;
+    let (outcome, written) = ran(&rt, rt.alloc(), texts::FOUR_EXPERIMENTS, plan, &HalfShut);
+    assert!(rt; written.is_empty());
+    assert!(rt; outcome == Err(RunFault::Gate));
+    Ok(())
+}

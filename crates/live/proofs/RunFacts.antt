@@ -1,0 +1,156 @@
+-- What was told of an experiment whose commands come one by one.
+use Rattle.std.proofs.Common.{◌≡◌, ℕ, ◌≤◌, List, [], ◌∷◌, ◌++◌, None, refl, sym, ap, ◌∙◌, subst, append_assoc, append-nil, arith}
+use Rattle.std.specs.Prelude.{flat_map}
+use Rattle.std.proofs.lemmas.List.Concat.{flat_map-append}
+use Rattle.emu_model.specs.declared.commands.Timed.{Timed}
+use Rattle.emu_model.specs.declared.records.Record.{Record}
+use Rattle.emu_model.specs.Step.{State}
+use Rattle.emu_model.specs.RunLaws.{PacketsAddUp}
+use Rattle.session_laws.specs.Waits.{IsAloneUntil, WaitsBegin}
+use Rattle.packet_store.specs.Pocket.{Pocket}
+use Rattle.packet_store.specs.Own.{Own, own_pocket}
+use Rattle.experiment.specs.Kept.{KeptExperiment, IsHousedIn, IsWaiting, IsAloneAfter, last_moment}
+use Rattle.report.specs.Lines.{line_of}
+use Rattle.report_writer.specs.Written.{Written, Counts, CanWrite}
+use Rattle.report_writer.proofs.CallerLemmas.{adds_alone, adds_waiting}
+use Rattle.live.specs.Runs.{KeptRun, IsAt, IsAfter, Goes, Takes, Forgets}
+
+-- the counts alone matter
+pub can_write_same : (t u : Written) (e : KeptExperiment) → u ≡ record t { text = u.text } → CanWrite t e → CanWrite u e
+can_write_same t u e same h = record {
+  pocket = h.pocket;
+  housed = h.housed;
+  earlier = h.earlier;
+  counts = record {
+    delivered = ap (λ (w : Written). w.delivered) same ∙ h.counts.delivered;
+    drops = ap (λ (w : Written). w.drops) same ∙ h.counts.drops;
+  };
+  adds = h.adds;
+}
+
+pub can_write_at : PacketsAddUp → (t : ℕ) (earlier : List Record) (r : KeptRun) → IsAt t earlier r → CanWrite r.report r.experiment
+can_write_at law t earlier r h = record {
+  pocket = own_pocket r.shelf;
+  housed = h.housed;
+  earlier = earlier;
+  counts = h.counts;
+  adds = adds_waiting law t earlier (own_pocket r.shelf) r.experiment h.waits;
+}
+
+-- one without a next command waits for any
+pub waiting_begins : WaitsBegin → (t : ℕ) (rs : List Record) (p : Pocket) (e : KeptExperiment) → e.next ≡ None → IsAloneAfter rs p e → IsWaiting t rs p e
+waiting_begins law t rs p e none after = record {
+  none = none;
+  alone = subst (λ (s : State). IsAloneUntil t e.spec e.consumed s) (sym after)
+      (law e.spec e.consumed e.steps t (ap (λ (s : State). s.steps) (sym after)));
+}
+
+-- what was recorded since is told too
+pub goes-written : (t u : ℕ) (was old new : KeptRun) → Goes t u was old → Forgets old new → Goes t u was new
+goes-written t u was old new g f = record {
+  spec = ap (λ (e : KeptExperiment). e.spec) f.experiment ∙ g.spec;
+  consumed = ap (λ (e : KeptExperiment). e.consumed) f.experiment ∙ g.consumed;
+  shows = f.shows ∙ g.shows;
+  tells = λ earlier at.
+      let h = g.tells earlier at in
+      let more : List Record = h.0 in
+      let rs : List Record = old.experiment.net.log.records in
+      let all : (earlier ++ more) ++ rs ≡ earlier ++ (more ++ rs) = append_assoc earlier more rs in (
+        more ++ rs,
+        record {
+          housed = subst (λ (s : Own). IsHousedIn (own_pocket s) new.experiment) (sym f.shelf) (f.housed (own_pocket old.shelf) h.1.housed);
+          counts = subst (λ (l : List Record). Counts l new.report) all (f.counts (earlier ++ more) h.1.counts);
+          waits = subst (λ (l : List Record). IsWaiting u l (own_pocket new.shelf) new.experiment) all
+              (subst (λ (s : Own). IsWaiting u ((earlier ++ more) ++ rs) (own_pocket s) new.experiment) (sym f.shelf)
+              (f.waits u (earlier ++ more) (own_pocket old.shelf) h.1.waits));
+          latest = subst (λ (l : List Timed). last_moment 0 l ≤ u) (sym (ap (λ (e : KeptExperiment). e.consumed) f.experiment)) h.1.latest;
+        },
+        λ shows.
+            f.tells (g.shows ∙ shows) ∙ ap (λ (l : List ℕ). l ++ flat_map line_of rs) (h.2 shows)
+            ∙ append_assoc was.report.text (flat_map line_of more) (flat_map line_of rs)
+            ∙ ap (λ (l : List ℕ). was.report.text ++ l) (sym (flat_map-append line_of more rs)),
+      );
+}
+
+-- nothing is told of an event yet
+pub goes-event : (t u v : ℕ) (was old new : KeptRun) → Goes t u was old → u ≤ v →
+    new.report ≡ old.report → new.shows_all ≡ old.shows_all → new.experiment.spec ≡ old.experiment.spec →
+    new.experiment.consumed ≡ old.experiment.consumed → IsHousedIn (own_pocket new.shelf) new.experiment →
+    ((earlier : List Record) → IsWaiting u earlier (own_pocket old.shelf) old.experiment → IsWaiting v earlier (own_pocket new.shelf) new.experiment) →
+    Goes t v was new
+goes-event t u v was old new g up report shows spec consumed housed waits = record {
+  spec = spec ∙ g.spec;
+  consumed = consumed ∙ g.consumed;
+  shows = shows ∙ g.shows;
+  tells = λ earlier at.
+      let h = g.tells earlier at in (
+        h.0,
+        record {
+          housed = housed;
+          counts = subst (λ (w : Written). Counts (earlier ++ h.0) w) (sym report) h.1.counts;
+          waits = waits (earlier ++ h.0) h.1.waits;
+          latest = let same = ap (last_moment 0) consumed in omega (arith, h.1.latest, up, same);
+        },
+        λ all. ap (λ (w : Written). w.text) report ∙ h.2 all,
+      );
+}
+
+-- nothing happened
+pub goes-nowhere : (t : ℕ) (r : KeptRun) → Goes t t r r
+goes-nowhere t r = record {
+  spec = refl;
+  consumed = refl;
+  shows = refl;
+  tells = λ earlier at. ([], subst (λ (l : List Record). IsAt t l r) (sym (append-nil earlier)) at, λ all. sym (append-nil r.report.text));
+}
+
+-- where it stands after that
+pub stands : (t u : ℕ) (old new : KeptRun) → ((earlier : List Record) × IsAt t earlier old) → Goes t u old new →
+    (earlier : List Record) × IsAt u earlier new
+stands t u old new at g = let h = g.tells at.0 at.1 in (at.0 ++ h.0, h.1)
+
+last-push : (m : ℕ) (cs : List Timed) (c : Timed) → last_moment m (cs ++ c ∷ []) ≡ c.moment
+last-push m [] c = refl
+last-push m (d ∷ cs) c = last-push d.moment cs c
+
+-- what was recorded since a command is told too, and the experiment waits again, where it goes on
+pub takes-written : PacketsAddUp → WaitsBegin → (c : Timed) (was old new : KeptRun) → old.experiment.spec ≡ was.experiment.spec →
+    old.experiment.consumed ≡ was.experiment.consumed ++ c ∷ [] → old.shows_all ≡ was.shows_all → old.report ≡ was.report →
+    ((t : ℕ) (earlier : List Record) → IsAt t earlier was → t ≤ c.moment → IsAfter earlier old) →
+    (old.experiment.ending ≡ None → old.experiment.next ≡ None) → Forgets old new → Takes c was new
+takes-written law begins c was old new spec consumed shows report after rests f =
+    let rs : List Record = old.experiment.net.log.records in
+    let came : new.experiment.consumed ≡ was.experiment.consumed ++ c ∷ [] = ap (λ (e : KeptExperiment). e.consumed) f.experiment ∙ consumed in
+    record {
+      spec = ap (λ (e : KeptExperiment). e.spec) f.experiment ∙ spec;
+      consumed = came;
+      shows = f.shows ∙ shows;
+      tells = λ t earlier at up.
+          let h : IsAfter earlier old = after t earlier at up in
+          let now : IsAfter (earlier ++ rs) new = record {
+            housed = subst (λ (s : Own). IsHousedIn (own_pocket s) new.experiment) (sym f.shelf) (f.housed (own_pocket old.shelf) h.housed);
+            counts = f.counts earlier h.counts;
+            alone = subst (λ (s : Own). IsAloneAfter (earlier ++ rs) (own_pocket s) new.experiment) (sym f.shelf)
+                (f.after earlier (own_pocket old.shelf) h.alone);
+          } in (
+            rs,
+            now,
+            λ all. f.tells (shows ∙ all) ∙ ap (λ (w : Written). w.text ++ flat_map line_of rs) report,
+            λ going. record {
+              housed = now.housed;
+              counts = now.counts;
+              waits = waiting_begins begins c.moment (earlier ++ rs) (own_pocket new.shelf) new.experiment
+                  (ap (λ (e : KeptExperiment). e.next) f.experiment ∙ rests (sym (ap (λ (e : KeptExperiment). e.ending) f.experiment) ∙ going)) now.alone;
+              latest = let same = ap (last_moment 0) came ∙ last-push 0 was.experiment.consumed c in omega (arith, same);
+            },
+          );
+    }
+
+pub can_write_after : PacketsAddUp → (earlier : List Record) (r : KeptRun) → IsAfter earlier r → CanWrite r.report r.experiment
+can_write_after law earlier r h = record {
+  pocket = own_pocket r.shelf;
+  housed = h.housed;
+  earlier = earlier;
+  counts = h.counts;
+  adds = adds_alone law earlier (own_pocket r.shelf) r.experiment h.alone;
+}

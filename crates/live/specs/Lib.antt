@@ -1,0 +1,5 @@
+pub mod Runs
+pub mod Lines
+pub mod Requests
+pub mod Opens
+pub mod RunLaws

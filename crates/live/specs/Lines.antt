@@ -1,0 +1,31 @@
+-- The lines that answer (our choice).
+use Rattle.std.specs.Prelude.{ℕ, List, ◌++◌, codes, decimal, Some, None}
+use Rattle.control.specs.declared.fault.Cause.{Cause}
+use Rattle.control.specs.declared.fault.Cause.TheVariants as causes
+use Rattle.live.specs.declared.answer.Answer.{Answer}
+use Rattle.live.specs.declared.answer.Answer.TheVariants as answers
+
+-- the word of a cause, as in a fault of a scenario
+abbrev pub cause_word : Cause → List ℕ
+cause_word causes.TooBig = codes "toobig"
+cause_word causes.Cut = codes "cut"
+cause_word causes.TooLong = codes "toolong"
+cause_word causes.BadByte = codes "badbyte"
+cause_word causes.BadWord = codes "badword"
+cause_word causes.OutOfRange = codes "outofrange"
+cause_word causes.NoEnd = codes "noend"
+cause_word causes.TooMany = codes "toomany"
+cause_word causes.SameName = codes "samename"
+cause_word causes.NoExperiment = codes "noexperiment"
+cause_word causes.AfterEnd = codes "afterend"
+cause_word causes.Backwards = codes "backwards"
+
+abbrev pub answer_line : Answer → List ℕ
+answer_line answers.Done = codes "#< ok\n"
+answer_line (answers.Packet n) = codes "#< packet " ++ decimal n ++ codes "\n"
+answer_line (answers.Refused n) = codes "#< refused " ++ decimal n ++ codes "\n"
+answer_line (answers.Now n) = codes "#< now " ++ decimal n ++ codes "\n"
+answer_line (answers.Next (Some n)) = codes "#< next " ++ decimal n ++ codes "\n"
+answer_line (answers.Next None) = codes "#< next none\n"
+answer_line (answers.Over n) = codes "#< over " ++ decimal n ++ codes "\n"
+answer_line (answers.Fault c) = codes "#< fault " ++ cause_word c ++ codes "\n"

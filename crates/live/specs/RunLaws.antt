@@ -1,0 +1,33 @@
+-- What a session tells of an experiment that has ended (our choice).
+use Rattle.std.specs.Prelude.{◌≡◌, ℕ, ◌≤◌, IsSome, List, [], ◌∷◌, ◌++◌, flat_map}
+use Rattle.emu_model.specs.declared.commands.Spec.{Spec}
+use Rattle.emu_model.specs.declared.commands.Timed.{Timed}
+use Rattle.emu_model.specs.declared.records.Record.{Record}
+use Rattle.emu_model.specs.Alone.{Trace, alone, trace_of}
+use Rattle.experiment.specs.Kept.{shown_ending}
+use Rattle.report.specs.Lines.{heading_of, line_of, report_of}
+use Rattle.live.specs.Runs.{KeptRun, IsAt, IsAfter, closing_of}
+
+-- the report of an experiment that runs by itself on these commands
+abbrev pub report_of_commands : List ℕ → Spec → List Timed → List ℕ
+report_of_commands name spec commands =
+    let t : Trace = trace_of (alone spec commands spec.budget.steps) in report_of name t.records t.counters
+
+-- all that a session tells of a run: its name, what happened, and its counters
+abbrev pub told_of : List ℕ → List Record → KeptRun → List ℕ
+told_of name earlier r = heading_of name ++ flat_map line_of earlier ++ closing_of r
+
+pub record IsDone (r : KeptRun) : Type 0 where
+  pub ended : IsSome (shown_ending r.experiment.ending)
+  pub told : r.experiment.net.log.records ≡ []
+  pub few : r.experiment.steps ≤ r.experiment.spec.budget.steps
+
+-- where a command was its last step, that is the report of running alone the commands that came and whatever comes after
+abbrev pub EndedRunsAreReports : Type 0
+EndedRunsAreReports = (name : List ℕ) (earlier : List Record) (r : KeptRun) (rest : List Timed) → IsAfter earlier r → IsDone r →
+    told_of name earlier r ≡ report_of_commands name r.experiment.spec (r.experiment.consumed ++ rest)
+
+-- and where it ended while time passed, that of the commands that came and any that come at that moment or later
+abbrev pub SpentRunsAreReports : Type 0
+SpentRunsAreReports = (name : List ℕ) (t : ℕ) (earlier : List Record) (r : KeptRun) (c : Timed) (rest : List Timed) → IsAt t earlier r → IsDone r →
+    t ≤ c.moment → told_of name earlier r ≡ report_of_commands name r.experiment.spec (r.experiment.consumed ++ c ∷ rest)

@@ -1,0 +1,82 @@
+-- An experiment whose commands come one by one, and what was written of it (our choice).
+use Rattle.std.specs.Prelude.{◌≡◌, ℕ, ◌*◌, ◌^◌, ◌≤◌, Bool, true, None, List, [], ◌∷◌, ◌++◌, flat_map}
+use Rattle.emu_model.specs.declared.commands.Timed.{Timed}
+use Rattle.emu_model.specs.declared.records.Record.{Record}
+use Rattle.packet_store.specs.Pocket.{Pocket}
+use Rattle.packet_store.specs.Own.{Own, own_pocket}
+use Rattle.experiment.specs.Kept.{KeptExperiment, view, IsHousedIn, IsWaiting, IsAloneAfter, last_moment}
+use Rattle.report.specs.Lines.{line_of}
+use Rattle.report.specs.Lines as lines
+use Rattle.emu_model.specs.Net.{counters_of}
+use Rattle.emu_model.specs.Dues.{dues_of, least_due}
+use Rattle.emu_model.specs.Step.{State}
+use Rattle.report_writer.specs.Written.{Written, Counts}
+
+-- the experiment over its own packets, what was written and not yet handed out, and whether all records are written
+pub record KeptRun : Type 0 where
+  pub experiment : KeptExperiment
+  pub shelf : Own
+  pub report : Written
+  pub shows_all : Bool
+
+-- these records were told; time has come to a moment, and whatever comes then or later finds the experiment as running
+-- it alone has it
+pub record IsAt (t : ℕ) (earlier : List Record) (r : KeptRun) : Type 0 where
+  pub housed : IsHousedIn (own_pocket r.shelf) r.experiment
+  pub counts : Counts earlier r.report
+  pub waits : IsWaiting t earlier (own_pocket r.shelf) r.experiment
+  pub latest : last_moment 0 r.experiment.consumed ≤ t
+
+-- the same of one whose commands were taken
+pub record IsAfter (earlier : List Record) (r : KeptRun) : Type 0 where
+  pub housed : IsHousedIn (own_pocket r.shelf) r.experiment
+  pub counts : Counts earlier r.report
+  pub alone : IsAloneAfter earlier (own_pocket r.shelf) r.experiment
+
+-- what is written of records, where all are
+abbrev pub Tells : List Record → KeptRun → KeptRun → Type 0
+Tells more old new = old.shows_all ≡ true → new.report.text ≡ old.report.text ++ flat_map line_of more
+
+-- from one moment to another: what happened was told, and no command came
+pub record Goes (t u : ℕ) (old new : KeptRun) : Type 0 where
+  pub spec : new.experiment.spec ≡ old.experiment.spec
+  pub consumed : new.experiment.consumed ≡ old.experiment.consumed
+  pub shows : new.shows_all ≡ old.shows_all
+  pub tells : (earlier : List Record) → IsAt t earlier old →
+      (more : List Record) × IsAt u (earlier ++ more) new × Tells more old new
+
+-- what was recorded was told, and is forgotten
+pub record Forgets (old new : KeptRun) : Type 0 where
+  pub experiment : new.experiment ≡ record old.experiment { net = record old.experiment.net { log = new.experiment.net.log } }
+  pub records : new.experiment.net.log.records ≡ []
+  pub shelf : new.shelf ≡ old.shelf
+  pub shows : new.shows_all ≡ old.shows_all
+  pub tells : Tells old.experiment.net.log.records old new
+  pub counts : (rs : List Record) → Counts rs old.report → Counts (rs ++ old.experiment.net.log.records) new.report
+  pub housed : (p : Pocket) → IsHousedIn p old.experiment → IsHousedIn p new.experiment
+  pub after : (earlier : List Record) (p : Pocket) → IsAloneAfter earlier p old.experiment →
+      IsAloneAfter (earlier ++ old.experiment.net.log.records) p new.experiment
+  pub waits : (t : ℕ) (earlier : List Record) (p : Pocket) → IsWaiting t earlier p old.experiment →
+      IsWaiting t (earlier ++ old.experiment.net.log.records) p new.experiment
+
+-- a command came and was done or refused, and what happened was told
+pub record Takes (c : Timed) (old new : KeptRun) : Type 0 where
+  pub spec : new.experiment.spec ≡ old.experiment.spec
+  pub consumed : new.experiment.consumed ≡ old.experiment.consumed ++ c ∷ []
+  pub shows : new.shows_all ≡ old.shows_all
+  pub tells : (t : ℕ) (earlier : List Record) → IsAt t earlier old → t ≤ c.moment →
+      (more : List Record) × IsAfter (earlier ++ more) new × Tells more old new
+      × (new.experiment.ending ≡ None → IsAt c.moment (earlier ++ more) new)
+
+-- the line of the counters
+abbrev pub closing_of : KeptRun → List ℕ
+closing_of r = lines.counters_of (record (counters_of (view (own_pocket r.shelf) r.experiment).net) {
+  delivered = r.report.delivered;
+  drops = r.report.drops;
+})
+
+-- when the event is due that is due first; every due lies below 2 * 10^15 ns
+abbrev pub first_moment : KeptRun → ℕ
+first_moment r =
+    let s : State = view (own_pocket r.shelf) r.experiment in
+    (least_due (2 * 10 ^ 15) (dues_of s.clock s.net)).moment

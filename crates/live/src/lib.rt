@@ -1,0 +1,16 @@
+//! Sessions: experiments whose commands come line by line, while an outside program reacts to what they record (our
+//! choice).
+#![tactic(auto)]
+
+mod answer;
+mod marks;
+mod open;
+mod request;
+mod run;
+mod run_laws;
+mod session;
+
+pub use answer::{Answer, put_answer};
+pub use run::{Run, Stop, Taken};
+pub use run_laws::{ended_runs_are_reports, spent_runs_are_reports};
+pub use session::Session;

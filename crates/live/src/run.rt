@@ -1,0 +1,374 @@
+//! An experiment whose commands come one by one: time passes as far as it is asked to, and what happens is written.
+
+ghost use Rattle.std.specs.Prelude.{◌≡◌, ℕ, ◌+◌, ◌*◌, ◌^◌, ◌≤◌, ◌++◌, [], List, None, IfOk, IfSome, OnOk, OnErr, true};
+ghost use Rattle.emu_model.specs.declared.records.Record.{Record};
+ghost use Rattle.report.specs.Lines.{heading_of};
+ghost use Rattle.report_writer.specs.Written.{CanWrite};
+ghost use Rattle.live.specs.Runs.{KeptRun, IsAt, Forgets, Goes, Takes, closing_of, first_moment};
+ghost use Rattle.packet_store.specs.Own.{own_pocket};
+ghost use Rattle.session_laws.specs.Waits.{IsSettled};
+ghost use Rattle.experiment.specs.Kept.{view, IsHousedIn, IsAloneAfter};
+ghost use Rattle.experiment.specs.declared.experiment.Event.TheVariants.{Ran};
+
+use crate::marks::Marks;
+use emu_model::{Command, Ending, Load, Record, Spec, Timed, packets_add_up};
+use experiment::{ApplyError, Event, Experiment};
+use packet_store::OwnShelf;
+use report_writer::ReportWriter;
+use session_laws::waits_begin;
+use std::alloc::{AllocError, Global};
+use std::marker::Model;
+
+/// So many records are written together.
+const BATCH: usize = 256;
+
+/// Where time stops on its way to a moment.
+#[derive(Clone, Copy, PartialEq)]
+pub enum Stop {
+    /// At that moment alone.
+    Moment,
+    /// So long (ns, 1 at least) after the first delivery or drop of an injected packet.
+    Mine(u64),
+    /// So long (ns, 1 at least) after the first delivery or drop of any packet.
+    Any(u64),
+}
+
+/// What became of a command.
+#[derive(Clone, Copy, PartialEq)]
+pub enum Taken {
+    /// It was done.
+    Done,
+    /// It was done, and made the packet with this serial number.
+    Packet(u64),
+    /// It was refused, with this code.
+    Refused(u64),
+}
+
+/// An experiment with its packets, and the lines that were written of it and not yet handed out.
+#[derive(Drop)]
+pub struct Run {
+    experiment: Experiment,
+    shelf: OwnShelf,
+    report: ReportWriter,
+    shows_all: bool,
+    // The packets that were injected.
+    mine: Marks,
+}
+
+impl Model for Run {
+    ghost use Rattle.live.specs.Runs.{KeptRun};
+
+    ghost Value = { KeptRun };
+
+    ghost view = { λ r. record {
+      experiment = r.experiment;
+      shelf = r.shelf;
+      report = r.report;
+      shows_all = r.shows_all;
+    } };
+}
+
+// Whether a record says that a packet, without a load, was delivered or dropped, and which.
+fn plain_fate(line: &Record) -> Option<u64> {
+    match line {
+        Record::PacketDelivered {
+            packet,
+            load: Load::Plain,
+            ..
+        } => Some(*packet),
+        Record::PacketDropped {
+            packet,
+            load: Load::Plain,
+            ..
+        } => Some(*packet),
+        _ => None,
+    }
+}
+
+// Whether a record says that a packet was delivered or dropped.
+fn is_fate(line: &Record) -> bool {
+    match line {
+        Record::PacketDelivered { .. } | Record::PacketDropped { .. } => true,
+        _ => false,
+    }
+}
+
+// Whether it says so of an injected packet.
+fn is_fate_of(mine: &Marks, line: &Record) -> bool {
+    match plain_fate(line) {
+        Some(packet) => mine.has(packet),
+        None => false,
+    }
+}
+
+// Whether a record is told to one who asked for what concerns the injected packets alone: their deliveries and drops,
+// refusals, listings, and that the steps are spent.
+fn concerns(mine: &Marks, line: &Record) -> bool {
+    match line {
+        Record::PacketDelivered { .. } | Record::PacketDropped { .. } => is_fate_of(mine, line),
+        Record::CommandRefused { .. }
+        | Record::StepsSpent { .. }
+        | Record::RuleLine { .. }
+        | Record::PipeLine { .. }
+        | Record::InstanceLine { .. } => true,
+        _ => false,
+    }
+}
+
+// How long after its moment (ns) a record stops time, if it does.
+fn hold_of(mine: &Marks, line: &Record, stop: Stop) -> Option<u64> {
+    match stop {
+        Stop::Moment => None,
+        Stop::Mine(hold) => is_fate_of(mine, line).then_some(hold),
+        Stop::Any(hold) => is_fate(line).then_some(hold),
+    }
+}
+
+// The same of the first of some records that does.
+fn first_hold(mine: &Marks, records: &[Record], stop: Stop) -> Option<u64> {
+    for line in records {
+        let hold = hold_of(mine, line, stop);
+        if hold.is_some() {
+            return hold;
+        }
+    }
+    None
+}
+
+// Appends the lines of the records that concern injected packets.
+fn put_chosen(report: &mut ReportWriter, mine: &Marks, records: &[Record]) -> Result<(), AllocError>
+    ensures { OnOk result (report.new ≡ record report.old { text = report.new.text }) }
+{
+    for line in records {
+        if concerns(mine, line) {
+            report.put(line)?;
+        }
+    }
+    Ok(())
+}
+
+// Marks the packet that a command injects, if it does.
+fn mark_injected(mine: &mut Marks, command: &Command, number: u64) -> Result<(), AllocError> {
+    match command {
+        Command::Inject(_) => mine.mark(number),
+        _ => Ok(()),
+    }
+}
+
+// Events are made until the command that came is done, or the experiment has ended.
+fn obey(experiment: &mut Experiment, shelf: &mut OwnShelf) -> Result<(), AllocError>
+    requires { IsHousedIn (own_pocket shelf.old) experiment.old }
+    ensures housed { OnOk result (IsHousedIn (own_pocket shelf.new) experiment.new) }
+    ensures after { OnOk result ((earlier : List Record) →
+        IsAloneAfter earlier (own_pocket shelf.old) experiment.old →
+        IsAloneAfter earlier (own_pocket shelf.new) experiment.new) }
+    ensures spec { OnOk result (experiment.new.spec ≡ experiment.old.spec) }
+    ensures consumed { OnOk result (experiment.new.consumed ≡ experiment.old.consumed) }
+    ensures done { OnOk result (experiment.new.ending ≡ None → experiment.new.next ≡ None) }
+{
+    loop {
+        match experiment.event(shelf, 0) {
+            Event::Ran => {}
+            Event::Halted => return Err(AllocError),
+            Event::Ended => return Ok(()),
+            Event::Still => return Ok(()),
+        }
+        if !experiment.has_next() {
+            return Ok(());
+        }
+    }
+}
+
+impl Run {
+    /// An experiment to which no command came, and the line of its name.
+    pub fn new(alloc: Global, name: &[u8], spec: Spec) -> Result<Self, AllocError>
+        ensures at { IfOk result (λ r. IsAt 0 [] r) }
+        ensures given { IfOk result
+            (λ r. (r.experiment.spec ≡ spec) × (r.experiment.consumed ≡ [])
+            × (r.experiment.ending ≡ None) × (r.shows_all ≡ true)
+            × (r.report.text ≡ heading_of name.now)) }
+    {
+        waits_begin();
+        Ok(Run {
+            experiment: Experiment::new(alloc, spec)?,
+            shelf: OwnShelf::new(alloc, spec.budget.packets),
+            report: ReportWriter::new(alloc, name)?,
+            shows_all: true,
+            mine: Marks::new(alloc),
+        })
+    }
+
+    /// How it ended, if it has.
+    pub fn ending(&self) -> Option<Ending>
+        ensures { result ≡ self.now.experiment.ending }
+    {
+        self.experiment.ending()
+    }
+
+    /// Whether all records are told from now on, or those alone that concern injected packets.
+    pub fn show(&mut self, all: bool)
+        ensures { self.new ≡ record self.old { shows_all = all } }
+    {
+        self.shows_all = all;
+    }
+
+    // Writes what was recorded, which is then forgotten.
+    #[tactic(auto, using(crate::proofs::RunFacts::can_write_same))]
+    fn write(&mut self) -> Result<(), AllocError>
+        requires { CanWrite self.old.report self.old.experiment }
+        ensures { OnOk result (Forgets self.old self.new) }
+    {
+        if self.experiment.records().is_empty() {
+            return Ok(());
+        }
+        if self.shows_all {
+            self.report.write(&mut self.experiment)?;
+            return Ok(());
+        }
+        put_chosen(&mut self.report, &self.mine, self.experiment.records())?;
+        self.report.count(&mut self.experiment);
+        Ok(())
+    }
+
+    // Writes what was recorded, once there is a batch of it.
+    fn write_batch(&mut self) -> Result<(), AllocError>
+        requires { CanWrite self.old.report self.old.experiment }
+        ensures goes { OnOk result ((t u : ℕ) (was : KeptRun) → Goes t u was self.old →
+            Goes t u was self.new) }
+        ensures steps { OnOk result ((self.new.experiment.steps ≡ self.old.experiment.steps)
+            × (self.new.experiment.spec ≡ self.old.experiment.spec)) }
+    {
+        if self.experiment.records().len() < BATCH {
+            return Ok(());
+        }
+        self.write()
+    }
+
+    // What is due first below a moment happens. Answers that moment where nothing is, and else one past the event: to it
+    // time has come.
+    fn next_before(&mut self, reached: u64, limit: u64) -> Result<(Event, u64), AllocError>
+        requires at { (earlier : List Record) × IsAt reached earlier self.old }
+        requires on { reached ≤ limit }
+        requires early { limit ≤ 10 ^ 15 }
+        ensures between { IfOk result (λ r. (reached ≤ r.1) × (r.1 ≤ limit)) }
+        ensures goes { IfOk result (λ r. (t : ℕ) (was : KeptRun) → Goes t reached was self.old →
+            Goes t r.1 was self.new) }
+        ensures runs { IfOk result (λ r. r.0 ≡ Ran →
+            (self.new.experiment.steps ≡ self.old.experiment.steps + 1)
+            × (self.new.experiment.steps ≤ self.new.experiment.spec.budget.steps)
+            × (self.new.experiment.spec ≡ self.old.experiment.spec)) }
+    {
+        let event = self.experiment.event_before(&mut self.shelf, 0, limit);
+        match event {
+            Event::Halted => Err(AllocError),
+            Event::Still => Ok((event, limit)),
+            Event::Ran => Ok((event, reached.max(self.experiment.clock() + 1))),
+            Event::Ended => Ok((event, reached.max(self.experiment.clock() + 1))),
+        }
+    }
+
+    // How long after the last event time is to stop, if one of the records from a place on stops it.
+    fn hold_since(&self, seen: usize, stop: Stop) -> Option<u64> {
+        let fresh = self.experiment.records().get(seen..)?;
+        first_hold(&self.mine, fresh, stop)
+    }
+
+    /// Time passes from one moment to another (ns), or until `stop`: what is due below the latter happens, one after the
+    /// other. Answers the moment to which time has come. `AllocError` where memory was refused.
+    pub fn pass(&mut self, from: u64, limit: u64, stop: Stop) -> Result<u64, AllocError>
+        requires at { (earlier : List Record) × IsAt from earlier self.old }
+        requires on { from ≤ limit }
+        requires early { limit ≤ 10 ^ 15 }
+        ensures between { IfOk result (λ u. (from ≤ u) × (u ≤ limit)) }
+        ensures goes { IfOk result (λ u. Goes from u self.old self.new) }
+    {
+        packets_add_up();
+        let mut reached = from;
+        let mut last = limit;
+        let mut stop = stop;
+        loop {
+            self.write_batch()?;
+            let seen = self.experiment.records().len();
+            let (event, now) = self.next_before(reached, last)?;
+            reached = now;
+            match event {
+                Event::Ran => {}
+                _ => break,
+            }
+            if let Some(hold) = self.hold_since(seen, stop) {
+                let after = self.experiment.clock().saturating_add(hold);
+                last = last.min(reached.max(after));
+                stop = Stop::Moment;
+            }
+        }
+        self.write()?;
+        Ok(reached)
+    }
+
+    // What became of a command, by what was recorded since.
+    fn outcome(&self, command: &Command, number: u64) -> Taken {
+        if let Some(Record::CommandRefused { refusal, .. }) = self.experiment.records().first() {
+            return Taken::Refused(u64::from(*refusal as u8));
+        }
+        match command {
+            Command::Inject(_) => Taken::Packet(number),
+            _ => Taken::Done,
+        }
+    }
+
+    /// A command comes, at the moment to which time has come or later: what is due before it happens, and it is done or
+    /// refused. `AllocError` where memory was refused.
+    pub fn take(&mut self, command: &Timed) -> Result<Taken, AllocError>
+        requires at { (t : ℕ) × (earlier : List Record) × IsAt t earlier self.old
+            × (t ≤ command.now.moment) }
+        requires going { self.old.experiment.ending ≡ None }
+        requires early { command.now.moment ≤ 10 ^ 15 }
+        ensures { OnOk result (Takes command.now self.old self.new) }
+    {
+        packets_add_up();
+        waits_begin();
+        let number = self.experiment.made();
+        mark_injected(&mut self.mine, &command.command, number)?;
+        match self.experiment.apply(command) {
+            Ok(()) => {}
+            Err(ApplyError::NoMemory) => return Err(AllocError),
+            Err(ApplyError::Over) => unreachable!(),
+            Err(ApplyError::Busy) => unreachable!(),
+            Err(ApplyError::Backward) => unreachable!(),
+        }
+        obey(&mut self.experiment, &mut self.shelf)?;
+        let taken = self.outcome(&command.command, number);
+        self.write()?;
+        Ok(taken)
+    }
+
+    /// Writes the line of the counters. `AllocError` leaves what was written of it.
+    pub fn conclude(&mut self) -> Result<(), AllocError>
+        requires { IsHousedIn (own_pocket self.old.shelf) self.old.experiment }
+        ensures { OnOk result (self.new ≡ record self.old {
+          report = record self.old.report {
+            text = self.old.report.text ++ closing_of self.old;
+          };
+        }) }
+    {
+        self.report.write_counters(&self.experiment.counters())
+    }
+
+    /// Appends what was written so far, which is then empty. `AllocError` where it has no room there: it stays then.
+    pub fn hand_out(&mut self, out: &mut Vec<u8>) -> Result<(), AllocError>
+        ensures ok { OnOk result ((out.new.items ≡ out.old.items ++ self.old.report.text)
+            × (self.new ≡ record self.old { report = record self.old.report { text = [] } })) }
+        ensures err { OnErr result ((out.new.items ≡ out.old.items) × (self.new ≡ self.old)) }
+    {
+        self.report.hand_out(out)
+    }
+
+    /// When the event is due (ns) that is due first, if there is one.
+    pub fn next_moment(&self) -> Option<u64>
+        ensures some { IfSome result (λ m. m ≡ first_moment self.now) }
+        ensures none { result ≡ None → IsSettled (2 * 10 ^ 15)
+            (view (own_pocket self.now.shelf) self.now.experiment) }
+    {
+        self.experiment.next_moment()
+    }
+}

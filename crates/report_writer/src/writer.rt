@@ -1,0 +1,172 @@
+//! The report of an experiment while it runs: its records become lines on the way, and are forgotten.
+
+ghost use Rattle.std.specs.Prelude.{◌≡◌, ◌+◌, ◌^◌, ◌<◌, ℕ, ◌++◌, List, [], slice_index_or, flat_map, IfOk, OnOk, OnErr};
+ghost use Rattle.emu_model.specs.declared.records.Record.{Record};
+ghost use Rattle.packet_store.specs.Pocket.{Pocket};
+ghost use Rattle.report.specs.Lines.{heading_of, counters_of, line_of};
+ghost use Rattle.experiment.specs.Kept.{IsHousedIn, IsAloneAfter, IsWaiting};
+ghost use Rattle.report_writer.specs.Written.{Counts, CanWrite, HasWritten, all_drops_of};
+
+use emu_model::{Counters, Record};
+use experiment::Experiment;
+use report::{Moments, write_counters, write_heading, write_record, write_records};
+use std::alloc::{AllocError, Global};
+use std::marker::Model;
+
+/// The lines so far, behind that of the name, and how many deliveries and drops, by cause, are among them.
+#[derive(Drop)]
+pub struct ReportWriter {
+    text: Vec<u8>,
+    // What the lines so far leave of their moments for the next one.
+    moments: Moments,
+    delivered: u64,
+    drops: [u64; 8],
+}
+
+impl Model for ReportWriter {
+    ghost use Rattle.report_writer.specs.Written.{Written};
+
+    ghost Value = { Written };
+
+    ghost view = { λ t. record { text = t.text.items; delivered = t.delivered; drops = t.drops } };
+}
+
+// The drops of two parts of a run, cause by cause.
+fn sum_of(first: &[u64; 8], second: &[u64; 8]) -> [u64; 8]
+    requires { (k : ℕ) → slice_index_or first.now k 0 + slice_index_or second.now k 0 < 2 ^ 64 }
+    ensures { (rs qs : List Record) → first.now ≡ all_drops_of rs → second.now ≡ all_drops_of qs →
+        result ≡ all_drops_of (rs ++ qs) }
+{
+    [
+        first[0] + second[0],
+        first[1] + second[1],
+        first[2] + second[2],
+        first[3] + second[3],
+        first[4] + second[4],
+        first[5] + second[5],
+        first[6] + second[6],
+        first[7] + second[7],
+    ]
+}
+
+impl ReportWriter {
+    /// The line of an experiment's name.
+    pub fn new(alloc: Global, name: &[u8]) -> Result<Self, AllocError>
+        ensures { IfOk result (HasWritten (heading_of name.now) []) }
+    {
+        let mut text = Vec::new(alloc);
+        write_heading(&mut text, name)?;
+        Ok(ReportWriter {
+            text,
+            moments: Moments::new(),
+            delivered: 0,
+            drops: [0; 8],
+        })
+    }
+
+    /// Writes what an experiment has recorded, which it forgets. `AllocError` where the lines have no room.
+    pub fn write(&mut self, experiment: &mut Experiment) -> Result<(), AllocError>
+        requires { CanWrite self.old experiment.old }
+        ensures text { OnOk result
+            (self.new.text ≡ self.old.text ++ flat_map line_of experiment.old.net.log.records) }
+        ensures counts { OnOk result ((rs : List Record) → Counts rs self.old →
+            Counts (rs ++ experiment.old.net.log.records) self.new) }
+        ensures writes { OnOk result ((head : List ℕ) (rs : List Record) →
+            HasWritten head rs self.old →
+            HasWritten head (rs ++ experiment.old.net.log.records) self.new) }
+        ensures rest { OnOk result (experiment.new ≡ record experiment.old {
+          net = record experiment.old.net { log = experiment.new.net.log };
+        }) }
+        ensures records { OnOk result (experiment.new.net.log.records ≡ []) }
+        ensures housed { OnOk result
+            ((p : Pocket) → IsHousedIn p experiment.old → IsHousedIn p experiment.new) }
+        ensures after { OnOk result
+            ((earlier : List Record) (p : Pocket) → IsAloneAfter earlier p experiment.old →
+            IsAloneAfter (earlier ++ experiment.old.net.log.records) p experiment.new) }
+        ensures waits { OnOk result
+            ((t : ℕ) (earlier : List Record) (p : Pocket) → IsWaiting t earlier p experiment.old →
+            IsWaiting t (earlier ++ experiment.old.net.log.records) p experiment.new) }
+    {
+        write_records(&mut self.text, &mut self.moments, experiment.records())?;
+        self.count(experiment);
+        Ok(())
+    }
+
+    /// Appends the line of a record, which isn't counted. `AllocError` where it has no room.
+    pub fn put(&mut self, line: &Record) -> Result<(), AllocError>
+        ensures ok { OnOk result
+            (self.new ≡ record self.old { text = self.old.text ++ line_of line.now }) }
+    {
+        write_record(&mut self.text, &mut self.moments, line)
+    }
+
+    /// Counts what an experiment has recorded, which it forgets, and writes nothing.
+    pub fn count(&mut self, experiment: &mut Experiment)
+        requires { CanWrite self.old experiment.old }
+        ensures text { self.new.text ≡ self.old.text }
+        ensures counts { (rs : List Record) → Counts rs self.old →
+            Counts (rs ++ experiment.old.net.log.records) self.new }
+        ensures rest { experiment.new ≡ record experiment.old {
+          net = record experiment.old.net { log = experiment.new.net.log };
+        } }
+        ensures records { experiment.new.net.log.records ≡ [] }
+        ensures housed { (p : Pocket) → IsHousedIn p experiment.old → IsHousedIn p experiment.new }
+        ensures after { (earlier : List Record) (p : Pocket) →
+            IsAloneAfter earlier p experiment.old →
+            IsAloneAfter (earlier ++ experiment.old.net.log.records) p experiment.new }
+        ensures waits { (t : ℕ) (earlier : List Record) (p : Pocket) →
+            IsWaiting t earlier p experiment.old →
+            IsWaiting t (earlier ++ experiment.old.net.log.records) p experiment.new }
+    {
+        let counted = experiment.counters();
+        self.delivered += counted.delivered;
+        self.drops = sum_of(&self.drops, &counted.drops);
+        experiment.forget_records();
+    }
+
+    /// Appends the text so far, which is then empty; the counts stay. `AllocError` where it has no room there: the text
+    /// stays then.
+    pub fn hand_out(&mut self, out: &mut Vec<u8>) -> Result<(), AllocError>
+        ensures ok { OnOk result
+            ((out.new.items ≡ out.old.items ++ self.old.text)
+            × (self.new ≡ record self.old { text = [] })) }
+        ensures err { OnErr result
+            ((out.new.items ≡ out.old.items) × (self.new ≡ self.old)) }
+    {
+        out.extend_from_slice(self.text.as_slice())?;
+        self.text.clear();
+        Ok(())
+    }
+
+    /// Appends the line of the counters, of which some are those of the experiment as it stands. `AllocError` leaves what
+    /// was written of it.
+    pub fn write_counters(&mut self, standing: &Counters) -> Result<(), AllocError>
+        ensures { OnOk result
+            (self.new ≡ record self.old {
+              text = self.old.text ++ counters_of (record standing.now {
+                delivered = self.old.delivered;
+                drops = self.old.drops;
+              });
+            }) }
+    {
+        let counters = Counters {
+            made: standing.made,
+            delivered: self.delivered,
+            held: standing.held,
+            drops: self.drops,
+        };
+        write_counters(&mut self.text, &counters)
+    }
+
+    /// The report: the line of the counters comes last, of which some are those of the experiment as it stands.
+    pub fn into_report(self, standing: &Counters) -> Result<Vec<u8>, AllocError>
+        ensures { IfOk result (λ text. text.items ≡ self.text ++ counters_of (record standing.now {
+          delivered = self.delivered;
+          drops = self.drops;
+        })) }
+    {
+        let mut report = self;
+        report.write_counters(standing)?;
+        Ok(report.text)
+    }
+}

@@ -1,0 +1,3 @@
+mod Waiting
+mod Going
+mod Settling
