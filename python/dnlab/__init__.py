@@ -24,7 +24,7 @@ if TYPE_CHECKING:
     from dnlab.runs import run
     from dnlab.sweeps import Sweep, sweep
 
-__version__ = "0.1.0"
+__version__ = "0.2.0"
 __all__ = ["Experiment", "Failed", "Faulty", "Refused", "Report", "Sweep", "interval", "intervals", "jain", "read", "run",
            "sweep"]
 _PLACES = {"Experiment": "results", "Report": "results", "intervals": "results", "read": "results", "run": "runs",

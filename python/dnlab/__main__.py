@@ -5,10 +5,16 @@ import sys
 from pathlib import Path
 from typing import Optional, Sequence
 
+if not __package__:
+    # Called by the file's name: the package stands above.
+    sys.path[0] = str(Path(__file__).resolve().parent.parent)
+
+from dnlab import __version__  # noqa: E402  (the path is set first)
+
+# What the machine lacks; `dnlab.errors` has it, which numpy's want must not keep from being said.
+MACHINE = 3
 COMMANDS = ("summary", "plot", "spread", "sweep", "compare", "expect", "view", "pcap")
-# Debian's packages serve Debian's own Python, which may not be the first on the PATH.
-SYSTEM = "/usr/bin/python3"
-NEEDS = {"summary": ("numpy",), "plot": ("numpy", "matplotlib"), "spread": (),
+NEEDS = {"summary": ("numpy",), "plot": ("numpy", "matplotlib"), "spread": ("numpy",),
          "sweep": ("numpy", "pandas", "scipy", "jinja2"), "compare": ("numpy",), "expect": ("numpy",),
          "view": ("numpy", "plotly"), "pcap": ("numpy", "dpkt")}
 HELP = """Tools for reports of dnlab, in Python.
@@ -22,10 +28,11 @@ HELP = """Tools for reports of dnlab, in Python.
   python3 -m dnlab view REPORT [SCENARIO ..]      makes a page to look at runs in a browser, packet by packet
   python3 -m dnlab pcap REPORT [SCENARIO ..]      writes packets as Wireshark and tcptrace read them
 
-Each has --help. In Python: import dnlab; help(dnlab).
+Each has --help and --version. In Python: import dnlab; help(dnlab).
 
 Example: python3 -m dnlab summary report.txt scenario.txt
-Exit status: that of the command; 2 wrong usage.
+Exit status: that of the command; 1 a bound that fails or runs that differ, and nothing else; 2 wrong usage or a faulty
+input; 3 what this machine lacks (a package, room to write), or ended from outside.
 """
 
 
@@ -39,14 +46,10 @@ def missing(modules: Sequence[str]) -> Optional[str]:
     return None
 
 
-def begin_anew(command: str, module: str) -> int:
-    """Begins anew under Debian's Python, where this is another one; else says what to install."""
-    here = os.path.realpath(sys.executable)
-    if here != os.path.realpath(SYSTEM) and os.path.exists(SYSTEM):
-        sys.stdout.flush()
-        os.execv(SYSTEM, [SYSTEM, *sys.argv])
-    print(f"{command}: {module} is missing (Debian: apt-get install python3-{module})", file=sys.stderr)
-    return 1
+def said_of(command: str, module: str) -> str:
+    """What is said of a module that isn't there: which Python lacks it, and how it is had."""
+    return (f"{command}: {module} is missing in {sys.executable} (pip install {module}; Debian, for /usr/bin/python3: "
+            f"apt-get install python3-{module})")
 
 
 def main(words: Optional[Sequence[str]] = None) -> int:
@@ -58,21 +61,38 @@ def main(words: Optional[Sequence[str]] = None) -> int:
     if not words or words[0] not in COMMANDS:
         print(HELP, end="", file=sys.stderr)
         return 2
+    if list(words[1:]) == ["--version"]:
+        print(f"dnlab-{words[0]} {__version__}")
+        return 0
+    from dnlab import ending
+
+    ending.watch(words[0])
     lacking = missing(NEEDS[words[0]])
     if lacking is not None:
-        return begin_anew(words[0], lacking)
+        print(said_of(words[0], lacking), file=sys.stderr)
+        return MACHINE
     module = importlib.import_module(f"dnlab.commands.{words[0]}")
     try:
         status: int = module.main(words[1:])
         sys.stdout.flush()
         return status
-    except KeyboardInterrupt:
-        print(f"{words[0]}: ended from outside", file=sys.stderr)
-        return 3
     except BrokenPipeError:
-        # Who read the output has left; nothing more is written, by Python's own flush neither.
-        os.dup2(os.open(os.devnull, os.O_WRONLY), sys.stdout.fileno())
-        return 1
+        # Who read the output has left.
+        write_no_more()
+        return MACHINE
+    except OSError as fault:
+        write_no_more()
+        where = f"{fault.filename}: " if fault.filename else "writing to standard output: "
+        print(f"{words[0]}: {where}{fault.strerror}", file=sys.stderr)
+        return MACHINE
+    except MemoryError:
+        print(f"{words[0]}: there isn't memory enough: name some experiments by --experiment", file=sys.stderr)
+        return MACHINE
+
+
+def write_no_more() -> None:
+    """Nothing more goes to standard output, by Python's own flush neither."""
+    os.dup2(os.open(os.devnull, os.O_WRONLY), sys.stdout.fileno())
 
 
 def summary() -> int:
@@ -116,6 +136,4 @@ def pcap() -> int:
 
 
 if __name__ == "__main__":
-    if not __package__:
-        sys.path[0] = str(Path(__file__).resolve().parent.parent)
     sys.exit(main())

@@ -8,9 +8,13 @@ from dnlab.tables import Row
 from dnlab.units import amount_of, fitting, shown
 
 
+CANT = "can't be told"
+
+
 class Tolerance(NamedTuple):
     """How far a metric may differ: by a `share` of the first run's value, or by an amount in its base unit."""
     text: str
+    is_pattern: bool
     metrics: list[Metric]
     share: Optional[Fraction]
     amount: Optional[Fraction]
@@ -31,15 +35,15 @@ def tolerance_of(text: str) -> Tolerance:
     if not found:
         raise ValueError(f"no metric is like {word!r}: {', '.join(WORDS)}")
     if value.endswith("%"):
-        return Tolerance(text, found, amount_of(value, "share")[0], None)
+        return Tolerance(text, "*" in word, found, amount_of(value, "share")[0], None)
     if len({one.kind for one in found}) > 1:
         raise ValueError(f"{text!r}: metrics of several kinds have a share in common only, as 5%")
-    return Tolerance(text, found, None, amount_of(value, found[0].kind)[0])
+    return Tolerance(text, "*" in word, found, None, amount_of(value, found[0].kind)[0])
 
 
 class Pair(NamedTuple):
     """A metric of a row in both runs, None where it can't be told there; `judged` is '' where nothing is asked of it,
-    `same`, `within` and a tolerance, `differs`, or `beyond` and the tolerance."""
+    `same`, `within` and a tolerance, `differs`, `beyond` and the tolerance, or `can't be told` and why."""
     experiment: str
     of: str
     metric: Metric
@@ -51,7 +55,11 @@ class Pair(NamedTuple):
         return self.first == self.second
 
     def is_bad(self) -> bool:
-        return self.judged.startswith(("differs", "beyond"))
+        return self.judged.startswith(("differs", "beyond", CANT))
+
+    def is_untold(self) -> bool:
+        """Whether neither run has it, though it was named."""
+        return self.judged.startswith(CANT)
 
     def ratio(self) -> Optional[float]:
         """The second run's value by the first's."""
@@ -71,12 +79,17 @@ def pairs(name: str, first: Sequence[Row], second: Sequence[Row], asked: Sequenc
           tolerances: Sequence[Tolerance]) -> Iterator[Pair]:
     """The metrics of all rows of one experiment in both runs, in the first's order; a row that one hasn't has None.
 
-    Without tolerances every metric must be the same; with some only those that they name are judged."""
+    Without tolerances every metric must be the same; with some only those that they name are judged, and what they name
+    without a pattern must be told by every row that can have it."""
     rows = {row["of"]: row for row in first}
     others = {row["of"]: row for row in second}
     for of in dict.fromkeys([*rows, *others]):
         for metric in asked:
             values = [metric.of(found[of]) if of in found else None for found in (rows, others)]
+            if values == [None, None] and any(metric in one.metrics and not one.is_pattern for one in tolerances):
+                known = rows.get(of) or others[of]
+                if metric.applies(known):
+                    yield Pair(name, of, metric, None, None, f"{CANT}: {metric.why(known)}")
             if values[0] is not None or values[1] is not None:
                 yield Pair(name, of, metric, values[0], values[1], _judged(metric, values[0], values[1], tolerances))
 

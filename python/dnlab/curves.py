@@ -22,17 +22,32 @@ def axis_of(table: pd.DataFrame, settings: Sequence[str]) -> str:
     return str([*numbers, *several, *settings, "of"][0])
 
 
+def judge(cases: pd.DataFrame, settings: Sequence[str], panels: Sequence[tuple[str, str]]) -> None:
+    """Refuses by `Faulty` a picture of a sweep that couldn't be drawn, before anything is run: by the settings of its
+    experiments, and what is asked of whom."""
+    if settings:
+        _others(cases, settings, axis_of(cases, settings))
+    if len(panels) > _MOST_PANELS:
+        raise Faulty(f"--plot: {len(panels)} panels, where 1 to {_MOST_PANELS} can be drawn: ask for fewer --of and --stat")
+
+
+def _others(table: pd.DataFrame, settings: Sequence[str], along: str) -> list[str]:
+    """The settings whose combinations are the lines of a panel; too many are refused."""
+    others = [name for name in settings if name != along and table[name].nunique() > 1]
+    lines = len(table[others].drop_duplicates()) if others else 1
+    if lines > MOST:
+        raise Faulty(f"--plot: {lines} lines in a panel can't be told apart, {MOST} at most: one for each combination of"
+                     f" {', '.join(others)}; give fewer values")
+    return others
+
+
 def figure_of(table: pd.DataFrame, settings: Sequence[str]) -> Figure:
     """A panel for each of and stat of a sweep's table, with a line for each combination of the other settings.
 
     Points are means, bars their intervals. More than eight lines, or 24 panels, are refused by `Faulty`."""
     along = axis_of(table, settings)
-    others = [name for name in settings if name != along and table[name].nunique() > 1]
+    others = _others(table, settings, along)
     panels = list(table[["of", "stat"]].drop_duplicates().itertuples(index=False, name=None))
-    lines = len(table[others].drop_duplicates()) if others else 1
-    if lines > MOST:
-        raise Faulty(f"--plot: {lines} lines in a panel can't be told apart, {MOST} at most: one for each combination of"
-                     f" {', '.join(others)}; give fewer values")
     if not panels or len(panels) > _MOST_PANELS:
         raise Faulty(f"--plot: {len(panels)} panels, where 1 to {_MOST_PANELS} can be drawn: ask for fewer --of and --stat")
     with matplotlib.rc_context(STYLE):

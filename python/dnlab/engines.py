@@ -1,25 +1,46 @@
-"""The engines of `spread`: GNU parallel, here or by ssh, and Slurm; and how parts become a report."""
+"""The engines of `spread`: processes of this machine, GNU parallel by ssh, and Slurm; and how parts become a report."""
 import argparse
+import getpass
 import os
+import re
+import secrets
 import shlex
 import shutil
 import signal
 import subprocess
 import sys
+import time
+from functools import partial
 from pathlib import Path
-from typing import Optional, Sequence
+from typing import IO, Iterable, Iterator, Optional, Sequence
 
-# What each task of the Slurm array does. It writes under a name of its own and renames, so that a part has a
-# whole report or none, even where an array that was given up still runs beside a later one.
+from dnlab import children, ending
+from dnlab.children import Killed
+from dnlab.crew import Crew
+from dnlab.errors import Failed
+from dnlab.outputs import whole_file
+from dnlab.rooms import CANCEL, cancel
+from dnlab.splitting import groups
+
+# What each task of the Slurm array does: the parts of its line of `tasks`, one after another. It writes under a name of
+# its own and renames, so that a part has a whole report or none, even where an array that was given up still runs
+# beside a later one.
 TASK = """#!/bin/sh
-part=$SLURM_ARRAY_TASK_ID
-{program} alone <$part.txt >$part.out.$SLURM_JOB_ID 2>$part.err
-status=$?
-[ $status -ne 0 ] || mv $part.out.$SLURM_JOB_ID $part.whole
-rm -f $part.out.$SLURM_JOB_ID
-echo $status >$part.status
-exit $status
+worst=0
+for part in $(sed -n "${{SLURM_ARRAY_TASK_ID}}p" tasks); do
+  {program} alone <$part.txt >$part.out.$SLURM_JOB_ID 2>$part.err
+  status=$?
+  [ $status -ne 0 ] || mv $part.out.$SLURM_JOB_ID $part.whole
+  rm -f $part.out.$SLURM_JOB_ID
+  echo $status >$part.status
+  [ $status -eq 0 ] || worst=$status
+done
+exit $worst
 """
+# What Slurm has where nobody configures it: an array's numbers are below.
+_MAX_ARRAY_SIZE = 1001
+# How long this machine waits before it looks again what others have done, in seconds.
+_LOOK = 0.5
 
 
 class Stop(Exception):
@@ -38,6 +59,8 @@ class Job:
         self.number = number
         self.names = names
         self.text = text
+        # What isn't right in its report, where somebody has looked.
+        self.wrong: Optional[str] = None
 
     def file(self, kind: str) -> Path:
         return self.folder / f"{self.number}.{kind}"
@@ -57,20 +80,33 @@ class Job:
 
     def why(self) -> str:
         """What is known of a part that isn't done."""
+        if self.wrong is not None:
+            return self.wrong
         status = self.file("status")
         if not status.is_file():
             return "it didn't run to its end"
         errors = self.file("err")
         said = errors.read_bytes().decode(errors="replace").strip().splitlines() if errors.is_file() else []
-        if status.read_text().strip() == "0":
+        number = status.read_text().strip()
+        if number == "0":
             return "status 0, but its report is cut or of another scenario"
-        return f"status {status.read_text().strip()}" + (f", {said[-1]}" if said else "")
+        ended_by = children.signal_of(int(number)) if re.fullmatch("-?[0-9]+", number) else None
+        if ended_by:
+            return f"status {number}, {children.told(ended_by)}"
+        return f"status {number}" + (f", {said[-1]}" if said else "")
+
+
+def version_of(program: str) -> bytes:
+    """What a program answers to --version; empty where it has no answer."""
+    try:
+        return children.run([program, "--version"]).out
+    except Killed:
+        return b""
 
 
 def laid_down(args: argparse.Namespace, program: str, parts: Sequence[Job], folder: Path) -> None:
     """Writes the parts' texts, or finds those of the run before; another scenario's are refused."""
-    version = subprocess.run([program, "--version"], capture_output=True, check=False).stdout
-    mark = version + f"{len(parts)} parts\n".encode()
+    mark = version_of(program) + f"{len(parts)} parts\n".encode()
     if args.resume:
         try:
             same = (folder / "mark").read_bytes() == mark and all(
@@ -79,6 +115,8 @@ def laid_down(args: argparse.Namespace, program: str, parts: Sequence[Job], fold
             raise Stop(2, f"spread: --resume: {error.filename}: {error.strerror}\n") from error
         if not same:
             raise Stop(2, f"spread: --resume: {folder} is of another scenario, number of parts or program\n")
+        cancel(folder)
+        _leave(folder)
         return
     if args.work is not None:
         try:
@@ -91,51 +129,76 @@ def laid_down(args: argparse.Namespace, program: str, parts: Sequence[Job], fold
     (folder / "mark").write_bytes(mark)
 
 
-def wait_for(engine: "subprocess.Popen[bytes]", folder: Path) -> None:
-    """Waits for an engine, and says on a terminal how many parts it has done."""
-    log = folder / "joblog"
-    is_seen = sys.stderr.isatty()
+def _leave(folder: Path) -> None:
+    """Removes what a run that was ended has half written."""
+    for path in [*folder.glob("*.half"), *folder.glob("*.out.*"), *folder.glob("out.*")]:
+        path.unlink(missing_ok=True)
+
+
+def _alone(program: str, job: Job) -> None:
+    """Runs a part, for another process."""
+    with open(job.file("half"), "wb") as out:
+        try:
+            done = children.run([program, "alone"], job.file("txt").read_bytes(), out)
+            status, errors = done.status, done.errors
+        except Killed as killed:
+            status, errors = -int(signal.Signals[killed.said.split("ended by ")[-1].split()[0]]), b""
+    job.file("err").write_bytes(errors)
+    if status == 0:
+        os.replace(job.file("half"), job.file("whole"))
+    job.file("half").unlink(missing_ok=True)
+    job.file("status").write_text(f"{status}\n")
+
+
+def here(args: argparse.Namespace, program: str, waiting: Sequence[Job], folder: Path) -> Iterator[None]:
+    """Runs parts by processes of this machine, so many at once."""
+    from dnlab.work import cores
+
+    with Crew[int](args.jobs or cores()) as crew:
+        for part in waiting:
+            # Another process needs neither the text nor the names.
+            crew.give(part.number, _alone, program, Job(folder, part.number, [], b""))
+        while len(crew):
+            crew.next().get()
+            yield
+
+
+def _waited(engine: "subprocess.Popen[bytes]") -> Iterator[None]:
+    """Looks again and again until an engine has ended."""
     while True:
         try:
-            engine.wait(timeout=1 if is_seen else None)
-            break
+            engine.wait(_LOOK)
+            yield
+            return
         except subprocess.TimeoutExpired:
-            done = max(log.read_bytes().count(b"\n") - 1, 0) if log.is_file() else 0
-            print(f"\rspread: {done} parts are done", end="", file=sys.stderr, flush=True)
-    if is_seen:
-        print("\r" + " " * 40 + "\r", end="", file=sys.stderr, flush=True)
+            yield
 
 
-def waited(command: Sequence[str], folder: Path, said: str, env: Optional[dict[str, str]] = None) -> None:
-    """Runs an engine to its end; where this run is ended, so is the engine, and by it its jobs."""
-    with open(folder / said, "wb") as errors:
-        engine = subprocess.Popen(command, cwd=folder, stdin=subprocess.DEVNULL,
-                                  stdout=subprocess.DEVNULL, stderr=errors, env=env)
-        try:
-            wait_for(engine, folder)
-        except BaseException:
-            # parallel lets its jobs end at the first signal and ends them at the second
-            for _ in range(2):
-                engine.send_signal(signal.SIGTERM)
-                try:
-                    engine.wait(timeout=2)
-                    break
-                except subprocess.TimeoutExpired:
-                    continue
-            raise
+def _end_parallel(engine: "subprocess.Popen[bytes]") -> None:
+    """parallel lets its jobs end at the first signal and ends them at the second."""
+    for _ in range(2):
+        if engine.returncode is None:
+            engine.send_signal(signal.SIGTERM)
+            try:
+                engine.wait(0.5)
+            except subprocess.TimeoutExpired:
+                continue
+    children.end(engine)
 
 
-def by_parallel(args: argparse.Namespace, program: str, waiting: Sequence[Job], folder: Path) -> None:
+def by_parallel(args: argparse.Namespace, program: str, waiting: Sequence[Job], folder: Path) -> Iterator[None]:
     command = ["parallel", "--plain", "--will-cite", "--joblog", "joblog", "--results", "out.{}"]
     if args.jobs:
         command += ["--jobs", str(args.jobs)]
-    if args.ssh:
-        command += ["--sshlogin", args.ssh, "--workdir", "...", "--transferfile", "{}.txt", "--cleanup"]
+    command += ["--sshlogin", args.ssh, "--workdir", "...", "--transferfile", "{}.txt", "--cleanup"]
     command += [f"{shlex.quote(args.program or program)} alone <{{}}.txt", ":::"]
     (folder / "order").write_text("".join(f"{part.number}\n" for part in waiting))
     (folder / "joblog").unlink(missing_ok=True)
-    waited(command + [str(part.number) for part in waiting], folder, "engine.err",
-           {**os.environ, "PARALLEL_SHELL": "/bin/sh"})
+    with open(folder / "engine.err", "wb") as errors:
+        with children.child([*command, *(str(part.number) for part in waiting)], _end_parallel, death=signal.SIGTERM,
+                            cwd=folder, stdin=subprocess.DEVNULL, stdout=subprocess.DEVNULL, stderr=errors,
+                            env={**os.environ, "PARALLEL_SHELL": "/bin/sh"}) as engine:
+            yield from _waited(engine)
 
 
 def gathered(folder: Path) -> None:
@@ -149,54 +212,108 @@ def gathered(folder: Path) -> None:
         if len(fields) < 9:
             continue
         number, status, ended_by = numbers[int(fields[0]) - 1], fields[6], fields[7]
-        (folder / f"{number}.status").write_text(status if ended_by == "0" else f"{status}, signal {ended_by}")
+        (folder / f"{number}.status").write_text(status if ended_by == "0" else f"-{ended_by}")
         for kind, name in ("whole", f"out.{number}"), ("err", f"out.{number}.err"):
             if (folder / name).is_file() and (kind == "err" or (status, ended_by) == ("0", "0")):
                 os.replace(folder / name, folder / f"{number}.{kind}")
 
 
-def by_slurm(args: argparse.Namespace, program: str, waiting: Sequence[Job], folder: Path) -> None:
+def most_tasks() -> int:
+    """How many tasks an array of Slurm may have here, with numbers from 1."""
+    try:
+        said = children.run(["scontrol", "show", "config"]).out.decode(errors="replace")
+    except Failed:
+        said = ""
+    found = re.search(r"^MaxArraySize\s*=\s*([0-9]+)", said, re.MULTILINE)
+    return max(int(found[1]) if found else _MAX_ARRAY_SIZE, 2) - 1
+
+
+def by_slurm(args: argparse.Namespace, program: str, waiting: Sequence[Job], folder: Path) -> Iterator[None]:
+    """Runs parts as one array, of as many tasks as Slurm takes; where this run is ended the array is cancelled."""
+    ends = groups([max(len(part.text), 1) for part in waiting], min(args.parts, most_tasks()))
+    tasks = [waiting[begin:end] for begin, end in zip([0, *ends], ends)]
     (folder / "task").write_text(TASK.format(program=shlex.quote(args.program or program)))
-    tasks = ",".join(str(part.number) for part in waiting) + (f"%{args.jobs}" if args.jobs else "")
-    waited(["sbatch", "--wait", "--job-name=spread", "--output=/dev/null", f"--chdir={folder}",
-            f"--array={tasks}", "task"], folder, "engine.err")
+    (folder / "tasks").write_text("".join(" ".join(str(part.number) for part in task) + "\n" for task in tasks))
+    array = f"1-{len(tasks)}" + (f"%{args.jobs}" if args.jobs else "")
+    name = f"dnlab-{secrets.token_hex(8)}"
+    (folder / CANCEL).write_text(f"scancel\n--user={getpass.getuser()}\n--name={name}")
+    chore = partial(cancel, folder)
+    ending.add(chore)
+    try:
+        with open(folder / "engine.err", "wb") as errors:
+            with children.child(["sbatch", "--wait", f"--job-name={name}", "--output=/dev/null", f"--chdir={folder}",
+                                 f"--array={array}", "task"], cwd=folder, stdin=subprocess.DEVNULL,
+                                stdout=subprocess.DEVNULL, stderr=errors) as engine:
+                yield from _waited(engine)
+                (folder / CANCEL).unlink()
+    finally:
+        cancel(folder)
+        ending.remove(chore)
 
 
-def run(args: argparse.Namespace, program: str, parts: Sequence[Job], folder: Path) -> None:
-    """Runs the parts that aren't done; those that fail are named, and the run ends."""
+def going(args: argparse.Namespace, program: str, parts: Sequence[Job], folder: Path) -> Iterator[list[Job]]:
+    """Runs the parts that aren't done; gives again and again those that are done now. Where some have failed they are
+    named by `Stop`, after the others."""
     laid_down(args, program, parts, folder)
     gathered(folder)
-    waiting = [part for part in parts if not part.is_done()]
-    for part in waiting:
+    waiting = {part.number: part for part in parts if not part.is_done()}
+    yield [part for part in parts if part.number not in waiting]
+    for part in waiting.values():
         for kind in "whole", "status", "err":
             part.file(kind).unlink(missing_ok=True)
-    if waiting:
-        (by_slurm if args.slurm else by_parallel)(args, program, waiting, folder)
+    chore = partial(_leave, folder)
+    ending.add(chore)
+    try:
+        if waiting:
+            engine = by_slurm if args.slurm else by_parallel if args.ssh else here
+            for _ in engine(args, program, list(waiting.values()), folder):
+                gathered(folder)
+                done = [part for part in waiting.values() if part.is_done()]
+                for part in done:
+                    del waiting[part.number]
+                yield done
+    finally:
         gathered(folder)
-    failed = [part for part in waiting if not part.is_done()]
-    if failed:
-        said = [f"spread: part {part.number} of {len(parts)} failed (experiments {part.names[0]} to "
-                f"{part.names[-1]}): {part.why()}" for part in failed]
-        said += ["spread: " + line for line in
-                 (folder / "engine.err").read_text(errors="replace").splitlines()[-3:]]
-        if args.work is not None:
-            said.append(f"spread: {len(parts) - len(failed)} parts are kept in {folder}; "
-                        "the same words with --resume run the others")
-        raise Stop(3, "\n".join(said) + "\n")
+        _leave(folder)
+        ending.remove(chore)
+    if waiting:
+        raise failure(args, parts, list(waiting.values()), folder)
+
+
+def failure(args: argparse.Namespace, parts: Sequence[Job], failed: Sequence[Job], folder: Path) -> Stop:
+    """What is said of parts that have failed."""
+    said = [f"spread: part {part.number} of {len(parts)} failed (experiments {part.names[0]} to "
+            f"{part.names[-1]}): {part.why()}" for part in failed]
+    log = folder / "engine.err"
+    said += ["spread: " + line for line in log.read_text(errors="replace").splitlines()[-3:]] if log.is_file() else []
+    if args.work is not None:
+        said.append(f"spread: {len(parts) - len(failed)} parts are kept in {folder}; "
+                    "the same words with --resume run the others")
+    return Stop(3, "\n".join(said) + "\n")
+
+
+def tell(done: int, total: int, begun: float) -> None:
+    """Says on a terminal how many parts are done."""
+    if sys.stderr.isatty():
+        print(f"\rspread: {done} of {total} parts are done, {time.monotonic() - begun:.0f} s ", end="", file=sys.stderr,
+              flush=True)
+
+
+def _join(parts: Iterable[Job], report: IO[bytes]) -> None:
+    for part in parts:
+        with open(part.file("whole"), "rb") as piece:
+            shutil.copyfileobj(piece, report)
+    report.flush()
 
 
 def put_together(out: Optional[str], parts: Sequence[Job]) -> None:
-    """Writes the report: to a file beside it that takes its name when it is whole, or to standard output."""
-    beside = None if out is None else f"{out}.{os.getpid()}"
+    """Writes the report: to its file, which takes its name when it is whole, or to standard output."""
     try:
-        with open(1, "wb", closefd=False) if beside is None else open(beside, "xb") as report:
-            for part in parts:
-                with open(part.file("whole"), "rb") as piece:
-                    shutil.copyfileobj(piece, report)
-            report.flush()
-        if beside is not None:
-            os.replace(beside, str(out))
+        if out is None:
+            with open(1, "wb", closefd=False) as report:
+                _join(parts, report)
+        else:
+            with whole_file(out) as file:
+                _join(parts, file)
     except OSError as error:
-        if beside is not None and os.path.exists(beside):
-            os.remove(beside)
         raise Stop(3, f"spread: write: {error.strerror}\n") from error

@@ -22,6 +22,23 @@ class Faulty(Exception):
     """An input that can't be used: the file, where there is one the line, and the cause."""
 
 
+class Lacking(Faulty):
+    """What this machine lacks: a package, room on a disk, a folder that can be written to."""
+
+
+# What a command's status says: 1 is kept for bounds that fail and runs that differ.
+DIFFERS, INPUT, MACHINE = 1, 2, 3
+
+
+def status_of(fault: Exception) -> int:
+    """The status of a fault: 3 of what the machine or the program lacks, else 2.
+
+    >>> status_of(Faulty("report.txt: line 3: ..")), status_of(Lacking("numpy is missing"))
+    (2, 3)
+    """
+    return MACHINE if isinstance(fault, (Lacking, OSError, MemoryError)) else INPUT
+
+
 class Failed(Exception):
     """The program `dnlab` ended with a status that isn't 0: `status` and what it said."""
 

@@ -1,19 +1,27 @@
 """The metrics of a summary's rows by their words, as `delay.p95`: what `compare` and `expect` measure by."""
 import re
+from fnmatch import fnmatchcase
 from fractions import Fraction
 from typing import Iterable, NamedTuple, Optional
 
 from dnlab.figures import percentile_name
 from dnlab.lines import CAUSES
-from dnlab.tables import PERCENTILES, Row, times_of
+from dnlab.tables import PERCENTILES, WHOLE, Row, times_of
+from dnlab.units import ENDINGS, shown
 
 _PERCENTILE = re.compile(r"delay\.p([0-9]{1,3}(?:\.[0-9]{1,6})?)")
 # Columns of a summary by what they are counted in.
 _PLAIN = {"packets": "count", "delivered": "count", "held": "count", "bytes": "size", "useful": "size",
-          "first": "time", "last": "time", "time": "time", "rate": "rate", "goodput": "rate", "again": "count",
-          "completion": "time", "jain": "index"}
-WORDS = (*_PLAIN, "loss", "drops", *(f"drops.{cause}" for cause in CAUSES), "delay.least", "delay.median", "delay.pN",
-         "delay.greatest")
+          "first": "time", "last": "time", "time": "time", "rate": "rate", "goodput": "rate", "utilisation": "share",
+          "again": "count", "completion": "time", "jitter": "time", "jain": "index", "refused": "count", "ended": "ending"}
+_DELAYS = ("least", "median", "mean", "greatest")
+WORDS = (*_PLAIN, "loss", "drops", *(f"drops.{cause}" for cause in CAUSES), *(f"delay.{one}" for one in _DELAYS),
+         "delay.pN")
+# Rows of a kind alone have these; in words for who asks it of another.
+_OF_KIND = {"completion": (("flow",), "only a flow has a completion"), "again": (("flow",), "only a flow sends again"),
+            "jain": (("whole",), "only all flows together have an index of fairness"),
+            "utilisation": (("pipe",), "only a pipe has a utilisation")}
+_NOT_OF = {"useful": ("acks", "pipe"), "goodput": ("acks", "pipe")}
 
 
 class Metric(NamedTuple):
@@ -28,6 +36,8 @@ class Metric(NamedTuple):
         """Its value in a row, in base units; None where it can't be told."""
         if self.column:
             value = row.get(self.column)
+            if self.kind == "ending" and value is not None:
+                value = ENDINGS.index(value)
             return None if value is None else Fraction(value)
         counts = [row.get(cause) for cause in CAUSES]
         if any(count is None for count in counts):
@@ -36,6 +46,64 @@ class Metric(NamedTuple):
         if self.word == "drops":
             return Fraction(dropped)
         return Fraction(dropped, row["packets"]) if row["packets"] else None
+
+    def applies(self, row: Row) -> bool:
+        """Whether rows of this kind can have it at all."""
+        kind = kind_of(row["of"])
+        only, _ = _OF_KIND.get(self.word, ((kind,), ""))
+        # Where packets go both ways, `all` has counts alone, and what is new is that of `there`.
+        both = row["of"] == "all" and row.get("bytes") is None and row.get("seed") is not None and row["packets"] > 0
+        return (kind in only and kind not in _NOT_OF.get(self.word, ())
+                and not (both and self.kind in ("time", "rate", "size"))
+                and not (row["of"] == "back" and self.word in (*_NOT_OF, "jain")))
+
+    def is_delay(self) -> bool:
+        """Whether it is of the packets that were delivered alone."""
+        return self.word.startswith("delay.") or self.word == "jitter"
+
+    def only(self) -> str:
+        """Which rows have it, in words."""
+        return _OF_KIND[self.word][1] if self.word in _OF_KIND else f"no row here has {self.word}"
+
+    def why(self, row: Row) -> str:
+        """Why a row hasn't a value, as far as it is known."""
+        if row["of"] == "all" and not self.applies(row) and self.word not in _OF_KIND:
+            return "`all` has both directions: name `there` or `back`"
+        if not self.applies(row):
+            return self.only() if self.word in _OF_KIND else f"rows of this kind have no {self.word}"
+        if row.get("seed") is None:
+            return "give the scenario, or run it under `trace 1`"
+        if self.word == "completion":
+            return f"it hadn't ended when the experiment did, at {shown(Fraction(row['ended_at']), 'time', 's')}"
+        if self.word == "utilisation":
+            return "the pipe has no rate (`bw 0`, or none), or it served nothing"
+        if row.get("delivered") == 0 and (self.kind in ("time", "rate")):
+            return "nothing was delivered"
+        if self.word == "jitter" and row.get("delivered") == 1:
+            return "one packet alone has no jitter"
+        if self.word.startswith("drops") or self.word == "loss":
+            return "no line says which pipe dropped a packet, but under `trace 1`; name `all`, or who sends"
+        return "no line tells it"
+
+
+def kind_of(of: str) -> str:
+    """What a row of a summary is of.
+
+    >>> kind_of("flow 1"), kind_of("flow 1 acks"), kind_of("pipe 1.0 back"), kind_of("all")
+    ('flow', 'acks', 'pipe', 'whole')
+    """
+    if of in WHOLE:
+        return "whole"
+    return "acks" if of.endswith(" acks") else of.partition(" ")[0]
+
+
+def is_named(of: str, pattern: str) -> bool:
+    """Whether a pattern names a row: `flow *` names flows, and not their acknowledgements, which `flow * acks` names.
+
+    >>> is_named("flow 1", "flow *"), is_named("flow 1 acks", "flow *"), is_named("flow 1 acks", "flow * acks")
+    (True, False, True)
+    """
+    return fnmatchcase(of, pattern) and not (kind_of(of) == "acks" and pattern.startswith("flow") and "ack" not in pattern)
 
 
 def metric_of(word: str) -> Metric:
@@ -52,7 +120,7 @@ def metric_of(word: str) -> Metric:
         return Metric(word, "count", "")
     if word.startswith("drops.") and word[6:] in CAUSES:
         return Metric(word, "count", word[6:])
-    if word in ("delay.least", "delay.median", "delay.greatest"):
+    if word.startswith("delay.") and word[6:] in _DELAYS:
         return Metric(word, "time", word[6:])
     found = _PERCENTILE.fullmatch(word)
     if found and 0 < Fraction(found[1]) <= 100:
@@ -64,11 +132,11 @@ def metrics(percentiles: Iterable[str] = tuple(map(str, PERCENTILES))) -> list[M
     """All metrics, with these percentiles of the delay."""
     words = [word for word in WORDS if not word.startswith("delay.")]
     return [metric_of(word) for word in words] + [Metric(f"delay.{name}", "time", name)
-                                                  for name in times_of(list(percentiles))]
+                                                  for name in (*times_of(list(percentiles)), "mean")]
 
 
 def percentiles_in(found: Iterable[Metric]) -> list[str]:
     """The percentiles that a summary must have for some metrics."""
     names = dict.fromkeys("50" if one.column == "median" else one.column[1:] for one in found
-                          if one.word.startswith("delay.") and one.column not in ("least", "greatest"))
+                          if one.word.startswith("delay.") and one.column not in ("least", "mean", "greatest"))
     return list(names)

@@ -199,11 +199,17 @@ def _servers(experiment: Experiment, rows: Ints) -> NDArray[np.int32]:
     return pipes
 
 
-def nowhere(packets: Packets, visits: Visits) -> int:
-    """How many packets went into a pipe that no line names: held at the end, or deleted while they waited."""
+def never_seen(packets: Packets, visits: Visits) -> Ints:
+    """The packets that went into a pipe that no line names: held at the end, or deleted while they waited. Shape (n,)."""
     last = np.full(len(packets), -1, dtype=np.int64)
     last[visits.packet] = np.arange(len(visits))
     waits = last < 0
     waits[last >= 0] = visits.exit[last[last >= 0]] >= 0
     deleted = packets.fate == DROPPED + CAUSES.index("deleted")
-    return int(np.count_nonzero(waits & ((packets.fate == HELD) | deleted)))
+    found: Ints = np.flatnonzero(waits & ((packets.fate == HELD) | deleted))
+    return found
+
+
+def nowhere(packets: Packets, visits: Visits) -> int:
+    """How many packets went into a pipe that no line names."""
+    return len(never_seen(packets, visits))

@@ -18,7 +18,7 @@ from dnlab.makings import ACKNOWLEDGES
 from dnlab.packets import DELIVERED, DROPPED, FATES, UNKNOWN
 from dnlab.series import Panel, Series, Values, queues, rates, sojourns, windows
 from dnlab.view import View, flows_of
-from dnlab.work import whole_file
+from dnlab.outputs import whole_file
 
 SCRIPT = "dnlab-plotly.js"
 _HERE = Path(__file__).resolve().parent

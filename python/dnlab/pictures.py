@@ -7,6 +7,7 @@ from matplotlib.backends.backend_agg import FigureCanvasAgg
 from matplotlib.figure import Figure
 from matplotlib.ticker import NullLocator
 
+from dnlab.outputs import whole_file
 from dnlab.series import Panel, Series, Span, panel_of
 from dnlab.view import View
 
@@ -143,7 +144,7 @@ def share_time(axes_of_time: Sequence[Any], unit: Unit, span: Span = Span()) -> 
 
 
 def save(figure: Figure, name: str) -> None:
-    """Writes the figure by its file's ending: .svg, .png or .pdf."""
+    """Writes the figure by its file's ending, .svg, .png or .pdf, whole or not at all; `OSError` as it comes."""
     ending = name.rsplit(".", 1)[-1]
-    with matplotlib.rc_context(STYLE):
-        figure.savefig(name, metadata=METADATA[ending], dpi=150)
+    with matplotlib.rc_context(STYLE), whole_file(name) as file:
+        figure.savefig(file, format=ending, metadata=METADATA[ending], dpi=150)

@@ -2,15 +2,22 @@
 import os
 import shutil
 import subprocess
+import sys
 from pathlib import Path
-from typing import Optional
+from typing import NoReturn, Optional
 
 from dnlab.errors import Failed
 
-# The repository, where this package stands in one; beside an installed package stands the installed program.
+# The repository, where this package stands in one. By tools/install it stands in PREFIX/share/dnlab/python, and the program in PREFIX/bin.
 ROOT = Path(__file__).resolve().parent.parent.parent
 _SCRIPT = ROOT / "dnlab"
-_PROVED = ROOT / "crates" / "dnlab" / "out" / "dnlab"
+# A package for pip carries the program within itself.
+_CARRIED = Path(__file__).resolve().parent / "bin" / "dnlab"
+
+
+def is_repository() -> bool:
+    """Whether this package stands in its repository."""
+    return _SCRIPT.is_file() and (ROOT / "crates").is_dir()
 
 
 def named_program(named: Optional[str] = None) -> Optional[str]:
@@ -25,27 +32,48 @@ def named_program(named: Optional[str] = None) -> Optional[str]:
 
 
 def program(named: Optional[str] = None) -> str:
-    """The program: the one that is named, else that of DNLAB, else `dnlab` on the PATH or beside this package, else the
-    proved one of the repository, else the repository's script."""
+    """The path of the program: the one that is named, else that of DNLAB. Else it is in the repository the one that the script
+    ./dnlab starts, the proved program or a checked build, made first where it isn't there; no proof is started. An installed
+    package has the one that it carries or that stands beside it, else `dnlab` on the PATH. `Failed` says what is lacking."""
     given = named_program(named)
-    if given:
+    if given and not (is_repository() and os.path.samefile(given, _SCRIPT)):
         return given
-    for place in (shutil.which("dnlab"), ROOT.parent / "bin" / "dnlab", _PROVED, _SCRIPT):
+    if is_repository():
+        return _of_repository()
+    for place in (_CARRIED, ROOT.parent.parent / "bin" / "dnlab", shutil.which("dnlab")):
         if place and os.path.isfile(place) and os.access(place, os.X_OK):
             return str(place)
-    raise Failed(2, "there is no program dnlab: install it, or name it by the environment variable DNLAB")
+    raise Failed(3, "there is no program dnlab: install it, or name it by the environment variable DNLAB")
 
 
-def proved_program() -> str:
-    """The program that DNLAB names, else the repository's proved one, made first where it isn't there; an installed
-    package has the installed one. Where DNLAB names the script ./dnlab, which may answer without a proof, it is the
-    proved one too."""
-    given = named_program()
-    if given and not (_SCRIPT.exists() and os.path.samefile(given, _SCRIPT)):
-        return given
-    if not (_SCRIPT.exists() and (ROOT / "crates").is_dir()):
-        return program()
-    status = subprocess.run([_SCRIPT, "prove"], stdin=subprocess.DEVNULL, check=False).returncode
-    if status:
-        raise Failed(status, "the program could not be proved")
-    return str(_PROVED)
+def start() -> NoReturn:
+    """The script `dnlab` of an installed package: becomes the program, with the same words."""
+    try:
+        found = str(_CARRIED) if os.access(_CARRIED, os.X_OK) else program()
+        os.execv(found, ["dnlab", *sys.argv[1:]])
+    except Failed as failed:
+        print(f"dnlab: {failed.said}", file=sys.stderr)
+        sys.exit(failed.status)
+    except OSError as error:
+        print(f"dnlab: {_CARRIED} can't be started: {error.strerror} (it needs Linux on x86-64)", file=sys.stderr)
+        sys.exit(3)
+
+
+def _of_repository() -> str:
+    """What ./dnlab starts; it says on standard error how far it is, where a build has to be made."""
+    words = [str(_SCRIPT), "program"]
+    environment = {name: word for name, word in os.environ.items() if name != "DNLAB"}
+    try:
+        going = subprocess.Popen(words, stdin=subprocess.DEVNULL, stdout=subprocess.PIPE, text=True, env=environment)
+    except OSError as error:
+        raise Failed(3, f"{error.filename}: {error.strerror}") from error
+    try:
+        said, _ = going.communicate()
+    except BaseException:
+        # It ends what it has begun, which it couldn't where it is killed.
+        going.terminate()
+        going.wait()
+        raise
+    if going.returncode:
+        raise Failed(3, "there is no program: ./dnlab could make none")
+    return said.rstrip("\n")

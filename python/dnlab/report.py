@@ -4,12 +4,17 @@
 columns, or raises `Refused` with the line and the cause. What a report says twice is compared: the commands' numbers
 go up by one, moments don't fall, a packet ends once, and the counters are what the lines add up to.
 """
+import gzip
 import io
 import os
 import re
-from dataclasses import dataclass, field
+import shutil
+import tempfile
+import zlib
+from contextlib import contextmanager
+from dataclasses import dataclass, field, replace
 from pathlib import Path
-from typing import BinaryIO, Iterable, Iterator, Optional, Union
+from typing import IO, Any, BinaryIO, Iterable, Iterator, Optional, Union
 
 import numpy as np
 
@@ -19,6 +24,7 @@ from dnlab.lines import (ACK, CAUSES, DELIVER, DROP, MAKE, OK, REFUSED, RULE, SP
 
 _HEADING = re.compile(rb"experiment ([a-z0-9_-]{1,32})")
 _MARK = b"experiment "
+_GZIP = b"\x1f\x8b"
 # How much is looked through at once for headings, and how much is read in columns at once.
 _LOOK = 1 << 22
 _BLOCK = 1 << 18
@@ -72,6 +78,8 @@ class Piece:
     begin: int = 0
     end: int = 0
     text: Optional[bytes] = None
+    # What must live as long as this does: the unpacked bytes of a file that is packed.
+    keep: Any = field(default=None, compare=False, repr=False)
 
     def __len__(self) -> int:
         return self.end - self.begin
@@ -111,14 +119,51 @@ def _blocks(source: BinaryIO, size: int, most: Optional[int] = None) -> Iterator
 def pieces(source: Union[str, Path, BinaryIO], wanted: Iterable[str] = ()) -> Iterator[Piece]:
     """The experiments of a report, in order; of those that are wanted, where any are named.
 
-    A file is only looked through; of a stream the text of one experiment at a time is kept. Bytes between headings are
-    not judged here.
+    A file is only looked through; of a stream the text of one experiment at a time is kept. What is packed by gzip is
+    unpacked. Bytes between headings are not judged here.
     """
     if isinstance(source, (str, Path)):
         with open(source, "rb") as file:
-            yield from _found(file, os.fspath(source), set(wanted))
+            if file.read(len(_GZIP)) != _GZIP:
+                file.seek(0)
+                yield from _found(file, os.fspath(source), set(wanted))
+                return
+            file.seek(0)
+            unpacked = _Unpacked(file)
+        for piece in pieces(unpacked.path, wanted):
+            yield replace(piece, keep=unpacked)
     else:
-        yield from _found(source, None, set(wanted))
+        stream: Any = source if hasattr(source, "peek") else io.BufferedReader(source)  # type: ignore[arg-type]
+        if stream.peek(len(_GZIP))[:len(_GZIP)] != _GZIP:
+            yield from _found(stream, None, set(wanted))
+            return
+        with gzip.open(stream) as plain, _packed():
+            yield from _found(plain, None, set(wanted))  # type: ignore[arg-type]
+
+
+class _Unpacked:
+    """The bytes of a file that is packed by gzip, in a temporary file that has no name, or whose name goes with this."""
+
+    def __init__(self, packed: BinaryIO) -> None:
+        has_places = os.path.isdir(f"/proc/{os.getpid()}/fd")
+        self.file: IO[bytes] = tempfile.TemporaryFile() if has_places else tempfile.NamedTemporaryFile()
+        self.path = f"/proc/{os.getpid()}/fd/{self.file.fileno()}" if has_places else str(self.file.name)
+        with gzip.open(packed) as plain, _packed():
+            shutil.copyfileobj(plain, self.file, _LOOK)
+        self.file.flush()
+
+    def __reduce__(self) -> tuple[Any, tuple[()]]:
+        """Another process needs the place alone; what keeps it stays here."""
+        return type(None), ()
+
+
+@contextmanager
+def _packed() -> Iterator[None]:
+    """Refuses what is no gzip, or is cut."""
+    try:
+        yield
+    except (EOFError, zlib.error, gzip.BadGzipFile) as fault:
+        raise Refused(1, f"its gzip is cut or damaged ({fault})") from None
 
 
 def _found(file: BinaryIO, path: Optional[str], wanted: set[str]) -> Iterator[Piece]:

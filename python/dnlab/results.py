@@ -1,4 +1,5 @@
 """Reports for those who script: `read` and `run` give a `Report`, whose experiments have their tables as DataFrames."""
+import warnings
 from collections.abc import Mapping
 from dataclasses import dataclass
 from functools import cached_property
@@ -11,12 +12,14 @@ from dnlab import frames
 from dnlab.errors import Faulty
 from dnlab.figures import Percentile
 from dnlab.figures import interval as interval_of
+from dnlab.marks import Refusal
+from dnlab.origin import Origin, check_beside
 from dnlab.report import Counters, Piece
 from dnlab.scenario import Plan
-from dnlab.summing import summed, varied
+from dnlab.summing import lacking, summed, varied
 from dnlab.tables import PERCENTILES, Tables, columns_of, losses, windows
 from dnlab.view import Ended, Note, View, view_of
-from dnlab.work import Given, pieces_of, plans_of
+from dnlab.work import Given, bytes_of, pieces_of, plans_of
 
 Names = Union[str, Path, Sequence[Union[str, Path]]]
 
@@ -49,6 +52,16 @@ class Experiment:
     def settings(self) -> Optional[str]:
         """The configurations of its pipes, as the scenario has them."""
         return self.view.plan.settings() if self.view.plan else None
+
+    @property
+    def refused(self) -> list[Refusal]:
+        """The commands that were refused: each with `line` and `text` of the scenario, `code` and `told()`, the reason."""
+        return self.view.refused
+
+    @property
+    def marks(self) -> str:
+        """The marks of all its rows, with spaces between; docs/use/TOOLS.md says what each means."""
+        return self.view.marks()
 
     @property
     def notes(self) -> list[Note]:
@@ -108,22 +121,46 @@ class Experiment:
         return pictures.figure_of([self.view], what)
 
 
+def _made_anew(report: bytes, scenarios: Sequence[bytes]) -> "Report":
+    """A report that came from another process, in files of its own."""
+    from dnlab.rooms import Room
+
+    room = Room()
+    files = [room.path / "report.txt", *(room.path / f"scenario{place}.txt" for place in range(len(scenarios)))]
+    for file, data in zip(files, [report, *scenarios]):
+        file.write_bytes(data)
+    return Report(files[0], files[1:], room)
+
+
 class Report(Mapping[str, Experiment]):
     """A report with its scenario: `report["name"]` reads that experiment, one at a time stays in memory.
 
     Its experiments are found when it is opened; each is read, judged and joined when it is asked for."""
 
-    def __init__(self, report: Union[str, Path], scenario: Names = (), keep: Any = None) -> None:
+    def __init__(self, report: Union[str, Path], scenario: Names = (), keep: Any = None,
+                 origin: Optional[Origin] = None) -> None:
         names = [scenario] if isinstance(scenario, (str, Path)) else scenario
         self.given = Given(str(report), tuple(str(name) for name in names))
         # What must live as long as the report does: the file of a run that nobody named.
         self._keep = keep
+        # What made it: the checksums of scenario and program, its version, the command; None where nothing tells it.
+        self.origin: Optional[Origin] = origin
         self.plans: Optional[dict[str, Plan]] = plans_of(self.given.scenarios)
         self._pieces: dict[str, Piece] = {piece.name: piece for piece in pieces_of(self.given.report)}
         self._last: Optional[Experiment] = None
         for name in self._pieces:
             if self.plans is not None and name not in self.plans:
                 raise Faulty(f"{self.given.scenario()}: it has no experiment {name}")
+        lacking(self.given.report, self.given.scenario(), [name for name in self.plans or {} if name not in self._pieces])
+        if origin is None:
+            self.origin = check_beside(self.given.report, self.plans, self.given.scenario())
+        if not self._pieces:
+            warnings.warn(f"{self.given.report}: it is empty, and has no experiment: was the scenario empty, or all in"
+                          " comments?", stacklevel=3)
+
+    def __reduce__(self) -> "tuple[Any, tuple[bytes, list[bytes]]]":
+        """So that it passes to another process or machine whole: with the bytes of its files."""
+        return _made_anew, (bytes_of(self.given.report), [bytes_of(name) for name in self.given.scenarios])
 
     @cached_property
     def _varied(self) -> dict[str, str]:

@@ -197,6 +197,10 @@ def queues(view: View) -> Panel:
         return Panel("Packets in delay lines (how many wait needs the scenario)", "packets",
                      most(view, "queue", flights), "" if flights else "no packet finished in a pipe")
     series = [steps(view, f"at {pipe_name(pipe)}", *waiting(view, own)) for pipe, own in pipes]
+    lost = len(view.never_seen)
+    if lost:
+        view.more_notes.append(Note("no pipe", f"queue: {lost} packets have no line that names their pipe (held at the end,"
+                                    " or deleted while they waited), so no pipe's line counts them"))
     made, ended = view.packets.made, view.packets.ended
     changes = _changes(made, ended[ended >= 0])
     series = most(view, "queue", series)

@@ -2,15 +2,20 @@
 import re
 import sys
 from collections import Counter
-from fnmatch import fnmatchcase
 from functools import partial
-from typing import Iterable, NamedTuple, Optional, Sequence
+from typing import Callable, Iterable, Iterator, NamedTuple, Optional, Sequence, TypeVar
 
+from dnlab.errors import Faulty
 from dnlab.figures import Percentile, interval
+from dnlab.metrics import is_named
+from dnlab.origin import check_beside
 from dnlab.scenario import Plan
 from dnlab.tables import PERCENTILES, Row, Tables, losses, windows
 from dnlab.view import KINDS, Note, View
 from dnlab.work import Given, over
+
+
+T = TypeVar("T")
 
 
 class Summed(NamedTuple):
@@ -58,18 +63,39 @@ def sum_one(view: View, percentiles: Sequence[Percentile], shown: dict[str, str]
         own = {"seed": view.plan.seed if view.plan else None, "varied": shown.get(view.name), "ended": view.ended.how}
         rows = [{**row, **own} for row in rows]
     if patterns:
-        rows = [row for row in rows if any(fnmatchcase(row["of"], pattern) for pattern in patterns)]
+        rows = [row for row in rows if any(is_named(row["of"], pattern) for pattern in patterns)]
     return Summed(view.name, rows, view.notes)
 
 
 def summed(given: Given, plans: Optional[dict[str, Plan]], wanted: Sequence[str] = (),
            percentiles: Sequence[Percentile] = PERCENTILES, patterns: Sequence[str] = (), kind: str = "summary",
-           every: int = 0, workers: Optional[int] = None) -> Iterable[Summed]:
-    """The rows and notes of each experiment of a report, in order."""
+           every: int = 0, workers: Optional[int] = None) -> Iterator[Summed]:
+    """The rows and notes of each experiment of a report, in order; `Faulty` where the scenario isn't the report's."""
     shown = varied(plans) if plans else {}
     one = partial(sum_one, percentiles=tuple(percentiles), shown=shown, patterns=tuple(patterns), kind=kind,
                   every=every)
-    return over(given, one, plans, wanted, workers, "summary")
+    return whole(given, plans, wanted, over(given, one, plans, wanted, workers, "summary"), lambda made: made.name)
+
+
+def whole(given: Given, plans: Optional[dict[str, Plan]], wanted: Sequence[str], found: Iterable[T],
+          name_of: Callable[[T], str]) -> Iterator[T]:
+    """What is made of a report's experiments, in order. `Faulty` before the first where what is kept beside the report
+    tells of another scenario, and behind the last where the report lacks an experiment that its scenario has (where not
+    some alone are wanted)."""
+    check_beside(given.report, plans, given.scenario())
+    names = set()
+    for made in found:
+        names.add(name_of(made))
+        yield made
+    lacking(given.report, given.scenario(), [] if wanted or plans is None else [name for name in plans if name not in names])
+
+
+def lacking(report: str, scenario: str, names: Sequence[str]) -> None:
+    """Refuses a report that lacks some experiments of its scenario."""
+    if names:
+        more = f" and {len(names) - 1} more" if len(names) > 1 else ""
+        raise Faulty(f"{report}: it has no experiment {names[0]}{more}, which {scenario} has: was it cut short? (--experiment"
+                     " takes those that it has)")
 
 
 def grouped(rows: Sequence[Row], by: Sequence[str], columns: Sequence[str]) -> list[Row]:
@@ -87,6 +113,13 @@ def grouped(rows: Sequence[Row], by: Sequence[str], columns: Sequence[str]) -> l
             made |= {f"{column} n": one.count, f"{column} mean": one.mean, f"{column} half": one.half}
         found.append(made)
     return found
+
+
+def tell_empty(tool: str, given: Given, total: int) -> None:
+    """Says on standard error that there was nothing to read: what made it was empty, or an empty text was run."""
+    if not total:
+        print(f"{tool}: {given.report}: it is empty, and has no experiment: was the scenario empty, or all in comments?",
+              file=sys.stderr)
 
 
 def tell(tool: str, notes: Iterable[tuple[str, Note]], total: int) -> None:

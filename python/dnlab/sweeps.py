@@ -1,42 +1,36 @@
 """Sweeps: a template, a grid of settings and seeds; each experiment is made, run and read, and groups get intervals."""
-import gc
-import multiprocessing
-import os
 import re
 import shlex
-import signal
-import subprocess
-import tempfile
-import traceback
-from concurrent.futures import FIRST_COMPLETED, Future, ProcessPoolExecutor, wait
-from concurrent.futures.process import BrokenProcessPool
 from fnmatch import fnmatchcase
-from functools import partial
 from pathlib import Path
-from typing import Any, Iterable, Iterator, Mapping, NamedTuple, NoReturn, Optional, Sequence, Union
+from typing import Any, Iterable, Iterator, Mapping, NamedTuple, Optional, Sequence, Union
 
 import pandas as pd
 
-from dnlab import frames
-from dnlab.asking import USUAL, Ask, Found, answer, check, merged, names_in, stats_of, unit_of, usual
-from dnlab.engines import Stop
+from dnlab import children, ending, frames
+from dnlab.asking import USUAL, Ask, Found, check, merged, names_in, stats_of, unit_of, usual
+from dnlab.children import Killed
+from dnlab.crew import Crew, Outcome
 from dnlab.errors import Failed, Faulty
 from dnlab.estimates import Kind, estimate
 from dnlab.grids import Case, cases_of
 from dnlab.kept import Kept, checksum, program_checksum
+from dnlab.making import Maker
+from dnlab.measuring import measured
+from dnlab.notes import Note
 from dnlab.programs import program as program_of
-from dnlab.runs import run
 from dnlab.scenario import MOST_BYTES, MOST_EXPERIMENTS, BadWord, Plan, Words, experiment, read
 from dnlab.splitting import experiments_in
 from dnlab.templates import Template, shown
-from dnlab.view import Note, View
-from dnlab.work import Given, Progress, cores, over, plans_of
+from dnlab.work import Progress, cores
 
 # What a process runs at once: the program keeps all reports of a text until its end, so their steps are bounded too.
 _MOST_TOGETHER = 4
 _MOST_STEPS = 3 * 10**6
-# So many experiments are given to other machines at once; what has come back is kept then.
-_MOST_AWAY = 1024
+# An experiment's name hangs on the order of --set, and its answers don't.
+_HEADING = re.compile(r"^( *experiment +)\S+", re.MULTILINE)
+# Marks of experiments that weren't run as their texts have it: a table of them is no answer, unless they are allowed.
+STOPPING = ("refused", "spent")
 
 
 class Waiting(NamedTuple):
@@ -46,41 +40,10 @@ class Waiting(NamedTuple):
     steps: int
 
 
-def named_answer(view: View, asks: Sequence[Ask]) -> tuple[str, Found]:
-    """What an experiment of a report answers, with its name."""
-    return view.name, answer(view, asks)
+Answered = tuple[list[Waiting], list[Found]]
 
 
-def measured(text: str, asks: Sequence[Ask], program: str) -> list[Found]:
-    """Runs a text and reads its report, for another process; what its experiments answer, in order."""
-    try:
-        return _measured(text, asks, program)
-    except SystemExit as ended:
-        # Told to end: the program is away by now, and its files go with what holds them. The pool would take this for
-        # an answer and go on.
-        traceback.clear_frames(ended.__traceback__)
-        ended.__traceback__ = None
-        gc.collect()
-        os._exit(3)
-
-
-def _measured(text: str, asks: Sequence[Ask], program: str) -> list[Found]:
-    report = run(text, dnlab=program)
-    return [answer(report[name].view, asks) for name in report]
-
-
-def _end(*_: Any) -> NoReturn:
-    signal.signal(signal.SIGTERM, signal.SIG_IGN)
-    raise SystemExit(3)
-
-
-def _for_signals() -> None:
-    """A process that runs and reads is ended by the one that began it, not by the terminal, and its program with it."""
-    signal.signal(signal.SIGINT, signal.SIG_IGN)
-    signal.signal(signal.SIGTERM, _end)
-
-
-def _together(waiting: Sequence[Waiting], workers: int) -> Iterator[list[Waiting]]:
+def together(waiting: Sequence[Waiting], workers: int) -> Iterator[list[Waiting]]:
     """Experiments that are run as one text, in order."""
     most = max(1, min(_MOST_TOGETHER, len(waiting) // (4 * workers)))
     batch: list[Waiting] = []
@@ -102,15 +65,18 @@ class Sweep:
     asks      of whom and which figures; without any those of flows and trains
     kept      the file in which answers are kept, by the checksums of text and program; else they last as long as this
     workers   how many processes; all cores where it isn't given
-    on        other machines, as `dnlab-spread --ssh` has them, or `slurm`; `there` is the program's path on them
+    on        other machines: `slurm`, `dask:ADDRESS` of a scheduler, or as `dnlab-spread --ssh` has them; `there` is the
+              program's path on them, `parts` in how many parts they are given, else each takes about a minute
     dnlab     the program; else see `dnlab.programs.program`
     anew      whether all are run, whatever is kept
+    allow     which of `refused` and `spent` don't stop it: an experiment with a command that was refused, or whose steps
+              were spent before its end, raises `Faulty` where it isn't allowed
     """
 
     def __init__(self, template: Union[str, Path], grid: Mapping[str, Sequence[Any]], seeds: Iterable[int] = (1,),
                  asks: Sequence[Ask] = (), kept: Union[str, Path, None] = None, workers: Optional[int] = None,
                  on: Optional[str] = None, there: Optional[str] = None, dnlab: Optional[str] = None,
-                 anew: bool = False) -> None:
+                 anew: bool = False, allow: Sequence[str] = (), parts: Optional[int] = None) -> None:
         self.template = Template(template)
         for name in grid:
             if name not in self.template.names:
@@ -119,7 +85,9 @@ class Sweep:
         self.cases = cases_of(grid, seeds)
         self.asks = merged(asks)
         self.workers = workers or cores()
-        self.on, self.there = on, there
+        self.on, self.there, self.parts = on, there, parts
+        self.allow = frozenset(allow)
+        self._maker = Maker(self.template)
         self._named = dnlab
         self.kept = Kept(kept)
         self.anew = anew
@@ -129,7 +97,7 @@ class Sweep:
 
     def text(self, case: Case) -> str:
         """The text of an experiment; one that isn't just this experiment is refused."""
-        text = self.template.made(case.name, case.seed, case.settings)
+        text = self._maker.made(case.name, case.seed, case.settings, case.told())
         names = [part.name for part in experiments_in([text.encode()])]
         if names != [case.name]:
             has = f"it has {', '.join(names)}" if names else "it has none"
@@ -182,7 +150,7 @@ class Sweep:
             if case.name in self.found:
                 continue
             text = self.text(case)
-            key = checksum(text, own)
+            key = checksum(_HEADING.sub(r"\1", text, count=1), own)
             found = None if self.anew else self.kept.get(key, self.asks)
             if found is not None:
                 self.found[case.name] = found
@@ -200,92 +168,73 @@ class Sweep:
         """Runs what isn't known yet; each answer is kept as it comes."""
         if len(self.found) == len(self.cases):
             return
-        waiting = self.prepare()
-        self.kept.open()
+        try:
+            waiting = self.prepare()
+            for case in self.cases:
+                self._judge(case)
+            self.kept.open()
+            self._run(waiting)
+        finally:
+            self._maker.close()
+
+    def _run(self, waiting: Sequence[Waiting]) -> None:
         progress = Progress("sweep", len(self.cases), len(self.cases) - len(waiting))
         program = program_of(self._named)
+        ending.add(progress.close)
         try:
-            for batch, found in (self._here if self.on is None else self._away)(waiting, program):
-                self.kept.put([(one.key, answered) for one, answered in zip(batch, found)])
-                self.found.update((one.case.name, answered) for one, answered in zip(batch, found))
-                self.ran += len(batch)
+            for batch, found in self._answers(waiting, program):
+                with ending.held():
+                    self.kept.put([(one.key, answered) for one, answered in zip(batch, found)])
+                    self.found.update((one.case.name, answered) for one, answered in zip(batch, found))
+                    self.ran += len(batch)
                 progress.step(len(batch))
+                for one in batch:
+                    self._judge(one.case)
         finally:
             progress.close()
+            ending.remove(progress.close)
 
-    def _here(self, waiting: Sequence[Waiting], program: str) -> Iterator[tuple[list[Waiting], list[Found]]]:
+    def _answers(self, waiting: Sequence[Waiting], program: str) -> Iterator[Answered]:
+        if self.on is None:
+            return self.here(waiting, program)
+        from dnlab import elsewhere
+
+        return elsewhere.answers(self, waiting, program)
+
+    def _judge(self, case: Case) -> None:
+        """Refuses an experiment that wasn't run as its text has it, unless that is allowed."""
+        for note in self.found[case.name].notes if case.name in self.found else []:
+            if note.mark in STOPPING and note.mark not in self.allow:
+                raise Faulty(f"{self.template.name}: {case.told()}: {note.text} (--allow {note.mark} goes on)")
+
+    def here(self, waiting: Sequence[Waiting], program: str) -> Iterator[Answered]:
         """Runs and reads by processes of this machine; what is done first comes first. Where some fail the others are run,
-        and the first failure is told at the end."""
-        running: dict[Future[list[Found]], list[Waiting]] = {}
+        and the first failure is told at the end; one that a signal ended ends all."""
         failures: list[Failed] = []
+        with Crew[tuple[Waiting, ...]](min(self.workers, max(len(waiting), 1))) as crew:
+            def begin(batch: Sequence[Waiting]) -> None:
+                crew.give(tuple(batch), measured, [self.text(one.case) for one in batch], self.asks, program)
 
-        def begin(batch: list[Waiting]) -> None:
-            text = "".join(self.text(one.case) for one in batch)
-            running[pool.submit(measured, text, self.asks, program)] = batch
+            for batch in together(waiting, self.workers):
+                begin(batch)
+                while len(crew) > 2 * self.workers:
+                    yield from self._taken(crew, begin, failures)
+            while len(crew):
+                yield from self._taken(crew, begin, failures)
+        raise_first(failures)
 
-        def done() -> Iterator[tuple[list[Waiting], list[Found]]]:
-            for future in wait(running, return_when=FIRST_COMPLETED).done:
-                batch = running.pop(future)
-                try:
-                    yield batch, future.result()
-                except Failed as failed:
-                    if len(batch) == 1:
-                        failures.append(Failed(failed.status, f"{batch[0].case.told()}: {failed.said}"))
-                    for one in batch if len(batch) > 1 else []:
-                        # Alone it is told which of them it was, and where memory was short less is wanted at once.
-                        begin([one])
-                except BrokenProcessPool:
-                    raise Failed(3, f"a process was ended from outside, for want of memory? ({batch[0].case.told()} or"
-                                    " one behind it)") from None
-
-        with ProcessPoolExecutor(self.workers, initializer=_for_signals) as pool:
-            try:
-                for batch in _together(waiting, self.workers):
-                    begin(batch)
-                    while len(running) > 2 * self.workers:
-                        yield from done()
-                while running:
-                    yield from done()
-            except BaseException:
-                pool.shutdown(wait=False, cancel_futures=True)
-                for process in multiprocessing.active_children():
-                    process.terminate()
-                raise
-        if failures:
-            more = f" (and {len(failures) - 1} experiments more)" if len(failures) > 1 else ""
-            raise Failed(failures[0].status, failures[0].said + more)
-
-    def _away(self, waiting: Sequence[Waiting], program: str) -> Iterator[tuple[list[Waiting], list[Found]]]:
-        """Runs on other machines, by `spread`, and reads here."""
-        from dnlab.commands import spread
-
-        # Nodes of Slurm see the folder of the call, and not this machine's own for temporary files.
-        beside = "." if self.on == "slurm" else None
-        for begin in range(0, len(waiting), _MOST_AWAY):
-            batch = list(waiting[begin:begin + _MOST_AWAY])
-            with tempfile.TemporaryDirectory(prefix="sweep.", dir=beside) as room:
-                scenario, report = os.path.join(room, "scenario.txt"), os.path.join(room, "report.txt")
-                with open(scenario, "w", encoding="utf-8") as file:
-                    file.writelines(self.text(one.case) for one in batch)
-                parts = len(list(_together(batch, self.workers)))
-                words = [scenario, "--out", report, "--parts", str(parts)]
-                words += ["--slurm"] if self.on == "slurm" else ["--ssh", str(self.on)]
-                try:
-                    spread.spread(spread.words(words + (["--program", self.there] if self.there else [])), program)
-                except Stop as stop:
-                    # What the other parts have answered isn't lost.
-                    for whole in sorted(Path(f"{report}.parts").glob("*.whole")):
-                        yield self._read(str(whole), scenario, batch)
-                    raise Failed(stop.status, "\n".join(line for line in str(stop).splitlines()
-                                                        if "--resume" not in line)) from None
-                yield self._read(report, scenario, batch)
-
-    def _read(self, report: str, scenario: str, batch: Sequence[Waiting]) -> tuple[list[Waiting], list[Found]]:
-        """What the experiments of a report answer."""
-        by_name = {one.case.name: one for one in batch}
-        found = list(over(Given(report, (scenario,)), partial(named_answer, asks=self.asks), plans_of([scenario]),
-                          workers=self.workers))
-        return [by_name[name] for name, _ in found], [answered for _, answered in found]
+    def _taken(self, crew: Crew[tuple[Waiting, ...]], begin: Any, failures: list[Failed]) -> Iterator[Answered]:
+        """What the next job gives. Experiments of a text that failed are begun anew one by one: so it is told which of
+        them it was, and where memory was short less is wanted at once."""
+        outcome = crew.next()
+        batch = list(outcome.token)
+        if not isinstance(outcome.fault, Failed) or isinstance(outcome.fault, Killed):
+            yield batch, answer_of(outcome)
+        elif len(batch) == 1:
+            failures.append(Failed(outcome.fault.status, f"{batch[0].case.told()}: {outcome.fault.said}"))
+        else:
+            for one in batch:
+                begin([one])
 
     def rows(self) -> pd.DataFrame:
         """A row for each experiment and each of whom was asked: its settings, seed, experiment, of, a column for each
@@ -368,24 +317,40 @@ def _steps(text: str) -> int:
 
 def _judged(program: str, text: bytes) -> Optional[str]:
     """What the program says of a faulty text, None where it has no fault."""
-    done = subprocess.run([program, "check", "--explain"], input=text, capture_output=True, check=False)
-    if done.returncode == 0:
+    done = children.run([program, "check", "--explain"], text)
+    if done.status == 0:
         return None
-    said = done.stderr.decode(errors="replace").rstrip()
-    if done.returncode != 1:
-        raise Failed(done.returncode, said)
-    return said
+    if done.status != 1:
+        raise Failed(done.status, done.said() or f"{program} check ended with status {done.status}")
+    return done.said()
+
+
+def answer_of(outcome: Outcome[tuple[Waiting, ...]]) -> list[Found]:
+    """What experiments answer; a program that a signal ended is told with the first of them."""
+    if isinstance(outcome.fault, Killed):
+        first, *others = outcome.token
+        more = f" or one of {len(others)} behind it" if others else ""
+        raise Killed(3, f"{first.case.told()}{more}: {outcome.fault.said}")
+    found: list[Found] = outcome.get()
+    return found
+
+
+def raise_first(failures: Sequence[Failed]) -> None:
+    """Raises the first of some failures, with how many there are."""
+    if failures:
+        more = f" (and {len(failures) - 1} experiments more)" if len(failures) > 1 else ""
+        raise Failed(failures[0].status, failures[0].said + more)
 
 
 def sweep(template: Union[str, Path], *, seed: Union[int, Iterable[int]] = 1, of: Any = None, stat: Any = USUAL,
           settings: Mapping[str, Any] = {}, kept: Union[str, Path, None] = None, workers: Optional[int] = None,
-          on: Optional[str] = None, dnlab: Optional[str] = None, **grid: Any) -> Sweep:
+          on: Optional[str] = None, dnlab: Optional[str] = None, allow: Sequence[str] = (), **grid: Any) -> Sweep:
     """Runs a template with each setting and each seed: `dnlab.sweep("link.tmpl", queue=[10, 50], seed=range(30)).table()`.
 
     template  the path of a template in Jinja2, or its text (a str of several lines)
     seed      one or several; `settings` has settings that are called as a word here is
     of, stat  whom and what to ask: `of="train 9", stat=["delay.p95", "lost"]`, or of={"train 9": ["delay.p95"], ..}
-    kept, workers, on, dnlab   see `Sweep`
+    kept, workers, on, dnlab, allow   see `Sweep`
 
     A setting is a value or a list of them. Faults of the template, and of a text that was made of it, raise `Faulty`.
     """
@@ -394,4 +359,4 @@ def sweep(template: Union[str, Path], *, seed: Union[int, Iterable[int]] = 1, of
     asked = of if isinstance(of, Mapping) else {} if of is None else {
         one: stat for one in ([of] if isinstance(of, str) else of)}
     asks = [Ask(one, stats_of(stats if isinstance(stats, str) else ",".join(stats))) for one, stats in asked.items()]
-    return Sweep(template, every, [seed] if isinstance(seed, int) else seed, asks, kept, workers, on, dnlab=dnlab)
+    return Sweep(template, every, [seed] if isinstance(seed, int) else seed, asks, kept, workers, on, dnlab=dnlab, allow=allow)

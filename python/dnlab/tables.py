@@ -12,6 +12,7 @@ from dnlab.errors import Faulty
 from dnlab.figures import Percentile, jain, percentile_name, place
 from dnlab.lines import CAUSES, pipe_name
 from dnlab.makings import DATA, PLAIN
+from dnlab.marks import codes_of
 from dnlab.packets import DELIVERED, DROPPED, HELD
 from dnlab.scenario import HEADER
 from dnlab.view import View, flows_of
@@ -23,8 +24,8 @@ WHOLE = ("there", "back", "all")
 _MOST_WINDOWS = 10**6
 PERCENTILES: tuple[Percentile, ...] = (50, 99)
 _COUNTS = ("packets", "delivered", "held", "bytes", "first", "last", "time", "rate")
-_MORE = ("useful", "goodput", "again", "completion", "jain", "seed", "budget_packets", "budget_steps", "settings",
-         "varied", "ended", "ended_at", "end", "marks")
+_MORE = ("mean", "jitter", "useful", "goodput", "utilisation", "again", "completion", "jain", "seed", "budget_packets",
+         "budget_steps", "settings", "varied", "refused", "codes", "ended", "ended_at", "end", "marks")
 
 
 def times_of(percentiles: Sequence[Percentile]) -> tuple[str, ...]:
@@ -52,6 +53,25 @@ def spread(times: Optional[Ints], percentiles: Sequence[Percentile], with_mean: 
     return found
 
 
+# The share of the newest difference in the jitter of RFC 3550; those before the last so many weigh less than 2^-180.
+_NEWEST = 1 / 16
+_HEARD = 2000
+
+
+def jitter(times: Ints) -> Optional[float]:
+    """The interarrival jitter of RFC 3550, section 6.4.1, behind the last packet, ns: J + (|D| - J) / 16 with each
+    difference D of two times under way, which stand in the order of arrival. None of fewer than two, or where one isn't
+    known. Shape (n,).
+
+    >>> jitter(np.array([10, 26, 26], dtype=np.int64))
+    0.9375
+    """
+    if len(times) < 2 or int(times.min()) < 0:
+        return None
+    steps = np.abs(np.diff(times))[-_HEARD:].astype(np.float64)
+    return float(np.dot(steps[::-1], (1 - _NEWEST) ** np.arange(len(steps))) * _NEWEST)
+
+
 def span(firsts: Ints, lasts: Ints, size: Optional[int]) -> Row:
     """First and last moment, the time between, and bits per second over it, rounded down."""
     known = len(firsts) > 0 and len(lasts) > 0 and int(firsts.min()) >= 0
@@ -70,11 +90,11 @@ def sum_of(sizes: Ints) -> Optional[int]:
 @dataclass
 class Tables:
     """Makes the rows of an experiment; `varied` is what of its settings isn't the same in all experiments, and
-    `with_mean` adds the `mean` time under way to the rows of packets and pipes."""
+    `with_mean` gives the rows of packets and pipes the `mean` time under way."""
     view: View
     percentiles: Sequence[Percentile] = PERCENTILES
     varied: Optional[str] = None
-    with_mean: bool = False
+    with_mean: bool = True
 
     def rows(self) -> list[Row]:
         """All rows of the experiment, its whole last."""
@@ -92,7 +112,8 @@ class Tables:
         return {"experiment": self.view.name,
                 "seed": plan.seed if plan else None, "budget_packets": plan.budget if plan else None,
                 "budget_steps": plan.steps if plan else None, "settings": plan.settings() if plan else None,
-                "varied": self.varied, "ended": ended.how, "ended_at": ended.moment, "end": ended.end}
+                "varied": self.varied, "refused": len(self.view.refused), "codes": codes_of(self.view.refused),
+                "ended": ended.how, "ended_at": ended.moment, "end": ended.end}
 
     def packets(self, of: str, packets: Ints) -> Row:
         """A row of packets: bytes, last and rate are of what was delivered, first is the first packet's making."""
@@ -105,7 +126,8 @@ class Tables:
                 "held": int(np.count_nonzero(fate == HELD)), "bytes": size,
                 **span(table.made[packets], table.ended[delivered], size),
                 **dict(zip(CAUSES, causes.tolist())),
-                **spread(table.delay[delivered], self.percentiles, self.with_mean)}
+                **spread(table.delay[delivered], self.percentiles, self.with_mean),
+                "jitter": jitter(table.delay[delivered[np.argsort(table.ended[delivered], kind="stable")]])}
 
     def sender(self, of: str, packets: Ints) -> Row:
         return {**self.packets(of, packets), **self.useful(packets), **self.progress(of, packets)}
@@ -157,10 +179,27 @@ class Tables:
         lost = packets.fate[packet[~is_served & (left >= 0)]].astype(np.int64) - DROPPED
         causes = np.bincount(lost[lost >= 0], minlength=len(CAUSES)).tolist()
         known = CAUSES if self.view.is_traced else ("codel",)
+        known_span = span(table.arrival[served], table.finish[served], size)
         return {"of": of, "packets": len(served), "delivered": len(gone), "held": int(np.count_nonzero(held)),
-                "bytes": size, **span(table.arrival[served], table.finish[served], size),
+                "bytes": size, **known_span, "utilisation": self.utilisation(of, known_span, size),
                 **{cause: count if cause in known else None for cause, count in zip(CAUSES, causes)},
                 **spread(times, self.percentiles, self.with_mean)}
+
+    def utilisation(self, of: str, known: Row, size: Optional[int]) -> Optional[float]:
+        """What an instance served by what its rate could have carried from the first arrival to the last finish; None
+        without a rate, or where that isn't known."""
+        if size is None or not known["time"]:
+            return None
+        could, begin, end = 0, known["first"], known["last"]
+        changes = [change for change in self.view.changes.get(int(of.split()[1].split(".")[0]), []) if change.config]
+        for change, following in zip(changes, [*changes[1:], None]):
+            assert change.config is not None
+            until = end if following is None else min(following.moment, end)
+            time = until - max(change.moment, begin)
+            if time > 0 and not change.config.bw:
+                return None
+            could += max(time, 0) * change.config.bw
+        return size * 8 * 10**9 / could if could else None
 
     def whole(self) -> list[Row]:
         """The row of all packets; bytes, rates and times stand in the rows of both directions where there are two."""

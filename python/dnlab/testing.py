@@ -8,32 +8,44 @@ and in a test:
         report = dnlab.run(Path("scenario.txt"))
         expect(report, "train 9: delay.p95 < 50ms", "codel/flow *: drops.budget == 0")
         expect(report, Path("bounds.txt"))
+        expect(report, "all: drops == 0", allow="refused")
+
+Refused commands, and an experiment whose steps were spent, fail as well, unless `allow` names them.
 """
 from pathlib import Path
-from typing import Callable, Union
+from typing import Callable, Sequence, Union
 
 import pytest
 
-from dnlab.bounds import bound_of, bounds_in, judge, percentiles_for
+from dnlab.bounds import allowed_of, bound_of, bounds_in, failing, judge, percentiles_for
+from dnlab.errors import Faulty
 from dnlab.results import Report
 from dnlab.summing import summed
 
 
-def expecting(report: Report, *bounds: Union[str, Path]) -> None:
-    """Fails at the first bound that doesn't hold, with all that were looked at; `dnlab.Faulty` for what is no bound.
+def expecting(report: Report, *bounds: Union[str, Path], allow: Union[str, Sequence[str]] = ()) -> None:
+    """Fails where a bound doesn't hold, where commands were refused and where steps were spent, with all bounds that were
+    looked at; `dnlab.Faulty` for what is no bound, and where there is nothing to judge.
 
     bounds  each one in words, or a file of them (`dnlab.bounds` has the form)
+    allow   `refused`, `spent`, or both: what doesn't fail
     """
+    allowed = allowed_of(allow if isinstance(allow, str) else ",".join(allow)) if allow else []
     found = []
     for number, one in enumerate(bounds, 1):
         found += bounds_in(one, one.read_text()) if isinstance(one, Path) else [bound_of(one, f"bound {number}")]
-    rows = [row for one in summed(report.given, report.plans, percentiles=percentiles_for(found)) for row in one.rows]
-    judged = list(judge(found, rows))
-    if not all(one.holds for one in judged):
-        pytest.fail("\n".join(one.line() for one in judged), pytrace=False)
+    if not found:
+        raise Faulty("no bound was given, so nothing is judged")
+    runs = list(summed(report.given, report.plans, percentiles=percentiles_for(found)))
+    if not runs:
+        raise Faulty(f"{report.given.report}: it has no experiment, so no bound can hold")
+    failed = failing([(one.name, note) for one in runs for note in one.notes], allowed)
+    judged = list(judge(found, [row for one in runs for row in one.rows]))
+    if failed or not all(one.holds for one in judged):
+        pytest.fail("\n".join([*(one.line() for one in failed), *(one.line() for one in judged)]), pytrace=False)
 
 
 @pytest.fixture
 def expect() -> Callable[..., None]:
-    """`expect(report, bound, ..)`: fails at the first bound that doesn't hold."""
+    """`expect(report, bound, .., allow="refused")`: fails where a bound doesn't hold or something wasn't done."""
     return expecting

@@ -16,7 +16,10 @@ UNITS: dict[str, dict[str, Fraction]] = {
     "share": {"%": Fraction(1, 100)},
     "count": {"": Fraction(1), "packets": Fraction(1)},
     "index": {"": Fraction(1)},
+    "ending": {"": Fraction(1)},
 }
+# How an experiment may end; as an amount the place in this.
+ENDINGS = ("end", "spent")
 _AMOUNT = re.compile(r"([0-9]+(?:\.[0-9]+)?) ?([^0-9 .]*)")
 
 
@@ -26,6 +29,10 @@ def amount_of(text: str, kind: str) -> tuple[Fraction, str]:
     >>> amount_of("1.5ms", "time"), amount_of("5%", "share")
     ((Fraction(1500000, 1), 'ms'), (Fraction(1, 20), '%'))
     """
+    if kind == "ending":
+        if text not in ENDINGS:
+            raise ValueError(f"{text!r} is no ending: {', '.join(ENDINGS)}")
+        return Fraction(ENDINGS.index(text)), ""
     found = _AMOUNT.fullmatch(text)
     if not found:
         raise ValueError(f"{text!r} is no amount, as {example(kind)}")
@@ -47,7 +54,8 @@ def named(kind: str) -> str:
 
 def example(kind: str) -> str:
     """An amount of a kind, for a message."""
-    return {"time": "50ms", "size": "1500bytes", "rate": "9.5Mbit/s", "share": "5%", "count": "3", "index": "0.9"}[kind]
+    return {"time": "50ms", "size": "1500bytes", "rate": "9.5Mbit/s", "share": "5%", "count": "3", "index": "0.9",
+            "ending": "end"}[kind]
 
 
 def shown(amount: Fraction, kind: str, unit: str = "") -> str:
@@ -56,6 +64,8 @@ def shown(amount: Fraction, kind: str, unit: str = "") -> str:
     >>> shown(Fraction(1234567), "time", "ms"), shown(Fraction(1, 3), "share", "%")
     ('1.234567ms', '33.333333333%')
     """
+    if kind == "ending":
+        return ENDINGS[int(amount)]
     value = amount / UNITS[kind][unit]
     text = f"{Decimal(value.numerator) / value.denominator:.9f}".rstrip("0").rstrip(".")
     return text + (f" {unit}" if unit in ("bytes", "packets") else unit)

@@ -8,36 +8,17 @@ from numpy.typing import NDArray
 
 from dnlab.digits import Flags, Ints
 from dnlab.errors import Faulty, Refused
-from dnlab.lines import CAUSES, MAKE, OK, RULE
+from dnlab.lines import MAKE, OK, REFUSED, RULE
+from dnlab.links import compare_links
 from dnlab.makings import ACKNOWLEDGES, DATA, is_spent, makings_of
-from dnlab.packets import DELIVERED, DROPPED, Packets, Visits, nowhere, packets_of, visits_of
+from dnlab.marks import Refusal, marks_of, refused_of
+from dnlab.notes import KINDS, NO_SCENARIO, Note
+from dnlab.packets import Packets, Visits, never_seen, packets_of, visits_of
 from dnlab.report import Counters, Experiment, Piece, read_piece
-from dnlab.scenario import Plan, Sends
+from dnlab.scenario import Command, Plan, Sends
+from dnlab.settings import Change, changes_of
 
-_DENIED = DROPPED + CAUSES.index("denied")
-_BUDGET = DROPPED + CAUSES.index("budget")
-
-
-class Note(NamedTuple):
-    """Something to say of an experiment. Notes of one `kind` are counted over many experiments; `mark` is the word that
-    rows carry for it, '' where they carry none, and `of` whose rows, '' for all."""
-    kind: str
-    text: str
-    mark: str = ""
-    of: str = ""
-
-
-# What is said of many experiments that have a note of one kind.
-KINDS = {
-    "spent": "their steps were spent before their end",
-    "no way back": "no rule allows a flow's way back",
-    "denied": "packets were denied: no rule matched, or a `deny`",
-    "budget": "packets were dropped since as many were under way as the budget allows",
-    "no scenario": "no scenario was given, so sizes and times under way can't be told",
-    "no pipe": "some packets are in no pipe's queue, since no line names their pipe",
-}
-NO_SCENARIO = Note("no scenario", "sizes and the moments at which packets were made stand in a report under `trace 1`"
-                   " alone: give the scenario as the second argument")
+__all__ = ["KINDS", "NO_SCENARIO", "Ended", "Note", "View", "flows_of", "view_of"]
 
 
 class Ended(NamedTuple):
@@ -62,6 +43,8 @@ class View:
     def __post_init__(self) -> None:
         makings = makings_of(self.experiment, self.plan) if self.plan is not None else None
         self.packets: Packets = packets_of(self.experiment, makings)
+        if self.plan is not None and makings is not None:
+            compare_links(self.experiment, self.plan, makings, self.packets, self.visits)
         # Whether it is known of each packet when it was made, how long it is and who sent it.
         self.is_told = self.plan is not None or bool((self.packets.made >= 0).all())
         makes = int(np.count_nonzero(self.experiment.columns.word == MAKE))
@@ -110,6 +93,19 @@ class View:
                 if command.sends is not None and command.sends.number is not None and number in done}
 
     @cached_property
+    def done(self) -> list[tuple[int, Command]]:
+        """The commands of the scenario that were done, each with its row."""
+        columns = self.experiment.columns
+        rows = np.flatnonzero((columns.word == OK) | (columns.word == REFUSED)).tolist()
+        commands = self.plan.commands if self.plan else []
+        return [(row, command) for row, command in zip(rows, commands) if columns.word[row] == OK]
+
+    @cached_property
+    def changes(self) -> dict[int, list[Change]]:
+        """Of each pipe of the scenario its configurations and deletions that were done, in order."""
+        return changes_of(self.done)
+
+    @cached_property
     def is_back(self) -> Flags:
         """Of each packet whether it goes back: acknowledgements, and what is sent from flows' receivers to their
         senders. Shape (packets,)."""
@@ -123,42 +119,22 @@ class View:
         return back
 
     @cached_property
+    def refused(self) -> list[Refusal]:
+        """The commands that were refused, in order."""
+        return refused_of(self)
+
+    @cached_property
     def notes(self) -> list[Note]:
         """What couldn't be told, and what may be silently wrong, in the order of the most to the least grave."""
-        found = [*self._ends(), *self._losses()]
+        found = marks_of(self)
         if not self.is_told:
             found.append(NO_SCENARIO)
-        lost = nowhere(self.packets, self.visits)
-        if lost:
-            found.append(Note("no pipe", f"{lost} packets have no line that names their pipe (held at the end, or"
-                              " deleted while they waited): no pipe's queue counts them"))
         return found
 
-    def _ends(self) -> list[Note]:
-        if not self.ended.is_short():
-            return []
-        end = "" if self.ended.end is None else f", before its end at {self.ended.end} ns"
-        return [Note("spent", f"its steps were spent at {self.ended.moment} ns{end}: what came later isn't there; give"
-                     " it more `steps`", "spent")]
-
-    def _losses(self) -> list[Note]:
-        """Drops that tell of a scenario that isn't as it was meant: by rules, or for the budget."""
-        found = []
-        fate, kind = self.packets.fate, self.packets.kind
-        for name, packets in self.senders:
-            denied = int(np.count_nonzero(fate[packets] == _DENIED))
-            over = int(np.count_nonzero(fate[packets] == _BUDGET))
-            came = int(np.count_nonzero(fate[packets] == DELIVERED))
-            if denied and not came and int(kind[packets[0]]) == ACKNOWLEDGES:
-                found.append(Note("no way back", f"{name}: all {denied} that ended were denied: no rule allows the way"
-                                  " back, so the sender never heard of what came", "no-way-back", name))
-            elif denied:
-                found.append(Note("denied", f"{name}: {denied} of {len(packets)} packets were denied: no rule matched,"
-                                  " or a `deny`", "denied", name))
-            if over:
-                found.append(Note("budget", f"{name}: {over} of {len(packets)} packets were dropped since as many were"
-                                  " under way as the budget allows", "budget", name))
-        return found
+    @cached_property
+    def never_seen(self) -> Ints:
+        """The packets in a pipe that no line names, so that no pipe's queue counts them. Shape (n,)."""
+        return never_seen(self.packets, self.visits)
 
     def marks(self, of: str = "") -> str:
         """The words that a row carries, with spaces between: those of the experiment, and those of a sender."""

@@ -2,12 +2,10 @@
 import os
 import sys
 import time
-from collections import deque
-from concurrent.futures import Future, ProcessPoolExecutor
-from contextlib import contextmanager
 from pathlib import Path
 from typing import BinaryIO, Callable, Iterable, Iterator, NamedTuple, Optional, Sequence, TypeVar, Union
 
+from dnlab.crew import Crew
 from dnlab.errors import Faulty, Refused
 from dnlab.report import Piece, pieces
 from dnlab.scenario import Plan, read
@@ -71,18 +69,6 @@ def pieces_of(report: str, wanted: Sequence[str] = ()) -> Iterator[Piece]:
     for name in wanted:
         if name in missing:
             raise Faulty(f"{report}: it has no experiment {name}")
-
-
-@contextmanager
-def whole_file(name: str) -> Iterator[BinaryIO]:
-    """A file that has its name only once it is whole: of what ends by a fault nothing is left."""
-    beside = f"{name}.{os.getpid()}"
-    try:
-        with open(beside, "wb") as file:
-            yield file
-        os.replace(beside, name)
-    finally:
-        Path(beside).unlink(missing_ok=True)
 
 
 class TooMany(Faulty):
@@ -170,17 +156,25 @@ def over(given: Given, function: Callable[[View], T], plans: Optional[dict[str, 
 
 def _by_processes(given: Given, function: Callable[[View], T], plans: Optional[dict[str, Plan]],
                   found: Iterable[Piece], workers: int) -> Iterator[T]:
-    with ProcessPoolExecutor(workers) as pool:
-        waiting: deque[Future[T]] = deque()
-        try:
-            for piece in found:
-                own = None if plans is None else {piece.name: plans[piece.name]} if piece.name in plans else {}
-                waiting.append(pool.submit(_task, function, piece, own, given))
-                # A few ahead, so that no more texts are kept than are worked on.
-                while len(waiting) > workers + 1:
-                    yield waiting.popleft().result()
-            while waiting:
-                yield waiting.popleft().result()
-        finally:
-            for future in waiting:
-                future.cancel()
+    """What comes out of order waits for what is before it; a few are given ahead, so that no more texts are kept than
+    are worked on."""
+    done: dict[int, T] = {}
+    head = 0
+    with Crew[int](workers) as crew:
+        for number, piece in enumerate(found):
+            own = None if plans is None else {piece.name: plans[piece.name]} if piece.name in plans else {}
+            crew.give(number, _task, function, piece, own, given)
+            while number - head > workers + 1:
+                yield from _in_order(crew, done, head)
+                head += 1
+        while len(crew) or head in done:
+            yield from _in_order(crew, done, head)
+            head += 1
+
+
+def _in_order(crew: Crew[int], done: dict[int, T], head: int) -> Iterator[T]:
+    """The result of the first that hasn't been given yet."""
+    while head not in done:
+        outcome = crew.next()
+        done[outcome.token] = outcome.get()
+    yield done.pop(head)

@@ -25,7 +25,7 @@ def experiment(number: int, queue: str, seed: int) -> str:
              "@0 add 100 pipe 1 ip from 10.0.0.0/24 to 10.0.1.0/24",
              "@0 add 200 pipe 2 ip from 10.0.1.0/24 to 10.0.0.0/24",
              "@0 train 9 udp 10.0.0.9 1000 10.0.1.9 2000 100 count 240 gap 20000000"]
-    lines += [f"@{begin} flow {flow} 10.0.0.{flow} 1000 10.0.1.{flow} 80 smss 1460 segments 10000"
+    lines += [f"@{begin} flow {flow} 10.0.0.{flow} 1000 10.0.1.{flow} 80 smss 1460 segments 1000000"
               for flow, begin in enumerate(begins, 1)]
     return "\n".join([*lines, "@5000000000 end"]) + "\n"
 

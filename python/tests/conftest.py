@@ -10,9 +10,11 @@ from hypothesis import settings
 
 ROOT = Path(__file__).resolve().parent.parent.parent
 sys.path.insert(0, str(ROOT / "python"))
+# The tools are started by the Python that the tests have.
+os.environ["PATH"] = os.pathsep.join([os.path.dirname(sys.executable), os.environ["PATH"]])
 
 from dnlab import report, scenario  # noqa: E402
-from dnlab.programs import proved_program  # noqa: E402
+from dnlab.programs import program as program_of  # noqa: E402
 from dnlab.view import View  # noqa: E402
 
 
@@ -47,8 +49,8 @@ def view_of(name: str, joined: bool = True) -> View:
 
 @pytest.fixture(scope="session")
 def program() -> str:
-    """The program that DNLAB names, else the proved one."""
-    return proved_program()
+    """The program that DNLAB names, else the one that ./dnlab starts."""
+    return program_of()
 
 
 @pytest.fixture(scope="session")

@@ -20,12 +20,12 @@ def test_words_and_statuses(name: str, tmp_path: Path) -> None:
     assert tool(name)[0] == 2
     assert tool(name, "-", "-")[0] == 2
     status, out, err = tool(name, "-", text=b"experiment a\n0 okay 0\n")
-    assert status == 1 and "line 2" in err and not out
+    assert status == 2 and "line 2" in err and not out
     status, out, err = tool(name, tmp_path / "none")
-    assert status == 1 and "none" in err and not out
+    assert status == 2 and "none" in err and not out
     status, _, err = tool(name, REPORT, SCENARIO, "--experiment", "other")
-    assert status == 1 and "other" in err
-    assert tool(name, REPORT, EXAMPLES / "one_packet" / "scenario.txt")[0] == 1
+    assert status == 2 and "other" in err
+    assert tool(name, REPORT, EXAMPLES / "one_packet" / "scenario.txt")[0] == 2
 
 
 WRONG = [("plot", REPORT, "--what", "windows"), ("plot", REPORT, "--out", "x"), ("summary", REPORT, "--csv", "--json"),
@@ -102,7 +102,7 @@ def test_scenarios_in_several_texts(tmp_path: Path) -> None:
     (tmp_path / "b").write_text(text[cut:])
     assert tool("summary", report, tmp_path / "a", tmp_path / "b", "--csv") == tool("summary", report, scenario, "--csv")
     status, _, err = tool("summary", report, scenario, tmp_path / "b")
-    assert status == 1 and "a second experiment" in err
+    assert status == 2 and "a second experiment" in err
 
 
 def test_files_drawn(tmp_path: Path) -> None:
@@ -116,7 +116,7 @@ def test_files_drawn(tmp_path: Path) -> None:
             twice.append((tmp_path / name).read_bytes())
         assert twice[0].startswith(begins) and twice[0] == twice[1]
     status, _, err = tool("plot", report, scenario, "--out", tmp_path / "none" / "a.svg")
-    assert status == 1 and "a.svg" in err
+    assert status == 3 and "a.svg" in err
 
 
 def module(*words: str, **more: object) -> "subprocess.CompletedProcess[str]":

@@ -139,9 +139,9 @@ def test_what_compare_refuses(two: list[Path]) -> None:
     for status, said, words in (
             (2, "there is no metric 'delay.95'", (a, b, "--tolerance", "delay.95=5%")), (2, "usage", (a,)),
             (2, "its unit is missing: ns, us", (a, b, "--tolerance", "delay.p95=5")), (2, "two scenarios", (a, b, plan, plan, plan)),
-            (3, "it has no experiment x: it has a", (a, b, plan, other, "--experiment", "x")),
-            (3, "it has no experiment, so", (a, os.devnull)), (2, "no row is like train 8", (a, b, "--of", "train 8")),
-            (3, "none.txt", (a, "none.txt")), (3, "line 1", (a, plan)), (2, "standard input", ("-", "-"))):
+            (2, "it has no experiment x: it has a", (a, b, plan, other, "--experiment", "x")),
+            (2, "it has no experiment, so", (a, os.devnull)), (2, "no row is like train 8", (a, b, "--of", "train 8")),
+            (2, "none.txt", (a, "none.txt")), (2, "line 1", (a, plan)), (2, "standard input", ("-", "-"))):
         got = tool("compare", *words)
         assert got[0] == status and said in got[2] and not got[1], words
     many = two[0].parent / "many"
@@ -162,9 +162,10 @@ def test_bounds_that_hold_and_fail(two: list[Path], tmp_path: Path) -> None:
     status, out, _ = tool("expect", a, plan, "--bounds", tmp_path / "bounds")
     assert status == 1 and out == (
         f"holds  {tmp_path}/bounds: line 2: train 9: delay.least >= 11ms  (measured 11ms of a/train 9)\n"
-        f"FAILS  {tmp_path}/bounds: line 4: train 9 : delay.p95<15 ms  (measured 15ms of a/train 9)\n")
-    status, out, _ = tool("expect", a, plan, "--bounds", tmp_path / "bounds", "--all")
-    assert status == 1 and out.count("\n") == 3 and "line 5: all: packets > 9  (measured 5 of a/all)" in out
+        f"FAILS  {tmp_path}/bounds: line 4: train 9 : delay.p95<15 ms  (measured 15ms of a/train 9)\n"
+        f"FAILS  {tmp_path}/bounds: line 5: all: packets > 9  (measured 5 of a/all)\n")
+    status, out, _ = tool("expect", a, plan, "--bounds", tmp_path / "bounds", "--first")
+    assert status == 1 and out.count("\n") == 2 and "line 5" not in out
     status, out, _ = tool("expect", a, "plain: delay.p95 < 1s")
     assert status == 1 and "it can't be told of a/plain: give the scenario" in out
 
@@ -186,8 +187,8 @@ def test_statuses_of_expect(two: list[Path], tmp_path: Path) -> None:
     for status, said, words in (
             (2, "no row 'train 8': there are train 9, pipe 1.0, all", (a, plan, "train 8: drops < 1")),
             (2, "no experiment 'b': there are a", (a, plan, "b/train 9: drops < 1")), (2, "no bound", (a, plan)),
-            (2, "a sign", (a, plan, "train 9: drops 1")), (3, "none", (tmp_path / "none", "all: drops < 1")),
-            (3, "line 1", (plan, "all: drops < 1")), (3, "no experiment", (os.devnull, "all: drops < 1")),
+            (2, "a sign", (a, plan, "train 9: drops 1")), (2, "none", (tmp_path / "none", "all: drops < 1")),
+            (2, "line 1", (plan, "all: drops < 1")), (2, "no experiment", (os.devnull, "all: drops < 1")),
             (2, "it has no bound", (a, "--bounds", os.devnull))):
         got = tool("expect", *words)
         assert got[0] == status and said in got[2] and not got[1], words

@@ -141,9 +141,9 @@ def test_what_pcap_refuses(alone: Alone, tmp_path: Path) -> None:
                               ("two", "several experiments", ()), ("empty", "made no packet", ()),
                               ("good", "there are flow 1", ("--of", "flow 2")), ("good", "no experiment", ("--experiment", "x"))):
         status, _, err = tool("pcap", tmp_path / name, "--out", tmp_path / "x.pcap", *words)
-        assert status == 1 and said in err, name
+        assert status == 2 and said in err, name
     assert "`@0 trace 1` the first command" in tool("pcap", tmp_path / "none")[2]
-    assert tool("pcap", tmp_path / "good", "--out", tmp_path / "none" / "x.pcap")[0] == 1
+    assert tool("pcap", tmp_path / "good", "--out", tmp_path / "none" / "x.pcap")[0] == 3
     assert tool("pcap")[0] == 2 and tool("pcap", tmp_path / "good", "--at", "middle")[0] == 2
     status, out, _ = tool("pcap", "--help")
     assert status == 0 and "Example:" in out and "Exit status" in out

@@ -145,7 +145,7 @@ def test_too_many_side_by_side(tmp_path: Path) -> None:
         (tmp_path / "report").write_bytes(report_of(count))
         for report, text in ((tmp_path / "report", b""), ("-", report_of(count))):
             status, out, err = tool("plot", report, "--out", tmp_path / "x.svg", text=text)
-            assert status == 1 and not out and "Traceback" not in err and len(err.splitlines()) == 1
+            assert status == 2 and not out and "Traceback" not in err and len(err.splitlines()) == 1
             assert "side by side (20 at most)" in err and "--only" in err and "--overlay" in err
     (tmp_path / "report").write_bytes(report_of(20))
     assert tool("plot", tmp_path / "report", "--what", "drops", "--out", tmp_path / "x.svg")[0] == 0
@@ -153,7 +153,7 @@ def test_too_many_side_by_side(tmp_path: Path) -> None:
     words = ["--what", "drops", "--out", tmp_path / "x.svg"]
     status, out, _ = tool("plot", tmp_path / "report", "--only", "e3,e5", "--only", "e9", *words)
     assert status == 0 and "experiments: 3" in out
-    assert tool("plot", tmp_path / "report", "--only", "e3,none", *words)[0] == 1
+    assert tool("plot", tmp_path / "report", "--only", "e3,none", *words)[0] == 2
     assert tool("plot", tmp_path / "report", "--overlay", *words)[0] == 0
 
 

@@ -7,7 +7,6 @@ ended, resuming, a stand-in for Slurm's sbatch, and wrong usage. Other machines 
 parallel (Debian: parallel).
 """
 import os
-import shutil
 import signal
 import subprocess
 import sys
@@ -21,7 +20,6 @@ from hypothesis import strategies as some
 
 from dnlab.splitting import experiments_in, groups, shares, texts_of
 
-pytestmark = pytest.mark.skipif(shutil.which("parallel") is None, reason="GNU parallel isn't there (Debian: parallel)")
 SPREAD = str(ROOT / "tools" / "spread")
 PARTS = 1, 2, 3, 300
 MOST = 256
@@ -44,7 +42,7 @@ for word; do
   esac
 done
 export SLURM_JOB_ID=7
-for SLURM_ARRAY_TASK_ID in $(echo "$tasks" | tr , ' '); do
+for SLURM_ARRAY_TASK_ID in $(seq "${tasks%-*}" "${tasks#*-}"); do
   export SLURM_ARRAY_TASK_ID
   sh ./task || status=1
 done
@@ -217,7 +215,7 @@ def fake(tmp_path: Path, program: str) -> Path:
     return executable(tmp_path / "fake", FAKE.format(program=program, folder=tmp_path))
 
 
-FAILURES = [("a status", "echo memory >&2; exit 3\n", b"status 3, memory"), ("a signal", "kill -9 $$\n", b"status 137"),
+FAILURES = [("a status", "echo memory >&2; exit 3\n", b"status 3, memory"), ("a signal", "kill -9 $$\n", b"ended by SIGKILL"),
             ("a lost machine", "exit 255\n", b"status 255"),
             ("a cut report", "echo experiment bad; echo '0 ok 0'; exit 0\n", b"cut")]
 
@@ -259,6 +257,16 @@ def test_a_report_that_is_not_the_parts(tmp_path: Path, program: str, fake: Path
     assert spread("--parts", 2, program=fake)[::2] == (b"", 3)
 
 
+def test_a_changed_moment_is_seen(tmp_path: Path, program: str, fake: Path) -> None:
+    """The packet of `bad` comes at 7 where its link takes it at 6: as every reader of reports, spread sees that."""
+    (tmp_path / "broken").write_text(
+        f"printf '%s' \"$text\" | {program} alone | sed 's/^6 deliver 0 plain/4 deliver 0 plain/'; exit 0\n")
+    out, err, status = spread("--parts", 3, program=fake)
+    assert status == 3 and not out
+    assert err.startswith(b"spread: part 2 of 3 failed (experiments bad to bad): its report isn't its text's: experiment bad:"
+                          b" line 4 of its report: ")
+
+
 @pytest.mark.parametrize("commands,want", [((9, 1, 1, 1), [9, 3]), ((1, 1, 1, 9), [3, 9]), ((3, 3, 3, 3), [6, 6])])
 def test_shares(commands: tuple[int, ...], want: list[int], tmp_path: Path, fake: Path) -> None:
     """By hand: of 9, 1, 1, 1 commands two parts have 9 and 3; of 3, 3, 3, 3 they have 6 and 6."""
@@ -285,7 +293,7 @@ def test_ended_from_outside(tmp_path: Path, fake: Path) -> None:
             time.sleep(0.05)
         time.sleep(0.1)
         going.send_signal(signal.SIGTERM)
-        assert going.wait(timeout=20) == 3 and not report.exists()
+        assert going.wait(timeout=20) == -signal.SIGTERM and not report.exists()
     one = int((tmp_path / "going").read_text())
     time.sleep(0.5)
     state = Path(f"/proc/{one}/stat")
@@ -323,7 +331,7 @@ def test_what_is_missing(tmp_path: Path, program: str) -> None:
     (few / "python3").symlink_to(sys.executable)
     for way, said in (({"program": tmp_path / "none"}, b"none is no program"),
                       ({"program": program, "PATH": str(few)}, b"parallel isn't there")):
-        out, err, status = spread(**way)
+        out, err, status = spread("--ssh", "alpha", **way)
         assert status == 2 and not out and said in err
     out, err, status = ended([SPREAD, str(tmp_path / "none")], b"", env={**os.environ, "DNLAB": program})
     assert status == 3 and b"none" in err

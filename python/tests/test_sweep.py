@@ -7,8 +7,11 @@ import io
 import json
 import math
 import os
+import pickle
 import random
 import re
+import signal
+import sqlite3
 import subprocess
 from decimal import Context, Decimal
 from pathlib import Path
@@ -54,7 +57,7 @@ for word; do
   esac
 done
 export SLURM_JOB_ID=7
-for SLURM_ARRAY_TASK_ID in $(echo "$tasks" | tr , ' '); do
+for SLURM_ARRAY_TASK_ID in $(seq "${tasks%-*}" "${tasks#*-}"); do
   export SLURM_ARRAY_TASK_ID
   sh ./task || status=1
 done
@@ -170,7 +173,7 @@ FAULTS = [
 def test_faults_of_a_template(text: str, where: str, cause: str, tmp_path: Path, program: str) -> None:
     file = template(tmp_path, text)
     status, out, err = tool("sweep", file, DNLAB=program)
-    assert status == 1 and not out and err.startswith(f"sweep: {file}: {where}") and cause in err
+    assert status == 2 and not out and err.startswith(f"sweep: {file}: {where}") and cause in err
     assert "Traceback" not in err and os.listdir(tmp_path) == ["one.tmpl"]
 
 
@@ -184,15 +187,15 @@ def test_faults_of_the_text_that_is_made(tmp_path: Path, program: str) -> None:
     """The fourth experiment is the first faulty one; nothing is run, and --explain says what is wrong."""
     file = template(tmp_path)
     status, out, err = tool("sweep", file, "--set", "delay=5,5s", "--seeds", "1-3", DNLAB=program)
-    assert status == 1 and not out and "(delay=5s, seed 1)" in err and "line 2: badword" in err
+    assert status == 2 and not out and "(delay=5s, seed 1)" in err and "line 2: badword" in err
     assert "(--set delay=5s --seeds 1 --dry-run shows it)" in err
     assert "@0 pipe 1 config bw 1Mbit/s delay 5s" in err and "^^" in err and not (tmp_path / "one.tmpl.kept").exists()
     deep = template(tmp_path, ONE.replace("1Mbit/s delay {{ delay }}", "{% if seed == 3 %}fast{% else %}0{% endif %}"), "b")
     status, out, err = tool("sweep", deep, "--seeds", "1-4", DNLAB=program)
-    assert status == 1 and "experiment s3 (seed 3)" in err and "line 2: badword" in err
+    assert status == 2 and "experiment s3 (seed 3)" in err and "line 2: badword" in err
     noend = template(tmp_path, ONE.replace("@1000000000 end\n", ""), "c")
     status, out, err = tool("sweep", noend, "--set", "delay=5", "--seeds", "1-4", DNLAB=program)
-    assert status == 1 and "seed 1" in err and "line 5: noend" in err
+    assert status == 2 and "seed 1" in err and "line 5: noend" in err
 
 
 WRONG = [["--set", "queue"], ["--set", "delay=1", "--set", "delay=2"], ["--seeds", "3-1"], ["--stat", "lost"],
@@ -215,7 +218,7 @@ def test_what_is_refused_says_what_there_is(tmp_path: Path, program: str) -> Non
     assert "{{ bw }}" in tool("sweep", file, "--set", "delay=1", "--set", "bw=2", DNLAB=program)[2]
     assert "'delay' is undefined" in tool("sweep", file, DNLAB=program)[2]
     status, _, err = tool("sweep", file, "--set", "delay=1", "--kept", file, DNLAB=program)
-    assert status == 1 and "--kept" in err and file.read_text() == ONE
+    assert status == 2 and "--kept" in err and file.read_text() == ONE
     status, out, err = tool("sweep", file, "--help")
     assert status == 0 and "Example:" in out and "Exit status" in out
 
@@ -320,6 +323,9 @@ def test_marks_and_what_is_said(tmp_path: Path, program: str) -> None:
     text = ONE.replace("budget 10", "budget 10 steps {{ steps }}").replace("{{ rng.whole(100, 1500) }}", "500")
     words = ["--set", "delay=5", "--set", "steps=3,100", "--seeds", "1-2", "--of", "pipe 1.0", "--stat", "rate,lost", "--csv", "-"]
     status, out, err = tool("sweep", template(tmp_path, text), *words, DNLAB=program)
+    assert status == 2 and not out and "(delay=5, steps=3, seed " in err and "its steps were spent" in err
+    words += ["--allow", "spent"]
+    status, out, err = tool("sweep", template(tmp_path, text), *words, DNLAB=program)
     assert status == 0 and {row["marks"] for row in rows_of(out) if row["steps"] == "3"} == {"spent"}
     assert {row["marks"] for row in rows_of(out) if row["steps"] == "100"} == {""}
     assert "2 of 4 experiments: their steps were spent" in err and "the seeds change nothing" in err
@@ -348,7 +354,7 @@ def test_the_same_bytes(tmp_path: Path, program: str) -> None:
 def test_parquet_needs_pyarrow(tmp_path: Path, program: str) -> None:
     status, _, err = tool("sweep", template(tmp_path), "--set", "delay=5", "--parquet", tmp_path / "x.parquet", DNLAB=program)
     if importlib.util.find_spec("pyarrow") is None:
-        assert status == 1 and "pyarrow" in err and "--csv" in err and os.listdir(tmp_path) == ["one.tmpl"]
+        assert status == 3 and "pyarrow" in err and "--csv" in err and os.listdir(tmp_path) == ["one.tmpl"]
     else:
         import pandas
         assert status == 0 and len(pandas.read_parquet(tmp_path / "x.parquet")) == 4
@@ -437,7 +443,8 @@ def test_a_run_that_failed_goes_on(tmp_path: Path, counting: Path) -> None:
     (tmp_path / "broken").write_text("delay5-s20 \n")
     words = [file, "--set", "delay=5", "--seeds", "1-24", "--workers", "1", "--csv", tmp_path / "x.csv"]
     status, out, err = tool("sweep", *words, DNLAB=str(counting))
-    assert (status, out, err) == (3, "", "sweep: experiment delay5-s20 (delay=5, seed 20): memory\n")
+    assert (status, out, err) == (3, "", "sweep: experiment delay5-s20 (delay=5, seed 20): memory; 23 of 24 experiments are"
+                                  f" kept in {file}.kept; the same words go on\n")
     assert len(set(calls(tmp_path))) == 24 and not (tmp_path / "x.csv").exists()
     (tmp_path / "broken").unlink()
     status, out, err = tool("sweep", *words, DNLAB=str(counting))
@@ -459,7 +466,7 @@ def test_other_machines_by_a_stand_in(tmp_path: Path, counting: Path) -> None:
     done = subprocess.run([ROOT / "tools" / "sweep", *map(str, words), "--on", "slurm"], cwd=tmp_path, capture_output=True,
                           text=True, check=False, env={**os.environ, "PATH": path, "DNLAB": str(counting)})
     assert done.returncode == 3 and "delay7-s2" in done.stderr and "--resume" not in done.stderr
-    assert len(calls(tmp_path)) == 8 and not list(tmp_path.glob("sweep.*"))
+    assert len(calls(tmp_path)) == 8 and not list(tmp_path.glob("dnlab-room.*"))
     (tmp_path / "broken").unlink()
     done = subprocess.run([ROOT / "tools" / "sweep", *map(str, words), "--on", "slurm", "--csv", "-"], cwd=tmp_path,
                           capture_output=True, text=True, check=False,
@@ -470,20 +477,144 @@ def test_other_machines_by_a_stand_in(tmp_path: Path, counting: Path) -> None:
 def test_ended_from_outside(tmp_path: Path, program: str) -> None:
     """A signal ends it and all that it began; what was done is kept."""
     slow = tmp_path / "slow"
-    slow.write_text(f'#!/bin/sh\n[ "$1" = alone ] && exec sleep 60\nexec {program} "$@"\n')
+    # A script that doesn't give its place to what it starts, so that ending the script alone isn't enough.
+    slow.write_text(f'#!/bin/sh\n[ "$1" = alone ] || exec {program} "$@"\nsh -c "echo $$ >{tmp_path}/going; exec sleep 60"\n')
     slow.chmod(0o755)
     file = template(tmp_path)
     going = subprocess.Popen([ROOT / "tools" / "sweep", file, "--set", "delay=5"], stderr=subprocess.PIPE, text=True,
                              env={**os.environ, "DNLAB": str(slow), "TMPDIR": str(tmp_path)})
     for _ in range(300):
-        if list(tmp_path.glob("dnlab.*/report.txt.*")):
+        if (tmp_path / "going").exists():
             break
         with pytest.raises(subprocess.TimeoutExpired):
             going.wait(0.1)
     going.terminate()
     assert going.communicate(timeout=20)[1] == (
-        f"sweep: ended from outside: 0 of 1 experiments are kept in {file}.kept; the same words go on\n")
-    assert going.returncode == 3 and not list(tmp_path.glob("dnlab.*"))
+        f"sweep: ended by SIGTERM: 0 of 1 experiments are kept in {file}.kept; the same words go on\n")
+    assert going.returncode == -signal.SIGTERM and not list(tmp_path.glob("dnlab-room.*"))
+    words = [Path(f"/proc/{one}/cmdline") for one in os.listdir("/proc") if one.isdigit()]
+    assert not [one for one in words if one.exists() and one.read_bytes() == b"sleep\x0060\0"
+                and os.readlink(one.parent / "cwd") == os.getcwd()]
+
+
+def test_what_is_kept_is_judged(tmp_path: Path, program: str) -> None:
+    """A digit that is changed in the file, a row of another, what isn't text: run again, and said; never a number."""
+    file = template(tmp_path)
+    words = [file, "--set", "delay=5,7", "--seeds", "1-3", "--of", "train 1", "--stat", "delay.median", "--csv", "-"]
+    status, table, err = tool("sweep", *words, DNLAB=program)
+    assert status == 0 and "6 were run" in err
+    for change in ("UPDATE answers SET found = replace(found, '000', '001')",
+                   "UPDATE answers SET (found, checksum) = (SELECT found, checksum FROM answers LIMIT 1)",
+                   "UPDATE answers SET found = x'ff00'", "UPDATE answers SET found = 7, checksum = 9",
+                   "UPDATE answers SET found = '{}', checksum = ''"):
+        with sqlite3.connect(f"{file}.kept") as base:
+            base.execute(change)
+        base.close()
+        status, out, err = tool("sweep", *words, DNLAB=program)
+        run = 5 if "LIMIT" in change else 6
+        assert (status, out) == (0, table) and f"{run} were run" in err
+        assert f"{run} answers in {file}.kept were damaged, and these experiments were run again" in err
+    whole = Path(f"{file}.kept").read_bytes()
+    for damaged in (whole[:100], bytes(len(whole)), whole[:5000] + bytes(3000) + whole[8000:], b"x" * 9000):
+        Path(f"{file}.kept").write_bytes(damaged)
+        status, out, err = tool("sweep", *words, DNLAB=program)
+        assert "Traceback" not in err and ((status, out) == (0, table) or (status == 2 and not out and "--kept" in err))
+
+
+def test_the_program_behind_a_script(tmp_path: Path, program: str) -> None:
+    """A script that names another: where that changes nothing is taken for known; nor where --version does."""
+    file, inner, outer = template(tmp_path), tmp_path / "inner", tmp_path / "outer"
+    inner.write_text(f'#!/bin/sh\nexec {program} "$@"\n')
+    outer.write_text('#!/bin/sh\nhere=$(dirname "$0")\nexec "$here/inner" "$@"\n')
+    for one in inner, outer:
+        one.chmod(0o755)
+    words = [file, "--set", "delay=5", "--of", "train 1", "--stat", "lost"]
+    for text, run in ((None, 1), (None, 0), (inner.read_text() + "# another build\n", 1), (None, 0)):
+        if text:
+            inner.write_text(text)
+        assert f"{run} were run" in tool("sweep", *words, DNLAB=str(outer))[2]
+
+
+def test_the_order_of_settings_is_the_same_question(tmp_path: Path, counting: Path) -> None:
+    file = template(tmp_path, ONE.replace("budget 10", "budget {{ room }}"))
+    for words in (["--set", "delay=5,6", "--set", "room=10,11"], ["--set", "room=11,10", "--set", "delay=6,5"]):
+        assert tool("sweep", file, *words, "--of", "all", "--stat", "lost", DNLAB=str(counting))[0] == 0
+    assert len(calls(tmp_path)) == 4
+
+
+def test_a_refused_command_ends_a_sweep(tmp_path: Path, program: str) -> None:
+    """Of 8 experiments those of delay 7 have a command for a pipe that isn't there: no table, unless it is allowed."""
+    file = template(tmp_path, ONE.replace("@1000000000 end", "{% if delay == 7 %}@5 pipe delete 9\n{% endif %}@1000000000 end"))
+    words = [file, "--set", "delay=5,7", "--seeds", "1-4", "--of", "train 1", "--stat", "lost", "--csv", "-"]
+    for _ in range(2):
+        status, out, err = tool("sweep", *words, DNLAB=program)
+        assert status == 2 and not out and "experiment delay7-s" in err and "(delay=7, seed " in err
+        assert "line 5: `pipe delete 9` (20: there is no pipe of this number)" in err and "--allow refused" in err
+    status, out, err = tool("sweep", *words, "--allow", "refused", DNLAB=program)
+    assert status == 0 and {row["delay"]: row["marks"] for row in rows_of(out)} == {"5": "", "7": "refused"}
+    with pytest.raises(dnlab.Faulty, match="refused"):
+        dnlab.sweep(file, delay=7, of="all", stat="lost", dnlab=program).table()
+    assert dnlab.sweep(file, delay=7, of="all", stat="lost", dnlab=program, allow=["refused"]).table()["n"].tolist() == [1]
+
+
+BOMBS = [
+    ("{{ 'a' * 10**9 * 4 }}", "1073741824 bytes at most"), ("{{ 'a' | center(4000000000) }}", "1073741824 bytes at most"), ("{% for i in range(10**10) %}{% endfor %}", "1000000 at most"),
+    ("{{ '1e99999999' | ms }}", "no time"), ("{{ '9' * 20000000 }}", "16777216 bytes"),
+    ("{% for i in range(10**6) %}{{ '#' * 60 }}\n{% endfor %}", "16777216 bytes"), ("{% include '.hidden' %}", "hidden"),
+    ("{% include 'outside' %}", "outside"), ("{% include '../secret' %}", "outside"),
+]
+
+
+@pytest.mark.parametrize("text, cause", BOMBS, ids=range(len(BOMBS)))
+def test_limits_of_a_template(text: str, cause: str, tmp_path: Path, program: str) -> None:
+    """What would take all memory, or read another's file, is a fault with its line, or says its limit."""
+    (tmp_path / "secret").write_text("secret\n")
+    folder = tmp_path / "own"
+    folder.mkdir()
+    (folder / ".hidden").write_text("secret\n")
+    (folder / "outside").symlink_to(tmp_path / "secret")
+    status, out, err = tool("sweep", template(folder, f"# a\n{text}\n" + ONE), "--set", "delay=5", "--dry-run", DNLAB=program)
+    assert status == 2 and not out and cause in err and err.count("\n") == 1 and "secret\n" not in out
+
+
+def test_a_template_without_end(monkeypatch: pytest.MonkeyPatch) -> None:
+    """Its process is ended after some time; the sweep goes on to say so."""
+    monkeypatch.setattr("dnlab.making.MOST_SECONDS", 1.0)
+    text = "{% for i in range(10**6) %}{% for j in range(10**6) %}{% endfor %}{% endfor %}\n" + ONE
+    made = dnlab.sweep(text, delay=5)
+    with pytest.raises(dnlab.Faulty, match=r"experiment delay5-s1 \(delay=5, seed 1\): its text takes more than 1 s"):
+        made.text(made.cases[0])
+
+
+def test_numbers_that_are_only_taken_from(tmp_path: Path) -> None:
+    """A range of any length serves to draw from: the last of 10^15 is below it."""
+    assert Template("\n{{ range(10**15) | length }} {{ range(10**15)[7] }} {{ 5 in range(9) }}\n").made("x", 1, {}) == (
+        "\n1000000000000000 7 True\n")
+
+
+def test_reports_and_sweeps_are_pickled(program: str) -> None:
+    """A report keeps its bytes, a sweep what it asks and has found; the second is run in the other process."""
+    made = dnlab.sweep(ONE, delay=[5], seed=range(1, 4), of="train 1", stat="bytes", dnlab=program)
+    again = pickle.loads(pickle.dumps(made))
+    assert again.rows()["bytes"].tolist() == made.rows()["bytes"].tolist() == [size_of(made.text(case)) for case in made.cases]
+    report = dnlab.run(made.text(made.cases[0]), dnlab=program)
+    copied = pickle.loads(pickle.dumps(report))
+    del report
+    assert copied["delay5-s1"].packets()["size"].tolist() == [size_of(made.text(made.cases[0]))]
+
+
+def test_by_dask(tmp_path: Path, program: str, monkeypatch: pytest.MonkeyPatch) -> None:
+    """A scheduler and two workers on this machine: the same table; a scheduler that isn't there is said."""
+    distributed = pytest.importorskip("distributed", reason="distributed is missing (Debian: python3-distributed)")
+    monkeypatch.setenv("PYTHONPATH", str(ROOT / "python"))
+    file = template(tmp_path)
+    words = [file, "--set", "delay=5,7", "--seeds", "1-4", "--of", "train 1", "--stat", "delay.p95", "--csv", "-"]
+    here = tool("sweep", *words, "--kept", tmp_path / "here", DNLAB=program)
+    with distributed.LocalCluster(n_workers=2, threads_per_worker=1, dashboard_address=None) as cluster:
+        there = tool("sweep", *words, "--on", "dask", cluster.scheduler_address, DNLAB=program)
+    assert there[:2] == here[:2] and "8 were run" in there[2]
+    status, out, err = tool("sweep", *words, "--anew", "--on", "dask", "tcp://127.0.0.1:1", DNLAB=program)
+    assert status == 2 and not out and "there is no scheduler" in err
 
 
 def test_how_far_it_is(capsys: pytest.CaptureFixture[str]) -> None:

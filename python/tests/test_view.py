@@ -255,11 +255,11 @@ def test_files_and_no_network(tmp_path: Path) -> None:
     single = page_of(tmp_path, RENO / "expected.txt", RENO / "scenario.txt", "--single").read_text()
     assert len(single) > 10**6 and not beside.exists() and 'src="dnlab' not in single
     status, _, err = tool("view", RENO / "expected.txt", "--out", tmp_path / "none" / "a.html")
-    assert status == 1 and "a.html" in err
+    assert status == 3 and "a.html" in err
     (tmp_path / "bad").write_text("experiment a\n0 okay 0\n")
     status, out, err = tool("view", tmp_path / "bad", "--out", tmp_path / "bad.html")
-    assert status == 1 and "line 2" in err and not out and not (tmp_path / "bad.html").exists()
-    assert tool("view", EXAMPLES / "four_experiments" / "expected.txt", "--out", tmp_path / "four.html", "--experiment", "none")[0] == 1
+    assert status == 2 and "line 2" in err and not out and not (tmp_path / "bad.html").exists()
+    assert tool("view", EXAMPLES / "four_experiments" / "expected.txt", "--out", tmp_path / "four.html", "--experiment", "none")[0] == 2
     status, out, _ = tool("view", "--help")
     assert status == 0 and "Example:" in out and "Exit status" in out
 

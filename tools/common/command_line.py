@@ -3,7 +3,7 @@ import argparse
 import os
 import shutil
 
-import proved
+import program as programs
 
 
 def parser_of(about: str | None, usage: str | None = None) -> argparse.ArgumentParser:
@@ -12,8 +12,8 @@ def parser_of(about: str | None, usage: str | None = None) -> argparse.ArgumentP
 
 
 def program_of(parser: argparse.ArgumentParser, named: str | os.PathLike[str] | None = None) -> str:
-    """The whole path of the program that is named, else of $DNLAB, else of the proved one; an end where there is none."""
-    return path_of(parser, proved.program(named))
+    """The whole path of the program that is named, else of $DNLAB, else the one that ./dnlab starts; an end where there is none."""
+    return path_of(parser, programs.program(named))
 
 
 def path_of(parser: argparse.ArgumentParser, named: str, hint: str = "") -> str:

@@ -16,6 +16,7 @@ _dnlab_tools() {
     *:--at) words="sender receiver" ;;
     *:--tolerance) words="delay.p95=5% goodput=1% drops=2 *=1%" ;;
     *:--lines) words="3 10" ;;
+    *:--allow) words="refused spent refused,spent" ;;
     *:--experiment | *:--only | *:--of | *:--columns | *:--ssh | *:--on | *:--set | *:--seeds | *:--from | *:--to) return ;;
     *:--out | *:--work | *:--program | *:--csv | *:--json | *:--parquet | *:--each | *:--plot | *:--kept | *:--bounds) ;;
     dnlab-summary:*)
@@ -23,7 +24,7 @@ _dnlab_tools() {
       ;;
     dnlab-plot:*) words="--experiment --only --of --what --from --to --bin --overlay --out --workers --help" ;;
     dnlab-compare:*) words="--experiment --of --tolerance --percentiles --lines --all --json --help" ;;
-    dnlab-expect:*) words="--experiment --bounds --all --workers --help" ;;
+    dnlab-expect:*) words="--experiment --bounds --first --all --allow --json --workers --help" ;;
     dnlab-view:*) words="--experiment --out --single --workers --help" ;;
     dnlab-pcap:*) words="--experiment --of --at --out --help" ;;
     dnlab-spread:*) words="--parts --jobs --ssh --slurm --program --out --work --resume --help" ;;

@@ -19,8 +19,6 @@ from typing import IO, Iterable, Iterator, List, Optional, Sequence
 import crates
 
 RT_CI = ("rt", "ci")
-# The same with the longest chain of crates first: sooner where a program alone is proved, and nothing fills the processors beside it.
-CHAIN_FIRST = (sys.executable, str(pathlib.Path(__file__).resolve().parent / "chain_first"))
 # What rt ci reads beside a crate's sources, to run its program.
 RUN = ("args", "stdin", "stdout", "status", "data")
 # What rt ci says of a crate; of its tests it says the same behind a colon.

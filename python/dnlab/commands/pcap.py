@@ -7,11 +7,12 @@ from typing import Iterable, Sequence
 import numpy as np
 
 from dnlab.commands.words import add_texts, parser_of, taken
-from dnlab.errors import Faulty
+from dnlab.errors import Faulty, Lacking, status_of
+from dnlab.outputs import whole_file
 from dnlab.report import Piece
-from dnlab.summing import tell
+from dnlab.summing import tell, whole
 from dnlab.view import View, view_of
-from dnlab.work import pieces_of, plans_of, whole_file
+from dnlab.work import Given, pieces_of, plans_of
 
 EXAMPLE = """The scenario must have `@0 trace 1` as the first command of the experiment, and leave it on: only then the report has
 every packet's addresses and size. What else a capture has is made up: Ethernet, no SYN and no FIN, sequence numbers
@@ -30,7 +31,8 @@ Example:
   ./dnlab alone < traced.txt > report.txt
   tools/pcap report.txt traced.txt --out run.pcap && tcptrace -l run.pcap
 
-Exit status: 0 written, 1 a faulty input, one that isn't traced, or a file that can't be written, 2 wrong usage."""
+Exit status: 0 written, 2 wrong usage, a faulty input or one that isn't traced, 3 a file that can't be written, or a
+package that is missing."""
 
 
 def words(given: Sequence[str]) -> argparse.Namespace:
@@ -68,7 +70,7 @@ def write_one(given: argparse.Namespace, view: View) -> None:
         with whole_file(name) as file:
             count = capture.write(view, given.at, packets, file)
     except OSError as fault:
-        raise Faulty(f"{name}: {fault.strerror}") from None
+        raise Lacking(f"{name}: {fault.strerror}") from None
     print(f"{name}: packets: {count}, at the {given.at}")
 
 
@@ -84,7 +86,8 @@ def main(words_given: Sequence[str]) -> int:
             if len(pieces) > 1:
                 raise Faulty(f"{given.report}: it has several experiments, and {given.out} takes one: name it by"
                              " --experiment")
-        for piece in pieces:
+        texts = Given(given.report, tuple(given.scenarios))
+        for piece in whole(texts, plans, given.experiment, pieces, lambda one: one.name):
             total += 1
             view = view_of(piece, plans, given.report, ", ".join(given.scenarios))
             write_one(given, view)
@@ -93,6 +96,6 @@ def main(words_given: Sequence[str]) -> int:
             raise Faulty(f"{given.report}: it has no experiment, so there is nothing to write")
     except Faulty as faulty:
         print(f"pcap: {faulty}", file=sys.stderr)
-        return 1
+        return status_of(faulty)
     tell("pcap", notes, total)
     return 0

@@ -1,15 +1,15 @@
 """Draws what a report of dnlab tells: windows, queues, times under way, bytes and drops over time."""
 import argparse
 import sys
-from fnmatch import fnmatchcase
 from functools import partial
 from typing import NamedTuple, Optional, Sequence
 
 from dnlab.commands.words import add_texts, count_of, moment_of, parser_of, taken, time_of
-from dnlab.errors import Faulty
+from dnlab.errors import Faulty, status_of
+from dnlab.metrics import is_named
 from dnlab.series import MORE, WHAT, Panel, Span, panel_of
 from dnlab.shares import overlaid
-from dnlab.summing import tell
+from dnlab.summing import tell, whole
 from dnlab.view import Note, View
 from dnlab.work import Given, TooMany, over, plans_of
 
@@ -38,7 +38,7 @@ Example:
   tools/plot report.txt scenario.txt --what window,queue --out windows.svg
   tools/plot report.txt scenario.txt --only q50-s1,q200-s1 --overlay --of 'train 9' --what sojourn,cdf:sojourn --from 1s
 
-Exit status: 0 drawn, 1 a faulty input or a file that can't be written, 2 wrong usage."""
+Exit status: 0 drawn, 2 wrong usage or a faulty input, 3 a file that can't be written, or a package that is missing."""
 # More columns than this are wider than any picture that is looked at; more experiments have too many lines.
 _MOST = 20
 _MOST_OVER = 250
@@ -98,7 +98,7 @@ def draw_one(view: View, what: Sequence[str], span: Span, every: Optional[int], 
     names = [name for name, _ in view.senders]
     if patterns:
         view.senders = [(name, packets) for name, packets in view.senders
-                        if any(fnmatchcase(name, pattern) for pattern in patterns)]
+                        if any(is_named(name, pattern) for pattern in patterns)]
         if not view.senders:
             view.more_notes.append(Note("senders", f"--of {' '.join(map(repr, patterns))}: it has {', '.join(names)}"))
     panels = [panel_of(view, one, span, every) for one in what]
@@ -113,7 +113,8 @@ def draw(given: argparse.Namespace) -> list[Drawn]:
     function = partial(draw_one, what=tuple(given.what), span=Span(given.begin, given.end), every=given.bin,
                        patterns=tuple(given.of))
     try:
-        for one in over(texts, function, plans, given.experiment, given.workers, "plot", most):
+        made = over(texts, function, plans, given.experiment, given.workers, "plot", most)
+        for one in whole(texts, plans, given.experiment, made, lambda one: one.name):
             drawn.append(one)
             if len(drawn) > most:
                 raise TooMany(f"more than {most}", most)
@@ -144,10 +145,10 @@ def main(words_given: Sequence[str]) -> int:
         pictures.save(figure, given.out)
     except Faulty as faulty:
         print(f"plot: {faulty}", file=sys.stderr)
-        return 1
+        return status_of(faulty)
     except OSError as fault:
         print(f"plot: {given.out}: {fault.strerror}", file=sys.stderr)
-        return 1
+        return status_of(fault)
     tell("plot", notes, len(drawn))
     print(f"{given.out}: experiments: {len(drawn)}, panels of each: {len(given.what)}")
     return 0

@@ -4,37 +4,40 @@
                  [--out REPORT] [--work FOLDER] [--resume]
 
 The scenarios (- is standard input) are split at their experiments into N parts, each with about as many commands;
-each part is run by `dnlab alone`, and the reports are put together in order: the bytes of `dnlab alone < SCENARIO`.
+each part is run by `dnlab alone`, its report is read and judged beside its text, and the reports are put together in
+order: the bytes of `dnlab alone < SCENARIO`.
 A text may have more than 256 experiments and 16777216 bytes, which `dnlab` itself refuses: then there are as many
 parts as it takes. The whole text is checked first by `dnlab check`, so that a fault has the line of the whole text;
 of several texts the fault has its text's name before it. The report is written when it is whole, or not at all. The
-program is that of the environment variable DNLAB, else the proved one of the repository, made first where it isn't
-there. Here and by ssh the engine is GNU parallel (Debian: parallel, and for ssh rsync on both sides).
-docs/use/MANY_MACHINES.md says more.
+program is that of the environment variable DNLAB, else the proved one of the repository, else a checked build of its
+sources. By ssh the engine is GNU parallel (Debian: parallel, and rsync on both sides). SIGINT, SIGTERM and SIGHUP end it
+and all that it began; parts that are done are kept. docs/use/MANY_MACHINES.md says more.
 
 Example: tools/spread scenario.txt --parts 8 --ssh 4/alpha,4/beta --program /usr/bin/dnlab --out report.txt
-Exit status: 0 done, 1 a fault in the scenario (`line L: CAUSE`), 2 wrong usage, 3 a part failed, memory was
-refused, or a read or write failed."""
+Exit status: 0 done, 1 a fault in the scenario (`line L: CAUSE`), 2 wrong usage, 3 a part failed, a report isn't that
+of its text, memory was refused, or a read or write failed; ended by a signal, that signal's."""
 import argparse
 import os
 import shutil
-import signal
-import subprocess
 import sys
-import tempfile
+import time
 from pathlib import Path
 from typing import Optional, Sequence
 
-from dnlab.engines import Job, Stop, put_together, run
-from dnlab.errors import Failed
-from dnlab.programs import proved_program
+from dnlab import children, ending
+from dnlab.commands.words import Parser
+from dnlab.crew import Crew
+from dnlab.engines import Job, Stop, failure, going, put_together, tell
+from dnlab.errors import Failed, Refused
+from dnlab.programs import program as program_of
+from dnlab.rooms import Room
 from dnlab.scenario import MOST_BYTES, MOST_EXPERIMENTS, Judged
 from dnlab.splitting import Fault, Part, experiments_in, heading_fault, lines_in, repeated, shares, texts_of
 
 
 def parser_of_words() -> argparse.ArgumentParser:
-    parser = argparse.ArgumentParser(prog="spread", description=__doc__, usage=argparse.SUPPRESS,
-                                     formatter_class=argparse.RawDescriptionHelpFormatter, allow_abbrev=False)
+    parser = Parser(prog="spread", description=__doc__, usage=argparse.SUPPRESS,
+                    formatter_class=argparse.RawDescriptionHelpFormatter, allow_abbrev=False)
     parser.add_argument("scenarios", metavar="SCENARIO", nargs="+", help="a scenario, or - for standard input")
     parser.add_argument("--parts", type=int, default=16, metavar="N",
                         help="how many parts (16), at most as many as there are experiments")
@@ -68,8 +71,10 @@ def words(given: Sequence[str]) -> argparse.Namespace:
         parser.error(f"--out {args.out}: it is no regular file")
     if args.out is not None and not os.path.isdir(os.path.dirname(args.out) or "."):
         parser.error(f"--out {args.out}: its folder isn't there")
+    if args.ssh and set(args.program or "") & set("{}"):
+        parser.error(f"--program {args.program}: parallel would fill in its braces")
     engine = "sbatch" if args.slurm else "parallel"
-    if shutil.which(engine) is None:
+    if (args.slurm or args.ssh) and shutil.which(engine) is None:
         parser.error(f"{engine} isn't there (Debian: {'slurm-client' if args.slurm else 'parallel'})")
     return args
 
@@ -85,16 +90,16 @@ def text_of(name: str) -> bytes:
 
 def counted(program: str, text: bytes) -> "Fault | tuple[int, int]":
     """How many experiments and commands the program finds, or the fault; what isn't either ends the run."""
-    done = subprocess.run([program, "check"], input=text, capture_output=True, check=False)
-    said = done.stderr.decode(errors="replace")
-    if done.returncode == 1 and said.startswith("line "):
-        number, _, cause = said[5:].strip().partition(": ")
+    done = children.run([program, "check"], text)
+    said = done.said()
+    number, _, cause = said[5:].partition(": ")
+    if done.status == 1 and said.startswith("line ") and number.isdigit():
         return Fault(int(number), cause)
-    if done.returncode != 0:
-        raise Stop(done.returncode if done.returncode in (1, 3) else 3, said)
-    fields = done.stdout.split()
+    if done.status != 0:
+        raise Stop(done.status if done.status in (1, 3) else 3, said + "\n")
+    fields = done.out.split()
     if len(fields) != 3 or fields[0] != b"ok" or not (fields[1] + fields[2]).isdigit():
-        raise Stop(3, f"spread: {program} check answered {done.stdout[:60]!r}\n")
+        raise Stop(3, f"spread: {program} check answered {done.out[:60]!r}\n")
     return int(fields[1]), int(fields[2])
 
 
@@ -151,34 +156,85 @@ def experiments_of(args: argparse.Namespace, program: str) -> list[Part]:
     return everything
 
 
-def spread(args: argparse.Namespace, named: Optional[str] = None) -> None:
-    """Runs the scenarios in parts, by the program that is named, else the proved one; `Stop` says what went wrong."""
+def judged_part(whole: str, text: str) -> Optional[str]:
+    """What isn't right in the report of a part, for another process; it is read and joined with its text."""
+    from dnlab.report import pieces, read_piece
+    from dnlab.scenario import read
+    from dnlab.view import View
+
+    name = "its first experiment"
     try:
-        program = named or proved_program()
+        plans = read(Path(text).read_bytes())
+        for piece in pieces(whole):
+            name = f"experiment {piece.name}"
+            try:
+                # pieces() counts the report's lines, and people look at one experiment.
+                View(read_piece(piece), plans[piece.name])
+            except Refused as refused:
+                return f"{name}: line {refused.line - piece.line + 1} of its report: {refused.cause}"
+    except Refused as refused:
+        return f"{name}: {refused}"
+    return None
+
+
+def check(args: argparse.Namespace, jobs: Sequence[Job], folder: Path) -> None:
+    """Reads all parts' reports as every other tool does; one that can't be its text's is a part that failed."""
+    from dnlab.work import cores
+
+    wrong: dict[int, str] = {}
+    with Crew[int](min(args.jobs or cores(), len(jobs) or 1)) as crew:
+        for job in jobs:
+            crew.give(job.number, judged_part, str(job.file("whole")), str(job.file("txt")))
+        while len(crew):
+            outcome = crew.next()
+            if outcome.get():
+                wrong[outcome.token] = outcome.value
+    for job in jobs:
+        if job.number in wrong:
+            job.file("whole").unlink()
+            job.wrong = f"its report isn't its text's: {wrong[job.number]}"
+    if wrong:
+        raise failure(args, jobs, [job for job in jobs if job.number in wrong], folder)
+
+
+def spread(args: argparse.Namespace, named: Optional[str] = None) -> None:
+    """Runs the scenarios in parts, by the program that is named, else that of `dnlab.programs.program`; `Stop` says what went wrong."""
+    try:
+        program = named or program_of()
     except Failed as failed:
         raise Stop(failed.status, f"spread: {failed.said}\n") from failed
     everything = experiments_of(args, program)
-    with tempfile.TemporaryDirectory(prefix="spread.") as passing:
-        folder = Path(args.work or passing).absolute()
+    with Room() as passing:
+        folder = Path(args.work or passing.path).absolute()
         jobs = [Job(folder, number, [part.name for part in share], b"".join(part.text for part in share))
                 for number, share in enumerate(shares(everything, args.parts), 1)]
-        run(args, program, jobs, folder)
-        put_together(args.out, jobs)
+        done = 0
+        begun = time.monotonic()
         if args.work is not None:
-            shutil.rmtree(folder)
+            ending.tells(lambda: f"{done} of {len(jobs)} parts are kept in {folder}; the same words with --resume run the"
+                                 " others")
+        for finished in going(args, program, jobs, folder):
+            done += len(finished)
+            tell(done, len(jobs), begun)
+        check(args, jobs, folder)
+        with ending.held():
+            put_together(args.out, jobs)
+            ending.tells(lambda: "the report is written")
+            if args.work is not None:
+                shutil.rmtree(folder)
 
 
 def main(words_given: Sequence[str]) -> int:
-    signal.signal(signal.SIGTERM, lambda *_: sys.exit(3))
+    ending.watch("spread")
     try:
         spread(words(words_given))
     except Stop as stop:
         sys.stderr.write(str(stop))
         return stop.status
+    except Failed as failed:
+        sys.stderr.write(f"spread: {failed.said}\n")
+        return failed.status
     except OSError as error:
         sys.stderr.write(f"spread: {error.filename}: {error.strerror}\n")
-        return 3
-    except KeyboardInterrupt:
-        sys.stderr.write("spread: ended from outside; nothing was written\n")
         return 3
     return 0

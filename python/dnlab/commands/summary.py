@@ -6,9 +6,9 @@ import sys
 from typing import Sequence, TextIO
 
 from dnlab.commands.words import add_texts, count_of, parser_of, percentiles_of, taken, time_of
-from dnlab.errors import Faulty
+from dnlab.errors import Faulty, status_of
 from dnlab.layout import bare_table, table
-from dnlab.summing import grouped, summed, tell
+from dnlab.summing import grouped, summed, tell, tell_empty
 from dnlab.tables import Row, columns_of, times_of
 from dnlab.view import Note
 from dnlab.work import Given, plans_of
@@ -30,17 +30,19 @@ instance (two rows where packets of both directions came through it), both direc
   done       from the flow's command to the delivery of its last missing byte
   jain       Jain's index over the flows' goodputs, 1 where all are equal
   ended      `end`, or `spent` with the moment at which the steps were spent, and that of the end
-  marks      what may be silently wrong: spent, no-way-back, denied, budget
+  marks      what may be silently wrong: refused, spent, no-way-back, denied, budget, unsent, reconfigured, outage,
+             half-duplex, window-limited, units (docs/use/TOOLS.md says what each means)
 What can't be told is `-` (nothing in --csv, null in --json, where times are nanoseconds): without the scenario
 sizes and the moments at which packets were made, unless all of the report was made under `trace 1`. --csv and
---json have besides seed, budgets and settings of each row's experiment, and `varied`, what of its pipes isn't the
-same in all experiments.
+--json have besides the mean and the jitter (RFC 3550) of the time under way, utilisation (of a pipe: what it served
+by what its rate could have carried), refused (how many commands were) and their codes, seed, budgets and settings of
+each row's experiment, and `varied`, what of its pipes isn't the same in all experiments.
 
 Example:
   ./dnlab alone < scenario.txt | tools/summary - scenario.txt
   tools/summary report.txt scenario.txt --of 'train *' --percentiles 50,95 --by varied --columns p95,goodput
 
-Exit status: 0 printed, 1 a faulty input, 2 wrong usage."""
+Exit status: 0 printed, 2 wrong usage or a faulty input, 3 what this machine lacks (a package, room to write)."""
 
 
 def words(given: Sequence[str]) -> argparse.Namespace:
@@ -100,7 +102,7 @@ def main(words_given: Sequence[str]) -> int:
             total += 1
     except Faulty as faulty:
         print(f"summary: {faulty}", file=sys.stderr)
-        return 1
+        return status_of(faulty)
     names: Sequence[str] = columns_of(given.percentiles) if kind == "summary" else list(rows[0]) if rows else []
     if given.by:
         rows = grouped(rows, given.by, given.columns or [*times_of(given.percentiles), "goodput"])
@@ -114,4 +116,5 @@ def main(words_given: Sequence[str]) -> int:
     elif rows:
         sys.stdout.write(bare_table(rows))
     tell("summary", notes, total)
+    tell_empty("summary", Given(given.report), total)
     return 0

@@ -1,14 +1,14 @@
 """Runs a template of a scenario with each setting and each seed, and tells means with their intervals."""
 import argparse
 import importlib.util
+import io
 import os
-import signal
 import sys
-from pathlib import Path
-from typing import Any, Callable, Optional, Sequence, TypeVar
+from typing import Any, BinaryIO, Callable, Optional, Sequence, TypeVar
 
 import pandas as pd
 
+from dnlab import ending
 from dnlab.asking import STATS, USUAL, Ask, stats_of
 from dnlab.commands.plot import picture
 from dnlab.commands.summary import print_csv, print_json
@@ -16,9 +16,11 @@ from dnlab.commands.words import count_of, parser_of
 from dnlab.errors import Failed, Faulty
 from dnlab.estimates import KINDS
 from dnlab.grids import seeds_of, setting_of
+from dnlab.elsewhere import DASK
 from dnlab.layout import sweep_table
+from dnlab.outputs import whole_file
 from dnlab.summing import tell
-from dnlab.sweeps import Sweep
+from dnlab.sweeps import STOPPING, Sweep
 
 T = TypeVar("T")
 EXAMPLE = f"""TEMPLATE is a scenario of one experiment in Jinja2 (Debian: python3-jinja2), which begins with
@@ -39,15 +41,20 @@ A value of --set is a number where it is one, else a word; a float is written wi
          {", ".join(STATS[22:])} (N above 0 and up to 100)
          delay is the time from being made to delivery (of a pipe: in it), lost all drops, drops.lost those by plr.
 
-What an experiment answered is kept in TEMPLATE.kept by the checksums of its text and of the program: the same words go on
-where they were broken off, and a new setting, or a template that is changed for some of them, runs alone.
+What an experiment answered is kept in TEMPLATE.kept by the checksums of its text, of the program and of this package: the
+same words go on where they were broken off, and a new setting, or a template that is changed for some of them, runs alone.
+An experiment with a command that was refused ends the sweep, which names it with the line and the reason; so does one
+whose steps were spent before its end. --allow refused, or --allow spent, goes on and marks its rows.
+
+--on 4/alpha,beta runs by ssh, --on slurm as an array, --on dask tcp://HOST:8786 by a Dask scheduler's workers.
 
 Example:
   tools/sweep python/examples/bottleneck.tmpl --set queue=10,25,50,100,200 --seeds 1-30 \\
     --of 'train 9' --stat delay.median,delay.p95 --of flows --stat goodput,lost --csv best.csv --plot best.svg
 
-Exit status: 0 done, 1 a fault in the template, in a text made of it or in what is asked, 2 wrong usage, 3 the program
-failed, or it was ended from outside (what was done is kept)."""
+Exit status: 0 done; 2 wrong usage, a fault in the template, in a text made of it or in what is asked, an experiment that
+wasn't run as it is written; 3 the program failed, or something is missing. SIGINT, SIGTERM and SIGHUP end it, and all that
+it began, by that signal's status; what was done is kept."""
 
 
 class Asked(argparse.Action):
@@ -106,25 +113,49 @@ def parser_of_words() -> argparse.ArgumentParser:
     parser.add_argument("--anew", action="store_true", help="run all, whatever is kept")
     parser.add_argument("--workers", type=count_of, metavar="N", help="how many processes [all cores]")
     parser.add_argument("--on", metavar="HOSTS", help="run on other machines, as 4/alpha,beta (see tools/spread --ssh),"
-                        " or as an array of `slurm`")
+                        " as an array of `slurm`, or by `dask ADDRESS`")
     parser.add_argument("--program", metavar="PATH", help="where dnlab is on the other machines")
+    parser.add_argument("--parts", type=count_of, metavar="N",
+                        help="with --on: in how many parts [each takes about a minute, by ssh 10 s]")
+    parser.add_argument("--allow", action="append", choices=STOPPING, default=[],
+                        help="go on where commands were refused, or steps were spent; may be said again")
     return parser
+
+
+def joined(given: Sequence[str]) -> list[str]:
+    """The words with `--on dask ADDRESS` as one, since an option has one word.
+
+    >>> joined(["--on", "dask", "tcp://a:8786", "x"])
+    ['--on', 'dask:tcp://a:8786', 'x']
+    """
+    found = list(given)
+    for place in range(len(found) - 2):
+        if found[place:place + 2] == ["--on", "dask"]:
+            found[place + 1:place + 3] = [DASK + found[place + 2]]
+            break
+    return found
 
 
 def words(given: Sequence[str]) -> argparse.Namespace:
     parser = parser_of_words()
-    found = parser.parse_args(list(given))
+    found = parser.parse_args(joined(given))
     names = [name for name, _ in found.set]
     if len(set(names)) < len(names):
         parser.error("--set: a name twice; its values stand in one, with commas between")
-    if found.program and not found.on:
-        parser.error("--program goes with --on (here DNLAB names the program)")
+    if (found.program or found.parts) and not found.on:
+        parser.error("--program and --parts go with --on (here DNLAB names the program)")
+    if found.on in ("dask", DASK):
+        parser.error("--on dask: the scheduler's address stands behind it, as tcp://alpha:8786")
     if (found.csv, found.json).count("-") > 1:
         parser.error("standard output can't be both --csv and --json")
     for option in "csv", "json", "parquet", "each", "plot", "kept":
         name = getattr(found, option)
-        if name is not None and name != "-" and not Path(name).absolute().parent.is_dir():
+        if name is None or name == "-":
+            continue
+        if not os.path.isdir(os.path.dirname(name) or "."):
             parser.error(f"--{option} {name}: its folder isn't there")
+        if os.path.exists(name) and not os.path.isfile(name):
+            parser.error(f"--{option} {name}: it is no regular file")
     if found.each is not None and found.each.rsplit(".", 1)[-1] not in ("csv", "json", "parquet"):
         parser.error(f"--each {found.each}: it ends neither in .csv nor in .json nor in .parquet")
     return found
@@ -152,26 +183,32 @@ def write(frame: pd.DataFrame, name: str, form: str) -> None:
         (print_json(records_of(frame), sys.stdout) if form == "json"
          else print_csv(records_of(frame), list(frame.columns), sys.stdout))
         return
-    beside = f"{name}.{os.getpid()}"
     try:
-        if form == "parquet":
-            frame.to_parquet(beside, index=False)
-        else:
-            with open(beside, "w", encoding="utf-8", newline="") as file:
-                if form == "json":
-                    print_json(records_of(frame), file)
-                else:
-                    print_csv(records_of(frame), list(frame.columns), file)
-        os.replace(beside, name)
+        with whole_file(name) as file:
+            write_form(frame, file, form)
     except OSError as fault:
-        raise Faulty(f"{name}: {fault.strerror}") from None
-    finally:
-        Path(beside).unlink(missing_ok=True)
+        raise Failed(3, f"{name}: {fault.strerror}") from None
 
 
-def tell_all(made: Sweep, table: pd.DataFrame, given: argparse.Namespace) -> None:
-    """Writes what is asked for, and says what there is to say."""
-    rows = records_of(table)
+def write_form(frame: pd.DataFrame, file: BinaryIO, form: str) -> None:
+    """Writes a table as CSV, JSON or Parquet."""
+    if form == "parquet":
+        frame.to_parquet(file, index=False)
+        return
+    text = io.TextIOWrapper(file, encoding="utf-8", newline="")
+    if form == "json":
+        print_json(records_of(frame), text)
+    else:
+        print_csv(records_of(frame), list(frame.columns), text)
+    text.flush()
+    text.detach()
+
+
+def write_all(made: Sweep, table: pd.DataFrame, given: argparse.Namespace) -> None:
+    """Writes what is asked for: the table first, then files, and the picture last."""
+    if "-" not in (given.csv, given.json):
+        sys.stdout.write(sweep_table(records_of(table), made.settings))
+        sys.stdout.flush()
     for form in "csv", "json", "parquet":
         if getattr(given, form) is not None:
             write(table, getattr(given, form), form)
@@ -180,9 +217,16 @@ def tell_all(made: Sweep, table: pd.DataFrame, given: argparse.Namespace) -> Non
     if given.plot is not None:
         from dnlab import curves, pictures
 
-        pictures.save(curves.figure_of(table, made.settings), given.plot)
-    if "-" not in (given.csv, given.json):
-        sys.stdout.write(sweep_table(rows, made.settings))
+        figure = curves.figure_of(table, made.settings)
+        try:
+            pictures.save(figure, given.plot)
+        except OSError as fault:
+            raise Failed(3, f"{given.plot}: {fault.strerror}") from None
+
+
+def say_all(made: Sweep, table: pd.DataFrame) -> None:
+    """Says what there is to say of the experiments and of what is kept."""
+    rows = records_of(table)
     tell("sweep", made.notes(), len(made.cases))
     seeds = len({case.seed for case in made.cases})
     fewer = [row for row in rows if row["n"] < seeds]
@@ -193,6 +237,9 @@ def tell_all(made: Sweep, table: pd.DataFrame, given: argparse.Namespace) -> Non
     said = made.changeless()
     if said:
         print(f"sweep: {said}", file=sys.stderr)
+    if made.kept.damaged:
+        print(f"sweep: {made.kept.damaged} answers in {made.kept.path} were damaged, and these experiments were run again",
+              file=sys.stderr)
     kept = f"{len(made.cases) - made.ran} were kept" + (f" in {made.kept.path}" if made.kept.path else "")
     print(f"sweep: {len(made.cases)} experiments: {made.ran} were run, {kept}", file=sys.stderr)
 
@@ -202,42 +249,47 @@ def sweep(given: argparse.Namespace) -> int:
     kept = given.kept if given.kept is not None else f"{source}.kept"
     if source == "-":
         source, kept = sys.stdin.read() + "\n", given.kept
+    ending.tells(lambda: "no experiment was run")
     made = Sweep(source, dict(given.set), given.seeds, [Ask(ask.of, ask.stats or USUAL) for ask in given.asks],
-                 None if given.dry_run else kept, given.workers, given.on, given.program, anew=given.anew)
+                 None if given.dry_run else kept, given.workers, given.on, given.program, anew=given.anew,
+                 allow=given.allow, parts=given.parts)
     if given.dry_run:
         sys.stdout.write(made.text(made.cases[0]))
         print(f"sweep: {len(made.cases)} experiments; this is the text of {made.cases[0].told()}", file=sys.stderr)
         return 0
+    if given.plot is not None:
+        from dnlab import curves
+
+        curves.judge(pd.DataFrame([case.settings for case in made.cases]), made.settings,
+                     [(ask.of, stat) for ask in made.asks for stat in ask.stats])
+    ending.tells(lambda: far(made, kept))
+    ending.add(made.kept.close)
     try:
         made.run()
-    except KeyboardInterrupt:
-        done = f"{len(made.found)} of {len(made.cases)} experiments"
-        where = f"are kept in {kept}; the same words go on" if kept is not None else "were done, and none is kept"
-        print(f"sweep: ended from outside: {done} {where}", file=sys.stderr)
-        return 3
-    tell_all(made, made.table(given.ci, given.interval), given)
+    except Failed as failed:
+        raise Failed(failed.status, f"{failed.said}; {far(made, kept)}") from None
+    write_all(made, made.table(given.ci, given.interval), given)
+    say_all(made, made.table(given.ci, given.interval))
     return 0
 
 
-def end(*_: Any) -> None:
-    """Ends once: a second signal, which terminals and others send at once, doesn't disturb what is put away."""
-    for ending in signal.SIGINT, signal.SIGTERM:
-        signal.signal(ending, signal.SIG_IGN)
-    raise KeyboardInterrupt
+def far(made: Sweep, kept: Optional[str]) -> str:
+    """How many experiments are done, and where."""
+    done = f"{len(made.found)} of {len(made.cases)} experiments"
+    return f"{done} are kept in {kept}; the same words go on" if kept is not None else f"{done} were done, and none is kept"
 
 
 def main(words_given: Sequence[str]) -> int:
+    ending.watch("sweep")
     given = words(words_given)
-    for ending in signal.SIGINT, signal.SIGTERM:
-        signal.signal(ending, end)
     said = lacking(given)
     try:
         if said is not None:
-            raise Faulty(said)
+            raise Failed(3, said)
         return sweep(given)
     except Faulty as faulty:
         print(f"sweep: {faulty}", file=sys.stderr)
-        return 1
+        return 2
     except Failed as failed:
         print(f"sweep: {failed.said}", file=sys.stderr)
         return 3

@@ -1,11 +1,11 @@
 """Makes a page of HTML to look at runs of dnlab in a browser, packet by packet, without a network."""
 import argparse
 import sys
-from typing import Iterator, Sequence
+from typing import Iterator, Sequence, cast
 
 from dnlab.commands.words import add_texts, count_of, parser_of, taken
-from dnlab.errors import Faulty
-from dnlab.summing import tell
+from dnlab.errors import Faulty, status_of
+from dnlab.summing import tell, whole
 from dnlab.view import Note, View
 from dnlab.work import Given, TooMany, over, plans_of
 
@@ -23,7 +23,7 @@ Example:
   ./dnlab alone < scenario.txt > report.txt
   tools/view report.txt scenario.txt --out page.html && xdg-open page.html
 
-Exit status: 0 written, 1 a faulty input or a file that can't be written, 2 wrong usage."""
+Exit status: 0 written, 2 wrong usage or a faulty input, 3 a file that can't be written, or a package that is missing."""
 # A page holds all its experiments; with more packets than this a browser takes long to open it.
 _MOST_EXPERIMENTS = 256
 
@@ -57,8 +57,9 @@ def main(words_given: Sequence[str]) -> int:
 
     def experiments() -> Iterator[Drawn]:
         plans = plans_of(given.scenarios)
-        for found, own in over(Given(given.report, tuple(given.scenarios)), draw_one, plans, given.experiment,
-                               given.workers, "view", _MOST_EXPERIMENTS):
+        texts = Given(given.report, tuple(given.scenarios))
+        made = over(texts, draw_one, plans, given.experiment, given.workers, "view", _MOST_EXPERIMENTS)
+        for found, own in whole(texts, plans, given.experiment, made, lambda one: str(cast(Drawn, one[0]).head["name"])):
             assert isinstance(found, Drawn)
             names.append(found.head["name"])
             notes.extend((names[-1], note) for note in own)
@@ -71,13 +72,13 @@ def main(words_given: Sequence[str]) -> int:
         written = write(given.out, f"dnlab: {title}", experiments(), get_plotlyjs(), given.single)
     except TooMany as many:
         print(f"view: {given.report}: {many}: name some by --experiment", file=sys.stderr)
-        return 1
+        return 2
     except Faulty as faulty:
         print(f"view: {faulty}", file=sys.stderr)
-        return 1
+        return status_of(faulty)
     except OSError as fault:
         print(f"view: {given.out}: {fault.strerror}", file=sys.stderr)
-        return 1
+        return status_of(fault)
     tell("view", notes, len(names))
     print(f"{', '.join(written)}: experiments: {len(names)}")
     return 0

@@ -2,14 +2,45 @@
 import argparse
 import re
 from fractions import Fraction
+from typing import NoReturn
 
+from dnlab import __version__
+from dnlab.programs import is_repository
 from dnlab.units import TIMES
+
+
+class Parser(argparse.ArgumentParser):
+    """A parser whose help names the commands as they are installed, but in the repository as they stand there, and that
+    names only what must be there where it lacks."""
+
+    def format_help(self) -> str:
+        return as_installed(super().format_help())
+
+    def error(self, message: str) -> NoReturn:
+        super().error(message.replace("required: REPORT, SCENARIO", "required: REPORT")
+                      .replace("required: A, B, SCENARIO", "required: A, B"))
+
+
+def as_installed(text: str) -> str:
+    """A help text with the installed commands' names, where the package isn't in its repository.
+
+    >>> renamed("usage: plot [-h]\\n./dnlab alone < s.txt | tools/plot - s.txt")
+    'usage: dnlab-plot [-h]\\ndnlab alone < s.txt | dnlab-plot - s.txt'
+    """
+    return text if is_repository() else renamed(text)
+
+
+def renamed(text: str) -> str:
+    """A help text with the names of installed commands."""
+    text = re.sub(r"(?m)^usage: (?=[a-z]+\b)", "usage: dnlab-", text)
+    return re.sub(r"\btools/(?=[a-z]+\b)", "dnlab-", text).replace("./dnlab ", "dnlab ")
 
 
 def parser_of(name: str, about: str, more: str) -> argparse.ArgumentParser:
     """A parser whose help has an example and the exit statuses at its end."""
-    return argparse.ArgumentParser(prog=name, description=about, epilog=more,
-                                   formatter_class=argparse.RawDescriptionHelpFormatter)
+    parser = Parser(prog=name, description=about, epilog=more, formatter_class=argparse.RawDescriptionHelpFormatter)
+    parser.add_argument("--version", action="version", version=f"dnlab-{name} {__version__}")
+    return parser
 
 
 def add_texts(parser: argparse.ArgumentParser) -> None:

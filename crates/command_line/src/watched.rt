@@ -1,6 +1,6 @@
 //! The refused commands of a report and what else is noted of it, as it is written, where that is wanted.
 
-use explain::{Note, Refusal, Replies};
+use explain::{Note, Refusal, Replies, Subject};
 use std::alloc::Global;
 use std::io::{self, Write};
 
@@ -39,6 +39,17 @@ impl Watched {
     /// What else was noted of the reports.
     pub fn notes(&self) -> &[Note] {
         self.replies.notes()
+    }
+
+    /// How many experiments spent their steps.
+    pub fn spent(&self) -> usize {
+        let mut count = 0;
+        for note in self.notes() {
+            if note.subject == Subject::Spent {
+                count += 1;
+            }
+        }
+        count
     }
 
     /// Whether memory for a note was refused.

@@ -13,11 +13,13 @@ pub enum Task {
         moves: u32,
         progress: bool,
         explain: bool,
+        strict: bool,
     },
     /// To run each experiment by itself, and to say how far it is.
     Alone {
         progress: bool,
         explain: bool,
+        strict: bool,
     },
     /// To say whether a text is a scenario.
     Check {
@@ -35,6 +37,15 @@ impl Task {
             Task::Alone { explain, .. } => *explain,
             Task::Check { explain } => *explain,
             Task::Live => false,
+        }
+    }
+
+    /// Whether a run in which a command was refused or steps were spent has a status of its own.
+    pub fn is_strict(&self) -> bool {
+        match self {
+            Task::Run { strict, .. } => *strict,
+            Task::Alone { strict, .. } => *strict,
+            Task::Check { .. } | Task::Live => false,
         }
     }
 
@@ -65,7 +76,7 @@ const EXAMPLE: &str = "Example:
   The same by four workers, to the same bytes: dnlab run --workers 4 < scenario
   What is wrong with a text, and where: dnlab check --explain < scenario
 
-Exit status: 0 done, 1 a fault in the scenario (standard error says `line L: CAUSE`), 2 words that are no command, 3 memory was refused or a read or write failed, 4 the workers lost an experiment (never, unless the program is wrong).";
+Exit status: 0 done, 1 a fault in the scenario (standard error says `line L: CAUSE`), 2 words that are no command, 3 memory was refused or a read or write failed, 4 the workers lost an experiment (never, unless the program is wrong), 5 `--strict` found a refused command or spent steps.";
 
 // How many workers there are where nothing is said.
 const WORKERS: usize = 2;
@@ -89,6 +100,15 @@ fn explain_word<'a>(alloc: Global) -> Arg<'a> {
         )
 }
 
+fn strict_word<'a>(alloc: Global) -> Arg<'a> {
+    Arg::new(alloc, "strict")
+        .long("strict")
+        .action(ArgAction::SetTrue)
+        .help(
+            "Ends with status 5, after the report, if a command was refused or an experiment spent its steps",
+        )
+}
+
 fn run_command<'a>(alloc: Global) -> Result<Command<'a>, Error> {
     let workers = Arg::new(alloc, "workers")
         .long("workers")
@@ -109,15 +129,17 @@ fn run_command<'a>(alloc: Global) -> Result<Command<'a>, Error> {
         .arg(workers)?
         .arg(moves)?
         .arg(progress_word(alloc))?
-        .arg(explain_word(alloc))?;
+        .arg(explain_word(alloc))?
+        .arg(strict_word(alloc))?;
     Ok(run)
 }
 
-fn command<'a>(alloc: Global) -> Result<Command<'a>, Error> {
+fn command<'a>(alloc: Global, version: &'a str) -> Result<Command<'a>, Error> {
     let alone = Command::new(alloc, "alone")
         .about("Reads a scenario on standard input, runs each experiment and prints its report")
         .arg(progress_word(alloc))?
-        .arg(explain_word(alloc))?;
+        .arg(explain_word(alloc))?
+        .arg(strict_word(alloc))?;
     let check = Command::new(alloc, "check")
         .about(
             "Reads a scenario on standard input and prints `ok`, its experiments and its commands",
@@ -128,7 +150,7 @@ fn command<'a>(alloc: Global) -> Result<Command<'a>, Error> {
     );
     let program = Command::new(alloc, "dnlab")
         .about(ABOUT)
-        .version("0.1.0")
+        .version(version)
         .after_help(EXAMPLE)
         .subcommand_required(true)
         .arg_required_else_help(true)
@@ -141,18 +163,20 @@ fn command<'a>(alloc: Global) -> Result<Command<'a>, Error> {
 
 /// What the words want, the program's name first; else what is to be said of them: a mistake, help, the
 /// version or want of memory.
-pub fn task_of(alloc: Global, words: &[String]) -> Result<Task, Error> {
-    let matches = command(alloc)?.try_get_matches_from(words)?;
+pub fn task_of(alloc: Global, version: &str, words: &[String]) -> Result<Task, Error> {
+    let matches = command(alloc, version)?.try_get_matches_from(words)?;
     match matches.subcommand() {
         Some(("run", given)) => Ok(Task::Run {
             workers: given.get_one::<usize>("workers").unwrap_or(WORKERS),
             moves: given.get_one::<u32>("moves").unwrap_or(MOVES),
             progress: given.get_flag("progress"),
             explain: given.get_flag("explain"),
+            strict: given.get_flag("strict"),
         }),
         Some(("alone", given)) => Ok(Task::Alone {
             progress: given.get_flag("progress"),
             explain: given.get_flag("explain"),
+            strict: given.get_flag("strict"),
         }),
         Some(("live", _)) => Ok(Task::Live),
         Some((_, given)) => Ok(Task::Check {

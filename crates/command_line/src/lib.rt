@@ -1,0 +1,182 @@
+//! The words of the command line of `dnlab`, its exit statuses and what it prints on standard error; all else is in
+//! `lab`. The program `dnlab` adds its version.
+#![tactic(auto)]
+
+mod kept;
+mod meter;
+mod tell;
+mod watched;
+mod words;
+
+ghost use Rattle.std.specs.Prelude.{◌≡◌};
+ghost use Rattle.command_line.specs.Status.{status_after};
+
+use clap::Error;
+use clap::error::ErrorKind;
+use kept::{Keeper, Kept};
+use lab::{Device, OpenGate, Plan, RunFault, check, live, run_alone_told, run_told};
+use meter::Meter;
+use std::alloc::{AllocError, Global};
+use std::process::ExitCode;
+use std::rt::{Clock, Env};
+use std::sync::Wait;
+use std::thread::Threads;
+use std::{env, io};
+use tell::{faults_text, hint_at, print, tell_refusals, tell_warnings};
+use watched::{Watched, Watcher};
+use words::{Task, stray_word, task_of};
+
+/// The exit status of a strict run in which a command was refused, or an experiment spent its steps.
+const NOT_STRICT: u8 = 5;
+
+/// The exit status after a call.
+fn status_of(outcome: &Result<(), RunFault>) -> u8
+    ensures { result ≡ status_after outcome.now }
+{
+    match outcome {
+        Ok(()) => 0,
+        Err(RunFault::Scenario(_)) => 1,
+        Err(RunFault::Read | RunFault::Write | RunFault::Memory) => 3,
+        Err(RunFault::Strange | RunFault::Gate) => 4,
+    }
+}
+
+// Says why a call gave no answer, and how the program ends.
+fn end(rt: &impl Eprint, outcome: Result<(), RunFault>) -> ExitCode {
+    let status = status_of(&outcome);
+    if let Err(fault) = outcome {
+        // There is nowhere else to say that this can't be printed.
+        let _ = eprintln!(rt; "{fault}");
+    }
+    ExitCode::from(status)
+}
+
+// What is said behind a call that went well, where that is asked for: which commands were refused, if there was a run,
+// and what is silently wrong.
+fn tell_all(
+    rt: &impl Eprint,
+    alloc: Global,
+    kept: &Kept,
+    watched: &Watched,
+    has_run: bool,
+) -> Result<(), AllocError> {
+    if !kept.is_wanted() {
+        return Ok(());
+    }
+    tell_refusals(rt, alloc, kept, watched)?;
+    let notes = if has_run { Some(watched.notes()) } else { None };
+    tell_warnings(rt, alloc, kept, notes)
+}
+
+// Says of a strict run that commands were refused or steps were spent, if so, and how the program ends.
+fn end_strictly(rt: &impl Eprint, watched: &Watched) -> ExitCode {
+    let refused = watched.refusals().len();
+    let spent = watched.spent();
+    if refused == 0 && spent == 0 {
+        return ExitCode::from(0);
+    }
+    let _ = eprintln!(rt;
+        "dnlab: --strict: commands refused: {refused}, experiments that spent their steps: {spent} (--explain says which)"
+    );
+    ExitCode::from(NOT_STRICT)
+}
+
+// Says why a call gave no answer, and where it is asked for what is wrong with the text, which commands were refused and
+// what is silently wrong. Where memory for that is refused the program says so.
+fn end_with(
+    rt: &impl Eprint,
+    alloc: Global,
+    outcome: Result<(), RunFault>,
+    kept: &Kept,
+    watched: &Watched,
+    task: &Task,
+) -> ExitCode {
+    if kept.lacks_memory() || watched.lacks_memory() {
+        return end(rt, Err(RunFault::Memory));
+    }
+    match outcome {
+        Ok(()) if tell_all(rt, alloc, kept, watched, task.runs()).is_err() => {
+            end(rt, Err(RunFault::Memory))
+        }
+        Ok(()) if task.is_strict() => end_strictly(rt, watched),
+        Err(RunFault::Scenario(fault)) if kept.is_wanted() => {
+            let Ok(shown) = faults_text(alloc, kept.text(), &fault) else {
+                return end(rt, Err(RunFault::Memory));
+            };
+            let code = end(rt, outcome);
+            print(rt, shown.as_slice());
+            code
+        }
+        _ => end(rt, outcome),
+    }
+}
+
+// Prints what `clap` has to say: a mistake in the words, help or the version; of a word too many also how a text is given.
+fn say<R: Print + Eprint>(rt: &R, error: &Error, words: &[String]) -> ExitCode {
+    if error.kind() == ErrorKind::OutOfMemory {
+        return end(rt, Err(RunFault::Memory));
+    }
+    if error.print(rt).is_err() {
+        return end(rt, Err(RunFault::Write));
+    }
+    if error.kind() == ErrorKind::UnknownArgument && words.len() > 1 {
+        hint_at(rt, words[1].as_str(), stray_word(words));
+    }
+    ExitCode::from(if error.use_stderr() { 2 } else { 0 })
+}
+
+/// Does what the program's words want; `version` is what it says of itself. The answer is the exit status.
+pub fn answer<H>(rt: &H, version: &str) -> ExitCode
+where
+    H: Alloc<A = Global> + Clock + Env + Eprint + Input + Print + Sync + Threads + Wait,
+{
+    let alloc = rt.alloc();
+    let words = match env::args(rt) {
+        Ok(words) => words,
+        Err(error) if error.kind() == io::ErrorKind::OutOfMemory => {
+            return end(rt, Err(RunFault::Memory));
+        }
+        Err(error) => {
+            let _ = eprintln!(rt; "error: {error}");
+            return ExitCode::from(2);
+        }
+    };
+    let Ok(words) = words.collect::<Vec<String>>(alloc) else {
+        return end(rt, Err(RunFault::Memory));
+    };
+    let task = match task_of(alloc, version, words.as_slice()) {
+        Ok(task) => task,
+        Err(error) => return say(rt, &error, words.as_slice()),
+    };
+    let kept = Kept::new(alloc, task.explains());
+    let watched = Watched::new(alloc, task.explains() || task.is_strict());
+    if watched.lacks_memory() {
+        return end(rt, Err(RunFault::Memory));
+    }
+    let mut reader = Device::new(Keeper::new(rt.reader(), kept));
+    let mut writer = Device::new(Watcher::new(io::writer(rt), watched));
+    let outcome = match task {
+        Task::Run {
+            workers,
+            moves,
+            progress,
+            ..
+        } => {
+            // The words' ranges are those of a plan.
+            let Some(plan) = Plan::new(workers, moves) else {
+                return ExitCode::from(2);
+            };
+            let meter = Meter::new(rt, progress);
+            run_told(rt, alloc, &mut reader, &mut writer, plan, &OpenGate, &meter)
+        }
+        Task::Alone { progress, .. } => {
+            let meter = Meter::new(rt, progress);
+            run_alone_told(alloc, &mut reader, &mut writer, &meter)
+        }
+        Task::Check { .. } => check(alloc, &mut reader, &mut writer),
+        Task::Live => live(alloc, &mut reader, &mut writer),
+    };
+    let kept = reader.into_inner().into_kept();
+    let watched = writer.into_inner().into_watched();
+    end_with(rt, alloc, outcome, &kept, &watched, &task)
+}

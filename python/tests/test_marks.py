@@ -1,0 +1,137 @@
+"""What may be silently wrong: each mark by a text that people would write, and by its neighbour that is as it should be."""
+import json
+from pathlib import Path
+from typing import Callable
+
+import pytest
+from conftest import tool
+
+from dnlab import scenario
+from dnlab.marks import MEANS, codes_of
+from dnlab.report import read
+from dnlab.view import View
+
+Alone = Callable[[bytes], bytes]
+LINK = "@0 pipe 1 config bw 10Mbit/s delay 20 queue 50\n"
+BACK = "@0 pipe 2 config delay 20\n"
+THERE = "@0 add 100 pipe 1 ip from 10.0.0.0/24 to any\n@0 add 200 pipe 2 ip from 10.0.1.0/24 to any\n"
+BOTH = LINK + BACK + THERE
+ANY = LINK + "@0 add 100 pipe 1 ip from any to any\n"
+TRAIN = "@0 train 9 udp 10.0.0.9 1 10.0.1.9 2 100 count 10 gap 20000000\n"
+FLOW = "@0 flow 1 10.0.0.1 1 10.0.1.1 80 smss 1460 segments 30\n"
+
+
+def view(alone: Alone, commands: str, end: int = 5 * 10**9, heading: str = "seed 0 budget 1000") -> View:
+    text = f"experiment a {heading}\n{commands}@{end} end\n".encode()
+    return View(next(read(alone(text))), scenario.read(text)["a"])
+
+
+# The commands, the moment of the end, and the marks.
+MARKS = [
+    ("a flow and a train, each way a pipe", BOTH + TRAIN + FLOW, 5 * 10**9, ""),
+    ("a rule's number past the last", BOTH + TRAIN + "@0 add 70000 allow ip from any to any\n", 5 * 10**9, "refused"),
+    ("a train's number twice", BOTH + TRAIN + TRAIN, 5 * 10**9, "refused"),
+    ("a flow with a train's number", BOTH + TRAIN + FLOW.replace("flow 1", "flow 9"), 5 * 10**9, "refused"),
+    ("a rule that goes back", BOTH + TRAIN + "@0 add 300 skipto 100 ip from any to any\n", 5 * 10**9, "refused"),
+    ("a rule that isn't there", BOTH + TRAIN + "@9 delete 50\n", 5 * 10**9, "refused"),
+    ("a pipe that isn't there", BOTH + TRAIN + "@1000 pipe delete 7\n", 5 * 10**9, "refused"),
+    ("a flow that isn't there", BOTH + TRAIN + "@1000 stop 9\n", 5 * 10**9, "refused"),
+    ("the last rule", BOTH + TRAIN + "@0 add 65535 allow ip from any to any\n", 5 * 10**9, "refused"),
+    # Ten packets, 20 ms apart: the last is due at 180 ms.
+    ("an end before the train's last packet", BOTH + TRAIN, 10**6, "unsent"),
+    ("an end just behind it", BOTH + TRAIN, 180 * 10**6 + 1, ""),
+    ("an end at its moment, which comes first", BOTH + TRAIN, 180 * 10**6, "unsent"),
+    ("a flow that is cut off", BOTH + FLOW, 30 * 10**6, "unsent"),
+    ("a flow that was stopped", BOTH + FLOW + "@25000000 stop 1\n", 30 * 10**6, ""),
+    ("a flow without end", BOTH + FLOW.replace("segments 30", "segments 1000000"), 30 * 10**6, ""),
+    ("a train that begins with the end", BOTH + TRAIN.replace("@0", "@5000000000"), 5 * 10**9, "unsent"),
+    ("a queue in a second config", BOTH + TRAIN + "@50000000 pipe 1 config queue 10\n", 5 * 10**9, "reconfigured"),
+    ("a second config that names all", BOTH + TRAIN + "@50000000 pipe 1 config bw 5Mbit/s delay 20 queue 50\n", 5 * 10**9, ""),
+    ("a delay alone", BOTH + TRAIN + "@50000000 pipe 1 config delay 40\n", 5 * 10**9, "reconfigured"),
+    ("at one moment, one behind the other", LINK + "@0 pipe 1 config queue 10\n" + BACK + THERE + TRAIN, 5 * 10**9, "reconfigured"),
+    ("an outage by plr, and its end", BOTH + TRAIN + "@50000000 pipe 1 config bw 10Mbit/s delay 20 plr 1\n"
+     "@60000000 pipe 1 config bw 10Mbit/s delay 20\n", 5 * 10**9, ""),
+    ("a pipe that is deleted between", BOTH + TRAIN + "@300000000 pipe delete 1\n@300000000 pipe 1 config queue 10\n", 5 * 10**9, ""),
+    ("bw 0 for an outage", BOTH + TRAIN + "@50000000 pipe 1 config bw 0 delay 20\n@60000000 pipe 1 config bw 10Mbit/s delay 20\n",
+     5 * 10**9, "outage"),
+    # 100 bytes take 0.8 s at 1 kbit/s, which holds for 0.1 s.
+    ("a rate of nearly nothing for an outage", BOTH + TRAIN + "@50000000 pipe 1 config bw 1Kbit/s delay 20\n"
+     "@150000000 pipe 1 config bw 10Mbit/s delay 20\n", 5 * 10**9, "outage"),
+    ("a low rate that holds long enough", BOTH + TRAIN + "@50000000 pipe 1 config bw 100Kbit/s delay 20\n"
+     "@150000000 pipe 1 config bw 10Mbit/s delay 20\n", 5 * 10**9, ""),
+    ("a pipe that never had a rate", BOTH.replace("bw 10Mbit/s", "bw 0") + TRAIN, 5 * 10**9, ""),
+    ("any to any", ANY + FLOW, 5 * 10**9, "half-duplex"),
+    ("any to any, without a rate", ANY.replace("bw 10Mbit/s ", "") + FLOW, 5 * 10**9, ""),
+    ("any to any, an instance for each sender", ANY.replace("queue 50", "queue 50 mask src-ip 0xffffffff") + FLOW, 5 * 10**9, ""),
+    ("any to any, trains alone", ANY + TRAIN, 5 * 10**9, ""),
+    # A round trip of 40 ms at 100 Mbit/s holds 500000 bytes, and the window 65535.
+    ("a long fat link", BOTH.replace("10Mbit/s", "100Mbit/s").replace("queue 50", "queue 1000")
+     + FLOW.replace("segments 30", "segments 1000000"), 5 * 10**9, "window-limited"),
+    ("a window of two segments", BOTH + FLOW.replace("segments 30", "segments 30 window 2920"), 5 * 10**9, "window-limited"),
+    ("a short queue", BOTH.replace("queue 50", "queue 10") + FLOW.replace("segments 30", "segments 1000000"), 5 * 10**9, ""),
+    ("a gap in milliseconds", BOTH + TRAIN.replace("gap 20000000", "gap 20"), 5 * 10**9, "units"),
+    ("all at once", BOTH + TRAIN.replace("gap 20000000", "gap 0"), 5 * 10**9, ""),
+    ("a moment in milliseconds", BOTH + TRAIN.replace("@0", "@100"), 5 * 10**9, "units"),
+    ("a nanosecond behind the others", BOTH + TRAIN.replace("@0", "@1"), 5 * 10**9, ""),
+    ("an end in milliseconds", BOTH + TRAIN, 100, "unsent units"),
+    ("a rate without its unit", BOTH.replace("10Mbit/s", "10") + TRAIN, 5 * 10**9, "units"),
+    ("no way back", LINK + "@0 add 100 pipe 1 ip from 10.0.0.0/24 to any\n" + FLOW, 10**9, "no-way-back unsent"),
+    ("denied", LINK + "@0 add 100 pipe 1 ip from 10.0.7.0/24 to any\n" + TRAIN, 5 * 10**9, "denied"),
+]
+
+
+@pytest.mark.parametrize("what,commands,end,marks", MARKS, ids=[one[0] for one in MARKS])
+def test_marks(alone: Alone, what: str, commands: str, end: int, marks: str) -> None:
+    assert view(alone, commands, end).marks() == marks
+
+
+def test_spent_and_budget(alone: Alone) -> None:
+    assert view(alone, BOTH + TRAIN, heading="seed 0 budget 1000 steps 20").marks() == "spent"
+    assert view(alone, BOTH + TRAIN.replace("gap 20000000", "gap 0"), heading="seed 0 budget 3").marks() == "budget"
+
+
+def test_whose_rows(alone: Alone) -> None:
+    """A sender's mark stands in its own rows and in those of all."""
+    made = view(alone, BOTH + TRAIN + FLOW.replace("segments 30", "segments 1000000 window 2920"))
+    assert [made.marks(of) for of in ("flow 1", "train 9", "")] == ["window-limited", "", "window-limited"]
+
+
+def test_what_refusals_say(alone: Alone) -> None:
+    made = view(alone, BOTH + TRAIN + TRAIN + "@0 add 70000 allow ip from any to any\n@5 delete 50\n@6 delete 51\n")
+    assert [(one.line, one.code, one.moment) for one in made.refused] == [(7, 22, 0), (8, 10, 0), (9, 13, 5), (10, 13, 6)]
+    assert made.refused[0].told() == (
+        f"line 7: `{TRAIN.strip()[3:]}` (22: a flow or a train has this number already)")
+    assert codes_of(made.refused) == "10:1 13:2 22:1"
+    note = made.notes[0]
+    assert note.mark == "refused" and note.text.startswith("4 of 10 commands were refused") and "; and 1 more" in note.text
+    # Without the scenario the moment and the command's number are told.
+    alone_told = View(made.experiment).refused[0].told()
+    assert alone_told == "command 5 at 0 ns (22: a flow or a train has this number already)"
+    assert sorted(MEANS) == [10, 11, 12, 13, 20, 21, 22, 23, 24, 25]
+
+
+def test_too_many_of_each(alone: Alone) -> None:
+    """256 flows and trains, 256 rules, 64 pipes: what comes behind them is refused."""
+    trains = "".join(TRAIN.replace("train 9", f"train {number}") for number in range(1, 260))
+    assert codes_of(view(alone, BOTH + trains).refused) == "25:3"
+    rules = "".join(f"@0 add {number} allow ip from any to any\n" for number in range(1, 260))
+    assert codes_of(view(alone, rules + "@0 inject udp 10.0.0.1 1 10.0.0.2 2 100\n").refused) == "12:3"
+    pipes = "".join(f"@0 pipe {number} config delay 1\n" for number in range(1, 67))
+    assert codes_of(view(alone, pipes).refused) == "24:2"
+    mask = LINK + "@0 add 100 pipe 1 ip from any to any\n" + TRAIN + "@1000000 pipe 1 config bw 10Mbit/s delay 20 queue 50 mask all\n"
+    assert codes_of(view(alone, mask).refused) == "21:1"
+
+
+def test_columns_of_the_summary(alone: Alone, tmp_path: Path) -> None:
+    """The count and the codes stand in each row; another experiment's rows have none."""
+    good = f"experiment a seed 0 budget 1000\n{BOTH}{TRAIN}@5000000000 end\n"
+    bad = good.replace("experiment a", "experiment b").replace(TRAIN, TRAIN + TRAIN)
+    (tmp_path / "s").write_text(good + bad)
+    (tmp_path / "r").write_bytes(alone((good + bad).encode()))
+    status, out, err = tool("summary", tmp_path / "r", tmp_path / "s", "--json")
+    rows = {(row["experiment"], row["of"]): row for row in json.loads(out)}
+    assert status == 0 and [(rows[name, "train 9"]["refused"], rows[name, "train 9"]["codes"], rows[name, "train 9"]["marks"])
+                            for name in "ab"] == [(0, "", ""), (1, "22:1", "refused")]
+    assert "experiment b: 1 of 7 commands was refused and did nothing: line 14: `train 9" in err
+    status, out, _ = tool("summary", tmp_path / "r", tmp_path / "s")
+    assert [line.split()[-1] for line in out.split("\n")[1:-1]] == ["-"] * 3 + ["refused"] * 3

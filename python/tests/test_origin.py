@@ -1,0 +1,95 @@
+"""What made a report is kept beside it, and what doesn't match is refused in one line."""
+import json
+from pathlib import Path
+
+import pytest
+from conftest import tool
+
+import dnlab
+from dnlab.origin import beside, check_beside, file_checksum, read_beside, scenario_checksum
+from dnlab.scenario import read
+
+# Nothing that a line of the report shows tells 100 bytes from 200: the pipe has no rate.
+TEXT = """experiment a seed 0 budget 100
+@0 pipe 1 config delay 10
+@0 add 100 pipe 1 ip from any to any
+@0 train 9 udp 10.0.0.1 1 10.0.0.2 2 100 count 5 gap 1000000
+@100000000 end
+experiment b seed 0 budget 100
+@9 end
+"""
+OTHER = TEXT.replace("2 100 count", "2 200 count")
+
+
+@pytest.fixture
+def stored(program: str, tmp_path: Path) -> tuple[Path, Path, Path]:
+    """A report that was stored by a run, its scenario, and another that no line of it tells from that."""
+    for name, text in (("s.txt", TEXT), ("o.txt", OTHER)):
+        (tmp_path / name).write_text(text)
+    dnlab.run(tmp_path / "s.txt", out=tmp_path / "r.txt", dnlab=program)
+    return tmp_path / "r.txt", tmp_path / "s.txt", tmp_path / "o.txt"
+
+
+def test_what_is_kept(stored: tuple[Path, Path, Path], program: str) -> None:
+    report, *_ = stored
+    told = json.loads((report.parent / "r.txt.json").read_text())
+    assert told["report"] == file_checksum(report) and told["program"] == file_checksum(program)
+    assert told["scenario"] == scenario_checksum(read(TEXT.encode())) != scenario_checksum(read(OTHER.encode()))
+    assert told["command"] == [program, "alone"] and told["version"].startswith("dnlab ")
+    assert sorted(path.name for path in report.parent.iterdir()) == ["o.txt", "r.txt", "r.txt.json", "s.txt"]
+    opened = dnlab.read(report)
+    assert opened.origin is not None and opened.origin.scenario == told["scenario"]
+    made = dnlab.run(TEXT, dnlab=program)
+    assert made.origin is not None and made.origin[:3] == opened.origin[:3]
+
+
+def test_another_scenario_is_refused(stored: tuple[Path, Path, Path], tmp_path: Path) -> None:
+    report, plan, other = stored
+    for name, words in (("summary", []), ("expect", ["all: drops == 0"]), ("plot", ["--out", tmp_path / "p.svg"]),
+                        ("view", ["--out", tmp_path / "p.html"]), ("pcap", ["--experiment", "a"])):
+        status, out, err = tool(name, report, other, *words)
+        assert status == 2 and not out and len(err.splitlines()) == 1, (name, err)
+        assert "isn't the scenario that" in err and "r.txt.json" in err, name
+    assert tool("compare", report, report, other)[0] == 2 and tool("compare", report, report, plan)[0] == 0
+    assert tool("summary", report, plan)[0] == 0 and tool("summary", report)[0] == 0
+    with pytest.raises(dnlab.Faulty, match="isn't the scenario that"):
+        dnlab.read(report, other)
+    # Where nothing is kept beside it, no line tells the sizes apart.
+    beside(report).unlink()
+    assert tool("summary", report, other)[0] == 0 and dnlab.read(report, plan).origin is None
+
+
+def test_what_makes_no_difference(stored: tuple[Path, Path, Path], tmp_path: Path) -> None:
+    report, *_ = stored
+    first, second = TEXT.split("experiment b")
+    (tmp_path / "1").write_text("# two texts\n\n" + first.replace("@0 add", "  @0   add"))
+    (tmp_path / "2").write_text("experiment b" + second)
+    assert tool("summary", report, tmp_path / "2", tmp_path / "1")[0] == 0
+
+
+def test_a_report_that_was_changed(stored: tuple[Path, Path, Path]) -> None:
+    report, plan, _ = stored
+    report.write_bytes(report.read_bytes().replace(b"experiment a", b"experiment c"))
+    for words in ([report, plan], [report]):
+        status, out, err = tool("summary", *words)
+        assert status == 2 and not out and "another checksum" in err and "remove that file" in err
+    with pytest.raises(dnlab.Faulty, match="another checksum"):
+        dnlab.read(report)
+
+
+def test_files_that_are_something_else(stored: tuple[Path, Path, Path]) -> None:
+    """A summary under that name, or what is no JSON, is nobody's record."""
+    report, plan, other = stored
+    for text in ("[]", "{}", "hello", '{"dnlab report": 2}'):
+        beside(report).write_text(text)
+        assert read_beside(report) is None and check_beside(report, read(OTHER.encode()), "o") is None
+        assert tool("summary", report, plan)[0] == 0
+    beside(report).write_text('{"dnlab report": 1, "scenario": 5}')
+    status, _, err = tool("summary", report, plan)
+    assert status == 2 and "it doesn't tell what made" in err and len(err.splitlines()) == 1
+
+
+def test_a_run_that_fails_leaves_nothing(program: str, tmp_path: Path) -> None:
+    with pytest.raises(dnlab.Failed):
+        dnlab.run(TEXT.replace("train 9", "trian 9"), out=tmp_path / "r", dnlab=program)
+    assert not list(tmp_path.iterdir())

@@ -1,0 +1,120 @@
+"""Which program is called, and what the commands say of themselves."""
+import os
+import re
+import shutil
+import stat
+import subprocess
+import sys
+import tomllib
+from pathlib import Path
+
+import pytest
+
+import dnlab
+from conftest import ROOT
+from dnlab import programs
+from dnlab.__main__ import COMMANDS
+from dnlab.commands.words import renamed
+
+# A package that stands alone, as pip installs it: a copy without its repository.
+ALONE = "import sys; sys.path.insert(0, {place!r}); from dnlab.{module} import {name}; print({name}())"
+
+
+def script(place: Path, text: str) -> Path:
+    place.parent.mkdir(parents=True, exist_ok=True)
+    place.write_text(f"#!/bin/sh\n{text}\n")
+    place.chmod(place.stat().st_mode | stat.S_IXUSR)
+    return place
+
+
+def copied(to: Path) -> Path:
+    """The package alone in a folder."""
+    shutil.copytree(ROOT / "python" / "dnlab", to / "dnlab", ignore=shutil.ignore_patterns("__pycache__"))
+    return to
+
+
+def asked(place: Path, module: str, name: str, *words: str, **names: str) -> "subprocess.CompletedProcess[str]":
+    code = ALONE.format(place=str(place), module=module, name=name)
+    environment = {**{one: word for one, word in os.environ.items() if one != "DNLAB"}, **names}
+    return subprocess.run([sys.executable, "-B", "-c", code, *words], capture_output=True, text=True, env=environment, check=False)
+
+
+def test_a_named_program_comes_first(tmp_path: Path, monkeypatch: pytest.MonkeyPatch) -> None:
+    named, other = script(tmp_path / "a", "exit 0"), script(tmp_path / "b", "exit 0")
+    monkeypatch.setenv("DNLAB", str(other))
+    assert programs.program(str(named)) == str(named)
+    assert programs.program() == str(other)
+    monkeypatch.setenv("DNLAB", str(tmp_path / "none"))
+    with pytest.raises(dnlab.Failed, match="none is no program") as failed:
+        programs.program()
+    assert failed.value.status == 2
+
+
+def test_the_repository_asks_its_script(tmp_path: Path, monkeypatch: pytest.MonkeyPatch) -> None:
+    monkeypatch.delenv("DNLAB", raising=False)
+    monkeypatch.setattr(programs, "_SCRIPT", script(tmp_path / "dnlab", 'echo "$* ${DNLAB-unset}" >&2; echo /some/program'))
+    monkeypatch.setattr(programs, "ROOT", tmp_path)
+    (tmp_path / "crates").mkdir()
+    assert programs.program() == "/some/program"
+    monkeypatch.setenv("DNLAB", str(tmp_path / "dnlab"))
+    assert programs.program() == "/some/program"
+    script(tmp_path / "dnlab", "exit 3")
+    with pytest.raises(dnlab.Failed, match="could make none") as failed:
+        programs.program()
+    assert failed.value.status == 3
+
+
+def test_an_installed_package_has_its_own(tmp_path: Path) -> None:
+    place = copied(tmp_path / "lib")
+    lacking = asked(place, "programs", "program", PATH="/nowhere")
+    assert lacking.returncode == 1 and "there is no program dnlab" in lacking.stderr
+    on_path = script(tmp_path / "path" / "dnlab", "echo path")
+    assert asked(place, "programs", "program", PATH=f"{on_path.parent}:{os.environ['PATH']}").stdout == f"{on_path}\n"
+    carried = script(place / "dnlab" / "bin" / "dnlab", 'echo "carried $0: $*"; cat; exit 4')
+    assert asked(place, "programs", "program", PATH=str(on_path.parent)).stdout == f"{carried}\n"
+    started = asked(place, "programs", "start", "run", "--x")
+    assert (started.stdout, started.returncode) == (f"carried {carried}: run --x\n", 4)
+
+
+def test_a_package_by_tools_install_has_the_program_of_its_prefix(tmp_path: Path) -> None:
+    place = copied(tmp_path / "prefix" / "share" / "dnlab" / "python")
+    beside = script(tmp_path / "prefix" / "bin" / "dnlab", "echo beside")
+    on_path = script(tmp_path / "path" / "dnlab", "echo path")
+    assert asked(place, "programs", "program", PATH=f"{on_path.parent}:{os.environ['PATH']}").stdout == f"{beside}\n"
+
+
+def copied_version(path: Path, pattern: str) -> str:
+    found = re.search(pattern, path.read_text(encoding="utf-8"))
+    assert found, path
+    return found[1]
+
+
+def test_all_say_the_same_version() -> None:
+    number = dnlab.__version__
+    assert tomllib.loads((ROOT / "python" / "pyproject.toml").read_text(encoding="utf-8"))["project"]["version"] == number
+    assert copied_version(ROOT / "crates" / "dnlab" / "src" / "version.rt", r'VERSION: &str = "(\S+) \(commit ') == number
+    assert copied_version(ROOT / "CHANGELOG.md", r"(?m)^## (\S+)$") == number
+    # Some pages only name another one.
+    for page in [it for it in sorted((ROOT / "docs" / "use").glob("*.1")) if not it.read_text(encoding="utf-8").startswith(".so ")]:
+        assert copied_version(page, r'"dnlab ([0-9.]+)') == number, page
+    for command in COMMANDS:
+        done = subprocess.run([ROOT / "tools" / command, "--version"], capture_output=True, text=True, check=False)
+        assert (done.stdout, done.stderr, done.returncode) == (f"dnlab-{command} {number}\n", "", 0)
+
+
+def test_a_missing_module_is_said_in_one_line(tmp_path: Path) -> None:
+    # A Python without packages of others.
+    done = subprocess.run([sys.executable, "-S", "-B", str(ROOT / "tools" / "summary"), "report.txt"], capture_output=True, text=True, check=False)
+    assert done.returncode == 3 and done.stdout == ""
+    assert done.stderr == (f"summary: numpy is missing in {sys.executable} (pip install numpy; Debian, for /usr/bin/python3: "
+                           "apt-get install python3-numpy)\n")
+
+
+def test_help_names_the_installed_commands(tmp_path: Path) -> None:
+    text = "usage: plot [-h] REPORT\n\nExample: ./dnlab alone < s.txt | tools/plot - s.txt"
+    assert renamed(text) == "usage: dnlab-plot [-h] REPORT\n\nExample: dnlab alone < s.txt | dnlab-plot - s.txt"
+    place = copied(tmp_path / "lib")
+    for command in COMMANDS:
+        code = f"import sys; sys.path.insert(0, {str(place)!r}); from dnlab.__main__ import main; main([{command!r}, '--help'])"
+        said = subprocess.run([sys.executable, "-B", "-c", code], capture_output=True, text=True, check=False).stdout
+        assert f"dnlab-{command}" in said and "tools/" not in said and "./dnlab" not in said, command

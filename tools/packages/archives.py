@@ -1,0 +1,61 @@
+"""Archives of a folder, whose bytes follow from the files alone: names in order, one date, no owner."""
+import gzip
+import io
+import os
+import pathlib
+import shutil
+import subprocess
+import tarfile
+from collections.abc import Sequence
+
+
+class Lacking(Exception):
+    """What this machine or the tree lacks, in a sentence."""
+
+
+def run(words: Sequence[str | os.PathLike[str]], date: int, folder: pathlib.Path | None = None) -> str:
+    """Runs a program of packaging, with the date for what it writes (seconds since 1970); gives what it says."""
+    if shutil.which(words[0]) is None:
+        raise Lacking(f"{words[0]} is not there")
+    names = {**os.environ, "SOURCE_DATE_EPOCH": str(date), "LC_ALL": "C.UTF-8", "TZ": "UTC", "PYTHONDONTWRITEBYTECODE": "1"}
+    done = subprocess.run(words, cwd=folder, env=names, stdin=subprocess.DEVNULL, stdout=subprocess.PIPE, stderr=subprocess.STDOUT, text=True, check=False)
+    if done.returncode:
+        raise Lacking(f"{words[0]} ended with {done.returncode}: {done.stdout.strip()[-2000:]}")
+    return done.stdout
+
+
+def zipped(text: bytes) -> bytes:
+    """These bytes by gzip, without a name or a moment in them."""
+    out = io.BytesIO()
+    with gzip.GzipFile(filename="", mode="wb", compresslevel=9, fileobj=out, mtime=0) as file:
+        file.write(text)
+    return out.getvalue()
+
+
+def tar_gz(folder: pathlib.Path, to: pathlib.Path, date: int) -> None:
+    """The folder, under its own name, as a tar.gz."""
+
+    def plain(info: tarfile.TarInfo) -> tarfile.TarInfo:
+        info.mtime, info.uid, info.gid, info.uname, info.gname = date, 0, 0, "root", "root"
+        info.mode = 0o755 if info.isdir() or info.mode & 0o100 else 0o644
+        return info
+
+    packed = io.BytesIO()
+    with tarfile.open(fileobj=packed, mode="w", format=tarfile.GNU_FORMAT) as tar:
+        for path in sorted([folder, *folder.rglob("*")]):
+            tar.add(path, str(path.relative_to(folder.parent)), recursive=False, filter=plain)
+    to.write_bytes(zipped(packed.getvalue()))
+
+
+def dated(folder: pathlib.Path, date: int) -> None:
+    """Gives each file and folder the date and a mode that doesn't follow from the caller's mask."""
+    for path in [folder, *folder.rglob("*")]:
+        if not path.is_symlink():
+            path.chmod(0o755 if path.is_dir() or path.stat().st_mode & 0o100 else 0o644)
+        os.utime(path, (date, date), follow_symlinks=False)
+
+
+def deb(folder: pathlib.Path, to: pathlib.Path, date: int) -> None:
+    """A Debian package of a folder that has DEBIAN/control."""
+    dated(folder, date)
+    run(["dpkg-deb", "--root-owner-group", "-Zxz", "--build", str(folder), str(to)], date)
