@@ -315,6 +315,14 @@ fn address_hint(word: &[u8]) -> Option<&'static str> {
     }
 }
 
+const NO_INTERFACE: &str =
+    "a packet passes the rules once, and comes over no interface: choose it by its addresses";
+
+// Whether a word begins what ipfw says of interfaces and directions.
+fn is_of_an_interface(word: &[u8]) -> bool {
+    is(word, "in") || is(word, "out") || is(word, "via") || is(word, "recv") || is(word, "xmit")
+}
+
 fn ports_hint(word: &[u8]) -> Option<&'static str> {
     if addresses::ports(word).is_some_and(|p| p.first > p.last) {
         Some("the first port is above the last: turn them round")
@@ -326,6 +334,8 @@ fn ports_hint(word: &[u8]) -> Option<&'static str> {
         Some(
             "packets here have no state and no flags: leave it out, and write a second rule for the way back",
         )
+    } else if is_of_an_interface(word) {
+        Some(NO_INTERFACE)
     } else if begins_with_digit(word) && has(word, b':') {
         Some("a range has a hyphen: 1000-2000")
     } else if has_letter(word) {
@@ -412,15 +422,8 @@ fn end_hint(word: &[u8]) -> Option<&'static str> {
         Some(
             "packets here have no state and no flags: leave it out, and write a second rule for the way back",
         )
-    } else if is(word, "in")
-        || is(word, "out")
-        || is(word, "via")
-        || is(word, "recv")
-        || is(word, "xmit")
-    {
-        Some(
-            "a packet passes the rules once, and comes over no interface: choose it by its addresses",
-        )
+    } else if is_of_an_interface(word) {
+        Some(NO_INTERFACE)
     } else {
         None
     }
