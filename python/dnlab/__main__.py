@@ -13,10 +13,10 @@ from dnlab import __version__  # noqa: E402  (the path is set first)
 
 # What the machine lacks; `dnlab.errors` has it, which numpy's want must not keep from being said.
 MACHINE = 3
-COMMANDS = ("summary", "plot", "spread", "sweep", "compare", "expect", "view", "pcap")
+COMMANDS = ("summary", "plot", "spread", "sweep", "compare", "expect", "view", "pcap", "from-ipfw")
 NEEDS = {"summary": ("numpy",), "plot": ("numpy", "matplotlib"), "spread": ("numpy",),
          "sweep": ("numpy", "pandas", "scipy", "jinja2"), "compare": ("numpy",), "expect": ("numpy",),
-         "view": ("numpy", "plotly"), "pcap": ("numpy", "dpkt")}
+         "view": ("numpy", "plotly"), "pcap": ("numpy", "dpkt"), "from-ipfw": ()}
 HELP = """Tools for reports of dnlab, in Python.
 
   python3 -m dnlab summary REPORT [SCENARIO ..]   prints a table, or rows for other programs
@@ -27,6 +27,7 @@ HELP = """Tools for reports of dnlab, in Python.
   python3 -m dnlab expect REPORT [SCENARIO ..] BOUND ..   says whether a report keeps to bounds
   python3 -m dnlab view REPORT [SCENARIO ..]      makes a page to look at runs in a browser, packet by packet
   python3 -m dnlab pcap REPORT [SCENARIO ..]      writes packets as Wireshark and tcptrace read them
+  python3 -m dnlab from-ipfw FILE                 makes a scenario of a configuration of ipfw(8)
 
 Each has --help and --version. In Python: import dnlab; help(dnlab).
 
@@ -71,7 +72,7 @@ def main(words: Optional[Sequence[str]] = None) -> int:
     if lacking is not None:
         print(said_of(words[0], lacking), file=sys.stderr)
         return MACHINE
-    module = importlib.import_module(f"dnlab.commands.{words[0]}")
+    module = importlib.import_module(f"dnlab.commands.{words[0].replace('-', '_')}")
     try:
         status: int = module.main(words[1:])
         sys.stdout.flush()
@@ -133,6 +134,11 @@ def view() -> int:
 def pcap() -> int:
     """The script dnlab-pcap."""
     return main(["pcap", *sys.argv[1:]])
+
+
+def from_ipfw() -> int:
+    """The script dnlab-from-ipfw."""
+    return main(["from-ipfw", *sys.argv[1:]])
 
 
 if __name__ == "__main__":
