@@ -13,10 +13,12 @@ from dnlab import __version__  # noqa: E402  (the path is set first)
 
 # What the machine lacks; `dnlab.errors` has it, which numpy's want must not keep from being said.
 MACHINE = 3
-COMMANDS = ("summary", "plot", "spread", "sweep", "compare", "expect", "view", "pcap", "from-ipfw")
+COMMANDS = ("summary", "plot", "spread", "sweep", "compare", "expect", "view", "pcap", "from-ipfw", "to-ipfw", "to-tc")
 NEEDS = {"summary": ("numpy",), "plot": ("numpy", "matplotlib"), "spread": ("numpy",),
          "sweep": ("numpy", "pandas", "scipy", "jinja2"), "compare": ("numpy",), "expect": ("numpy",),
-         "view": ("numpy", "plotly"), "pcap": ("numpy", "dpkt"), "from-ipfw": ()}
+         "view": ("numpy", "plotly"), "pcap": ("numpy", "dpkt"), "from-ipfw": (),
+         "to-ipfw": (),
+         "to-tc": ()}
 HELP = """Tools for reports of dnlab, in Python.
 
   python3 -m dnlab summary REPORT [SCENARIO ..]   prints a table, or rows for other programs
@@ -28,6 +30,8 @@ HELP = """Tools for reports of dnlab, in Python.
   python3 -m dnlab view REPORT [SCENARIO ..]      makes a page to look at runs in a browser, packet by packet
   python3 -m dnlab pcap REPORT [SCENARIO ..]      writes packets as Wireshark and tcptrace read them
   python3 -m dnlab from-ipfw FILE                 makes a scenario of a configuration of ipfw(8)
+  python3 -m dnlab to-ipfw SCENARIO               writes its pipes and rules as a script for ipfw(8)
+  python3 -m dnlab to-tc SCENARIO --dev ETH1      writes its pipes and rules as a script for tc(8)
 
 Each has --help and --version. In Python: import dnlab; help(dnlab).
 
@@ -139,6 +143,16 @@ def pcap() -> int:
 def from_ipfw() -> int:
     """The script dnlab-from-ipfw."""
     return main(["from-ipfw", *sys.argv[1:]])
+
+
+def to_ipfw() -> int:
+    """The script dnlab-to-ipfw."""
+    return main(["to-ipfw", *sys.argv[1:]])
+
+
+def to_tc() -> int:
+    """The script dnlab-to-tc."""
+    return main(["to-tc", *sys.argv[1:]])
 
 
 if __name__ == "__main__":
