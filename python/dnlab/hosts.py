@@ -1,0 +1,82 @@
+"""Programs on a session's link: hosts that are called when a packet comes to them, timers, and generators."""
+import heapq
+from typing import Callable, Generator, Iterable, Union
+
+from dnlab.session_events import LATEST, Address, Event
+from dnlab.session_links import Link
+
+# A program that yields the moment (ns) until which it waits, and is sent the events since.
+Waiting = Generator[int, list[Event], None]
+
+
+class Loop:
+    """Hosts and timers over a link. A host is called with each packet that is delivered to its address, a timer at its
+    moment; packets of a moment come before timers of the same one."""
+
+    def __init__(self, link: Link) -> None:
+        self.link = link
+        self._hosts: dict[Address, Callable[[Event], None]] = {}
+        self._timers: list[tuple[int, int, Callable[[], None]]] = []
+        self._count = 0
+
+    @property
+    def now(self) -> int:
+        """The least moment (ns) at which something can be done."""
+        return self.link.now
+
+    def host(self, address: Address, receive: Callable[[Event], None]) -> None:
+        """Whoever has this address is called with each delivery to it."""
+        self._hosts[address] = receive
+
+    def at(self, moment: int, call: Callable[[], None]) -> None:
+        """The call is made at a moment (ns), now where that is past."""
+        self._count += 1
+        heapq.heappush(self._timers, (moment, self._count, call))
+
+    def run(self, until: int = LATEST, hold: int = 1) -> None:
+        """Time goes to `until` (ns); hosts and timers are called on the way. It ends earlier where the experiment is over,
+        and where no timer is left and nothing is due on the link. `hold` is that of `Link.until_mine`."""
+        while not self.link.is_over and self.now < until:
+            while self._timers and self._timers[0][0] <= self.now:
+                heapq.heappop(self._timers)[2]()
+            wanted = min(until, self._timers[0][0]) if self._timers else until
+            if wanted == LATEST and self.link.next_due() is None and not self._timers:
+                return
+            self._deliver(self.link.until_mine(max(wanted, self.now), hold))
+
+    def _deliver(self, events: list[Event]) -> None:
+        for event in events:
+            if event.packet is not None and not event.cause and event.packet.target in self._hosts:
+                self._hosts[event.packet.target](event)
+
+
+class _Player:
+    """A program that has begun."""
+
+    def __init__(self, program: Waiting) -> None:
+        self.program = program
+        self.moment = 0
+        self.is_done = False
+
+    def step(self, events: Union[list[Event], None]) -> None:
+        try:
+            self.moment = next(self.program) if events is None else self.program.send(events)
+        except StopIteration:
+            self.is_done = True
+
+
+def play(link: Link, programs: Iterable[Waiting], until: int = LATEST) -> None:
+    """Each program is a generator: it yields the moment (ns) until which it waits, and is sent the events since, of all
+    packets. So it goes on at that moment or after the first event; it ends by returning. Time goes to `until` at most."""
+    players = [_Player(program) for program in programs]
+    for player in players:
+        player.step(None)
+    while link.now < until and not link.is_over:
+        players = [player for player in players if not player.is_done]
+        if not players:
+            return
+        wanted = min(player.moment for player in players)
+        events = link.until_mine(max(link.now, min(until, wanted)))
+        for player in players:
+            if events or player.moment <= link.now:
+                player.step(events)

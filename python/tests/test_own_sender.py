@@ -1,0 +1,94 @@
+"""CUBIC's window (stacks/own_sender) beside numbers that were worked out by hand from the formulas of RFC 9438."""
+import sys
+
+import pytest
+from conftest import ROOT
+
+sys.path.insert(0, str(ROOT / "stacks" / "own_sender"))
+
+from cubic import Cubic, curve, plateau_time  # noqa: E402  (the path is set first)
+
+
+def test_the_curve() -> None:
+    """W_max = 100 and a window of 70: K is the cube root of 30 / 0.4 = 75, which lies between 4.217163^3 = 74.999983
+    and 4.217164^3 = 75.000036."""
+    plateau = plateau_time(100, 70)
+    assert 4.217163 < plateau < 4.217164
+    # 0.4 (t - K)^3 + 100 at 0: 0.4 * -75; at 2: 0.4 * -10.899161 (2.217163^3); at 6: 0.4 * 5.666758 (1.782837^3).
+    assert curve(0, 100, plateau) == pytest.approx(70)
+    assert curve(2, 100, plateau) == pytest.approx(95.640336, abs=1e-6)
+    assert curve(plateau, 100, plateau) == 100
+    assert curve(6, 100, plateau) == pytest.approx(102.266703, abs=1e-6)
+    # A window at or above W_max begins at the plateau.
+    assert plateau_time(70, 70) == plateau_time(60, 70) == 0
+
+
+def test_slow_start_and_a_loss() -> None:
+    window = Cubic()
+    for _ in range(90):
+        window.acknowledged(0.0, 0.1)
+    assert window.cwnd == 100
+    window.lost(100)
+    assert (window.cwnd, window.ssthresh, window.top, window.prior) == (70, 70, 100, 100)
+    # The first acknowledgement at 5 s begins the epoch. The curve at 0 s isn't below W_est = 70 + 0.529412 / 70 but at 70 it
+    # is: the window is W_est (Reno-friendly), 9/17 being 3 (1 - 0.7) / (1 + 0.7).
+    window.acknowledged(5.0, 0.1)
+    assert window.cwnd == pytest.approx(70 + 9 / 17 / 70)
+
+
+def test_concave_growth() -> None:
+    """2 s after the epoch and with 0.1 s of RTT the target is the curve at 2.1 s: 0.4 * (2.1 - 4.217163)^3 + 100 =
+    0.4 * -9.489932 + 100 = 96.204027; the window 80 grows by 16.204027 / 80 = 0.202550."""
+    window = Cubic(80.0, 70.0, top=100.0, plateau=plateau_time(100, 70), epoch=10.0, friendly=70.0, prior=100.0)
+    window.acknowledged(12.0, 0.1)
+    assert window.cwnd == pytest.approx(80.202550, abs=1e-6)
+
+
+def test_the_target_is_at_most_half_more() -> None:
+    """20 s after the epoch the curve is far above: 1.5 * 80 = 120, so the window grows by 40 / 80."""
+    window = Cubic(80.0, 70.0, top=100.0, plateau=plateau_time(100, 70), epoch=10.0, friendly=70.0, prior=100.0)
+    window.acknowledged(30.0, 0.1)
+    assert window.cwnd == 80.5
+
+
+def test_the_target_isn_t_below_the_window() -> None:
+    """At 2 s the curve is at 95.64, below the window 97: it stays."""
+    window = Cubic(97.0, 70.0, top=100.0, plateau=plateau_time(100, 70), epoch=10.0, friendly=70.0, prior=100.0)
+    window.acknowledged(12.0, 0.01)
+    assert window.cwnd == 97
+
+
+def test_fast_convergence() -> None:
+    """A window of 90 that is lost below W_max = 100: W_max is 90 * 1.7 / 2 = 76.5; 60 under way leave 42."""
+    window = Cubic(90.0, 70.0, top=100.0)
+    window.lost(60)
+    assert (window.top, window.ssthresh, window.cwnd) == pytest.approx((76.5, 42, 42))
+    window.lost(1)
+    assert (window.ssthresh, window.cwnd) == (2, 2)
+
+
+def test_a_timeout() -> None:
+    """One segment; slow start to 70% of what was under way; then the curve begins at its plateau, at 28 there."""
+    window = Cubic(50.0, 30.0, top=60.0)
+    window.timed_out(40)
+    assert (window.cwnd, window.ssthresh) == (1, pytest.approx(28))
+    for _ in range(27):
+        window.acknowledged(1.0, 0.1)
+    assert window.cwnd == 28
+    window.acknowledged(1.0, 0.1)
+    assert (window.top, window.plateau) == (28, 0)
+    # 3 s later 0.4 * 3.1^3 + 28 = 39.9164 is wanted, at most half more: 42.
+    before = window.cwnd
+    window.acknowledged(4.0, 0.1)
+    assert window.cwnd == pytest.approx(before + (39.9164 - before) / before)
+
+
+def test_as_reno_once_it_has_come_back() -> None:
+    """Up to the window before the loss W_est grows by 9/17 a window, from there on by 1."""
+    window = Cubic(100.0, 70.0, top=1000.0, plateau=100.0, epoch=0.0, friendly=99.999, prior=100.0)
+    window.acknowledged(100.0, 0.1)
+    slow = window.friendly
+    assert slow == pytest.approx(99.999 + 9 / 17 / 100)
+    was = window.cwnd
+    window.acknowledged(100.0, 0.1)
+    assert window.friendly == pytest.approx(slow + 1 / was)

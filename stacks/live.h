@@ -1,0 +1,364 @@
+/* live.h - a link of dnlab that a C program drives: a session with `dnlab live`, of one experiment.
+
+   Packets go in at moments that the program chooses, and it is told what became of them. What they carry stays in the
+   program: only sizes go over. Simulated time stands still but for live_until, live_until_mine and live_end.
+
+       live *l = live_open("dnlab");
+       if (l == NULL || live_experiment(l, "mine", 1, 1000, 1000000)
+           || live_command(l, "pipe 1 config bw 10Mbit/s delay 20 queue 100 codel")
+           || live_command(l, "add 100 pipe 1 ip from any to any")
+           || live_send(l, "udp 10.0.0.1 1000 10.0.1.1 2000", 1500, payload)
+           || live_until_mine(l, 1000000000, 1)) { fprintf(stderr, "%s\n", live_error(l)); exit(1); }
+       for (size_t i = 0; i < l->count; i++) ...  l->events[i].moment, .payload, .cause ...
+       live_clear(l);
+
+   Each call that answers an int answers 0, or -1 where something is wrong: live_error then says what, with the line. A line that
+   was not taken, or a refused command, ends nothing; where the program has ended (l->is_lost) all later calls answer -1.
+   Moments are nanoseconds, sizes bytes (40 to 1500, headers included). There is no global state: a process can have many
+   sessions, each used by one thread at a time. It needs C99 and POSIX (define _POSIX_C_SOURCE 200809L with -std=c99).
+
+   Licence: MIT or Apache-2.0, as dnlab. */
+#ifndef DNLAB_LIVE_H
+#define DNLAB_LIVE_H
+#include <errno.h>
+#include <fcntl.h>
+#include <inttypes.h>
+#include <poll.h>
+#include <stdint.h>
+#include <stdio.h>
+#include <stdlib.h>
+#include <string.h>
+#include <sys/socket.h>
+#include <sys/types.h>
+#include <sys/wait.h>
+#include <unistd.h>
+
+#define LIVE_LATEST UINT64_C(1000000000000000) /* the latest moment */
+#define LIVE_LINE 512                          /* what a line has at most */
+#define LIVE_GATHERED 32768                    /* bytes that are gathered before they are sent unasked */
+
+/* What became of a packet: delivered (cause is "") or dropped at a moment, for a cause of docs/use/REPORT.md. */
+typedef struct live_event {
+  uint64_t moment;
+  void *payload;
+  char cause[12];
+} live_event;
+
+typedef struct live {
+  /* To be read. */
+  uint64_t now;         /* the least moment at which something can be done */
+  int is_over;          /* the experiment has ended: by its end, or since its steps are spent */
+  int is_lost;          /* the program has ended */
+  live_event *events;   /* since live_clear */
+  size_t count;
+  char counters[256];   /* the report's line of counters, once the experiment has ended */
+  unsigned long sends, round_trips;
+  /* To be set before live_experiment, where they are wanted. */
+  FILE *transcript;     /* gets the scenario that `dnlab alone` runs to the same report */
+  FILE *report;         /* gets the report; without it only what concerns the packets that are sent is told */
+  /* The header's own. */
+  pid_t pid;
+  int socket;
+  char error[LIVE_LINE + 200];
+  size_t event_room;
+  char *posted;         /* lines that aren't answered yet; those up to `sent` have gone out */
+  size_t posted_bytes, posted_room, sent, answered_bytes;
+  unsigned long unanswered;
+  void **unnamed;       /* payloads of packets whose numbers aren't told yet, from `named` on */
+  size_t named, unnamed_count, unnamed_room;
+  void **flying;        /* payloads by number */
+  char *is_flying;
+  size_t flying_room, is_flying_room;
+  uint64_t dropped_at, dropped_number; /* a packet that was dropped as it came: this is told before its number */
+  char dropped_cause[12];
+  uint64_t next;
+  int has_next, is_wrong;
+  char *said;           /* what was read of lines that aren't whole */
+  size_t said_bytes, said_room;
+} live;
+
+/* Says what is wrong; always -1. */
+static inline int live_fail(live *l, const char *what, const char *more) {
+  snprintf(l->error, sizeof l->error, "%.200s%s%.500s", what, more[0] ? ": " : "", more);
+  return -1;
+}
+
+/* What was wrong the last time; "" where nothing was. Of a session that isn't there the system's words. */
+static inline const char *live_error(const live *l) { return l ? l->error : strerror(errno); }
+
+/* Room for `want` things of a size at a place: -1 where there is no memory. What is new is zero. */
+static inline int live_room(live *l, void *place, size_t *room, size_t want, size_t size) {
+  void *found;
+  size_t more = *room ? *room : 256;
+  if (want <= *room) return 0;
+  while (more < want) more *= 2;
+  memcpy(&found, place, sizeof found);
+  found = realloc(found, more * size);
+  if (found == NULL) return live_fail(l, "no memory", "");
+  memset((char *)found + *room * size, 0, (more - *room) * size);
+  memcpy(place, &found, sizeof found);
+  *room = more;
+  return 0;
+}
+
+/* Begins a session with a program `dnlab`, by its path or its name on the PATH; NULL with errno where that can't be. */
+static inline live *live_open(const char *program) {
+  int ends[2];
+  live *l = (live *)calloc(1, sizeof *l);
+  if (l == NULL) return NULL;
+  /* A socket, since writing to a pipe that nobody reads would send SIGPIPE to the caller. */
+  if (socketpair(AF_UNIX, SOCK_STREAM, 0, ends)) { free(l); return NULL; }
+  fcntl(ends[0], F_SETFD, FD_CLOEXEC);
+  l->pid = fork();
+  if (l->pid < 0) { close(ends[0]); close(ends[1]); free(l); return NULL; }
+  if (l->pid == 0) {
+    /* A group of its own: Ctrl-C comes to the caller, and the program ends with its input. */
+    setpgid(0, 0);
+    if (dup2(ends[1], 0) >= 0 && dup2(ends[1], 1) >= 0) {
+      if (ends[1] > 1) close(ends[1]);
+      execlp(program, program, "live", (char *)NULL);
+    }
+    _exit(127);
+  }
+  close(ends[1]);
+  l->socket = ends[0];
+  l->dropped_number = UINT64_MAX;
+  return l;
+}
+
+static inline int live_event_add(live *l, uint64_t moment, void *payload, const char *cause) {
+  live_event *e;
+  if (live_room(l, &l->events, &l->event_room, l->count + 1, sizeof *l->events)) return -1;
+  e = &l->events[l->count++];
+  e->moment = moment;
+  e->payload = payload;
+  snprintf(e->cause, sizeof e->cause, "%.11s", cause);
+  return 0;
+}
+
+/* What is told of a packet: MOMENT deliver P plain, MOMENT drop P plain CAUSE. */
+static inline int live_fate(live *l, const char *line) {
+  char *rest;
+  int is_drop;
+  uint64_t number, moment = strtoull(line, &rest, 10);
+  if (rest == line) return 0;
+  if (strncmp(rest, " deliver ", 9) == 0) { is_drop = 0; rest += 9; }
+  else if (strncmp(rest, " drop ", 6) == 0) { is_drop = 1; rest += 6; }
+  else return 0;
+  number = strtoull(rest, &rest, 10);
+  if (strncmp(rest, " plain", 6)) return 0;
+  rest += is_drop ? 7 : 6;
+  if (number < l->is_flying_room && l->is_flying[number]) {
+    l->is_flying[number] = 0;
+    return live_event_add(l, moment, l->flying[number], rest);
+  }
+  l->dropped_number = number;
+  l->dropped_at = moment;
+  snprintf(l->dropped_cause, sizeof l->dropped_cause, "%.11s", rest);
+  return 0;
+}
+
+/* A line of the report, without its line feed. */
+static inline int live_told(live *l, const char *line) {
+  if (l->report && fprintf(l->report, "%s\n", line) < 0) return live_fail(l, "the report can't be written", strerror(errno));
+  if (strncmp(line, "counters ", 9) == 0) snprintf(l->counters, sizeof l->counters, "%.255s", line);
+  return live_fate(l, line);
+}
+
+/* What the packet carries that was sent first of those without a number. */
+static inline void *live_payload(live *l) {
+  void *payload = l->unnamed[l->named++];
+  if (l->named == l->unnamed_count) l->named = l->unnamed_count = 0;
+  return payload;
+}
+
+/* That packet has a number. */
+static inline int live_name(live *l, uint64_t number) {
+  void *payload = live_payload(l);
+  if (l->dropped_number == number) return live_event_add(l, l->dropped_at, payload, l->dropped_cause);
+  if (live_room(l, &l->flying, &l->flying_room, number + 1, sizeof *l->flying)
+      || live_room(l, &l->is_flying, &l->is_flying_room, number + 1, 1)) return -1;
+  l->flying[number] = payload;
+  l->is_flying[number] = 1;
+  return 0;
+}
+
+/* What is said to the line that was posted first of those without an answer. */
+static inline int live_answered(live *l, const char *answer) {
+  char *line = l->posted + l->answered_bytes, *end = strchr(line, '\n');
+  size_t bytes = end ? (size_t)(end - line) : 0;
+  int status = 0;
+  if (end == NULL) return live_fail(l, "an answer to nothing", answer);
+  *end = 0;
+  if (strncmp(answer, "fault ", 6) == 0 || strncmp(answer, "refused ", 8) == 0) {
+    if (!l->is_wrong) live_fail(l, answer, line);
+    l->is_wrong = 1;
+  }
+  if (strncmp(answer, "now ", 4) == 0) l->now = strtoull(answer + 4, NULL, 10);
+  else if (strncmp(answer, "packet ", 7) == 0) status = live_name(l, strtoull(answer + 7, NULL, 10));
+  else if (strstr(line, " inject ")) live_payload(l); /* it isn't on the link: a fault, or all is over */
+  if (strncmp(answer, "over ", 5) == 0) { l->is_over = 1; l->now = strtoull(answer + 5, NULL, 10); }
+  else if (strncmp(answer, "next ", 5) == 0) { l->has_next = answer[5] != 'n'; l->next = strtoull(answer + 5, NULL, 10); }
+  if (l->transcript && line[0] != '#' && strncmp(answer, "fault ", 6) && fprintf(l->transcript, "%s\n", line) < 0)
+    status = live_fail(l, "the transcript can't be written", strerror(errno));
+  l->dropped_number = UINT64_MAX;
+  l->answered_bytes += bytes + 1;
+  l->unanswered--;
+  return status;
+}
+
+/* The program has ended. */
+static inline int live_lost(live *l) {
+  char how[60] = "";
+  int status = 0;
+  if (!l->is_lost && waitpid(l->pid, &status, 0) == l->pid) {
+    if (WIFSIGNALED(status)) snprintf(how, sizeof how, "by signal %d", WTERMSIG(status));
+    else if (WEXITSTATUS(status) == 127) snprintf(how, sizeof how, "there is no such program");
+    else snprintf(how, sizeof how, "with status %d", WEXITSTATUS(status));
+    l->is_lost = 1;
+    return live_fail(l, "the program has ended", how);
+  }
+  l->is_lost = 1;
+  return -1;
+}
+
+/* Sends what there is room for, and reads what there is; waits for one of both. */
+static inline int live_turn(live *l) {
+  struct pollfd wanted = {0, 0, 0};
+  ssize_t bytes;
+  wanted.fd = l->socket;
+  wanted.events = (short)(POLLIN | (l->sent < l->posted_bytes ? POLLOUT : 0));
+  if (l->sent < l->posted_bytes) {
+    bytes = send(l->socket, l->posted + l->sent, l->posted_bytes - l->sent, MSG_NOSIGNAL | MSG_DONTWAIT);
+    if (bytes > 0) l->sent += (size_t)bytes;
+    else if (bytes < 0 && errno == EPIPE) l->sent = l->posted_bytes; /* what it said before is read yet */
+    else if (bytes < 0 && errno != EAGAIN && errno != EWOULDBLOCK && errno != EINTR) return live_fail(l, "write", strerror(errno));
+    if (l->sent < l->posted_bytes) {
+      if (poll(&wanted, 1, -1) < 0 && errno != EINTR) return live_fail(l, "poll", strerror(errno));
+      if (!(wanted.revents & (POLLIN | POLLHUP))) return 0;
+    }
+  }
+  if (live_room(l, &l->said, &l->said_room, l->said_bytes + 65536, 1)) return -1;
+  do bytes = recv(l->socket, l->said + l->said_bytes, l->said_room - l->said_bytes, 0);
+  while (bytes < 0 && errno == EINTR);
+  if (bytes <= 0) return live_lost(l);
+  l->said_bytes += (size_t)bytes;
+  return 0;
+}
+
+/* Takes the whole lines that were read. */
+static inline int live_take(live *l) {
+  char *line = l->said, *end = l->said + l->said_bytes, *feed;
+  int status = 0;
+  while (status == 0 && (feed = (char *)memchr(line, '\n', (size_t)(end - line))) != NULL) {
+    *feed = 0;
+    if (strncmp(line, "#< ", 3) == 0) status = live_answered(l, line + 3);
+    else if (line[0] != '#') status = live_told(l, line);
+    line = feed + 1;
+  }
+  l->said_bytes = (size_t)(end - line);
+  if (l->said_bytes) memmove(l->said, line, l->said_bytes);
+  return status;
+}
+
+/* Sends what was posted, and reads until each line has its answer. Neither side waits for the other for ever. */
+static inline int live_exchange(live *l) {
+  if (l->is_lost) return -1;
+  l->error[0] = 0;
+  l->is_wrong = 0;
+  if (l->unanswered) l->round_trips++;
+  while (l->unanswered)
+    if (live_turn(l) || live_take(l)) { live_lost(l); return -1; }
+  l->posted_bytes = l->sent = l->answered_bytes = 0;
+  return l->is_wrong ? -1 : 0;
+}
+
+/* Posts a line of three parts; it goes out with the next exchange. */
+static inline int live_post(live *l, const char *begin, const char *middle, const char *rest) {
+  size_t bytes = strlen(begin) + strlen(middle) + strlen(rest);
+  if (l->is_lost) return -1;
+  if (bytes > LIVE_LINE || strchr(middle, '\n') || strchr(rest, '\n')) return live_fail(l, "no line of at most 512 bytes", middle);
+  if (live_room(l, &l->posted, &l->posted_room, l->posted_bytes + bytes + 2, 1)) return -1;
+  l->posted_bytes += (size_t)sprintf(l->posted + l->posted_bytes, "%s%s%s\n", begin, middle, rest);
+  l->unanswered++;
+  return l->posted_bytes > LIVE_GATHERED ? live_exchange(l) : 0;
+}
+
+/* Begins the experiment: its seed, how many packets there can be at once (1 to 65535), and after how many steps it is over (1
+   to 10^7). Once in a session. */
+static inline int live_experiment(live *l, const char *name, uint64_t seed, unsigned budget, unsigned long steps) {
+  char rest[120];
+  snprintf(rest, sizeof rest, " seed %" PRIu64 " budget %u steps %lu", seed, budget, steps);
+  if (live_post(l, "experiment ", name, rest)) return -1;
+  if (!l->report && live_post(l, "#> show mine", "", "")) return -1;
+  return live_exchange(l);
+}
+
+/* A command now, in the words of a scenario without its moment. */
+static inline int live_command(live *l, const char *words) {
+  char begin[40];
+  snprintf(begin, sizeof begin, "@%" PRIu64 " ", l->now);
+  return live_post(l, begin, words, "") ? -1 : live_exchange(l);
+}
+
+/* A packet comes to the link now: its header "udp 10.0.0.1 1000 10.0.1.1 2000", its size, and what the events give back. It goes
+   out with the next call that asks something; what is wrong with it is said there. */
+static inline int live_send(live *l, const char *header, unsigned size, void *payload) {
+  char begin[50], rest[20];
+  if (l->is_over) return live_fail(l, "the experiment is over", header);
+  if (strlen(header) > 100 || strchr(header, '\n')) return live_fail(l, "no header", header);
+  if (live_room(l, &l->unnamed, &l->unnamed_room, l->unnamed_count + 1, sizeof *l->unnamed)) return -1;
+  l->unnamed[l->unnamed_count++] = payload;
+  l->sends++;
+  snprintf(begin, sizeof begin, "@%" PRIu64 " inject ", l->now);
+  snprintf(rest, sizeof rest, " %u", size);
+  return live_post(l, begin, header, rest);
+}
+
+/* Time goes to a moment. */
+static inline int live_until(live *l, uint64_t moment) {
+  char begin[50];
+  snprintf(begin, sizeof begin, "#> until @%" PRIu64, moment);
+  return live_post(l, begin, "", "") ? -1 : live_exchange(l);
+}
+
+/* The same, but no further than `hold` ns (1 at least) behind the first delivery or drop of a packet that was sent. */
+static inline int live_until_mine(live *l, uint64_t moment, uint64_t hold) {
+  char begin[50], rest[40];
+  snprintf(begin, sizeof begin, "#> until @%" PRIu64, moment);
+  snprintf(rest, sizeof rest, " first %" PRIu64, hold);
+  return live_post(l, begin, "", rest) ? -1 : live_exchange(l);
+}
+
+/* When the next event of the link is due; *moment is UINT64_MAX where nothing is. */
+static inline int live_next(live *l, uint64_t *moment) {
+  if (live_post(l, "#> next", "", "") || live_exchange(l)) return -1;
+  *moment = l->has_next ? l->next : UINT64_MAX;
+  return 0;
+}
+
+/* The experiment ends now. */
+static inline int live_end(live *l) { return live_command(l, "end"); }
+
+/* Forgets the events that were told. */
+static inline void live_clear(live *l) { l->count = 0; }
+
+/* Ends the program, and frees the session: the program's status, -1 where it gave none. */
+static inline int live_close(live *l) {
+  char rest[4096];
+  int status = -1, ended = 0;
+  if (l == NULL) return -1;
+  shutdown(l->socket, SHUT_WR);
+  while (recv(l->socket, rest, sizeof rest, 0) > 0) {}
+  close(l->socket);
+  if (!l->is_lost && waitpid(l->pid, &ended, 0) == l->pid && WIFEXITED(ended)) status = WEXITSTATUS(ended);
+  free(l->events);
+  free(l->posted);
+  free(l->unnamed);
+  free(l->flying);
+  free(l->is_flying);
+  free(l->said);
+  free(l);
+  return status;
+}
+#endif
