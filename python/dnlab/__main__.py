@@ -3,6 +3,7 @@ import importlib
 import os
 import sys
 from pathlib import Path
+from types import ModuleType
 from typing import Optional, Sequence
 
 if not __package__:
@@ -57,13 +58,18 @@ def said_of(command: str, module: str) -> str:
             f"apt-get install python3-{module})")
 
 
+def module_of(command: str) -> ModuleType:
+    """The module of a command: that of from-ipfw is `dnlab.commands.from_ipfw`."""
+    return importlib.import_module(f"dnlab.commands.{command.replace('-', '_')}")
+
+
 def help_alone(words: Sequence[str]) -> None:
     """Prints a command's help and ends, if its first word asks for that; what the help doesn't need may be missing."""
     if list(words[1:2]) in (["--help"], ["-h"]):
         from dnlab import absent
 
         absent.stand_in(sorted({name for needs in NEEDS.values() for name in needs}))
-        importlib.import_module(f"dnlab.commands.{words[0]}").main(["--help"])
+        module_of(words[0]).main(["--help"])
 
 
 def main(words: Optional[Sequence[str]] = None) -> int:
@@ -86,7 +92,7 @@ def main(words: Optional[Sequence[str]] = None) -> int:
         help_alone(words)
         print(said_of(words[0], lacking), file=sys.stderr)
         return MACHINE
-    module = importlib.import_module(f"dnlab.commands.{words[0].replace('-', '_')}")
+    module = module_of(words[0])
     try:
         status: int = module.main(words[1:])
         sys.stdout.flush()

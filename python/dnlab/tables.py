@@ -40,7 +40,11 @@ def columns_of(percentiles: Sequence[Percentile] = PERCENTILES) -> tuple[str, ..
 
 def spread(times: Optional[Ints], percentiles: Sequence[Percentile], with_mean: bool = False) -> Row:
     """Least, percentiles by nearest rank, and greatest, where it is asked for the mean too; None where there is no time
-    or one isn't known."""
+    or one isn't known. Of three times the 50th percentile is the second, the 99th the third:
+
+    >>> spread(np.array([30, 10, 26], dtype=np.int64), (50, 99), with_mean=True)
+    {'least': 10, 'median': 26, 'p99': 30, 'greatest': 30, 'mean': 22.0}
+    """
     names = times_of(percentiles)
     if times is None or not len(times) or int(times.min()) < 0:
         return dict.fromkeys((*names, "mean") if with_mean else names)
@@ -73,7 +77,11 @@ def jitter(times: Ints) -> Optional[float]:
 
 
 def span(firsts: Ints, lasts: Ints, size: Optional[int]) -> Row:
-    """First and last moment, the time between, and bits per second over it, rounded down."""
+    """First and last moment, the time between, and bits per second over it, rounded down. 16000 bits in 12 ms:
+
+    >>> span(np.array([0, 5_000_000]), np.array([12_000_000, 11_000_000]), 2000)
+    {'first': 0, 'last': 12000000, 'time': 12000000, 'rate': 1333333}
+    """
     known = len(firsts) > 0 and len(lasts) > 0 and int(firsts.min()) >= 0
     first = int(firsts.min()) if known else None
     last = int(lasts.max()) if len(lasts) else None
@@ -83,7 +91,11 @@ def span(firsts: Ints, lasts: Ints, size: Optional[int]) -> Row:
 
 
 def sum_of(sizes: Ints) -> Optional[int]:
-    """The sum of sizes, None where one isn't known."""
+    """The sum of sizes, None where one isn't known (-1).
+
+    >>> sum_of(np.array([40, 1500])), sum_of(np.array([40, -1]))
+    (1540, None)
+    """
     return None if len(sizes) and int(sizes.min()) < 0 else int(sizes.sum())
 
 
