@@ -52,6 +52,15 @@ def said_of(command: str, module: str) -> str:
             f"apt-get install python3-{module})")
 
 
+def help_alone(words: Sequence[str]) -> None:
+    """Prints a command's help and ends, if its first word asks for that; what the help doesn't need may be missing."""
+    if list(words[1:2]) in (["--help"], ["-h"]):
+        from dnlab import absent
+
+        absent.stand_in(sorted({name for needs in NEEDS.values() for name in needs}))
+        importlib.import_module(f"dnlab.commands.{words[0]}").main(["--help"])
+
+
 def main(words: Optional[Sequence[str]] = None) -> int:
     """Runs a command by its words, the command first; gives the status."""
     words = sys.argv[1:] if words is None else words
@@ -69,6 +78,7 @@ def main(words: Optional[Sequence[str]] = None) -> int:
     ending.watch(words[0])
     lacking = missing(NEEDS[words[0]])
     if lacking is not None:
+        help_alone(words)
         print(said_of(words[0], lacking), file=sys.stderr)
         return MACHINE
     module = importlib.import_module(f"dnlab.commands.{words[0]}")

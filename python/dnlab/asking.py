@@ -1,6 +1,5 @@
 """What a sweep asks of an experiment: of whom (`of`), and which figures (`stat`)."""
 import re
-from fnmatch import fnmatchcase
 from fractions import Fraction
 from typing import Any, Iterable, Iterator, NamedTuple, Optional, Sequence
 
@@ -10,6 +9,7 @@ from dnlab.digits import Ints
 from dnlab.errors import Faulty
 from dnlab.figures import percentile_name
 from dnlab.lines import CAUSES, pipe_name
+from dnlab.metrics import is_named
 from dnlab.scenario import Plan
 from dnlab.tables import WHOLE, Row, Tables
 from dnlab.view import Note, View
@@ -109,7 +109,7 @@ def check(asks: Sequence[Ask], names: Sequence[str]) -> None:
     for ask in asks:
         # Which instances of a pipe there will be is told by the packets that come.
         pipe = re.match(r"(pipe [0-9]+)\.", ask.of)
-        if not any(fnmatchcase(name, ask.of) for name in names) and not (pipe and f"{pipe[1]}.0" in names):
+        if not any(is_named(name, ask.of) for name in names) and not (pipe and f"{pipe[1]}.0" in names):
             raise Faulty(f"--of {ask.of!r}: the template has {', '.join(names)}")
 
 
@@ -120,7 +120,7 @@ def answer(view: View, asks: Sequence[Ask]) -> Found:
     tables = Tables(view, percentiles, with_mean="delay.mean" in stats)
     rows = list(_rows(tables, [ask.of for ask in asks]))
     values: Values = {
-        ask.of: {stat: {row["of"]: figure(row, stat) for row in rows if fnmatchcase(row["of"], ask.of)}
+        ask.of: {stat: {row["of"]: figure(row, stat) for row in rows if is_named(row["of"], ask.of)}
                  for stat in ask.stats} for ask in asks}
     return Found(values, [note for note in view.notes if note.mark])
 
@@ -137,7 +137,7 @@ def figure(row: Row, stat: str) -> Any:
 def _rows(tables: Tables, patterns: Sequence[str]) -> Iterator[Row]:
     """Those rows of an experiment that are asked for, and those of groups."""
     def is_asked(name: str) -> bool:
-        return any(fnmatchcase(name, pattern) for pattern in patterns)
+        return any(is_named(name, pattern) for pattern in patterns)
 
     view = tables.view
     for name, packets in view.senders:

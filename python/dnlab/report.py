@@ -10,8 +10,6 @@ import os
 import re
 import shutil
 import tempfile
-import zlib
-from contextlib import contextmanager
 from dataclasses import dataclass, field, replace
 from pathlib import Path
 from typing import IO, Any, BinaryIO, Iterable, Iterator, Optional, Union
@@ -21,10 +19,10 @@ import numpy as np
 from dnlab.digits import Ints
 from dnlab.errors import Refused
 from dnlab.lines import (ACK, CAUSES, DELIVER, DROP, MAKE, OK, REFUSED, RULE, SPENT, Columns, Reader, refused_at)
+from dnlab.packed import GZIP, reading_gzip
 
 _HEADING = re.compile(rb"experiment ([a-z0-9_-]{1,32})")
 _MARK = b"experiment "
-_GZIP = b"\x1f\x8b"
 # How much is looked through at once for headings, and how much is read in columns at once.
 _LOOK = 1 << 22
 _BLOCK = 1 << 18
@@ -124,7 +122,7 @@ def pieces(source: Union[str, Path, BinaryIO], wanted: Iterable[str] = ()) -> It
     """
     if isinstance(source, (str, Path)):
         with open(source, "rb") as file:
-            if file.read(len(_GZIP)) != _GZIP:
+            if file.read(len(GZIP)) != GZIP:
                 file.seek(0)
                 yield from _found(file, os.fspath(source), set(wanted))
                 return
@@ -134,10 +132,10 @@ def pieces(source: Union[str, Path, BinaryIO], wanted: Iterable[str] = ()) -> It
             yield replace(piece, keep=unpacked)
     else:
         stream: Any = source if hasattr(source, "peek") else io.BufferedReader(source)  # type: ignore[arg-type]
-        if stream.peek(len(_GZIP))[:len(_GZIP)] != _GZIP:
+        if stream.peek(len(GZIP))[:len(GZIP)] != GZIP:
             yield from _found(stream, None, set(wanted))
             return
-        with gzip.open(stream) as plain, _packed():
+        with gzip.open(stream) as plain, reading_gzip():
             yield from _found(plain, None, set(wanted))  # type: ignore[arg-type]
 
 
@@ -148,22 +146,13 @@ class _Unpacked:
         has_places = os.path.isdir(f"/proc/{os.getpid()}/fd")
         self.file: IO[bytes] = tempfile.TemporaryFile() if has_places else tempfile.NamedTemporaryFile()
         self.path = f"/proc/{os.getpid()}/fd/{self.file.fileno()}" if has_places else str(self.file.name)
-        with gzip.open(packed) as plain, _packed():
+        with gzip.open(packed) as plain, reading_gzip():
             shutil.copyfileobj(plain, self.file, _LOOK)
         self.file.flush()
 
     def __reduce__(self) -> tuple[Any, tuple[()]]:
         """Another process needs the place alone; what keeps it stays here."""
         return type(None), ()
-
-
-@contextmanager
-def _packed() -> Iterator[None]:
-    """Refuses what is no gzip, or is cut."""
-    try:
-        yield
-    except (EOFError, zlib.error, gzip.BadGzipFile) as fault:
-        raise Refused(1, f"its gzip is cut or damaged ({fault})") from None
 
 
 def _found(file: BinaryIO, path: Optional[str], wanted: set[str]) -> Iterator[Piece]:

@@ -7,6 +7,7 @@ from dnlab import children
 from dnlab.errors import Failed, Refused
 from dnlab.origin import Origin, origin_of, write_beside
 from dnlab.outputs import whole_file
+from dnlab.packed import unpacked
 from dnlab.programs import program
 from dnlab.report import pieces
 from dnlab.results import Report
@@ -14,12 +15,13 @@ from dnlab.rooms import Room
 from dnlab.scenario import MOST_BYTES, MOST_EXPERIMENTS, read
 from dnlab.splitting import experiments_in, texts_of
 
+
 def run(text: Union[str, bytes, Path], workers: int = 1, moves: Optional[int] = None,
         out: Union[str, Path, None] = None, dnlab: Optional[str] = None) -> Report:
     """Runs a scenario and gives its report, joined with it.
 
-    text     the scenario, or the path of its file; it may have more experiments and bytes than the program takes at
-             once, and is then run in several texts, one after the other
+    text     the scenario, or the path of its file, which may be packed by gzip; it may have more experiments and bytes
+             than the program takes at once, and is then run in several texts, one after the other
     workers  how many threads run its experiments, 1 to 16
     moves    after how many turns a thread offers an experiment to the others
     out      the report's file; what made it is kept beside it, as OUT.json. Else it is a temporary one, which lives as
@@ -29,7 +31,7 @@ def run(text: Union[str, bytes, Path], workers: int = 1, moves: Optional[int] = 
     A scenario that the program refuses raises `Failed`, whose `said` has `line L: CAUSE` (L counts in `text`), and what
     `--explain` says. So does a program that ends with status 0 and whose report lacks an experiment.
     """
-    data = text.read_bytes() if isinstance(text, Path) else text.encode() if isinstance(text, str) else text
+    data = unpacked(text.read_bytes()) if isinstance(text, Path) else text.encode() if isinstance(text, str) else text
     called = program(dnlab)
     words = ["run", "--workers", str(workers)] if workers > 1 else ["alone"]
     if workers > 1 and moves is not None:

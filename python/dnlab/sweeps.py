@@ -1,7 +1,6 @@
 """Sweeps: a template, a grid of settings and seeds; each experiment is made, run and read, and groups get intervals."""
 import re
 import shlex
-from fnmatch import fnmatchcase
 from pathlib import Path
 from typing import Any, Iterable, Iterator, Mapping, NamedTuple, Optional, Sequence, Union
 
@@ -17,6 +16,7 @@ from dnlab.grids import Case, cases_of
 from dnlab.kept import Kept, checksum, program_checksum
 from dnlab.making import Maker
 from dnlab.measuring import measured
+from dnlab.metrics import is_named
 from dnlab.notes import Note
 from dnlab.programs import program as program_of
 from dnlab.scenario import MOST_BYTES, MOST_EXPERIMENTS, BadWord, Plan, Words, experiment, read
@@ -281,7 +281,7 @@ class Sweep:
 
     def _stats_of(self, of: str) -> list[str]:
         """The stats that were asked of somebody, in the order in which they were."""
-        return list(dict.fromkeys(stat for ask in self.asks if fnmatchcase(of, ask.of) for stat in ask.stats))
+        return list(dict.fromkeys(stat for ask in self.asks if is_named(of, ask.of) for stat in ask.stats))
 
     def plot(self, level: float = 95, interval: Kind = "t") -> Any:
         """A matplotlib figure: a panel for each of and stat, over the first setting that has several values."""

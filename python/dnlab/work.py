@@ -8,6 +8,7 @@ from typing import BinaryIO, Callable, Iterable, Iterator, NamedTuple, Optional,
 from dnlab.crew import Crew
 from dnlab.errors import Faulty, Refused
 from dnlab.report import Piece, pieces
+from dnlab.packed import unpacked
 from dnlab.scenario import Plan, read
 from dnlab.view import View, view_of
 
@@ -32,11 +33,14 @@ def cores() -> int:
 
 
 def bytes_of(name: str) -> bytes:
-    """The bytes of a file, or of standard input."""
+    """The bytes of a file, or of standard input (`-`), unpacked where they are packed by gzip; `Faulty` where they can't be
+    read."""
     try:
-        return sys.stdin.buffer.read() if name == "-" else Path(name).read_bytes()
+        return unpacked(sys.stdin.buffer.read() if name == "-" else Path(name).read_bytes())
     except OSError as fault:
         raise Faulty(f"{name}: {fault.strerror}") from None
+    except Refused as refused:
+        raise Faulty(f"{name}: {refused}") from None
 
 
 def plans_of(names: Sequence[str]) -> Optional[dict[str, Plan]]:

@@ -1,7 +1,7 @@
 """How long runs end: at random moments a signal comes to the tool, to its group, or kills it, a worker or a program.
 
-Each time all has ended within two seconds, nothing is left (of a tool that was killed: after the next call), one line says
-why and how much is kept, and the next call goes on to the same bytes. DNLAB_MOMENTS says how many moments are tried (24);
+Each time all has ended within two seconds (longer on a machine that is busy besides), nothing is left (of a tool that was
+killed: after the next call), one line says why and how much is kept, and the next call goes on to the same bytes. DNLAB_MOMENTS says how many moments are tried (24);
 200 take some ten minutes: DNLAB_MOMENTS=200 tools/gate/check_python -k endings
 """
 import os
@@ -133,6 +133,11 @@ def finished(going: "subprocess.Popen[str]", seconds: float = 60) -> str:
         raise AssertionError(f"it hangs: {found}\n{going.communicate()[1]}") from None
 
 
+def patience() -> float:
+    """Two seconds, and longer where more processes want a core than there are cores: each has its share alone."""
+    return 2 * max(1.0, os.getloadavg()[0] / (os.cpu_count() or 1))
+
+
 def one_moment(place: Place, way: tuple[signal.Signals, str], moment: float) -> Optional[str]:
     """Begins a sweep, and has it ended so long after; what it said where it was ended, None where it was done before."""
     number, whom = way
@@ -148,7 +153,7 @@ def one_moment(place: Place, way: tuple[signal.Signals, str], moment: float) -> 
         took = time.monotonic() - sent
         while list(session(going.pid)) and time.monotonic() - sent < 10:
             time.sleep(0.01)
-        assert time.monotonic() - sent < 2, f"{way} at {moment:.3f} s: {took:.1f} s, {list(session(going.pid))}"
+        assert time.monotonic() - sent < patience(), f"{way} at {moment:.3f} s: {took:.1f} s, {list(session(going.pid))}"
     finally:
         for one, _ in session(going.pid):
             os.kill(one, signal.SIGKILL)

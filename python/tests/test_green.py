@@ -10,6 +10,7 @@ from typing import Callable
 import pytest
 from conftest import ROOT, tool
 
+from dnlab.__main__ import COMMANDS
 from dnlab.figures import percentile_name
 from dnlab.metrics import metric_of
 from dnlab.tables import jitter
@@ -370,9 +371,14 @@ def test_nothing_to_read(files: Callable[..., list[Path]], tmp_path: Path) -> No
             assert len(dnlab.run(text)) == 0
 
 
+def newest() -> str:
+    """The version that stands first in the changelog."""
+    return next(line[3:] for line in (ROOT / "CHANGELOG.md").read_text().splitlines() if line.startswith("## "))
+
+
 def test_words_of_all_tools() -> None:
-    for name in ("summary", "plot", "compare", "expect", "view", "pcap"):
+    for name in COMMANDS:
         status, out, _ = tool(name, "--version")
-        assert status == 0 and out == f"dnlab-{name} 0.1.0\n"
+        assert status == 0 and out == f"dnlab-{name} {newest()}\n"
     assert tool("expect")[2].endswith("error: the following arguments are required: REPORT\n")
     assert tool("expect", "a", "all: drops < 1", "--all", "--first")[0] == 2

@@ -39,6 +39,19 @@ def asked(place: Path, module: str, name: str, *words: str, **names: str) -> "su
     return subprocess.run([sys.executable, "-B", "-c", code, *words], capture_output=True, text=True, env=environment, check=False)
 
 
+@pytest.mark.parametrize("name", COMMANDS)
+def test_help_needs_no_package(name: str) -> None:
+    """By -S Python has none of Debian's packages; all else of a tool says there what is lacking."""
+    bare = [sys.executable, "-S", ROOT / "tools" / name]
+    help_there, help_bare, version, other = (
+        subprocess.run(words, capture_output=True, text=True, check=False)
+        for words in ([sys.executable, *bare[2:], "--help"], [*bare, "--help"], [*bare, "--version"], [*bare, "-"]))
+    assert help_there.returncode == 0 and help_there.stdout.startswith(f"usage: {name} ")
+    assert (help_bare.returncode, help_bare.stdout, help_bare.stderr) == (0, help_there.stdout, "")
+    assert (version.returncode, version.stdout) == (0, f"dnlab-{name} {dnlab.__version__}\n")
+    assert other.returncode == 3 and other.stderr.startswith(f"{name}: numpy is missing in ") and not other.stdout
+
+
 def test_a_named_program_comes_first(tmp_path: Path, monkeypatch: pytest.MonkeyPatch) -> None:
     named, other = script(tmp_path / "a", "exit 0"), script(tmp_path / "b", "exit 0")
     monkeypatch.setenv("DNLAB", str(other))

@@ -244,7 +244,7 @@ def test_a_part_fails(name: str, broken: str, why: bytes, tmp_path: Path, fake: 
     assert spread("--parts", 3, "--out", report, "--resume", program=fake) == (b"", b"", 0)
     assert report.read_bytes() == SMALL_REPORT
     assert (tmp_path / "calls").read_text() == "bad\n"
-    assert not work.exists() and not list(tmp_path.glob("report.*"))
+    assert not work.exists() and [found.name for found in tmp_path.glob("report.*")] == ["report.json"]
 
 
 def test_a_report_that_is_not_the_parts(tmp_path: Path, program: str, fake: Path) -> None:

@@ -302,8 +302,11 @@ def test_flows_together(tmp_path: Path, program: str) -> None:
 @1000000000 end
 """
     stats = ["goodput", "completion", "jain", "again", "useful"]
-    made = dnlab.sweep(text, of={"flows": stats, "flow *": ["completion"]}, dnlab=program)
+    made = dnlab.sweep(text, of={"flows": stats, "flow *": ["completion"], "flow * acks": ["delivered"]}, dnlab=program)
     rows = {(row.of, row.stat): row["mean"] for _, row in made.table().iterrows()}
+    # `flow *` names flows alone. Each segment has its own acknowledgement.
+    assert {of for of, stat in rows if stat == "completion"} == {"flows", "flow 1", "flow 2"}
+    assert {of: mean for (of, stat), mean in rows.items() if stat == "delivered"} == {"flow 1 acks": 4, "flow 2 acks": 2}
     # The last segment of flow 1 is served to 32 ms and delivered at 42, that of flow 2 at 26 ms.
     assert rows["flows", "completion"] == rows["flow 1", "completion"] == 42_000_000
     assert rows["flow 2", "completion"] == 26_000_000 and rows["flows", "again"] == 0

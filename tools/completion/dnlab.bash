@@ -4,7 +4,7 @@ _dnlab() {
   [ "$COMP_CWORD" -gt 0 ] && before=${COMP_WORDS[COMP_CWORD - 1]}
   for word in "${COMP_WORDS[@]:1:COMP_CWORD-1}"; do
     case $word in
-      alone | run | check | help)
+      alone | run | check | live | help)
         command=$word
         break
         ;;
@@ -14,12 +14,13 @@ _dnlab() {
   case $command:$before in
     run:--workers) words="1 2 4 8 16" ;;
     run:--moves) words="0 1 64 1000" ;;
-    run:*) words="--workers --moves --progress --explain --help" ;;
-    alone:*) words="--progress --explain --help" ;;
+    run:*) words="--workers --moves --progress --explain --strict --help" ;;
+    alone:*) words="--progress --explain --strict --help" ;;
     check:*) words="--explain --help" ;;
-    help:help) words="alone run check help" ;;
+    live:*) words="--help" ;;
+    help:help) words="alone run check live help" ;;
     help:*) ;;
-    *) words="alone run check help --help --version" ;;
+    *) words="alone run check live help --help --version" ;;
   esac
   mapfile -t COMPREPLY < <(compgen -W "$words" -- "$now")
 }

@@ -1,5 +1,9 @@
 //! What people write where something else is wanted, and what to write instead.
 
+use crate::slips::{
+    ACTIONS, FOR_NUMBERS, OPTIONS, OWN_ACTIONS, OWN_FLOW_OPTIONS, OWN_OPTIONS, OWN_VERBS, VERBS,
+    meant_by, said_of,
+};
 use crate::wanted::{Choice, Form};
 use control_words::{addresses, is};
 
@@ -71,7 +75,9 @@ fn digits_hint(word: &[u8]) -> Option<&'static str> {
 }
 
 fn number_hint(word: &[u8]) -> Option<&'static str> {
-    if has_sign(word) {
+    if said_of(&FOR_NUMBERS, word).is_some() {
+        said_of(&FOR_NUMBERS, word)
+    } else if has_sign(word) {
         Some(SIGN)
     } else if addresses::address(word).is_some() {
         Some("an address stands where a number is wanted: is a port missing?")
@@ -101,18 +107,35 @@ fn is_foreign_comment(word: &[u8]) -> bool {
     }
 }
 
+// Whether a word of more than a unit's two letters directly follows digits.
+fn is_run_together(word: &[u8]) -> bool {
+    let letters = word.iter().filter(|b| b.is_ascii_lowercase()).count();
+    begins_with_digit(word) && letters > 2
+}
+
+// Whether a line begins as one for the shell.
+fn is_of_ipfw(word: &[u8]) -> bool {
+    is(word, "ipfw") || is(word, "/sbin/ipfw") || is(word, "sudo") || word.first() == Some(&b'$')
+}
+
 fn moment_hint(word: &[u8]) -> Option<&'static str> {
     match word {
         [b'@'] => Some("no space between @ and the moment: @0"),
         [b'@', number @ ..] => {
-            if has(number, b'.') || has_letter(number) {
+            if is_run_together(number) {
+                Some("a space stands between the moment and the command: @0 show")
+            } else if has(number, b':') {
+                Some("nothing but a space follows a moment: @0 show")
+            } else if has(number, b'.') || has_letter(number) {
                 Some("a moment is a whole number of nanoseconds without a unit: 1.5 ms is @1500000")
             } else {
                 number_hint(number)
             }
         }
         _ => {
-            if begins_with_digit(word) {
+            if is_of_ipfw(word) {
+                Some("leave `ipfw` out, and put the moment in front: @0 pipe 1 config bw 10Mbit/s")
+            } else if begins_with_digit(word) {
                 Some("a moment has @ in front of it: @0")
             } else if is_foreign_comment(word) {
                 Some("a comment begins with #")
@@ -125,8 +148,19 @@ fn moment_hint(word: &[u8]) -> Option<&'static str> {
     }
 }
 
+// Whether a rate is written with an exponent, as 1e6.
+fn has_exponent(word: &[u8]) -> bool {
+    begins_with_digit(word) && has(word, b'e') && !has(word, b'/')
+}
+
 fn rate_unit_hint(word: &[u8]) -> &'static str {
-    if has(word, b'.') {
+    if ends_with(word, "B/s") || ends_with(word, "Bps") {
+        "bytes a second are spelled out: 20MB/s is 20MByte/s"
+    } else if has_exponent(word) {
+        "no exponent: 1e6 is 1Mbit/s"
+    } else if !begins_with_digit(word) {
+        "a rate is a number with its unit; leave `bw` out where there is no limit"
+    } else if has(word, b'.') {
         "whole numbers only: 1.5 Mbit/s is 1500Kbit/s"
     } else {
         "units are spelled in full, and their case counts: 10Mbps is 10Mbit/s"
@@ -138,7 +172,9 @@ fn rate_hint(word: &[u8]) -> Option<&'static str> {
 }
 
 fn delay_unit_hint(word: &[u8]) -> &'static str {
-    if has(word, b'.') {
+    if ends_with(word, "sec") {
+        "milliseconds are spelled ms: 20msec is 20ms"
+    } else if has(word, b'.') {
         "whole milliseconds only: 0.5 ms can't be said"
     } else if ends_with(word, "us") || ends_with(word, "ns") {
         "whole milliseconds only: 500us can't be said, 20000us is 20ms"
@@ -201,6 +237,10 @@ fn timing_hint(word: &[u8]) -> Option<&'static str> {
 fn field_hint(word: &[u8]) -> Option<&'static str> {
     if is(word, "0xffffffff") {
         Some("a port has 16 bits, 0xffff, and a protocol 8, 0xff")
+    } else if word.first() == Some(&b'/') {
+        Some("a mask is no prefix length: /24 is 0xffffff00")
+    } else if word.len() > 10 && ends_with(word, "f") {
+        Some("a mask has at most 8 digits after 0x: 0xffffffff")
     } else if has(word, b'.') {
         Some("255.255.255.0 is 0xffffff00")
     } else {
@@ -237,23 +277,50 @@ fn has_zero_in_a_part(word: &[u8]) -> bool {
 fn prefix_hint(word: &[u8]) -> Option<&'static str> {
     if is(word, "me") || is(word, "not") {
         Some("ipfw's `me` and `not` aren't here")
+    } else if has(word, b'(') {
+        Some("tables aren't here: write a rule for each of their addresses")
+    } else if has(word, b'{') || has(word, b',') {
+        Some("no lists: write a rule for each address")
     } else if has(word, b':') {
         Some("a mask is a length, 10.0.0.0/24, and a port is a word of its own; there is no IPv6")
     } else if has_letter(word) {
         Some("addresses are numbers: names aren't looked up")
     } else if has_zero_in_a_part(word) {
         Some("none of its numbers begins with 0: 010.0.0.1 is 10.0.0.1")
+    } else if begins_with_digit(word) && points(word) < 3 {
+        Some("an address has four numbers: 10.0.0 is 10.0.0.0/24")
     } else {
         None
     }
 }
 
+// How many points a word has.
+fn points(word: &[u8]) -> usize {
+    word.iter().filter(|b| **b == b'.').count()
+}
+
 fn address_hint(word: &[u8]) -> Option<&'static str> {
-    if is(word, "any") || has(word, b'/') {
+    if is(word, "tcp") || is(word, "udp") {
+        Some("no protocol stands here: a flow is TCP, and says its two ends alone")
+    } else if is(word, "from") || is(word, "to") {
+        Some(
+            "neither `from` nor `to` stands here: source, port, destination and port follow each other",
+        )
+    } else if points(word) == 3 && has(word, b':') {
+        Some("a port is a word of its own: 10.0.0.1 1000")
+    } else if is(word, "any") || has(word, b'/') {
         Some("a packet has one source and one destination: an address, neither `any` nor a prefix")
     } else {
         prefix_hint(word)
     }
+}
+
+const NO_INTERFACE: &str =
+    "a packet passes the rules once, and comes over no interface: choose it by its addresses";
+
+// Whether a word begins what ipfw says of interfaces and directions.
+fn is_of_an_interface(word: &[u8]) -> bool {
+    is(word, "in") || is(word, "out") || is(word, "via") || is(word, "recv") || is(word, "xmit")
 }
 
 fn ports_hint(word: &[u8]) -> Option<&'static str> {
@@ -261,6 +328,16 @@ fn ports_hint(word: &[u8]) -> Option<&'static str> {
         Some("the first port is above the last: turn them round")
     } else if has(word, b',') {
         Some("no lists: a rule has one port or one range; write a rule for each")
+    } else if is(word, "src-port") || is(word, "dst-port") {
+        Some("leave that word out: a port directly follows its address, as in to any 80")
+    } else if is(word, "setup") || is(word, "established") || is(word, "keep-state") {
+        Some(
+            "packets here have no state and no flags: leave it out, and write a second rule for the way back",
+        )
+    } else if is_of_an_interface(word) {
+        Some(NO_INTERFACE)
+    } else if begins_with_digit(word) && has(word, b':') {
+        Some("a range has a hyphen: 1000-2000")
     } else if has_letter(word) {
         Some("ports are numbers, and ipfw's options behind an address aren't here")
     } else {
@@ -273,35 +350,22 @@ fn name_hint(word: &[u8]) -> Option<&'static str> {
         Some("it is longer than 32")
     } else if has_capital(word) {
         Some("lower case only")
-    } else if has(word, b'=') || has(word, b'.') {
-        Some("neither = nor a point stands in a name: q=10 is q-10 or q10")
+    } else if has(word, b'=') || has(word, b'.') || has(word, b':') {
+        Some("neither = nor a point nor a colon stands in a name: q=10 is q-10 or q10")
     } else {
         None
     }
 }
 
 fn verb_hint(word: &[u8]) -> Option<&'static str> {
-    if is(word, "queue") || is(word, "sched") || is(word, "table") || is(word, "nat") {
-        Some("ipfw's queue, sched, table and nat aren't here")
-    } else if is(word, "list") {
-        Some("rules are listed by `show`")
-    } else if is(word, "send") || is(word, "packet") {
-        Some("a single packet is sent by `inject`")
-    } else {
-        None
+    if word.first() == Some(&b'$') {
+        return Some("leave `ipfw` out: @0 pipe 1 config bw 10Mbit/s");
     }
+    said_of(&VERBS, word).or(meant_by(&OWN_VERBS, word))
 }
 
 fn action_hint(word: &[u8]) -> Option<&'static str> {
-    if is(word, "accept") || is(word, "pass") || is(word, "permit") {
-        Some("it is spelled `allow` here")
-    } else if is(word, "drop") || is(word, "reject") || is(word, "reset") || is(word, "unreach") {
-        Some("it is spelled `deny` here, and nothing is answered")
-    } else if is(word, "queue") {
-        Some("dummynet's queues aren't here, only pipes")
-    } else {
-        None
-    }
+    said_of(&ACTIONS, word).or(meant_by(&OWN_ACTIONS, word))
 }
 
 fn is_unit(word: &[u8]) -> bool {
@@ -325,22 +389,8 @@ fn option_hint(word: &[u8]) -> Option<&'static str> {
         Some(
             "a unit directly follows its number, without a space: 10Mbit/s; packets and slots have none",
         )
-    } else if is(word, "target") || is(word, "interval") {
-        Some("`target` and `interval` directly follow `codel`")
-    } else if is(word, "src-ip") || is(word, "dst-ip") || is(word, "proto") {
-        Some("fields directly follow `mask`, and not `all`")
-    } else if is(word, "src-port") || is(word, "dst-port") {
-        Some("fields directly follow `mask`, and not `all`")
-    } else if is(word, "ecn") || is(word, "noecn") {
-        Some("CoDel marks no packets here: ECN isn't there")
-    } else if is(word, "red") || is(word, "gred") || is(word, "pie") || is(word, "fq_codel") {
-        Some("the disciplines here are droptail and codel")
-    } else if is(word, "loss") {
-        Some("it is spelled `plr` here: plr 0.05")
-    } else if is(word, "rate") || is(word, "bandwidth") {
-        Some("it is spelled `bw` here: bw 10Mbit/s")
     } else {
-        None
+        said_of(&OPTIONS, word).or(meant_by(&OWN_OPTIONS, word))
     }
 }
 
@@ -349,12 +399,31 @@ fn is_congestion_control(word: &[u8]) -> bool {
 }
 
 fn flow_option_hint(word: &[u8]) -> Option<&'static str> {
-    if is_congestion_control(word) {
+    if is_congestion_control(word) || is(word, "cc") {
         Some("each flow is Reno (RFC 5681): no other congestion control is here, and none is named")
     } else if has(word, b'=') {
         Some("a space stands between an option and its value, no =: rto 200")
     } else if is(word, "ms") || is(word, "s") {
         Some("`rto` is in milliseconds without a unit: rto 200")
+    } else {
+        meant_by(&OWN_FLOW_OPTIONS, word)
+    }
+}
+
+// What stands behind the end of a line.
+fn end_hint(word: &[u8]) -> Option<&'static str> {
+    if is_foreign_comment(word) {
+        Some("a comment begins with #, and has a line of its own")
+    } else if word.first() == Some(&b'\\') {
+        Some("a command stands on one line")
+    } else if begins_with_digit(word) {
+        Some("one number a line: write a command for each")
+    } else if is(word, "setup") || is(word, "established") || is(word, "keep-state") {
+        Some(
+            "packets here have no state and no flags: leave it out, and write a second rule for the way back",
+        )
+    } else if is_of_an_interface(word) {
+        Some(NO_INTERFACE)
     } else {
         None
     }
@@ -366,7 +435,8 @@ fn choice_hint(choice: Choice, word: &[u8]) -> Option<&'static str> {
         Choice::Action => action_hint(word),
         Choice::PipeOption => option_hint(word),
         Choice::FlowOption => flow_option_hint(word),
-        Choice::Field | Choice::End | Choice::Once => None,
+        Choice::End => end_hint(word),
+        Choice::Field | Choice::Once => None,
     };
     if own.is_none() && has_capital(word) {
         return Some(LOWER);
@@ -388,6 +458,12 @@ fn config_hint(word: &[u8]) -> Option<&'static str> {
 fn word_hint(wanted: &str, word: &[u8]) -> Option<&'static str> {
     let own = if wanted == "config" {
         config_hint(word)
+    } else if has(word, b'=') {
+        Some("a space stands between a word and its value, no =")
+    } else if wanted == "seed" && begins_with_digit(word) {
+        Some("the name is missing: experiment two-flows seed 1 budget 1000")
+    } else if wanted == "seed" && is(word, "budget") {
+        Some("the seed stands before the budget: experiment two-flows seed 1 budget 1000")
     } else {
         None
     };
@@ -420,6 +496,9 @@ fn form_hint(form: Form, word: &[u8]) -> Option<&'static str> {
 pub fn hint(form: Form, word: &[u8]) -> Option<&'static str> {
     if word.first() == Some(&b'#') {
         return Some("a comment has a line of its own");
+    }
+    if word.last() == Some(&b';') {
+        return Some("no semicolon: each command has a line of its own");
     }
     form_hint(form, word)
 }

@@ -3,6 +3,7 @@
 
 mod hints;
 mod option_walk;
+mod slips;
 mod tables;
 mod walk;
 mod wanted;

@@ -17,7 +17,7 @@ unfolding Puts
 all-written a b kept bytes none f = writing_done a b bytes (subst (λ k. Puts a k b [] bytes) none f a [] (writing_none a))
 
 -- texts that were made before
-same-texts : (es plans : List Experiment) (texts : List (List ℕ)) → plans ≡ es → texts ≡ map report_alone plans → flat_map (λ x. x) texts ≡ reports es
+pub same-texts : (es plans : List Experiment) (texts : List (List ℕ)) → plans ≡ es → texts ≡ map report_alone plans → flat_map (λ x. x) texts ≡ reports es
 same-texts es plans texts are made = ap (flat_map (λ x. x)) made ∙ texts_alone plans ∙ ap reports are
 
 pub texts_cut : (read a b : Option (List ℕ)) (kept : List ℕ) (es plans : List Experiment) (texts : List (List ℕ)) → Reads read es → kept ≡ [] → plans ≡ es → texts ≡ map report_alone plans →

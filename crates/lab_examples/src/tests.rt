@@ -12,6 +12,7 @@ use std::thread::Threads;
 
 mod devices;
 mod ends;
+mod sessions;
 mod workers;
 
 /// How a scenario is run: by itself, by two workers, or not at all.

@@ -113,38 +113,36 @@ last-push : (m : ℕ) (cs : List Timed) (c : Timed) → last_moment m (cs ++ c �
 last-push m [] c = refl
 last-push m (d ∷ cs) c = last-push d.moment cs c
 
--- what was recorded since a command is told too, and the experiment waits again, where it goes on
-pub takes-written : PacketsAddUp → WaitsBegin → (c : Timed) (was old new : KeptRun) → old.experiment.spec ≡ was.experiment.spec →
-    old.experiment.consumed ≡ was.experiment.consumed ++ c ∷ [] → old.shows_all ≡ was.shows_all → old.report ≡ was.report →
-    ((t : ℕ) (earlier : List Record) → IsAt t earlier was → t ≤ c.moment → IsAfter earlier old) →
-    (old.experiment.ending ≡ None → old.experiment.next ≡ None) → Forgets old new → Takes c was new
-takes-written law begins c was old new spec consumed shows report after rests f =
-    let rs : List Record = old.experiment.net.log.records in
-    let came : new.experiment.consumed ≡ was.experiment.consumed ++ c ∷ [] = ap (λ (e : KeptExperiment). e.consumed) f.experiment ∙ consumed in
-    record {
-      spec = ap (λ (e : KeptExperiment). e.spec) f.experiment ∙ spec;
-      consumed = came;
-      shows = f.shows ∙ shows;
-      tells = λ t earlier at up.
-          let h : IsAfter earlier old = after t earlier at up in
-          let now : IsAfter (earlier ++ rs) new = record {
-            housed = subst (λ (s : Own). IsHousedIn (own_pocket s) new.experiment) (sym f.shelf) (f.housed (own_pocket old.shelf) h.housed);
-            counts = f.counts earlier h.counts;
-            alone = subst (λ (s : Own). IsAloneAfter (earlier ++ rs) (own_pocket s) new.experiment) (sym f.shelf)
-                (f.after earlier (own_pocket old.shelf) h.alone);
-          } in (
-            rs,
-            now,
-            λ all. f.tells (shows ∙ all) ∙ ap (λ (w : Written). w.text ++ flat_map line_of rs) report,
-            λ going. record {
-              housed = now.housed;
-              counts = now.counts;
-              waits = waiting_begins begins c.moment (earlier ++ rs) (own_pocket new.shelf) new.experiment
-                  (ap (λ (e : KeptExperiment). e.next) f.experiment ∙ rests (sym (ap (λ (e : KeptExperiment). e.ending) f.experiment) ∙ going)) now.alone;
-              latest = let same = ap (last_moment 0) came ∙ last-push 0 was.experiment.consumed c in omega (arith, same);
-            },
-          );
-    }
+-- a command was taken, and the experiment waits again, where it goes on
+pub takes-all : WaitsBegin → (c : Timed) (was new : KeptRun) → new.experiment.spec ≡ was.experiment.spec →
+    new.experiment.consumed ≡ was.experiment.consumed ++ c ∷ [] → new.shows_all ≡ was.shows_all → new.report ≡ was.report →
+    ((t : ℕ) (earlier : List Record) → IsAt t earlier was → t ≤ c.moment → IsAfter earlier new) →
+    (new.experiment.ending ≡ None → new.experiment.next ≡ None) → Takes c was new
+takes-all begins c was new spec consumed shows report after rests = record {
+  spec = spec;
+  consumed = consumed;
+  shows = shows;
+  report = report;
+  after = after;
+  at = λ t earlier at up going.
+      let now : IsAfter earlier new = after t earlier at up in
+      record {
+        housed = now.housed;
+        counts = now.counts;
+        waits = waiting_begins begins c.moment earlier (own_pocket new.shelf) new.experiment (rests going) now.alone;
+        latest = let same = ap (last_moment 0) consumed ∙ last-push 0 was.experiment.consumed c in omega (arith, same);
+      };
+}
+
+-- what was recorded since is told too
+pub at-written : (t : ℕ) (earlier : List Record) (old new : KeptRun) → IsAt t earlier old → Forgets old new → IsAt t (earlier ++ old.experiment.net.log.records) new
+at-written t earlier old new h f = record {
+  housed = subst (λ (s : Own). IsHousedIn (own_pocket s) new.experiment) (sym f.shelf) (f.housed (own_pocket old.shelf) h.housed);
+  counts = f.counts earlier h.counts;
+  waits = subst (λ (s : Own). IsWaiting t (earlier ++ old.experiment.net.log.records) (own_pocket s) new.experiment) (sym f.shelf)
+      (f.waits t earlier (own_pocket old.shelf) h.waits);
+  latest = subst (λ (l : List Timed). last_moment 0 l ≤ t) (sym (ap (λ (e : KeptExperiment). e.consumed) f.experiment)) h.latest;
+}
 
 pub can_write_after : PacketsAddUp → (earlier : List Record) (r : KeptRun) → IsAfter earlier r → CanWrite r.report r.experiment
 can_write_after law earlier r h = record {
@@ -154,3 +152,9 @@ can_write_after law earlier r h = record {
   counts = h.counts;
   adds = adds_alone law earlier (own_pocket r.shelf) r.experiment h.alone;
 }
+
+-- what was written and handed out is told still
+pub at-handed : (t : ℕ) (earlier : List Record) (old new : KeptRun) → IsAt t earlier old → new ≡ record old { report = record old.report { text = [] } } →
+    IsAt t earlier new
+at-handed t earlier old new h same =
+    subst (IsAt t earlier) (sym same) (record { housed = h.housed; counts = record { delivered = h.counts.delivered; drops = h.counts.drops }; waits = h.waits; latest = h.latest })

@@ -59,14 +59,15 @@ pub record Forgets (old new : KeptRun) : Type 0 where
   pub waits : (t : ℕ) (earlier : List Record) (p : Pocket) → IsWaiting t earlier p old.experiment →
       IsWaiting t (earlier ++ old.experiment.net.log.records) p new.experiment
 
--- a command came and was done or refused, and what happened was told
+-- a command came, and was done or refused; what happened isn't told yet
 pub record Takes (c : Timed) (old new : KeptRun) : Type 0 where
   pub spec : new.experiment.spec ≡ old.experiment.spec
   pub consumed : new.experiment.consumed ≡ old.experiment.consumed ++ c ∷ []
   pub shows : new.shows_all ≡ old.shows_all
-  pub tells : (t : ℕ) (earlier : List Record) → IsAt t earlier old → t ≤ c.moment →
-      (more : List Record) × IsAfter (earlier ++ more) new × Tells more old new
-      × (new.experiment.ending ≡ None → IsAt c.moment (earlier ++ more) new)
+  pub report : new.report ≡ old.report
+  pub after : (t : ℕ) (earlier : List Record) → IsAt t earlier old → t ≤ c.moment → IsAfter earlier new
+  pub at : (t : ℕ) (earlier : List Record) → IsAt t earlier old → t ≤ c.moment → new.experiment.ending ≡ None →
+      IsAt c.moment earlier new
 
 -- the line of the counters
 abbrev pub closing_of : KeptRun → List ℕ

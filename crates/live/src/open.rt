@@ -4,13 +4,14 @@ ghost use Rattle.std.specs.Prelude.{◌≡◌, ◌^◌, ◌≤◌, List, None, O
 ghost use Rattle.emu_model.specs.declared.records.Record.{Record};
 ghost use Rattle.packet_store.specs.Own.{own_pocket};
 ghost use Rattle.experiment.specs.Kept.{IsHousedIn};
+ghost use Rattle.report_writer.specs.Written.{CanWrite};
 ghost use Rattle.live.specs.Runs.{IsAt};
 ghost use Rattle.live.specs.declared.open.Phase.TheVariants.{Lost, Going};
 
 use crate::answer::Answer;
 use crate::run::{Run, Stop, Taken};
 use control::Cause;
-use emu_model::{Command, Spec, Timed};
+use emu_model::{Command, Spec, Timed, packets_add_up};
 use std::alloc::{AllocError, Global};
 use std::marker::Model;
 
@@ -96,15 +97,16 @@ impl Open {
         self.run.show(all);
     }
 
-    // The counters are written where it has ended, and all that was written is handed out.
+    // What was recorded is written, and the counters where it has ended; all that was written is handed out.
     fn settle(&mut self, out: &mut Vec<u8>) -> Result<(), AllocError>
         requires lost { self.old.phase ≡ Lost }
         requires early { self.old.reached ≤ 10 ^ 15 }
+        requires writes { CanWrite self.old.run.report self.old.run.experiment }
         requires housed { IsHousedIn (own_pocket self.old.run.shelf) self.old.run.experiment }
         requires at { self.old.run.experiment.ending ≡ None →
             (earlier : List Record) × IsAt self.old.reached earlier self.old.run }
-        ensures { OnOk result (self.new.reached ≡ self.old.reached) }
     {
+        self.run.write()?;
         if self.run.ending().is_some() {
             self.run.conclude()?;
             self.run.hand_out(out)?;
@@ -121,25 +123,30 @@ impl Open {
         requires going { self.old.phase ≡ Going }
         requires on { self.old.reached ≤ limit }
         requires early { limit ≤ 10 ^ 15 }
-        ensures { OnOk result (self.new.reached ≤ limit) }
     {
+        packets_add_up();
         self.phase = Phase::Lost;
         self.reached = self.run.pass(self.reached, limit, stop)?;
         self.settle(out)
     }
 
-    // A command comes, where it goes on.
-    fn obey(&mut self, command: &Timed, out: &mut Vec<u8>) -> Result<Taken, AllocError>
+    // Time passes to a command's moment, where it goes on, and then the command comes, if it still goes on.
+    fn obey(&mut self, command: &Timed, out: &mut Vec<u8>) -> Result<Option<Taken>, AllocError>
         requires going { self.old.phase ≡ Going }
         requires on { self.old.reached ≤ command.now.moment }
         requires early { command.now.moment ≤ 10 ^ 15 }
-        requires goes { self.old.run.experiment.ending ≡ None }
     {
+        packets_add_up();
         self.phase = Phase::Lost;
+        self.reached = self.run.pass(self.reached, command.moment, Stop::Moment)?;
+        if self.run.ending().is_some() {
+            self.settle(out)?;
+            return Ok(None);
+        }
         let taken = self.run.take(command)?;
         self.reached = command.moment;
         self.settle(out)?;
-        Ok(taken)
+        Ok(Some(taken))
     }
 
     // What is said of where it stands.
@@ -197,23 +204,14 @@ impl Open {
             Phase::Lost => return Err(AllocError),
             Phase::Going => {}
         }
-        self.pass(command.moment, Stop::Moment, out)?;
-        match self.phase {
-            Phase::Over => return Ok(self.pass_by(command)),
-            Phase::Lost => return Err(AllocError),
-            Phase::Going => {}
-        }
-        if self.run.ending().is_some() {
-            return Err(AllocError);
-        }
         let taken = self.obey(command, out)?;
         if self.phase == Phase::Over {
-            return Ok(Answer::Over(self.reached));
+            return Ok(self.pass_by(command));
         }
         match taken {
-            Taken::Done => Ok(Answer::Done),
-            Taken::Packet(number) => Ok(Answer::Packet(number)),
-            Taken::Refused(code) => Ok(Answer::Refused(code)),
+            Some(Taken::Packet(number)) => Ok(Answer::Packet(number)),
+            Some(Taken::Refused(code)) => Ok(Answer::Refused(code)),
+            _ => Ok(Answer::Done),
         }
     }
 }

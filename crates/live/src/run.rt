@@ -212,9 +212,9 @@ impl Run {
         self.shows_all = all;
     }
 
-    // Writes what was recorded, which is then forgotten.
+    /// Writes what was recorded, which is then forgotten. `AllocError` where the lines have no room.
     #[tactic(auto, using(crate::proofs::RunFacts::can_write_same))]
-    fn write(&mut self) -> Result<(), AllocError>
+    pub fn write(&mut self) -> Result<(), AllocError>
         requires { CanWrite self.old.report self.old.experiment }
         ensures { OnOk result (Forgets self.old self.new) }
     {
@@ -274,7 +274,8 @@ impl Run {
     }
 
     /// Time passes from one moment to another (ns), or until `stop`: what is due below the latter happens, one after the
-    /// other. Answers the moment to which time has come. `AllocError` where memory was refused.
+    /// other, and is written but for the last records. Answers the moment to which time has come. `AllocError` where memory
+    /// was refused.
     pub fn pass(&mut self, from: u64, limit: u64, stop: Stop) -> Result<u64, AllocError>
         requires at { (earlier : List Record) × IsAt from earlier self.old }
         requires on { from ≤ limit }
@@ -301,13 +302,12 @@ impl Run {
                 stop = Stop::Moment;
             }
         }
-        self.write()?;
         Ok(reached)
     }
 
-    // What became of a command, by what was recorded since.
-    fn outcome(&self, command: &Command, number: u64) -> Taken {
-        if let Some(Record::CommandRefused { refusal, .. }) = self.experiment.records().first() {
+    // What became of a command, by what was recorded from a place on.
+    fn outcome(&self, command: &Command, number: u64, seen: usize) -> Taken {
+        if let Some(Record::CommandRefused { refusal, .. }) = self.experiment.records().get(seen) {
             return Taken::Refused(u64::from(*refusal as u8));
         }
         match command {
@@ -317,7 +317,7 @@ impl Run {
     }
 
     /// A command comes, at the moment to which time has come or later: what is due before it happens, and it is done or
-    /// refused. `AllocError` where memory was refused.
+    /// refused; nothing is written yet. `AllocError` where memory was refused.
     pub fn take(&mut self, command: &Timed) -> Result<Taken, AllocError>
         requires at { (t : ℕ) × (earlier : List Record) × IsAt t earlier self.old
             × (t ≤ command.now.moment) }
@@ -325,9 +325,9 @@ impl Run {
         requires early { command.now.moment ≤ 10 ^ 15 }
         ensures { OnOk result (Takes command.now self.old self.new) }
     {
-        packets_add_up();
         waits_begin();
         let number = self.experiment.made();
+        let seen = self.experiment.records().len();
         mark_injected(&mut self.mine, &command.command, number)?;
         match self.experiment.apply(command) {
             Ok(()) => {}
@@ -337,9 +337,7 @@ impl Run {
             Err(ApplyError::Backward) => unreachable!(),
         }
         obey(&mut self.experiment, &mut self.shelf)?;
-        let taken = self.outcome(&command.command, number);
-        self.write()?;
-        Ok(taken)
+        Ok(self.outcome(&command.command, number, seen))
     }
 
     /// Writes the line of the counters. `AllocError` leaves what was written of it.

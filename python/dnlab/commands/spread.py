@@ -1,43 +1,46 @@
-"""Runs the experiments of scenarios in parts, on this machine, on others by ssh or as a Slurm array.
-
-    tools/spread SCENARIO .. [--parts N] [--jobs J] [--ssh HOSTS | --slurm] [--program PATH]
-                 [--out REPORT] [--work FOLDER] [--resume]
-
-The scenarios (- is standard input) are split at their experiments into N parts, each with about as many commands;
-each part is run by `dnlab alone`, its report is read and judged beside its text, and the reports are put together in
-order: the bytes of `dnlab alone < SCENARIO`.
-A text may have more than 256 experiments and 16777216 bytes, which `dnlab` itself refuses: then there are as many
-parts as it takes. The whole text is checked first by `dnlab check`, so that a fault has the line of the whole text;
-of several texts the fault has its text's name before it. The report is written when it is whole, or not at all. The
-program is that of the environment variable DNLAB, else the proved one of the repository, else a checked build of its
-sources. By ssh the engine is GNU parallel (Debian: parallel, and rsync on both sides). SIGINT, SIGTERM and SIGHUP end it
-and all that it began; parts that are done are kept. docs/use/MANY_MACHINES.md says more.
-
-Example: tools/spread scenario.txt --parts 8 --ssh 4/alpha,4/beta --program /usr/bin/dnlab --out report.txt
-Exit status: 0 done, 1 a fault in the scenario (`line L: CAUSE`), 2 wrong usage, 3 a part failed, a report isn't that
-of its text, memory was refused, or a read or write failed; ended by a signal, that signal's."""
+"""Runs the experiments of scenarios in parts, on this machine, on others by ssh or as a Slurm array."""
 import argparse
 import os
 import shutil
 import sys
 import time
 from pathlib import Path
-from typing import Optional, Sequence
+from typing import Iterator, Mapping, Optional, Sequence
 
 from dnlab import children, ending
-from dnlab.commands.words import Parser
+from dnlab.commands.words import parser_of
 from dnlab.crew import Crew
 from dnlab.engines import Job, Stop, failure, going, put_together, tell
 from dnlab.errors import Failed, Refused
+from dnlab.origin import Origin, origin_of, write_beside
+from dnlab.packed import unpacked
 from dnlab.programs import program as program_of
 from dnlab.rooms import Room
-from dnlab.scenario import MOST_BYTES, MOST_EXPERIMENTS, Judged
+from dnlab.scenario import MOST_BYTES, MOST_EXPERIMENTS, Judged, Plan, read
 from dnlab.splitting import Fault, Part, experiments_in, heading_fault, lines_in, repeated, shares, texts_of
 
 
+EXAMPLE = """The scenarios are split at their experiments into N parts, each with about as many commands; each part is run by
+`dnlab alone`, its report is read and judged beside its text, and the reports are put together in order: the bytes of
+`dnlab alone < SCENARIO`. Scenarios may be packed by gzip.
+A text may have more than 256 experiments and 16777216 bytes, which `dnlab` itself refuses: then there are as many
+parts as it takes. The whole text is checked first by `dnlab check`, so that a fault has the line of the whole text;
+of several texts the fault has its text's name before it. The report is written when it is whole, or not at all; what
+made it is kept beside it in REPORT.json, by which the other tools know its scenario again. The program is that of the
+environment variable DNLAB, else the proved one of the repository, else a checked build of its sources. By ssh the
+engine is GNU parallel (Debian: parallel, and rsync on both sides). SIGINT, SIGTERM and SIGHUP end it and all that it
+began; parts that are done are kept. docs/use/MANY_MACHINES.md says more.
+
+Example:
+  tools/spread scenario.txt --parts 8 --ssh 4/alpha,4/beta --program /usr/bin/dnlab --out report.txt
+
+Exit status: 0 done; 1 a fault in the scenario (`line L: CAUSE`); 2 wrong usage; 3 a part failed, a report isn't that of
+its text, memory was refused, or a read or write failed. Ended by a signal, that signal's."""
+
+
 def parser_of_words() -> argparse.ArgumentParser:
-    parser = Parser(prog="spread", description=__doc__, usage=argparse.SUPPRESS,
-                    formatter_class=argparse.RawDescriptionHelpFormatter, allow_abbrev=False)
+    parser = parser_of("spread", __doc__ or "", EXAMPLE)
+    parser.allow_abbrev = False
     parser.add_argument("scenarios", metavar="SCENARIO", nargs="+", help="a scenario, or - for standard input")
     parser.add_argument("--parts", type=int, default=16, metavar="N",
                         help="how many parts (16), at most as many as there are experiments")
@@ -56,6 +59,7 @@ def parser_of_words() -> argparse.ArgumentParser:
 def words(given: Sequence[str]) -> argparse.Namespace:
     parser = parser_of_words()
     args = parser.parse_intermixed_args(list(given))
+    args.given = list(given)
     for name, number in ("--parts", args.parts), ("--jobs", args.jobs):
         if number is not None and number < 1:
             parser.error(f"{name} {number}: 1 or more are needed")
@@ -83,9 +87,11 @@ def text_of(name: str) -> bytes:
     try:
         # Descriptor 0 itself, since Python has no standard input where it is closed.
         with open(0 if name == "-" else name, "rb") as file:
-            return file.read()
+            return unpacked(file.read())
     except OSError as error:
         raise Stop(3, f"spread: {name}: {error.strerror}\n") from error
+    except Refused as refused:
+        raise Stop(2, f"spread: {name}: {refused}\n") from None
 
 
 def counted(program: str, text: bytes) -> "Fault | tuple[int, int]":
@@ -159,7 +165,6 @@ def experiments_of(args: argparse.Namespace, program: str) -> list[Part]:
 def judged_part(whole: str, text: str) -> Optional[str]:
     """What isn't right in the report of a part, for another process; it is read and joined with its text."""
     from dnlab.report import pieces, read_piece
-    from dnlab.scenario import read
     from dnlab.view import View
 
     name = "its first experiment"
@@ -197,6 +202,28 @@ def check(args: argparse.Namespace, jobs: Sequence[Job], folder: Path) -> None:
         raise failure(args, jobs, [job for job in jobs if job.number in wrong], folder)
 
 
+class Plans(Mapping[str, Plan]):
+    """The experiments of all texts by name, each read when it is asked for: of long texts all take much memory."""
+
+    def __init__(self, parts: Sequence[Part]) -> None:
+        self.texts = {part.name: part.text for part in parts}
+
+    def __getitem__(self, name: str) -> Plan:
+        return read(self.texts[name])[name]
+
+    def __iter__(self) -> Iterator[str]:
+        return iter(self.texts)
+
+    def __len__(self) -> int:
+        return len(self.texts)
+
+
+def origin(args: argparse.Namespace, program: str, parts: Sequence[Part]) -> Origin:
+    """What made the report. Of a program on other machines only the words are known."""
+    made = origin_of(Plans(parts), program, ["dnlab-spread", *args.given])
+    return made._replace(program="", version="") if args.ssh or args.slurm else made
+
+
 def spread(args: argparse.Namespace, named: Optional[str] = None) -> None:
     """Runs the scenarios in parts, by the program that is named, else that of `dnlab.programs.program`; `Stop` says what went wrong."""
     try:
@@ -217,8 +244,11 @@ def spread(args: argparse.Namespace, named: Optional[str] = None) -> None:
             done += len(finished)
             tell(done, len(jobs), begun)
         check(args, jobs, folder)
+        made = origin(args, program, everything) if args.out is not None else None
         with ending.held():
             put_together(args.out, jobs)
+            if made is not None:
+                write_beside(args.out, made)
             ending.tells(lambda: "the report is written")
             if args.work is not None:
                 shutil.rmtree(folder)

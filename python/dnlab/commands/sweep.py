@@ -33,8 +33,9 @@ It has each setting by its name, and besides
   20 | ms         whole nanoseconds; also s and us
 A value of --set is a number where it is one, else a word; a float is written without an exponent.
 
---of     flows (all segments together), trains, 'flow 1', 'flow 1 acks', 'train 9', 'train *', injected, 'pipe 1.0',
-         there, back, all, as in tools/summary; without any: flows, each train and the injected packets
+--of     flows (all segments together), trains, 'flow 1', 'flow *' (each flow, without its acknowledgements),
+         'flow 1 acks', 'flow * acks', 'train 9', 'train *', injected, 'pipe 1.0', there, back, all;
+         without any: flows, each train and the injected packets
 --stat   of the --of before it, with commas between [{",".join(USUAL)}]:
          {", ".join(STATS[:10])},
          {", ".join(STATS[10:22])},

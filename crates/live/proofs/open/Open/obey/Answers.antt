@@ -1,21 +1,21 @@
-use Rattle.std.proofs.Common.{◌≡◌, ◌++◌, ap, ◌∙◌, subst, arith}
+use Rattle.std.proofs.Common.{◌≡◌, ◌++◌, ap, ◌∙◌, subst}
 use Rattle.live.specs.declared.open.Phase.TheVariants.{Going}
 use Rattle.live.specs.Opens.{KeptOpen, IsOpen}
+use Rattle.live.proofs.RunFacts.{can_write_at}
 use Rattle.live.proofs.open.Open.obey.Goals as goal
 
-pub settle-requires-clause-housed : goal.settle-requires-clause-housed
-settle-requires-clause-housed c =
+pub settle-requires-clause-writes : goal.settle-requires-clause-writes
+settle-requires-clause-writes c =
     let inside = c.self.inside in
     let phase : inside.phase ≡ Going = ap (λ (o : KeptOpen). o.phase) c.self.view_is ∙ c.requires.going in
     let inv : IsOpen Going inside.reached inside.run = subst (λ p. IsOpen p inside.reached inside.run) phase c.self.invariant in
-    let same = ap (λ (o : KeptOpen). o.reached) c.self.view_is in
-    (c.in_ok-taken.ensures.tells inside.reached inv.2 inv.3 (omega (arith, same, c.requires.on))).1.housed
+    let told = c.in_ok-self-inside.ensures.goes.tells inv.2 inv.3 in
+    can_write_at c.packets_add_up.ensures c.in_ok-self-inside.field-0 (inv.2 ++ told.0) c.pass.new.self told.1
 
-pub settle-requires-clause-at : goal.settle-requires-clause-at
-settle-requires-clause-at c = λ none.
+pub settle-requires-2-clause-housed : goal.settle-requires-2-clause-housed
+settle-requires-2-clause-housed c =
     let inside = c.self.inside in
     let phase : inside.phase ≡ Going = ap (λ (o : KeptOpen). o.phase) c.self.view_is ∙ c.requires.going in
     let inv : IsOpen Going inside.reached inside.run = subst (λ p. IsOpen p inside.reached inside.run) phase c.self.invariant in
-    let same = ap (λ (o : KeptOpen). o.reached) c.self.view_is in
-    let told = c.in_ok-taken.ensures.tells inside.reached inv.2 inv.3 (omega (arith, same, c.requires.on)) in
-    (inv.2 ++ told.0, told.3 none)
+    let told = c.in_ok-self-inside.ensures.goes.tells inv.2 inv.3 in
+    (c.in_ok-taken.ensures.after c.in_ok-self-inside.field-0 (inv.2 ++ told.0) told.1 c.in_ok-self-inside.ensures.between.1).housed

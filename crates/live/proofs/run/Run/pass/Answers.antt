@@ -1,5 +1,5 @@
 use Rattle.std.proofs.Common.{arith}
-use Rattle.live.proofs.RunFacts.{can_write_at, goes-nowhere, goes-written, stands}
+use Rattle.live.proofs.RunFacts.{can_write_at, goes-nowhere, stands}
 use Rattle.live.proofs.run.Run.pass.Goals as goal
 
 pub loop-self-init : goal.loop-self-init
@@ -37,19 +37,11 @@ loop-self-preserved c =
       within = inv.within;
     }
 
-pub write-requires : goal.write-requires
-write-requires c =
-    let inv = c.loop-self.invariant in
-    let at = stands c.args.from c.in_ok-event.now c.args.self.now c.next_before.new.self c.requires.at
-    (c.in_ok-event.ensures.goes c.args.from c.args.self.now (c.in_ok-write_batch.ensures.goes c.args.from c.loop-self.reached c.args.self.now inv.goes)) in
-    can_write_at c.packets_add_up.ensures c.in_ok-event.now at.0 c.next_before.new.self at.1
-
 pub returns : goal.returns
 returns c =
     let inv = c.loop-self.invariant in
     let made = c.in_ok-event.ensures in
     record {
       between = (omega (arith, inv.since, made.between.0), omega (arith, made.between.1, inv.within));
-      goes = goes-written c.args.from c.in_ok-event.now c.args.self.now c.next_before.new.self c.write.new.self
-          (made.goes c.args.from c.args.self.now (c.in_ok-write_batch.ensures.goes c.args.from c.loop-self.reached c.args.self.now inv.goes)) c.in_ok-write.ensures;
+      goes = made.goes c.args.from c.args.self.now (c.in_ok-write_batch.ensures.goes c.args.from c.loop-self.reached c.args.self.now inv.goes);
     }

@@ -1,0 +1,292 @@
+//! Words of other programs, and slips of the finger: what to write in their place. Own, in the words of ipfw(8).
+
+use control_words::is;
+
+/// A word that people write, and what is said of it.
+pub type Says = (&'static str, &'static str);
+
+const EMPTY: &str = "a scenario begins with no rules and no pipes: leave this line out";
+
+const NO_IPFW: &str = "leave `ipfw` out: @0 pipe 1 config bw 10Mbit/s";
+
+const NO_STATE: &str = "packets here have no state: write a second rule for the way back";
+
+const NO_SUCH_ACTION: &str =
+    "a rule allows, denies, counts, skips or hands to a pipe: nothing else is here";
+
+const ORDER: &str = "the action stands before the protocol: add 100 pipe 1 ip from any to any";
+
+const NO_OPTION: &str = "this option of dummynet isn't here: leave it out";
+
+/// Where a command's first word is wanted.
+pub const VERBS: [Says; 24] = [
+    ("queue", "ipfw's queue, sched, table and nat aren't here"),
+    ("sched", "ipfw's queue, sched, table and nat aren't here"),
+    ("table", "ipfw's queue, sched, table and nat aren't here"),
+    ("nat", "ipfw's queue, sched, table and nat aren't here"),
+    ("list", "rules are listed by `show`"),
+    ("send", "a single packet is sent by `inject`"),
+    ("packet", "a single packet is sent by `inject`"),
+    ("ipfw", NO_IPFW),
+    ("/sbin/ipfw", NO_IPFW),
+    ("sudo", NO_IPFW),
+    ("flush", EMPTY),
+    ("-f", EMPTY),
+    ("-q", EMPTY),
+    ("zero", "counters begin at 0: leave this line out"),
+    ("resetlog", "there is no log here: leave this line out"),
+    (
+        "set",
+        "there are no sets of rules here: leave this line out",
+    ),
+    (
+        "enable",
+        "it is `one_pass 1` or `one_pass 0`; nothing else is enabled or disabled here",
+    ),
+    (
+        "disable",
+        "it is `one_pass 1` or `one_pass 0`; nothing else is enabled or disabled here",
+    ),
+    ("sysctl", "a scenario says it itself: @0 one_pass 0"),
+    (
+        "net.inet.ip.fw.one_pass=0",
+        "a scenario says it itself: @0 one_pass 0",
+    ),
+    (
+        "net.inet.ip.fw.one_pass=1",
+        "a scenario says it itself: @0 one_pass 1",
+    ),
+    ("one_pass=0", "a space stands there, no =: one_pass 0"),
+    ("one_pass=1", "a space stands there, no =: one_pass 1"),
+    (
+        "config",
+        "the word `pipe` and a number stand before it: pipe 1 config",
+    ),
+];
+
+/// The verbs themselves, for slips.
+pub const OWN_VERBS: [Says; 11] = [
+    ("add", "did you mean `add`?"),
+    ("delete", "did you mean `delete`?"),
+    ("pipe", "did you mean `pipe`?"),
+    ("show", "did you mean `show`?"),
+    ("inject", "did you mean `inject`?"),
+    ("train", "did you mean `train`?"),
+    ("flow", "did you mean `flow`?"),
+    ("stop", "did you mean `stop`?"),
+    ("one_pass", "did you mean `one_pass`?"),
+    ("trace", "did you mean `trace`?"),
+    ("end", "did you mean `end`?"),
+];
+
+/// Where a rule's action is wanted.
+pub const ACTIONS: [Says; 26] = [
+    ("accept", "it is spelled `allow` here"),
+    ("pass", "it is spelled `allow` here"),
+    ("permit", "it is spelled `allow` here"),
+    ("drop", "it is spelled `deny` here, and nothing is answered"),
+    (
+        "reject",
+        "it is spelled `deny` here, and nothing is answered",
+    ),
+    (
+        "reset",
+        "it is spelled `deny` here, and nothing is answered",
+    ),
+    (
+        "unreach",
+        "it is spelled `deny` here, and nothing is answered",
+    ),
+    ("queue", "dummynet's queues aren't here, only pipes"),
+    ("check-state", NO_STATE),
+    ("divert", NO_SUCH_ACTION),
+    ("tee", NO_SUCH_ACTION),
+    ("fwd", NO_SUCH_ACTION),
+    ("nat", NO_SUCH_ACTION),
+    ("call", NO_SUCH_ACTION),
+    ("return", NO_SUCH_ACTION),
+    ("netgraph", NO_SUCH_ACTION),
+    ("setfib", NO_SUCH_ACTION),
+    (
+        "log",
+        "there is no log here: leave `log` out; the report has every packet",
+    ),
+    (
+        "set",
+        "there are no sets of rules here: leave `set` and its number out",
+    ),
+    (
+        "prob",
+        "a share of the packets is dropped by a pipe's `plr`, not by a rule's `prob`",
+    ),
+    ("ip", ORDER),
+    ("tcp", ORDER),
+    ("udp", ORDER),
+    ("all", ORDER),
+    (
+        "from",
+        "the action and the protocol stand before it: add 100 allow ip from any to any",
+    ),
+    (
+        "any",
+        "the action and the protocol stand before it: add 100 allow ip from any to any",
+    ),
+];
+
+/// The actions themselves, for slips.
+pub const OWN_ACTIONS: [Says; 5] = [
+    ("allow", "did you mean `allow`?"),
+    ("deny", "did you mean `deny`?"),
+    ("count", "did you mean `count`?"),
+    ("skipto", "did you mean `skipto`?"),
+    ("pipe", "did you mean `pipe`?"),
+];
+
+/// Where an option of a pipe is wanted.
+pub const OPTIONS: [Says; 27] = [
+    ("target", "`target` and `interval` directly follow `codel`"),
+    (
+        "interval",
+        "`target` and `interval` directly follow `codel`",
+    ),
+    ("src-ip", "fields directly follow `mask`, and not `all`"),
+    ("dst-ip", "fields directly follow `mask`, and not `all`"),
+    ("proto", "fields directly follow `mask`, and not `all`"),
+    ("src-port", "fields directly follow `mask`, and not `all`"),
+    ("dst-port", "fields directly follow `mask`, and not `all`"),
+    ("ecn", "CoDel marks no packets here: ECN isn't there"),
+    ("noecn", "CoDel marks no packets here: ECN isn't there"),
+    ("red", "the disciplines here are droptail and codel"),
+    ("gred", "the disciplines here are droptail and codel"),
+    ("pie", "the disciplines here are droptail and codel"),
+    ("fq_codel", "the disciplines here are droptail and codel"),
+    ("fq_pie", "the disciplines here are droptail and codel"),
+    ("loss", "it is spelled `plr` here: plr 0.05"),
+    ("rate", "it is spelled `bw` here: bw 10Mbit/s"),
+    ("bandwidth", "it is spelled `bw` here: bw 10Mbit/s"),
+    ("latency", "it is spelled `delay` here: delay 20ms"),
+    (
+        "jitter",
+        "a pipe's delay is the same for each packet: there is no jitter",
+    ),
+    ("buckets", NO_OPTION),
+    ("burst", NO_OPTION),
+    ("weight", NO_OPTION),
+    ("type", NO_OPTION),
+    ("noerror", NO_OPTION),
+    ("profile", NO_OPTION),
+    ("flow-id", NO_OPTION),
+    ("sched", NO_OPTION),
+];
+
+/// The options themselves, for slips.
+pub const OWN_OPTIONS: [Says; 7] = [
+    ("delay", "did you mean `delay`?"),
+    ("queue", "did you mean `queue`?"),
+    ("plr", "did you mean `plr`?"),
+    ("mask", "did you mean `mask`?"),
+    ("droptail", "did you mean `droptail`?"),
+    ("codel", "did you mean `codel`?"),
+    ("bw", "did you mean `bw`?"),
+];
+
+/// The options of a flow, for slips.
+pub const OWN_FLOW_OPTIONS: [Says; 3] = [
+    ("ssthresh", "did you mean `ssthresh`?"),
+    ("window", "did you mean `window`?"),
+    ("rto", "did you mean `rto`?"),
+];
+
+/// Where a number is wanted, and a word stands that names a command.
+pub const FOR_NUMBERS: [Says; 6] = [
+    ("flush", EMPTY),
+    ("list", "all pipes are listed at once: pipe show"),
+    ("config", "the number stands before `config`: pipe 1 config"),
+    (
+        "allow",
+        "a rule's number isn't chosen for you: add 100 allow ip from any to any",
+    ),
+    (
+        "deny",
+        "a rule's number isn't chosen for you: add 100 deny ip from any to any",
+    ),
+    (
+        "pipe",
+        "a rule's number isn't chosen for you: add 100 pipe 1 ip from any to any",
+    ),
+];
+
+/// What is said of a word, if it is one of these.
+pub fn said_of(table: &[Says], word: &[u8]) -> Option<&'static str> {
+    for says in table {
+        if is(word, says.0) {
+            return Some(says.1);
+        }
+    }
+    None
+}
+
+/// What is said of a word that is one of these but for a slip: a letter wrong, missing or too much, or two turned round.
+pub fn meant_by(table: &[Says], word: &[u8]) -> Option<&'static str> {
+    if word.len() < 2 {
+        return None;
+    }
+    for says in table {
+        if is_near(word, says.0.as_bytes()) {
+            return Some(says.1);
+        }
+    }
+    None
+}
+
+// How many letters are the same at the front.
+fn same_front(first: &[u8], second: &[u8]) -> usize {
+    let mut count = 0usize;
+    for (a, b) in first.iter().zip(second) {
+        if a != b {
+            return count;
+        }
+        count = count.saturating_add(1);
+    }
+    count
+}
+
+// How many letters are the same at the back.
+fn same_back(first: &[u8], second: &[u8]) -> usize {
+    let mut count = 0usize;
+    for (a, b) in first.iter().rev().zip(second.iter().rev()) {
+        if a != b {
+            return count;
+        }
+        count = count.saturating_add(1);
+    }
+    count
+}
+
+// Whether the first two letters are the same two, turned round.
+fn are_turned(first: &[u8], second: &[u8]) -> bool {
+    match (first, second) {
+        ([a, b, ..], [c, d, ..]) => *a == *d && *b == *c,
+        _ => false,
+    }
+}
+
+// What stands from a place on, if that is within a word.
+fn rest_of(word: &[u8], from: usize) -> &[u8] {
+    let start = from.min(word.len());
+    &word[start..]
+}
+
+// Whether two words differ by one slip, and are not the same.
+fn is_near(word: &[u8], known: &[u8]) -> bool {
+    let front = same_front(word, known);
+    let first = rest_of(word, front);
+    let second = rest_of(known, front);
+    let back = same_back(first, second);
+    let wrong = first.len().saturating_sub(back);
+    let right = second.len().saturating_sub(back);
+    if wrong <= 1 && right <= 1 {
+        return wrong + right > 0;
+    }
+    wrong == 2 && right == 2 && are_turned(first, second)
+}

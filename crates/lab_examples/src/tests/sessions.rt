@@ -1,0 +1,78 @@
+//! Sessions over memory, and a scenario's bytes by the pure core.
+
+use super::*;
+use lab::{live, reports_of};
+
+/// What a session answers, and what it wrote.
+fn talk(alloc: Global, lines: &str) -> (Result<(), RunFault>, Vec<u8>) {
+    let mut reader = Device::new(lines.as_bytes());
+    let mut writer = Device::new(Vec::new(alloc));
+    let outcome = live(alloc, &mut reader, &mut writer);
+    (outcome, writer.into_inner())
+}
+
+/// 1000 bytes at 1 Mbit/s take 8 ms, and then 10 ms of delay: the packet comes at 18 ms, and the answer is sent 1 ns
+/// later.
+const ASKED: &str = "experiment by-hand seed 1 budget 10\n\
+    @0 pipe 1 config bw 1Mbit/s delay 10\n\
+    @0 add 100 pipe 1 ip from any to any\n\
+    @0 inject udp 10.0.0.1 1000 10.0.0.2 2000 1000\n\
+    #> next\n\
+    #> until @1000000000 first\n\
+    @18000001 inject udp 10.0.0.2 2000 10.0.0.1 1000 40\n\
+    #> until @10\n\
+    #> until @1000000000 first\n\
+    @28320002 end\n";
+
+const ANSWERED: &str = "experiment by-hand\n\
+    #< ok\n\
+    0 ok 0\n\
+    #< ok\n\
+    0 ok 1\n\
+    #< ok\n\
+    0 ok 2\n\
+    #< packet 0\n\
+    #< next 8000000\n\
+    8000000 finish 0 1.0\n\
+    18000000 deliver 0 plain\n\
+    #< now 18000001\n\
+    18000001 ok 3\n\
+    #< packet 1\n\
+    #< fault backwards\n\
+    18320001 finish 1 1.0\n\
+    28320001 deliver 1 plain\n\
+    #< now 28320002\n\
+    28320002 ok 4\n\
+    counters 2 2 0 0 0 0 0 0 0 0 0\n\
+    #< over 28320002\n";
+
+#[test]
+fn reacts_by_hand(rt: HostRuntime) {
+    let (outcome, written) = talk(rt.alloc(), ASKED);
+    assert!(rt; outcome == Ok(()));
+    assert!(rt; written.as_slice() == ANSWERED.as_bytes());
+}
+
+#[test]
+fn ends_as_a_text_does(rt: HostRuntime) {
+    let (outcome, written) = talk(rt.alloc(), "experiment a seed 1 budget 1\n@0 end");
+    let cause = Cause::Cut;
+    assert!(rt; outcome == Err(RunFault::Scenario(Fault { line: 2, cause })));
+    assert!(rt; written.as_slice() == "experiment a\n#< ok\n".as_bytes());
+    let (outcome, _written) = talk(rt.alloc(), "experiment a seed 1 budget 1\n");
+    let cause = Cause::NoEnd;
+    assert!(rt; outcome == Err(RunFault::Scenario(Fault { line: 2, cause })));
+}
+
+#[test]
+fn reports_from_bytes(rt: HostRuntime) -> Result<(), Fail> {
+    let reports = reports_of(rt.alloc(), texts::ONE_PACKET.as_bytes()).map_err(|_e| "reports")?;
+    assert!(rt; reports.texts().len() == 1);
+    for text in reports.texts() {
+        assert!(rt; text.as_bytes() == texts::ONE_PACKET_REPORT.as_bytes());
+    }
+    let fault = reports_of(rt.alloc(), b"@0 end\n").err();
+    let cause = Cause::NoExperiment;
+    assert!(rt; fault == Some(RunFault::Scenario(Fault { line: 1, cause })));
+    Ok(())
+}

@@ -1,0 +1,66 @@
+"""Scenarios that are packed by gzip, and what tells of a report that was run from one."""
+import gzip
+import hashlib
+import json
+from pathlib import Path
+from typing import Callable
+
+import pytest
+from conftest import ROOT, text_of, tool
+
+np = pytest.importorskip("numpy", reason="numpy is missing (Debian: python3-numpy)")
+Alone = Callable[[bytes], bytes]
+# 1000 bytes at 1 Mbit/s take 8 ms, and the delay is 10 ms more.
+BOUND = "injected: delay.median == 18ms"
+
+
+def packet(folder: Path) -> tuple[Path, Path, Path]:
+    """The example of one packet in a folder: its scenario packed and plain, and its report."""
+    text, report = text_of("one_packet", "scenario.txt"), text_of("one_packet", "expected.txt")
+    packed, plain, found = folder / "scenario.txt.gz", folder / "scenario.txt", folder / "report.txt"
+    packed.write_bytes(gzip.compress(text))
+    plain.write_bytes(text)
+    found.write_bytes(report)
+    return packed, plain, found
+
+
+def test_packed_scenarios_are_read(tmp_path: Path) -> None:
+    packed, plain, report = packet(tmp_path)
+    assert tool("expect", report, packed, BOUND)[0] == 0
+    assert tool("expect", report, "-", BOUND, text=packed.read_bytes())[0] == 0
+    assert tool("summary", report, packed, "--csv") == tool("summary", report, plain, "--csv")
+    assert tool("compare", report, report, packed)[0] == 0
+
+
+def test_a_cut_gzip_is_said(tmp_path: Path) -> None:
+    packed, _, report = packet(tmp_path)
+    packed.write_bytes(packed.read_bytes()[:-9])
+    for name, words in ("summary", [report, packed]), ("spread", [packed]):
+        status, out, err = tool(name, *words)
+        assert (status, out) == (2, "")
+        assert err.startswith(f"{name}: {packed}: line 1: its gzip is cut or damaged (") and err.count("\n") == 1
+
+
+def test_spread_says_what_made_its_report(tmp_path: Path, program: str) -> None:
+    packed, plain, expected = packet(tmp_path)
+    report = tmp_path / "spread.txt"
+    assert tool("spread", packed, "--out", report) == (0, "", "")
+    assert report.read_bytes() == expected.read_bytes()
+    told = json.loads((tmp_path / "spread.txt.json").read_bytes())
+    assert told["report"] == hashlib.sha256(expected.read_bytes()).hexdigest()
+    assert told["program"] == hashlib.sha256(Path(program).read_bytes()).hexdigest()
+    assert told["command"] == ["dnlab-spread", str(packed), "--out", str(report)]
+    assert tool("expect", report, plain, BOUND)[0] == 0
+    # Another delay makes another scenario, though the report's lines would be refused later too.
+    plain.write_bytes(plain.read_bytes().replace(b"delay 10", b"delay 11"))
+    status, _, err = tool("expect", report, plain, BOUND)
+    assert status == 2 and "it isn't the scenario that" in err
+
+
+def test_spread_keeps_the_scenario_that_run_keeps(tmp_path: Path, program: str) -> None:
+    results = pytest.importorskip("dnlab.runs", reason="pandas is missing (Debian: python3-pandas)")
+    text = ROOT / "cookbook" / "bufferbloat" / "scenario.txt"
+    assert tool("spread", text, "--parts", 2, "--out", tmp_path / "a.txt")[0] == 0
+    results.run(text, out=tmp_path / "b.txt", dnlab=program)
+    one, other = (json.loads((tmp_path / f"{name}.txt.json").read_bytes()) for name in "ab")
+    assert one["scenario"] == other["scenario"] and one["report"] == other["report"]
