@@ -13,10 +13,12 @@ from dnlab import __version__  # noqa: E402  (the path is set first)
 
 # What the machine lacks; `dnlab.errors` has it, which numpy's want must not keep from being said.
 MACHINE = 3
-COMMANDS = ("summary", "plot", "spread", "sweep", "compare", "expect", "view", "pcap")
+COMMANDS = ("summary", "plot", "spread", "sweep", "compare", "expect", "view", "pcap", "from-ipfw", "to-ipfw", "to-tc")
 NEEDS = {"summary": ("numpy",), "plot": ("numpy", "matplotlib"), "spread": ("numpy",),
          "sweep": ("numpy", "pandas", "scipy", "jinja2"), "compare": ("numpy",), "expect": ("numpy",),
-         "view": ("numpy", "plotly"), "pcap": ("numpy", "dpkt")}
+         "view": ("numpy", "plotly"), "pcap": ("numpy", "dpkt"), "from-ipfw": (),
+         "to-ipfw": (),
+         "to-tc": ()}
 HELP = """Tools for reports of dnlab, in Python.
 
   python3 -m dnlab summary REPORT [SCENARIO ..]   prints a table, or rows for other programs
@@ -27,6 +29,9 @@ HELP = """Tools for reports of dnlab, in Python.
   python3 -m dnlab expect REPORT [SCENARIO ..] BOUND ..   says whether a report keeps to bounds
   python3 -m dnlab view REPORT [SCENARIO ..]      makes a page to look at runs in a browser, packet by packet
   python3 -m dnlab pcap REPORT [SCENARIO ..]      writes packets as Wireshark and tcptrace read them
+  python3 -m dnlab from-ipfw FILE                 makes a scenario of a configuration of ipfw(8)
+  python3 -m dnlab to-ipfw SCENARIO               writes its pipes and rules as a script for ipfw(8)
+  python3 -m dnlab to-tc SCENARIO --dev ETH1      writes its pipes and rules as a script for tc(8)
 
 Each has --help and --version. In Python: import dnlab; help(dnlab).
 
@@ -81,7 +86,7 @@ def main(words: Optional[Sequence[str]] = None) -> int:
         help_alone(words)
         print(said_of(words[0], lacking), file=sys.stderr)
         return MACHINE
-    module = importlib.import_module(f"dnlab.commands.{words[0]}")
+    module = importlib.import_module(f"dnlab.commands.{words[0].replace('-', '_')}")
     try:
         status: int = module.main(words[1:])
         sys.stdout.flush()
@@ -143,6 +148,21 @@ def view() -> int:
 def pcap() -> int:
     """The script dnlab-pcap."""
     return main(["pcap", *sys.argv[1:]])
+
+
+def from_ipfw() -> int:
+    """The script dnlab-from-ipfw."""
+    return main(["from-ipfw", *sys.argv[1:]])
+
+
+def to_ipfw() -> int:
+    """The script dnlab-to-ipfw."""
+    return main(["to-ipfw", *sys.argv[1:]])
+
+
+def to_tc() -> int:
+    """The script dnlab-to-tc."""
+    return main(["to-tc", *sys.argv[1:]])
 
 
 if __name__ == "__main__":

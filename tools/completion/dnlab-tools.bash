@@ -32,6 +32,9 @@ _dnlab_tools() {
       words="--set --seeds --of --stat --ci --interval --csv --json --parquet --each --plot --dry-run --kept --anew"
       words+=" --workers --on --program --help"
       ;;
+    dnlab-from-ipfw:*) words="--if --me --flatten --drop-unmatchable --lenient --all --traffic --moment --end --name --seed --budget --trust --out --help" ;;
+    dnlab-to-ipfw:*) words="--experiment --if --host --timed --iperf --out --help" ;;
+    dnlab-to-tc:*) words="--experiment --dev --in --hosts --out --help" ;;
   esac
   COMPREPLY=()
   if [ -n "$words" ] && { [[ $now == -* ]] || [[ $before == --* ]]; }; then
@@ -40,4 +43,4 @@ _dnlab_tools() {
   # Else file names, which bash completes itself.
 }
 complete -o default -F _dnlab_tools dnlab-summary dnlab-plot dnlab-spread dnlab-sweep dnlab-compare dnlab-expect \
-  dnlab-view dnlab-pcap
+  dnlab-view dnlab-pcap dnlab-from-ipfw dnlab-to-ipfw dnlab-to-tc

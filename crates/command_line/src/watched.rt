@@ -43,10 +43,10 @@ impl Watched {
 
     /// How many experiments spent their steps.
     pub fn spent(&self) -> usize {
-        let mut count = 0;
+        let mut count = 0usize;
         for note in self.notes() {
             if note.subject == Subject::Spent {
-                count += 1;
+                count = count.saturating_add(1);
             }
         }
         count
