@@ -78,6 +78,8 @@ def test_time_is_the_links_and_costs_nothing(link: dnlab.Link) -> None:
         loop = asyncio.get_running_loop()
         loop.call_at(0.000000003, lambda: moments.append(link.now))
         loop.call_later(86400 * 3, lambda: moments.append(link.now))
+        # Times 10^9 this is 1000999999.9999999 in floating point.
+        loop.call_later(1.001, lambda: moments.append(link.now))
         await asyncio.sleep(0.1)
         moments.append(link.now)
         with pytest.raises(asyncio.TimeoutError):
@@ -89,7 +91,7 @@ def test_time_is_the_links_and_costs_nothing(link: dnlab.Link) -> None:
 
     begun = time.monotonic()
     assert sim.run(main(), link=link) == "done"
-    assert moments == [3, 100_000_000, 300_000_000, 259_200_000_000_000]
+    assert moments == [3, 100_000_000, 300_000_000, 1_001_000_000, 259_200_000_000_000]
     assert link.now == 345_600_300_000_000
     assert time.monotonic() - begun < 20
 
