@@ -13,12 +13,13 @@ from dnlab import __version__  # noqa: E402  (the path is set first)
 
 # What the machine lacks; `dnlab.errors` has it, which numpy's want must not keep from being said.
 MACHINE = 3
-COMMANDS = ("summary", "plot", "spread", "sweep", "compare", "expect", "view", "pcap", "from-ipfw", "to-ipfw", "to-tc")
+COMMANDS = ("summary", "plot", "spread", "sweep", "compare", "expect", "view", "pcap", "from-ipfw", "to-ipfw", "to-tc", "replay")
 NEEDS = {"summary": ("numpy",), "plot": ("numpy", "matplotlib"), "spread": ("numpy",),
          "sweep": ("numpy", "pandas", "scipy", "jinja2"), "compare": ("numpy",), "expect": ("numpy",),
          "view": ("numpy", "plotly"), "pcap": ("numpy", "dpkt"), "from-ipfw": (),
          "to-ipfw": (),
-         "to-tc": ()}
+         "to-tc": (),
+         "replay": ("dpkt",)}
 HELP = """Tools for reports of dnlab, in Python.
 
   python3 -m dnlab summary REPORT [SCENARIO ..]   prints a table, or rows for other programs
@@ -32,6 +33,7 @@ HELP = """Tools for reports of dnlab, in Python.
   python3 -m dnlab from-ipfw FILE                 makes a scenario of a configuration of ipfw(8)
   python3 -m dnlab to-ipfw SCENARIO               writes its pipes and rules as a script for ipfw(8)
   python3 -m dnlab to-tc SCENARIO --dev ETH1      writes its pipes and rules as a script for tc(8)
+  python3 -m dnlab replay FILE .. --link WORDS    sends the packets of a capture through a link
 
 Each has --help and --version. In Python: import dnlab; help(dnlab).
 
@@ -153,6 +155,11 @@ def to_ipfw() -> int:
 def to_tc() -> int:
     """The script dnlab-to-tc."""
     return main(["to-tc", *sys.argv[1:]])
+
+
+def replay() -> int:
+    """The script dnlab-replay."""
+    return main(["replay", *sys.argv[1:]])
 
 
 if __name__ == "__main__":
