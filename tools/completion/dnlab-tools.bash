@@ -15,6 +15,7 @@ _dnlab_tools() {
     *:--parts) words="4 16 64" ;;
     *:--at) words="sender receiver" ;;
     *:--large) words="refuse cut split" ;;
+    *:--outage) words="hold drop refuse" ;;
     *:--tolerance) words="delay.p95=5% goodput=1% drops=2 *=1%" ;;
     *:--lines) words="3 10" ;;
     *:--allow) words="refused spent refused,spent" ;;
@@ -37,6 +38,7 @@ _dnlab_tools() {
     dnlab-to-ipfw:*) words="--experiment --if --host --timed --iperf --out --help" ;;
     dnlab-to-tc:*) words="--experiment --dev --in --hosts --out --help" ;;
     dnlab-replay:*) words="--link --scenario --out --inject --large --align --tail --begin --seed --budget --help" ;;
+    dnlab-rate-trace:*) words="--config --scenario --experiment --pipe --every --outage --size --step --lowest --begin --repeat --out --help" ;;
   esac
   COMPREPLY=()
   if [ -n "$words" ] && { [[ $now == -* ]] || [[ $before == --* ]]; }; then
@@ -45,4 +47,4 @@ _dnlab_tools() {
   # Else file names, which bash completes itself.
 }
 complete -o default -F _dnlab_tools dnlab-summary dnlab-plot dnlab-spread dnlab-sweep dnlab-compare dnlab-expect \
-  dnlab-view dnlab-pcap dnlab-from-ipfw dnlab-to-ipfw dnlab-to-tc dnlab-replay
+  dnlab-view dnlab-pcap dnlab-from-ipfw dnlab-to-ipfw dnlab-to-tc dnlab-replay dnlab-rate-trace
