@@ -24,7 +24,7 @@ on. Rates at which a packet takes longer than they hold are told: it keeps its f
 
 Example:
   tools/rate-trace verizon.trace --scenario link.txt --pipe 1 --outage hold --out changing.txt
-  ./dnlab alone < changing.txt | tools/summary - changing.txt --of 'pipe *'
+  ./dnlab alone < changing.txt > report.txt
 
 Exit status: 0 written, 2 wrong usage or a faulty input, 3 what this machine lacks."""
 
