@@ -73,6 +73,9 @@ class Link:
         program sent: so that is where it can react. The events since the last call. For a packet that is dropped as it
         is sent time doesn't stop; that is told with the next events."""
         self._later(moment)
+        if self._events:
+            # They were told by a command at a later moment: time stands still until the program knows.
+            return self._taken()
         # (a packet takes 1 ns at least, so what was just sent and the request can go out together)
         return self._pass(f"#> until @{moment} first{'' if hold == 1 else f' {hold}'}")
 
@@ -80,6 +83,8 @@ class Link:
         """The same for the first delivery or drop of any packet; events of others are told too (but not by show='mine')."""
         self._later(moment)
         self._session.exchange()
+        if self._events:
+            return self._taken()
         self._wants_all = True
         try:
             return self._pass(f"#> until @{moment} first any{'' if hold == 1 else f' {hold}'}")

@@ -67,6 +67,14 @@ def test_hold_gathers_what_comes_behind_the_first(link: dnlab.Link) -> None:
     assert [it.moment for it in link.until_mine(hold=8 * MS + 1)] == [26 * MS, 34 * MS]
 
 
+def test_what_happened_is_told_before_time_goes_on(link: dnlab.Link) -> None:
+    for wait in (link.until_mine, link.until_any):
+        begun = link.now
+        link.send(CLIENT, SERVER, 1000)
+        link.command("show", at=begun + 20 * MS)
+        assert ([it.moment for it in wait()], link.now) == ([begun + 18 * MS], begun + 20 * MS)
+
+
 def test_until_any_is_told_of_trains(link: dnlab.Link) -> None:
     link.command("train 9 udp 10.0.0.2 1 10.0.1.2 2 1000 count 2 gap 1000000000")
     mine = link.send(CLIENT, SERVER, 1000)
