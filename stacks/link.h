@@ -14,6 +14,7 @@ typedef struct word { const char *name, *value, *about; } word;
   {"mbytes", "10", "how much goes over, in MB (10^6 bytes)"}, {"bw", "10Mbit/s", "rate of the way there"}, \
   {"delay", "20", "ms, each way"}, {"queue", "100 codel", "of the way there"}, {"plr", "0", "share lost on the way there"}, \
   {"seed", "1", "of the link's chances"}, {"reno", "0", "1: a built-in Reno flow goes the same way"}, \
+  {"trace", "0", "1: the report has a line for each packet's making and arrival, as tools/pcap needs"}, \
   {"hold", "1", "ns for which deliveries are gathered (a network card's coalescing)"}
 
 static inline void stop(int status, const char *what, const char *more) {
@@ -62,6 +63,7 @@ static inline live *link_of(char **argv, const char *name, const word *words) {
   l->transcript = file_of(argv[1]);
   l->report = file_of(argv[2]);
   must(l, live_experiment(l, name, strtoull(value_of(words, "seed"), NULL, 10), 5000, 10000000));
+  if (strcmp(value_of(words, "trace"), "1") == 0) must(l, live_command(l, "trace 1"));
   snprintf(line, sizeof line, "pipe 1 config bw %.50s delay %.50s queue %.50s plr %.50s", value_of(words, "bw"), value_of(words, "delay"),
            value_of(words, "queue"), value_of(words, "plr"));
   must(l, live_command(l, line));

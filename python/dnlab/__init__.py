@@ -37,12 +37,15 @@ _PLACES = {"Experiment": "results", "Report": "results", "intervals": "results",
            "CommandRefused": "session_events", "Event": "session_events", "NotTaken": "session_events",
            "Over": "session_events", "Packet": "session_events", "Link": "session_links", "Session": "sessions",
            "live": "sessions"}
+_MODULES = ("hosts", "sim")
 _NEEDS = {"figures": (), "results": ("numpy", "pandas"), "runs": ("numpy", "pandas"),
           "sweeps": ("numpy", "pandas", "scipy", "jinja2"), "session_events": (), "session_links": (), "sessions": ()}
 
 
 def __getattr__(name: str) -> Any:
     """Loads what is asked for, so that what needs no numpy works without it."""
+    if name in _MODULES:
+        return importlib.import_module(f"dnlab.{name}")
     if name not in _PLACES:
         raise AttributeError(f"module 'dnlab' has no attribute {name!r}")
     place = _PLACES[name]

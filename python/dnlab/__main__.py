@@ -14,12 +14,14 @@ from dnlab import __version__  # noqa: E402  (the path is set first)
 
 # What the machine lacks; `dnlab.errors` has it, which numpy's want must not keep from being said.
 MACHINE = 3
-COMMANDS = ("summary", "plot", "spread", "sweep", "compare", "expect", "view", "pcap", "from-ipfw", "to-ipfw", "to-tc")
+COMMANDS = ("summary", "plot", "spread", "sweep", "compare", "expect", "view", "pcap", "from-ipfw", "to-ipfw", "to-tc", "replay", "rate-trace")
 NEEDS = {"summary": ("numpy",), "plot": ("numpy", "matplotlib"), "spread": ("numpy",),
          "sweep": ("numpy", "pandas", "scipy", "jinja2"), "compare": ("numpy",), "expect": ("numpy",),
          "view": ("numpy", "plotly"), "pcap": ("numpy", "dpkt"), "from-ipfw": (),
          "to-ipfw": (),
-         "to-tc": ()}
+         "to-tc": (),
+         "replay": ("dpkt",),
+         "rate-trace": ()}
 HELP = """Tools for reports of dnlab, in Python.
 
   python3 -m dnlab summary REPORT [SCENARIO ..]   prints a table, or rows for other programs
@@ -33,6 +35,8 @@ HELP = """Tools for reports of dnlab, in Python.
   python3 -m dnlab from-ipfw FILE                 makes a scenario of a configuration of ipfw(8)
   python3 -m dnlab to-ipfw SCENARIO               writes its pipes and rules as a script for ipfw(8)
   python3 -m dnlab to-tc SCENARIO --dev ETH1      writes its pipes and rules as a script for tc(8)
+  python3 -m dnlab replay FILE .. --link WORDS    sends the packets of a capture through a link
+  python3 -m dnlab rate-trace FILE                makes a pipe's rate follow a trace
 
 Each has --help and --version. In Python: import dnlab; help(dnlab).
 
@@ -169,6 +173,16 @@ def to_ipfw() -> int:
 def to_tc() -> int:
     """The script dnlab-to-tc."""
     return main(["to-tc", *sys.argv[1:]])
+
+
+def replay() -> int:
+    """The script dnlab-replay."""
+    return main(["replay", *sys.argv[1:]])
+
+
+def rate_trace() -> int:
+    """The script dnlab-rate-trace."""
+    return main(["rate-trace", *sys.argv[1:]])
 
 
 if __name__ == "__main__":

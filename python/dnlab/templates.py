@@ -14,10 +14,11 @@ import jinja2.sandbox
 from dnlab.chance import Chance
 from dnlab.errors import Faulty
 from dnlab.scenario import MOST_BYTES
+from dnlab.traffic import Traffic
 
 Value = Union[int, float, str]
 # What a template is given besides the settings.
-GIVEN = ("name", "seed", "rng")
+GIVEN = ("name", "seed", "rng", "traffic")
 _TEXT = "<template>"
 # A loop over more numbers would make a text that no program takes.
 _MOST_NUMBERS = 10**6
@@ -205,7 +206,9 @@ class Template:
         """The text of an experiment; its last line is ended. `Faulty` where it is longer than a scenario may be."""
         parts, size = [], 0
         try:
-            for part in self._compiled.generate({**settings, "name": name, "seed": seed, "rng": Chance(seed)}):
+            rng = Chance(seed)
+            given = {**settings, "name": name, "seed": seed, "rng": rng, "traffic": Traffic(rng)}
+            for part in self._compiled.generate(given):
                 parts.append(part)
                 size += len(part)
                 if size > MOST_BYTES:

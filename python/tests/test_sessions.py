@@ -178,6 +178,16 @@ def test_callbacks(link: dnlab.Link) -> None:
     assert came == [-5 * MS, 18 * MS, 18 * MS + 1 + 10_320_000]
 
 
+def test_hosts_hear_of_deliveries_alone(link: dnlab.Link) -> None:
+    loop, came = Loop(link), []
+    loop.host(SERVER, lambda event: came.append((event.moment, event.cause)))
+    for _ in range(4):
+        link.send(CLIENT, SERVER, 1000)
+    loop.run()
+    # The fourth finds no room.
+    assert came == [(18 * MS, ""), (26 * MS, ""), (34 * MS, "")]
+
+
 def test_generators(link: dnlab.Link) -> None:
     """A client asks three times; a server takes 3 ms to answer."""
     asked: list[float] = []

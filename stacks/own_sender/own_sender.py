@@ -2,6 +2,7 @@
 """A sender of one's own, with CUBIC's window (RFC 9438), over a link of dnlab.
 
     own_sender.py SCENARIO REPORT [--mbytes 10] [--bw 10Mbit/s] [--delay 20] [--queue '100 codel'] [--plr 0] [--seed 1] [--reno]
+                  [--trace]
 
 SCENARIO gets the transcript, which `dnlab alone` runs to REPORT. Each packet has a number and is acknowledged by itself; one is
 held for lost once a packet sent three later is acknowledged, or at a timeout of RFC 6298. The program is the one that DNLAB
@@ -157,6 +158,8 @@ def transfer(link: dnlab.Link, packets: int) -> Sender:
 def run(words: argparse.Namespace) -> None:
     with dnlab.live() as session:
         link = session.experiment("own-sender", seed=words.seed, budget=5000, steps=10**7)
+        if words.trace:
+            link.command("trace 1")
         link.command(f"pipe 1 config bw {words.bw} delay {words.delay} queue {words.queue} plr {words.plr}")
         link.command(f"pipe 2 config delay {words.delay}")
         link.command("add 100 pipe 1 ip from 10.0.0.0/24 to 10.0.1.0/24")
@@ -184,6 +187,7 @@ def main() -> int:
     for name, value in (("bw", "10Mbit/s"), ("delay", "20"), ("queue", "100 codel"), ("plr", "0")):
         parser.add_argument(f"--{name}", default=value)
     parser.add_argument("--seed", type=int, default=1)
+    parser.add_argument("--trace", action="store_true", help="the report has a line for each packet's making, as tools/pcap needs")
     parser.add_argument("--reno", action="store_true", help="a built-in Reno flow goes the same way")
     words = parser.parse_args()
     ending.watch("own_sender")

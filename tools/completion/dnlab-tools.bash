@@ -14,6 +14,8 @@ _dnlab_tools() {
     *:--workers | *:--jobs) words="1 2 4 8" ;;
     *:--parts) words="4 16 64" ;;
     *:--at) words="sender receiver" ;;
+    *:--large) words="refuse cut split" ;;
+    *:--outage) words="hold drop refuse" ;;
     *:--tolerance) words="delay.p95=5% goodput=1% drops=2 *=1%" ;;
     *:--lines) words="3 10" ;;
     *:--allow) words="refused spent refused,spent" ;;
@@ -35,6 +37,8 @@ _dnlab_tools() {
     dnlab-from-ipfw:*) words="--if --me --flatten --drop-unmatchable --lenient --all --traffic --moment --end --name --seed --budget --trust --out --help" ;;
     dnlab-to-ipfw:*) words="--experiment --if --host --timed --iperf --out --help" ;;
     dnlab-to-tc:*) words="--experiment --dev --in --hosts --out --help" ;;
+    dnlab-replay:*) words="--link --scenario --out --inject --large --align --tail --begin --seed --budget --help" ;;
+    dnlab-rate-trace:*) words="--config --scenario --experiment --pipe --every --outage --size --step --lowest --begin --repeat --out --help" ;;
   esac
   COMPREPLY=()
   if [ -n "$words" ] && { [[ $now == -* ]] || [[ $before == --* ]]; }; then
@@ -43,4 +47,4 @@ _dnlab_tools() {
   # Else file names, which bash completes itself.
 }
 complete -o default -F _dnlab_tools dnlab-summary dnlab-plot dnlab-spread dnlab-sweep dnlab-compare dnlab-expect \
-  dnlab-view dnlab-pcap dnlab-from-ipfw dnlab-to-ipfw dnlab-to-tc
+  dnlab-view dnlab-pcap dnlab-from-ipfw dnlab-to-ipfw dnlab-to-tc dnlab-replay dnlab-rate-trace

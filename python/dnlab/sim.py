@@ -1,0 +1,199 @@
+"""An event loop for asyncio in simulated time: programs that use its datagrams run over a link of dnlab, unchanged.
+
+    async def main():
+        loop = asyncio.get_running_loop()
+        with sim.host("10.0.1.1"):
+            await loop.create_datagram_endpoint(Server, local_addr=("0.0.0.0", 53))
+        await asyncio.sleep(3600)                      # costs no real time
+
+    with dnlab.live() as session:
+        link = session.experiment("loop", seed=1)
+        link.command("add 100 allow ip from any to any")
+        dnlab.sim.run(main(), link=link)
+
+Nothing waits for real time and no socket is opened, so two runs have one transcript, where the program's own chances have
+seeds. Streams, subprocesses and signals of the loop are refused; what is handed to an executor is done at once.
+"""
+import asyncio
+import errno
+import ipaddress
+import socket
+import time
+from contextlib import contextmanager
+from typing import Any, Callable, Coroutine, Iterator, Mapping, NoReturn, Optional, TypeVar
+
+from dnlab.session_events import LATEST, Address, Event
+from dnlab.session_links import Link
+from dnlab.sim_datagrams import Network, fault_of, here, host
+
+__all__ = ["Deadlock", "Loop", "host", "run"]
+_Result = TypeVar("_Result")
+# What the machine's clock says at the link's moment 0: the beginning of 2026, in seconds since 1970.
+EPOCH = 1_767_225_600
+# So many turns of the loop without time passing are no program's intent.
+_MOST_TURNS = 1_000_000
+_REFUSED = ("create_connection", "create_server", "create_unix_connection", "create_unix_server", "connect_accepted_socket",
+            "connect_read_pipe", "connect_write_pipe", "subprocess_shell", "subprocess_exec", "add_reader", "remove_reader",
+            "add_writer", "remove_writer", "sock_recv", "sock_recv_into", "sock_recvfrom", "sock_recvfrom_into", "sock_sendall",
+            "sock_sendto", "sock_connect", "sock_accept", "sock_sendfile", "sendfile", "start_tls", "add_signal_handler",
+            "remove_signal_handler")
+
+
+class Deadlock(Exception):
+    """Nothing will happen any more, and something still waits: the words say what for."""
+
+
+def _waits(task: "asyncio.Task[Any]") -> str:
+    """Where a task waits."""
+    inner: Any = task.get_coro()
+    while True:
+        further = getattr(inner, "cr_await", None) or getattr(inner, "ag_await", None) or getattr(inner, "gi_yieldfrom", None)
+        if further is None or not any(hasattr(further, it) for it in ("cr_frame", "gi_frame", "ag_frame")):
+            break
+        inner = further
+    frame = getattr(inner, "cr_frame", None) or getattr(inner, "gi_frame", None)
+    where = f"{frame.f_code.co_filename}:{frame.f_lineno}" if frame else "?"
+    return f"{task.get_name()} waits in {getattr(inner, '__qualname__', inner)} ({where})"
+
+
+class _Selector:
+    """What asyncio's loop asks in place of the operating system: time passes on the link, to the first delivery."""
+
+    def __init__(self, loop: "Loop") -> None:
+        self._loop = loop
+        self._turns = 0
+
+    def select(self, timeout: Optional[float]) -> list[Event]:
+        """The deliveries and drops within a time (s); None is for ever."""
+        if timeout is not None and timeout <= 0:
+            self._turns += 1
+            if self._turns > _MOST_TURNS:
+                raise Deadlock(f"{_MOST_TURNS} turns of the loop, and no time passes (a loop round asyncio.sleep(0)?): "
+                               + self._loop.waiting())
+            return []
+        self._turns = 0
+        link = self._loop.link
+        if timeout is None and link.next_due() is None or link.now >= LATEST:
+            raise Deadlock(f"nothing is due at {link.now} ns, and no timer is set: {self._loop.waiting()}")
+        # A timer's moment lies less than half a nanosecond from a whole one: seconds up to 10^6 have 53 bits.
+        until = LATEST if timeout is None else link.now + max(1, round(timeout * 1e9))
+        return link.until_mine(min(until, LATEST), self._loop.hold)
+
+
+class Loop(asyncio.BaseEventLoop):
+    """The loop. `link` is the link and `hold` that of its `until_mine` (ns)."""
+
+    def __init__(self, link: Link, hold: int = 1, names: Optional[Mapping[str, str]] = None) -> None:
+        super().__init__()
+        self.link, self.hold = link, hold
+        self._names = {"localhost": "127.0.0.1", **(names or {})}
+        self._network = Network(link)
+        # asyncio's loop takes a timer that is due within this (s).
+        self._clock_resolution = 1e-9
+        self._selector = _Selector(self)
+
+    def time(self) -> float:
+        """The link's time in seconds; its nanoseconds are `link.now`."""
+        return self.link.now / 1e9
+
+    def waiting(self) -> str:
+        """What waits, for a message."""
+        return "; ".join(sorted(map(_waits, asyncio.all_tasks(self)))) or "no task is left"
+
+    def _process_events(self, events: list[Event]) -> None:
+        for event in events:
+            self._network.deliver(event)
+
+    def _write_to_self(self) -> None:
+        """Wakes a loop that waits for real time, which this one never does."""
+
+    def run_in_executor(self, executor: Any, func: Callable[..., Any], *args: Any) -> "asyncio.Future[Any]":
+        """Does it at once, and takes no simulated time."""
+        future = self.create_future()
+        try:
+            future.set_result(func(*args))
+        except Exception as fault:  # noqa: BLE001  (it belongs to who awaits it)
+            future.set_exception(fault)
+        return future
+
+    def address_of(self, name: Any) -> str:
+        """The IPv4 address of a name or address; that of the host where it says none. `OSError` where there is none."""
+        said = str(name or "0.0.0.0")
+        said = self._names.get(said, said)
+        try:
+            found = ipaddress.ip_address(said)
+        except ValueError:
+            raise socket.gaierror(socket.EAI_NONAME, f"{said} is no address, nor one of the names that were given") from None
+        if found.version != 4:
+            raise fault_of(errno.EAFNOSUPPORT)
+        return here() if found.is_unspecified or found.is_loopback else said
+
+    async def getaddrinfo(self, host: Any, port: Any, *, family: int = 0, type: int = 0, proto: int = 0,
+                          flags: int = 0) -> list[Any]:
+        kind = socket.SocketKind(type or socket.SOCK_DGRAM)
+        return [(socket.AF_INET, kind, proto or socket.IPPROTO_UDP, "", (self.address_of(host), int(port or 0)))]
+
+    async def getnameinfo(self, sockaddr: Any, flags: int = 0) -> tuple[str, str]:
+        return str(sockaddr[0]), str(sockaddr[1])
+
+    async def create_datagram_endpoint(self, protocol_factory: Callable[[], Any], local_addr: Any = None,
+                                       remote_addr: Any = None, *, family: int = 0, sock: Any = None, **_: Any) -> tuple[Any, Any]:
+        """An endpoint at an address of the link; without one at that of `host`, at a port that is free. `OSError` as an
+        operating system has it."""
+        if sock is not None:
+            raise ValueError("a real socket can't be used in simulated time")
+        if family not in (0, socket.AF_INET):
+            raise fault_of(errno.EAFNOSUPPORT)
+        local: Address = (self.address_of(local_addr[0]), int(local_addr[1])) if local_addr else (here(), 0)
+        remote = (self.address_of(remote_addr[0]), int(remote_addr[1])) if remote_addr else None
+        endpoint = self._network.bind(self, local, remote)
+        protocol = protocol_factory()
+        endpoint.begin(protocol)
+        await asyncio.sleep(0)
+        return endpoint, protocol
+
+
+def _refusal(name: str) -> Callable[..., NoReturn]:
+    def refused(*_: Any, **__: Any) -> NoReturn:
+        raise NotImplementedError(f"{name} isn't there in simulated time: only datagrams, timers and tasks are")
+    return refused
+
+
+for _name in _REFUSED:
+    setattr(Loop, _name, _refusal(_name))
+
+
+@contextmanager
+def clocks(link: Link) -> Iterator[None]:
+    """Within the block `time.time`, `time.monotonic` and `time.perf_counter` say the link's time, also as `_ns`. What a
+    program took by `from time import ..` before stays the machine's."""
+    kept = {name: getattr(time, name) for word in ("time", "monotonic", "perf_counter") for name in (word, word + "_ns")}
+    for name in kept:
+        begin = EPOCH * 10**9 if name.startswith("time") else 0
+        if name.endswith("_ns"):
+            setattr(time, name, lambda begin=begin: begin + link.now)
+        else:
+            setattr(time, name, lambda begin=begin: (begin + link.now) / 1e9)
+    try:
+        yield
+    finally:
+        for name, call in kept.items():
+            setattr(time, name, call)
+
+
+def run(main: Coroutine[Any, Any, _Result], *, link: Link, hold: int = 1, names: Optional[Mapping[str, str]] = None,
+        has_clocks: bool = True) -> _Result:
+    """Runs a program to its end, and gives its result, as `asyncio.run`.
+
+    link        the link of a session, with its rules and pipes; it isn't ended
+    hold        for so long (ns) deliveries are gathered, as by a network card
+    names       the addresses of names: {"server": "10.0.1.1"}
+    has_clocks  whether the clocks of the module `time` say the link's time meanwhile
+
+    `Deadlock` where all that is left waits for ever, `Over` where the experiment's steps are spent.
+    """
+    with asyncio.Runner(loop_factory=lambda: Loop(link, hold, names)) as runner:
+        if not has_clocks:
+            return runner.run(main)
+        with clocks(link):
+            return runner.run(main)

@@ -1,0 +1,99 @@
+"""Sources of traffic in templates: what is merged, and means by the formulas of their distributions."""
+import math
+import statistics
+from itertools import pairwise
+from typing import Callable
+
+import pytest
+
+pytest.importorskip("jinja2", reason="jinja2 is missing (Debian: python3-jinja2)")
+
+from dnlab.chance import Chance  # noqa: E402  (what is wanted is asked for first)
+from dnlab.errors import Faulty  # noqa: E402
+from dnlab.scenario import read  # noqa: E402
+from dnlab.templates import Template  # noqa: E402
+from dnlab.traffic import Traffic  # noqa: E402
+
+SECOND = 10**9
+TEMPLATE = """experiment {{ name }} seed {{ seed }} budget 1000
+@0 pipe 1 config bw 1Mbit/s
+@0 add 100 pipe 1 ip from any to any
+{{ traffic.every(30 | ms, 100 | ms, "inject udp 10.0.0.1 1 10.0.1.1 2 100", begin=20 | ms) }}
+{{ traffic.at(50 | ms, "pipe 1 config bw 2Mbit/s", "inject udp 10.0.0.2 1 10.0.1.1 2 200") }}
+{{ traffic.at(1 | ms, "inject udp 10.0.0.3 1 10.0.1.1 2 300") }}
+{{ traffic }}
+@{{ 1 | s }} end
+"""
+
+
+def moments(one: Traffic) -> list[int]:
+    return [int(line.split()[0][1:]) for line in one.lines()]
+
+
+def test_sources_are_merged(alone: Callable[[bytes], bytes]) -> None:
+    """By hand: at 20, 50 and 80 ms; behind it at 50 ms two commands, in their order; and one before all."""
+    text = Template(TEMPLATE).made("a", 1, {})
+    commands = read(text.encode())["a"].commands
+    assert [(one.moment // 10**6, one.text.split()[-1]) for one in commands[2:-1]] == [
+        (1, "300"), (20, "100"), (50, "100"), (50, "2Mbit/s"), (50, "200"), (80, "100")]
+    # 300 bytes take 2.4 ms at 1 Mbit/s.
+    assert b"3400001 deliver 0 plain" in alone(text.encode())
+
+
+def test_poisson() -> None:
+    """The mean of n gaps is within five of its standard errors, mean / sqrt(n)."""
+    one = Traffic(Chance(1))
+    one.poisson(10**6, 10 * SECOND, "show")
+    gaps = [after - before for before, after in pairwise(moments(one))]
+    assert abs(statistics.mean(gaps) - 10**6) < 5 * 10**6 / math.sqrt(len(gaps)) and len(gaps) > 9000
+
+
+@pytest.mark.parametrize("shape", [None, 3])
+def test_on_off(shape: "int | None") -> None:
+    """On for 1 s and off for 3 s on average: a quarter of the packets of a source that is always on, 100 a second."""
+    one = Traffic(Chance(2))
+    one.on_off(SECOND, 3 * SECOND, 10**7, 4000 * SECOND, "show", shape=shape)
+    assert abs(len(moments(one)) / 400000 - 0.25) < 0.03
+    gaps = [after - before for before, after in pairwise(moments(one))]
+    assert gaps.count(10**7) > 0.97 * len(gaps)
+
+
+def test_flows() -> None:
+    """A Pareto of shape 2 and least 10 has the median 10 * sqrt(2), 14.1."""
+    one = Traffic(Chance(3))
+    one.flows(10**7, 20 * SECOND, "flow {flow} 10.0.0.1 {flow} 10.0.1.1 80 smss 1460 segments {segments}", first=5, shape=2, least=10, most=900)
+    rows = [line.split() for line in one.lines()]
+    assert [int(row[2]) for row in rows] == list(range(5, 5 + len(rows))) and len(rows) > 1800
+    sizes = [int(row[-1]) for row in rows]
+    assert 13 < statistics.median(sizes) < 15.5 and min(sizes) == 10 and max(sizes) <= 900
+
+
+def test_web() -> None:
+    """20 users who look at a page for 5 s each ask some 20 * 100 / 5 times in 100 s."""
+    one = Traffic(Chance(4))
+    one.web(20, 5 * SECOND, 100 * SECOND, "flow {flow} 10.0.1.1 80 10.0.0.{user} {flow} smss 1460 segments {segments}")
+    rows = [line.split() for line in one.lines()]
+    assert abs(len(rows) - 400) < 5 * math.sqrt(400)
+    assert [int(row[2]) for row in rows] == list(range(1, len(rows) + 1))
+    assert {row[5] for row in rows} == {f"10.0.0.{user}" for user in range(1, 21)}
+    few = Traffic(Chance(4))
+    few.web(20, 5 * SECOND, 100 * SECOND, "flow {flow}", pages=2)
+    assert len(few.lines()) == 40
+
+
+def test_it_hangs_on_the_seed_alone() -> None:
+    def drawn(seed: int) -> list[str]:
+        one = Traffic(Chance(seed))
+        one.web(3, SECOND, 20 * SECOND, "flow {flow} {segments}")
+        return one.lines()
+    assert drawn(1) == drawn(1) != drawn(2)
+
+
+@pytest.mark.parametrize("source, wanted", [
+    ('traffic.every(0, 9, "show")', "gap"), ('traffic.at(1.5, "show")', "whole number"), ('traffic.at(1, "a\\nb")', "one command"),
+    ('traffic.on_off(0, 1, 1, 9, "show")', "above 0"), ('traffic.on_off(1, 1, 1, 9, "show", shape=1)', "above 1"),
+    ('traffic.every(1, 10000000, "show")', "more than")])
+def test_wrong_sources(source: str, wanted: str) -> None:
+    """Told with the template's line."""
+    with pytest.raises(Faulty, match=f"line 2.*{wanted}"):
+        Template("experiment a seed 0 budget 1\n{{ " + source + " }}\n@0 end\n").made("a", 0, {})
