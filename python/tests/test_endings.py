@@ -43,6 +43,12 @@ WAYS = [(signal.SIGINT, "tool"), (signal.SIGTERM, "tool"), (signal.SIGHUP, "tool
 BEGINNING = 0.2
 
 
+def heed_signals() -> None:
+    """Takes signals as a terminal's program does, also where pytest was started by nohup or in the background of a script."""
+    for number in signal.SIGINT, signal.SIGTERM, signal.SIGHUP:
+        signal.signal(number, signal.SIG_DFL)
+
+
 class Place:
     """A folder with a template, where a sweep is called; temporary files have a folder of their own."""
 
@@ -56,7 +62,8 @@ class Place:
 
     def begin(self, *words: str) -> "subprocess.Popen[str]":
         return subprocess.Popen([sys.executable, ROOT / "tools" / "sweep", *WORDS, *words], cwd=self.folder, env=self.env,
-                                stdout=subprocess.PIPE, stderr=subprocess.PIPE, text=True, start_new_session=True)
+                                stdout=subprocess.PIPE, stderr=subprocess.PIPE, text=True, start_new_session=True,
+                                preexec_fn=heed_signals)
 
     def kept(self) -> int:
         try:

@@ -50,7 +50,7 @@ def test_help_needs_no_package(name: str) -> None:
     assert (help_bare.returncode, help_bare.stdout, help_bare.stderr) == (0, help_there.stdout, "")
     assert (version.returncode, version.stdout) == (0, f"dnlab-{name} {dnlab.__version__}\n")
     if NEEDS[name]:
-        assert other.returncode == 3 and other.stderr.startswith(f"{name}: numpy is missing in ") and not other.stdout
+        assert other.returncode == 3 and other.stderr.startswith(f"{name}: {NEEDS[name][0]} is missing in ") and not other.stdout
 
 
 def test_a_named_program_comes_first(tmp_path: Path, monkeypatch: pytest.MonkeyPatch) -> None:
