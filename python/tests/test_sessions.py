@@ -257,9 +257,11 @@ def test_a_session_ends_with_its_block(program: str) -> None:
         link.until(5)
 
 
+# SIGINT is heeded too where nohup, or a script that runs in the background, began the tests.
 LONG = """
-import sys
+import signal
 import dnlab
+signal.signal(signal.SIGINT, signal.default_int_handler)
 with dnlab.live() as session:
     link = session.experiment("a", budget=10, steps=10**7)
     link.command("add 100 allow ip from any to any")
