@@ -37,7 +37,7 @@
 #define LIVE_LINE 512                          /* what a line has at most */
 #define LIVE_GATHERED 32768                    /* bytes that are gathered before they are sent unasked */
 
-/* What became of a packet: delivered (cause is "") or dropped at a moment, for a cause of docs/use/REPORT.md. */
+/* What became of a packet: delivered (cause is "") or dropped at a moment, for a cause of docs/reference/report.md. */
 typedef struct live_event {
   uint64_t moment;
   void *payload;

@@ -2,12 +2,12 @@
 
     import dnlab
     r = dnlab.run(text, workers=4)            # or dnlab.read("report.txt", "scenario.txt")
-    p = r["q50-s1"].packets()                 # made, delivered, delay, size, of, pipe, fate
-    p[p.of == "train 9"].delay.quantile(.95)
+    p = r["q50-s1"].packets()                 # made, delivered, delay, bytes, sender, queue, outcome
+    p[p.sender == "train 9"].delay.quantile(.95)
     r["q50-s1"].windows(), .queues(), .drops(), .commands(), .counters, .ended
     r.summary(percentiles=(50, 95, 99))       # a row for each sender, pipe and experiment, with seed and settings
     dnlab.sweep("link.tmpl", queue=[10, 50], seed=range(30)).table()   # a template's means, with their intervals
-    with dnlab.live() as session:             # a program of one's own on a link (dnlab.sessions, dnlab.sim)
+    with dnlab.live() as session:             # a program of one's own on a link (dnlab.sessions, dnlab.sim, dnlab.senders)
         link = session.experiment("mine", seed=1)
 
 Moments and times are whole nanoseconds (int64), sizes bytes, rates bits per second; nothing is rounded on the way.

@@ -5,11 +5,13 @@ from typing import Any, Iterable, Iterator, NamedTuple, Optional, Sequence
 
 import numpy as np
 
+from dnlab.analysis.own import Own, own_in, own_of
+from dnlab.analysis.spans import Span
 from dnlab.digits import Ints
 from dnlab.errors import Faulty
 from dnlab.figures import percentile_name
 from dnlab.lines import CAUSES, pipe_name
-from dnlab.metrics import is_named
+from dnlab.metrics import is_named, plain_word
 from dnlab.scenario import Plan
 from dnlab.tables import WHOLE, Row, Tables
 from dnlab.view import Note, View
@@ -19,7 +21,7 @@ GROUPS = ("flows", "trains")
 USUAL = ("goodput", "delay.median", "delay.p95", "lost")
 _UNITS = {"packets": "packets", "delivered": "packets", "held": "packets", "again": "packets", "lost": "packets",
           "bytes": "bytes", "useful": "bytes", "rate": "bit/s", "goodput": "bit/s", "time": "ns", "first": "ns",
-          "last": "ns", "completion": "ns", "jain": "",
+          "last": "ns", "completion": "ns", "jain": "", "utilisation": "", "jitter": "ns",
           **{f"drops.{cause}": "packets" for cause in CAUSES}}
 _DELAYS = ("least", "mean", "median", "greatest")
 STATS = (*_UNITS, *(f"delay.{name}" for name in _DELAYS), "delay.pN")
@@ -45,6 +47,7 @@ def percentile_of(stat: str) -> Optional[str]:
     >>> percentile_of("delay.p99.9"), percentile_of("delay.mean")
     ('99.9', None)
     """
+    stat = plain_word(stat)
     if stat == "delay.median":
         return "50"
     found = re.fullmatch(r"delay\.p([0-9]{1,3}(?:\.[0-9]{1,6})?)", stat)
@@ -53,11 +56,26 @@ def percentile_of(stat: str) -> Optional[str]:
 
 def stats_of(text: str) -> tuple[str, ...]:
     """The words of `--stat`; one that there isn't is refused with those that there are."""
-    found = tuple(word.strip() for word in text.split(","))
+    found = tuple(own_in(word.strip()) or word.strip() for word in text.split(","))
     for word in found:
-        if word not in STATS[:-1] and percentile_of(word) is None:
-            raise ValueError(f"no stat {word!r}: {', '.join(STATS)} (N above 0 and up to 100, as delay.p95)")
+        if not isinstance(word, Own):
+            _known(word)
     return found
+
+
+def _known(word: str) -> None:
+    if plain_word(word) not in STATS[:-1] and percentile_of(word) is None:
+        raise ValueError(f"no stat {word!r}: {', '.join(STATS)} (N above 0 and up to 100, as delay.p95), or a function of"
+                         " one's own, FILE.py:NAME")
+
+
+def stats_given(stats: Any) -> tuple[str, ...]:
+    """The stats of a call in Python: words with commas between, functions of one's own, or several of both."""
+    several = stats if isinstance(stats, (list, tuple)) else [stats]
+    found: list[str] = []
+    for one in several:
+        found += [own_of(one)] if callable(one) else stats_of(one)
+    return tuple(found)
 
 
 def unit_of(stat: str) -> str:
@@ -66,7 +84,7 @@ def unit_of(stat: str) -> str:
     >>> unit_of("delay.p95"), unit_of("goodput")
     ('ns', 'bit/s')
     """
-    return _UNITS.get(stat, "ns")
+    return stat.unit if isinstance(stat, Own) else _UNITS.get(plain_word(stat), "ns")
 
 
 def merged(asks: Iterable[Ask]) -> list[Ask]:
@@ -113,20 +131,22 @@ def check(asks: Sequence[Ask], names: Sequence[str]) -> None:
             raise Faulty(f"--of {ask.of!r}: the template has {', '.join(names)}")
 
 
-def answer(view: View, asks: Sequence[Ask]) -> Found:
-    """What an experiment answers."""
-    stats = [stat for ask in asks for stat in ask.stats]
+def answer(view: View, asks: Sequence[Ask], span: Span = Span()) -> Found:
+    """What an experiment answers, of a part of its time; statistics of one's own are given all of it."""
+    stats = [stat for ask in asks for stat in ask.stats if not isinstance(stat, Own)]
     percentiles = sorted({found for found in map(percentile_of, stats) if found}, key=Fraction)
-    tables = Tables(view, percentiles, with_mean="delay.mean" in stats)
+    tables = Tables(view, percentiles, with_mean="delay.mean" in stats, span=span)
     rows = list(_rows(tables, [ask.of for ask in asks]))
     values: Values = {
-        ask.of: {stat: {row["of"]: figure(row, stat) for row in rows if is_named(row["of"], ask.of)}
+        ask.of: {str(stat): {row["of"]: stat.of(view, row["of"]) if isinstance(stat, Own) else figure(row, stat)
+                             for row in rows if is_named(row["of"], ask.of)}
                  for stat in ask.stats} for ask in asks}
     return Found(values, [note for note in view.notes if note.mark])
 
 
 def figure(row: Row, stat: str) -> Any:
     """A stat of a row; None where it can't be told."""
+    stat = plain_word(stat)
     if stat == "lost":
         drops = [row.get(cause) for cause in CAUSES]
         return None if None in drops else sum(count for count in drops if count)

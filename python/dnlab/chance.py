@@ -17,7 +17,7 @@ _BITS = 53
 class Chance:
     """The `rng` of a template; it hangs on the seed alone, so that settings are compared under the same chance."""
 
-    def __init__(self, seed: int) -> None:
+    def __init__(self, seed: object) -> None:
         self._source = random.Random(f"{seed}")
 
     def random(self) -> float:

@@ -6,6 +6,7 @@ from pathlib import Path
 from typing import TYPE_CHECKING, Any, Iterator, Optional, Sequence
 
 from dnlab import engines
+from dnlab.analysis.spans import Span
 from dnlab.children import Killed
 from dnlab.crew import Crew
 from dnlab.errors import Failed, Faulty
@@ -16,7 +17,8 @@ from dnlab.splitting import experiments_in, groups, shares
 
 if TYPE_CHECKING:
     from dnlab.asking import Ask, Found
-    from dnlab.sweeps import Answered, Sweep, Waiting
+    from dnlab.analysis.batches import Answered, Waiting
+    from dnlab.sweeps import Sweep
 
 DASK = "dask:"
 # What a part should take on another machine, in seconds. By ssh it is one text, all of whose reports the program keeps
@@ -61,7 +63,7 @@ def group_of(tried: int, took: float, workers: int, wanted: float = _PART) -> in
 
 def batches_of(waiting: Sequence["Waiting"], count: int) -> list[list[list["Waiting"]]]:
     """Experiments in so many parts, each of several texts."""
-    from dnlab.sweeps import together
+    from dnlab.analysis.batches import together
 
     batches = list(together(waiting, ceil(count / 4)))
     ends = groups([len(batch) for batch in batches], count)
@@ -73,7 +75,7 @@ def tried_here(sweep: "Sweep", sample: Sequence["Waiting"], program: str) -> Ite
     begun = time.monotonic()
     with Crew["Waiting"](sweep.workers) as crew:
         for one in sample:
-            crew.give(one, measured, [sweep.text(one.case)], sweep.asks, program)
+            crew.give(one, measured, [sweep.text(one.case)], sweep.asks, program, sweep.span)
         while len(crew) and time.monotonic() - begun < _TRIAL:
             try:
                 outcome = crew.next(max(0.0, _TRIAL - (time.monotonic() - begun)))
@@ -85,9 +87,9 @@ def tried_here(sweep: "Sweep", sample: Sequence["Waiting"], program: str) -> Ite
                 yield [outcome.token], outcome.value
 
 
-def read_part(report: str, texts: Sequence[str], asks: Sequence["Ask"]) -> list["Found"]:
+def read_part(report: str, texts: Sequence[str], asks: Sequence["Ask"], span: Span) -> list["Found"]:
     """What the experiments of a part answer, for another process."""
-    return read_answers(Path(report).read_bytes(), texts, asks)
+    return read_answers(Path(report).read_bytes(), texts, asks, span)
 
 
 def by_spread(sweep: "Sweep", waiting: Sequence["Waiting"], program: str, count: int) -> Iterator["Answered"]:
@@ -117,7 +119,8 @@ def by_spread(sweep: "Sweep", waiting: Sequence["Waiting"], program: str, count:
         while is_going or len(crew):
             try:
                 for job in next(going) if is_going else ():
-                    crew.give(job.number, read_part, str(job.file("whole")), [texts[name] for name in job.names], sweep.asks)
+                    crew.give(job.number, read_part, str(job.file("whole")), [texts[name] for name in job.names], sweep.asks,
+                              sweep.span)
             except StopIteration:
                 is_going = False
             except engines.Stop as stopped:
@@ -158,7 +161,7 @@ def by_dask(sweep: "Sweep", waiting: Sequence["Waiting"], program: str, count: i
         futures = {}
         for part in batches_of(waiting, count):
             texts = [[sweep.text(one.case) for one in batch] for batch in part]
-            future = client.submit(measured_by_turns, texts, sweep.asks, sweep.there or program, pure=False)
+            future = client.submit(measured_by_turns, texts, sweep.asks, sweep.there or program, sweep.span, pure=False)
             futures[future] = [one for batch in part for one in batch]
         for future in dask.as_completed(list(futures)):
             batch = futures.pop(future)

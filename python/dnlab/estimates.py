@@ -20,6 +20,16 @@ class Estimate(NamedTuple):
     high: Optional[float]
 
 
+def half_of(values: Sequence[float], level: float = 95) -> float:
+    """Half the width of Student's interval around the mean of two values or more, which has the true mean in `level` of 100
+    cases.
+
+    >>> round(half_of([1.0, 2.0, 3.0]), 6)
+    2.484138
+    """
+    return float(stats.t.ppf(0.5 + level / 200, len(values) - 1) * stats.sem(values))
+
+
 def estimate(values: Sequence[float], level: float = 95, kind: Kind = "t") -> Estimate:
     """The mean of values that were drawn apart (by seeds), with the interval that has it in `level` of 100 cases.
 
@@ -36,7 +46,8 @@ def estimate(values: Sequence[float], level: float = 95, kind: Kind = "t") -> Es
     if min(values) == max(values):
         low = high = mean
     elif kind == "t":
-        low, high = stats.t.interval(level / 100, count - 1, loc=mean, scale=stats.sem(values))
+        half = half_of(values, level)
+        low, high = mean - half, mean + half
     else:
         low, high = _drawn(values, level / 100)
     return Estimate(count, *(round(float(value), _DIGITS) for value in (mean, low, high)))

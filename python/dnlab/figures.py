@@ -1,8 +1,10 @@
-"""Figures over many values: ranks, fairness, means with intervals. They need nothing but Python itself."""
+"""Figures over many values: ranks, fairness, means with intervals. Intervals need scipy, the others nothing but Python itself."""
 import math
 from dataclasses import dataclass
 from fractions import Fraction
 from typing import Iterable, Optional, Sequence, Union
+
+from dnlab.errors import Lacking
 
 Percentile = Union[int, float, str]
 
@@ -51,37 +53,11 @@ def interval(values: Iterable[float]) -> Interval:
     Interval(count=3, mean=2.0, half=2.4841377118)
     """
     known = list(values)
-    count = len(known)
-    if count < 2:
-        return Interval(count, known[0] if known else None, None)
-    mean = math.fsum(known) / count
-    spread = math.sqrt(math.fsum((value - mean) ** 2 for value in known) / (count - 1))
-    return Interval(count, mean, float(f"{student(count - 1) * spread / math.sqrt(count):.11g}"))
-
-
-def student(freedom: int) -> float:
-    """Student's t that 2.5 % of all exceed, for degrees of freedom: 12.706 for 1, 2.045 for 29, 1.96 for many."""
-    low, high = 0.0, 20.0
-    for _ in range(80):
-        middle = (low + high) / 2
-        low, high = (middle, high) if _beyond(middle, freedom) > 0.025 else (low, middle)
-    return (low + high) / 2
-
-
-def _beyond(t: float, freedom: int) -> float:
-    """How much of Student's distribution lies beyond t: the finite series of Abramowitz and Stegun, 26.7.3 and 4."""
-    angle = math.atan2(t, math.sqrt(freedom))
-    square = math.cos(angle) ** 2
-    term, total = 1.0, 0.0
-    if freedom % 2:
-        term = math.cos(angle)
-        for k in range(1, (freedom - 1) // 2 + 1):
-            total += term
-            term *= square * (2 * k) / (2 * k + 1)
-        inside = 2 / math.pi * (angle + math.sin(angle) * total)
-    else:
-        for k in range(1, freedom // 2 + 1):
-            total += term
-            term *= square * (2 * k - 1) / (2 * k)
-        inside = math.sin(angle) * total
-    return (1 - inside) / 2
+    if len(known) < 2:
+        return Interval(len(known), known[0] if known else None, None)
+    try:
+        # Here, since only who asks for intervals needs scipy.
+        from dnlab.estimates import half_of
+    except ModuleNotFoundError:
+        raise Lacking("scipy is missing, which intervals take (Debian: apt-get install python3-scipy)") from None
+    return Interval(len(known), math.fsum(known) / len(known), float(f"{half_of(known):.11g}"))

@@ -15,7 +15,7 @@ _MOST_SEED = 2**64 - 1
 _MOST = 10**6
 # Columns of the tables, which a setting can't be called.
 TAKEN = (*GIVEN, "experiment", "of", "stat", "unit", "n", "mean", "low", "high", "least", "greatest", "level", "method",
-         "marks")
+         "marks", "needed", "base", "value", "differs", "sender", "min", "max", "warnings")
 
 
 class Case(NamedTuple):
@@ -87,7 +87,8 @@ def setting_of(text: str) -> tuple[str, list[Value]]:
     if not equals or not re.fullmatch("[A-Za-z_][A-Za-z0-9_]*", name):
         raise ValueError(f"{text!r}: NAME=VALUE[,VALUE..] is wanted, as queue=10,25")
     if name in TAKEN:
-        raise ValueError(f"{text!r}: no setting can be called {name}" + (": --seeds gives them" if name == "seed" else ""))
+        why = "--seeds gives them" if name == "seed" else f"the tables, or a template, have this name; so {', '.join(TAKEN)}"
+        raise ValueError(f"{text!r}: no setting can be called {name}: {why}")
     if "" in values:
         raise ValueError(f"{text!r}: an empty value")
     if len(set(values)) < len(values):

@@ -8,22 +8,29 @@ from dnlab.lines import CAUSES
 from dnlab.tables import PERCENTILES, Row, times_of
 
 
-def milliseconds(value: Optional[int]) -> str:
-    """Nanoseconds as milliseconds, exactly.
+def milliseconds(value: Optional[int], exact: bool = True) -> str:
+    """Nanoseconds as milliseconds, with all digits or with three behind the point (halves upwards).
 
-    >>> milliseconds(1234567)
-    '1.234567'
+    >>> milliseconds(1234567), milliseconds(1234567, exact=False), milliseconds(999500, exact=False)
+    ('1.234567', '1.235', '1.000')
     """
-    return "-" if value is None else f"{value // 10**6}.{value % 10**6:06}"
+    if value is None:
+        return "-"
+    if exact:
+        return f"{value // 10**6}.{value % 10**6:06}"
+    micro = (value + 500) // 1000
+    return f"{micro // 1000}.{micro % 1000:03}"
 
 
-def plain(value: object) -> str:
-    """A value as it stands in a table.
+def plain(value: object, exact: bool = True) -> str:
+    """A value as it stands in a table; a fraction with three digits behind the point unless it is to be exact.
 
-    >>> plain(None), plain(0.123456789), plain(7)
-    ('-', '0.123457', '7')
+    >>> plain(None), plain(0.123456789), plain(7), plain(0.123456789, exact=False)
+    ('-', '0.123457', '7', '0.123')
     """
-    return "-" if value is None else f"{value:.6g}" if isinstance(value, float) else str(value)
+    if isinstance(value, float):
+        return f"{value:.6g}" if exact else f"{value:.3f}"
+    return "-" if value is None else str(value)
 
 
 def loss_of(row: Row) -> str:
@@ -32,12 +39,12 @@ def loss_of(row: Row) -> str:
     return " ".join(parts) or "none"
 
 
-def ended_of(row: Row) -> str:
+def ended_of(row: Row, exact: bool) -> str:
     """How the experiment ended, with both moments where it was cut short."""
     if row["ended"] == "end":
         return "end"
-    of = "" if row["end"] is None else f" of {milliseconds(row['end'])}"
-    return f"spent {milliseconds(row['ended_at'])}{of} ms"
+    of = "" if row["end"] is None else f" of {milliseconds(row['end'], exact)}"
+    return f"spent {milliseconds(row['ended_at'], exact)}{of} ms"
 
 
 def lines_of(cells: Sequence[Sequence[str]], left: Sequence[int]) -> str:
@@ -51,17 +58,18 @@ def lines_of(cells: Sequence[Sequence[str]], left: Sequence[int]) -> str:
     return "\n".join(lines) + "\n"
 
 
-def table(rows: Sequence[Row], percentiles: Sequence[Percentile] = PERCENTILES) -> str:
-    """The rows of a summary; times in ms."""
+def table(rows: Sequence[Row], percentiles: Sequence[Percentile] = PERCENTILES, exact: bool = False) -> str:
+    """The rows of a summary; times in ms, and fractions, with three digits behind the point unless they are to be exact."""
     times = times_of(percentiles)
     cells = [["experiment", "of", "packets", "delivered", "held", "bytes", "time ms", "bit/s", "drops",
               *(f"{name} ms" for name in times), "goodput", "again", "done ms", "jain", "ended", "marks"]]
     for row in rows:
         cells.append([row["experiment"], row["of"],
                       *(plain(row[name]) for name in ("packets", "delivered", "held", "bytes")),
-                      milliseconds(row["time"]), plain(row["rate"]), loss_of(row),
-                      *(milliseconds(row[name]) for name in times), plain(row["goodput"]), plain(row["again"]),
-                      milliseconds(row["completion"]), plain(row["jain"]), ended_of(row), row["marks"] or "-"])
+                      milliseconds(row["time"], exact), plain(row["rate"]), loss_of(row),
+                      *(milliseconds(row[name], exact) for name in times), plain(row["goodput"]), plain(row["again"]),
+                      milliseconds(row["completion"], exact), plain(row["jain"], exact), ended_of(row, exact),
+                      row["marks"] or "-"])
     width = len(cells[0])
     return lines_of(cells, (0, 1, 8, width - 2, width - 1))
 
@@ -70,18 +78,18 @@ def table(rows: Sequence[Row], percentiles: Sequence[Percentile] = PERCENTILES) 
 _TIME = re.compile(r"^(p[0-9.]+|least|median|greatest|mean|jitter|time|first|last|begin|end|completion|ended_at)( mean| half)?$")
 
 
-def _shown(name: str, value: object) -> str:
+def _shown(name: str, value: object, exact: bool) -> str:
     """A value of a column as it is printed."""
     if value is None or not _TIME.match(name):
-        return plain(value)
-    return milliseconds(value) if isinstance(value, int) else f"{float(str(value)) / 10**6:.6g}"
+        return plain(value, exact)
+    return milliseconds(value, exact) if isinstance(value, int) else plain(float(str(value)) / 10**6, exact)
 
 
-def bare_table(rows: Sequence[Row]) -> str:
-    """Any rows, with their own names of columns; times, and means of times, in ms."""
+def bare_table(rows: Sequence[Row], exact: bool = False) -> str:
+    """Any rows, with their own names of columns; times, and means of times, in ms; rounded as in `table`."""
     names = list(rows[0])
     heading = [_TIME.sub(r"\1 ms\2", name) for name in names]
-    cells = [heading, *([_shown(name, row[name]) for name in names] for row in rows)]
+    cells = [heading, *([_shown(name, row[name], exact) for name in names] for row in rows)]
     texts = [place for place, name in enumerate(names) if all(isinstance(row[name], str) for row in rows)]
     return lines_of(cells, texts)
 
@@ -114,12 +122,19 @@ def estimated(row: Row) -> str:
 
 
 def sweep_table(rows: Sequence[Row], settings: Sequence[str]) -> str:
-    """The rows of a sweep's table, a line for each setting, a column for each of and stat; times in ms."""
+    """The rows of a sweep's table, a line for each setting, a column for each of and stat; times in ms. Marks, if there
+    are any, stand at the end of their line."""
     columns = {(row["of"], row["stat"]): UNITS.get(row["unit"], (row["unit"], 1))[0] for row in rows}
     lines: dict[tuple[str, ...], dict[tuple[str, str], str]] = {}
+    marks: dict[tuple[str, ...], dict[str, None]] = {}
     for row in rows:
         key = tuple(plain(row[name]) for name in settings)
         lines.setdefault(key, {})[row["of"], row["stat"]] = estimated(row)
+        marks.setdefault(key, {}).update(dict.fromkeys((row["marks"] or "").split()))
     heading = [*settings, *(" ".join(filter(None, (*column, unit))) for column, unit in columns.items())]
     cells = [heading, *([*key, *(own.get(column, "-") for column in columns)] for key, own in lines.items())]
-    return lines_of(cells, range(len(settings)))
+    left = list(range(len(settings)))
+    if any(marks.values()):
+        left.append(len(heading))
+        cells = [line + [words] for line, words in zip(cells, ("marks", *(" ".join(own) or "-" for own in marks.values())))]
+    return lines_of(cells, left)

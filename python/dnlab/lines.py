@@ -1,6 +1,6 @@
 """The lines of a report, read in columns: one row for each line between an experiment's heading and its counters.
 
-A `Reader` is fed blocks of whole lines and gives `Columns`; what is no line of a report (docs/use/REPORT.md) it refuses,
+A `Reader` is fed blocks of whole lines and gives `Columns`; what is no line of a report (docs/reference/report.md) it refuses,
 with the line. What lines say of each other is judged by `dnlab.report`.
 """
 import re

@@ -1,4 +1,4 @@
-"""Compares a report with the rates, delays and queues of its scenario, by docs/use/RULES.md in whole numbers.
+"""Compares a report with the rates, delays and queues of its scenario, by docs/explanation/rules.md in whole numbers.
 
 A busy period that begins at s finishes the packet with which S bytes are served at s + ceil(8 * 10^9 * S / bw). A packet
 leaves at the greater of the exit before it and its finish + max(delay, 1 ns). A queue of n slots takes no packet where n

@@ -1,7 +1,7 @@
 """When each packet of an experiment was made, and by whom, worked out from its scenario.
 
-A report has a line for when a packet was made under `trace 1` alone. With the scenario it follows from docs/use/ORDER.md
-and docs/use/RENO.md, since serial numbers count the packets as they are made: an injected packet at its command, an
+A report has a line for when a packet was made under `trace 1` alone. With the scenario it follows from docs/explanation/order.md
+and docs/explanation/reno.md, since serial numbers count the packets as they are made: an injected packet at its command, an
 acknowledgement where its data packet is delivered, a train's packets by their gap, and a flow's segments at the moment
 of the `flow` command, `ack` or `expire` line that allowed them, behind all else of that moment, by number. Windows are
 the report's; what is worked out is compared with each line that names a packet, and with the counters.
@@ -59,7 +59,7 @@ class Started(NamedTuple):
 
 
 def first_window(smss: int) -> int:
-    """The window that a flow begins with, in bytes (RFC 5681, section 3.1, as docs/use/RENO.md has it).
+    """The window that a flow begins with, in bytes (RFC 5681, section 3.1, as docs/explanation/reno.md has it).
 
     >>> first_window(1095), first_window(1460)
     (4380, 4380)

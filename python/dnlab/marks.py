@@ -18,7 +18,7 @@ from dnlab.packets import DELIVERED, DROPPED
 if TYPE_CHECKING:
     from dnlab.view import View
 
-# What the codes of refused commands mean (docs/use/SCENARIO.md).
+# What the codes of refused commands mean (docs/reference/faults.md).
 MEANS = {
     10: "a rule's number is 1 to 65534",
     11: "`skipto` must go forward",

@@ -4,6 +4,7 @@ import tempfile
 from typing import IO, BinaryIO, Sequence, Union, cast
 
 from dnlab import children
+from dnlab.analysis.spans import Span
 from dnlab.asking import Ask, Found, answer
 from dnlab.errors import Failed, Refused
 from dnlab.report import pieces, read_piece
@@ -11,7 +12,7 @@ from dnlab.scenario import Plan, read
 from dnlab.view import View
 
 
-def measured(texts: Sequence[str], asks: Sequence[Ask], program: str) -> list[Found]:
+def measured(texts: Sequence[str], asks: Sequence[Ask], program: str, span: Span = Span()) -> list[Found]:
     """Runs some experiments, each with a text of its own, as one scenario; what they answer, in order. `Failed` with the
     program's status and what it said, and where its report isn't theirs."""
     with tempfile.TemporaryFile() as out:
@@ -19,15 +20,15 @@ def measured(texts: Sequence[str], asks: Sequence[Ask], program: str) -> list[Fo
         if done.status:
             raise Failed(done.status, done.said() or f"{program} ended with status {done.status}")
         out.seek(0)
-        return answers(out, texts, asks)
+        return answers(out, texts, asks, span)
 
 
-def measured_by_turns(batches: Sequence[Sequence[str]], asks: Sequence[Ask], program: str) -> list[Found]:
+def measured_by_turns(batches: Sequence[Sequence[str]], asks: Sequence[Ask], program: str, span: Span = Span()) -> list[Found]:
     """The same of several scenarios, one after another."""
-    return [found for texts in batches for found in measured(texts, asks, program)]
+    return [found for texts in batches for found in measured(texts, asks, program, span)]
 
 
-def answers(report: Union[IO[bytes], bytes], texts: Sequence[str], asks: Sequence[Ask]) -> list[Found]:
+def answers(report: Union[IO[bytes], bytes], texts: Sequence[str], asks: Sequence[Ask], span: Span = Span()) -> list[Found]:
     """What the experiments of a report answer, joined each with its own text. `Failed` where it isn't theirs."""
     plans: dict[str, Plan] = {}
     source = io.BytesIO(report) if isinstance(report, bytes) else cast(BinaryIO, report)
@@ -39,7 +40,7 @@ def answers(report: Union[IO[bytes], bytes], texts: Sequence[str], asks: Sequenc
             if piece.name != name:
                 raise Failed(3, f"the program's report has experiment {piece.name} where {name} is wanted")
             try:
-                found.append(answer(View(read_piece(piece), plans[name]), asks))
+                found.append(answer(View(read_piece(piece), plans[name]), asks, span))
             except Refused as refused:
                 raise Failed(3, f"the program's report isn't that of its text: line {refused.line - piece.line + 1} of"
                                 f" {name}: {refused.cause}") from None

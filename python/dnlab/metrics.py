@@ -140,12 +140,27 @@ def is_named(of: str, pattern: str) -> bool:
     return fnmatchcase(of, pattern) and not (kind_of(of) == "acks" and pattern.startswith("flow") and "ack" not in pattern)
 
 
+# Names that users of pandas expect, beside those that tables of the tools have.
+ALSO = {"fct": "completion", "retransmissions": "again", "in_flight": "held", "delay.min": "delay.least",
+        "delay.max": "delay.greatest", "delay.p50": "delay.median"}
+
+
+def plain_word(word: str) -> str:
+    """The word of a metric by which tables have it.
+
+    >>> plain_word("fct"), plain_word("goodput")
+    ('completion', 'goodput')
+    """
+    return ALSO.get(word, word)
+
+
 def metric_of(word: str) -> Metric:
-    """The metric of a word; `ValueError` with the words that there are.
+    """The metric of a word, or of another name of it; `ValueError` with the words that there are.
 
     >>> metric_of("delay.p95")
     Metric(word='delay.p95', kind='time', column='p95')
     """
+    word = plain_word(word)
     if word in _PLAIN:
         return Metric(word, _PLAIN[word], word)
     if word == "loss":

@@ -68,9 +68,9 @@ def _version(program: str, changed: int) -> tuple[str, str]:
     return file_checksum(program), said.split("\n")[0][:200]
 
 
-def origin_of(plans: Mapping[str, Plan], program: str, command: Sequence[str]) -> Origin:
-    """What a run of a program on a scenario is kept by."""
-    own, version = _version(program, os.stat(program).st_mtime_ns)
+def origin_of(plans: Mapping[str, Plan], program: str, command: Sequence[str], said: Optional[str] = None) -> Origin:
+    """What a run of a program on a scenario is kept by; of a library, which can't be started, with what it `said` of itself."""
+    own, version = _version(program, os.stat(program).st_mtime_ns) if said is None else (file_checksum(program), said)
     return Origin(scenario_checksum(plans), own, version, tuple(command))
 
 

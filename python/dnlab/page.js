@@ -1,19 +1,18 @@
 // Draws the page of `dnlab-view`: unpacks an experiment's columns, draws what is in sight of them, and draws anew as
 // one zooms. Moments are nanoseconds, as numbers, which hold each whole one up to 2^53.
-"use strict";
 const TYPES = {i1: Int8Array, i2: Int16Array, i4: Int32Array, f8: Float64Array};
-// So many stretches of time keep their first, least, greatest and last value: points cost more than lines.
-const STRETCHES = {steps: 400, points: 100, marks: 100};
-const DASHES = ["solid", "dash", "dot", "dashdot", "longdash", "longdashdot", "8px,2px,2px,2px", "1px,4px", "12px,4px"];
 const SYMBOLS = ["circle", "square-open", "triangle-up", "diamond-open", "triangle-down-open", "cross", "star-open",
   "triangle-left", "triangle-right-open"];
-const COLOURS = ["#000000", "#d55e00", "#0072b2", "#777777", "#009e73", "#555555", "#cc79a7", "#222288", "#b08000"];
 const MARKS = {"sent": "circle-open", "delivered": "circle-open", "sent again": "triangle-up", "dropped": "x",
   "acknowledgement dropped": "cross", "loss": "x", "timeout": "triangle-down"};
 const FORMS = ["", "-open", "-dot", "-open-dot"];
 const heads = JSON.parse(document.getElementById("heads").textContent);
 const at = (name) => document.getElementById(name);
-let now = null, turns = 0, drawing = 0, saving = 0;
+// What is shown: one experiment, or two side by side; `now` is the side that is being worked on, `span` what is in sight (ns)
+// and `until` the greatest end.
+let now = null, sides = [], span = [0, 1], until = 1, turns = 0, drawing = 0, saving = 0;
+// So many lines can be told apart in a panel, and of windows so many flows.
+const MOST = 8, FLOWS = 16;
 
 // ---- columns
 
@@ -32,42 +31,7 @@ async function unpack(place) {
   });
 }
 
-// The first place whose value isn't below the wanted one; `x` is in order.
-function lower(x, wanted) {
-  let low = 0, high = x.length;
-  while (low < high) {
-    const middle = (low + high) >> 1;
-    if (x[middle] < wanted) low = middle + 1; else high = middle;
-  }
-  return low;
-}
-
-// The places of a series that are drawn: those in sight, with one beside them where a line goes on, thinned.
-function inSight(x, y, form, begin, end) {
-  let from = lower(x, begin), to = lower(x, end + 1);
-  if (form === "steps") [from, to] = [Math.max(from - 1, 0), Math.min(to + 1, x.length)];
-  const kept = [], stretches = STRETCHES[form];
-  if (to - from <= 4 * stretches) {
-    for (let k = from; k < to; k++) kept.push(k);
-    return kept;
-  }
-  const width = (x[to - 1] - x[from] + 1) / stretches;
-  for (let first = from; first < to;) {
-    const stretch = Math.floor((x[first] - x[from]) / width);
-    let least = first, most = first, next = first + 1;
-    for (; next < to && Math.floor((x[next] - x[from]) / width) === stretch; next++) {
-      if (y[next] < y[least]) least = next;
-      if (y[next] > y[most]) most = next;
-    }
-    kept.push(...[...new Set([first, least, most, next - 1])].sort((a, b) => a - b));
-    first = next;
-  }
-  return kept;
-}
-
 // ---- words
-
-const time = (moment) => moment < 0 ? "?" : (moment / 1e6).toFixed(6).replace(/\.?0+$/, "") + " ms";
 
 function carried(serial) {
   const {who, kind, number, again, size} = now.table;
@@ -96,37 +60,67 @@ function journey(serial) {
 
 function tell(serial) {
   const known = Number.isInteger(serial) && serial >= 0 && serial < now.table.made.length;
-  at("journey").textContent = known ? journey(serial).join("\n") : serial === null ? ""
-    : `there is no packet ${serial}: they are 0 to ${now.table.made.length - 1}`;
+  const of = sides.length > 1 && serial !== null ? `${now.name}: ` : "";
+  at("journey").textContent = of + (known ? journey(serial).join("\n") : serial === null ? ""
+    : `there is no packet ${serial}: they are 0 to ${now.table.made.length - 1}`);
 }
 
 // ---- traces
 
-// Bits (or packets) a second in windows of one of 1, 2, 5, 10 .. ns, as `dnlab-summary --every` has them.
+// Bits (or packets) a second in windows, as `dnlab-summary --every` has them.
 function rateOf(one, isBytes, begin, end) {
-  const x = now.columns[one.x], y = now.columns[one.y];
-  let every = 10 ** Math.floor(Math.log10(Math.max((end - begin) / 50, 1)));
-  every *= [1, 2, 5, 10].find((factor) => factor * every >= (end - begin) / 50) || 10;
-  const before = (moment) => { const place = lower(x, moment); return place ? y[place - 1] : 0; };
+  const {every, windows} = windowed(now.columns[one.x], now.columns[one.y], begin, end, now.ended);
   const found = {x: [], y: [], text: [], every};
-  for (let k = Math.floor(begin / every); k * every < Math.min(end, now.ended); k++) {
-    const to = Math.min((k + 1) * every, now.ended);
-    const came = before((k + 1) * every < now.ended ? to : to + 1) - before(k * every);
-    const rate = came / (to - k * every) * (isBytes ? 8e3 : 1e9);
-    found.x.push(k * every, to);
+  for (const {from, to, came} of windows) {
+    const rate = came / (to - from) * (isBytes ? 8e3 : 1e9);
+    found.x.push(from, to);
     found.y.push(rate, rate);
-    const text = `${one.label}: ${came} ${isBytes ? "bytes" : "packets"} from ${time(k * every)} to ${time(to)}`;
+    const text = `${one.label}: ${came} ${isBytes ? "bytes" : "packets"} from ${time(from)} to ${time(to)}`;
     found.text.push(text, text);
   }
   return found;
 }
 
-function pointsOf(one, begin, end) {
-  const x = now.columns[one.x], y = now.columns[one.y];
+function pointsOf(panel, one, begin, end) {
+  const x = now.columns[one.x], scale = inSegments(panel) ? panel.segment : 1;
+  const y = scale === 1 ? now.columns[one.y] : now.columns[one.y].map((value) => value / scale);
   const packets = one.packets < 0 ? null : now.columns[one.packets];
-  const kept = inSight(x, y, one.form, begin, end);
+  const kept = inSight(x, y, one.form === "level" ? "steps" : one.form, begin, end);
   return {x: kept.map((k) => x[k]), y: kept.map((k) => y[k]), customdata: packets && kept.map((k) => packets[k]),
     text: kept.map((k) => `${one.label}: ${y[k]}<br>` + (packets ? journey(packets[k]).join("<br>") : time(x[k])))};
+}
+
+// Whether a panel of windows is asked for in segments.
+const inSegments = (panel) => panel.what === "window" && panel.segment > 0 && at("unit").value === "segments";
+
+// The number of the flow that a line is of; undefined of others.
+const flowOf = (label) => (label.match(/^(?:flow|cwnd|effective|ssthresh|loss|timeout) ([0-9]+)/) || [])[1];
+
+// Lines that belong to no sender: pipes, and all that is under way.
+const isCommon = (label) => /^(at |through |rate of pipe |in the delay line |under way)/.test(label);
+
+// As many lines as can be told apart, and what goes with them: acknowledgements are left out first, then the shortest.
+function fewest(panel) {
+  const lines = panel.series.filter((one) => !one.under && one.form !== "marks" && one.form !== "level");
+  const length = (one) => now.columns[one.x].length, isAck = (one) => one.label.endsWith(" acks");
+  const kept = new Set([...lines].sort((a, b) => isAck(a) - isAck(b) || length(b) - length(a))
+    .slice(0, panel.what === "window" ? FLOWS : MOST).map((one) => one.label));
+  panel.left = lines.length - kept.size;
+  return panel.series.filter((one) => one.form === "level" || kept.has(one.under || one.label)
+    || (one.form === "marks" && (panel.what !== "window" || kept.has(`cwnd ${flowOf(one.label)}`))));
+}
+
+// The series of a panel that are drawn: of one flow, or of all. Of bytes over time one flow is drawn, the first if all are
+// asked for.
+function chosenOf(panel) {
+  const flow = at("flow").value;
+  panel.left = 0;
+  if (panel.what === "sequence") {
+    panel.flow = flow || (panel.series.length ? panel.series[0].label.split(": ")[0] : "");
+    return panel.series.filter((one) => one.label.startsWith(panel.flow + ": "));
+  }
+  if (!flow) return panel.what === "queue" ? panel.series : fewest(panel);
+  return panel.series.filter((one) => isCommon(one.label) || flowOf(one.label) === flow.split(" ")[1]);
 }
 
 // What a series marks, whoever's it is.
@@ -141,34 +135,46 @@ function symbolOf(own, place) {
 
 function traceOf(panel, own, place, begin, end) {
   const one = own[place];
-  const isLine = one.form === "steps" || panel.what === "rate";
-  const found = panel.what === "rate" ? rateOf(one, panel.unit === "Mbit/s", begin, end) : pointsOf(one, begin, end);
-  const colour = COLOURS[place % COLOURS.length];
+  const isLevel = one.form === "level", isRate = panel.what === "rate" && !isLevel;
+  const isLine = one.form === "steps" || isLevel || isRate;
+  const found = isRate ? rateOf(one, panel.unit === "Mbit/s", begin, end) : pointsOf(panel, one, begin, end);
+  const parent = one.under ? own.findIndex((other) => other.label === one.under) : place;
+  const colour = COLOURS[Math.max(parent, 0) % COLOURS.length];
   const size = one.form === "marks" ? 9 : 5;
   return {...found, x: found.x.map((moment) => moment / now.unit[0]), type: "scatter", name: one.label,
     hoverinfo: "text", mode: isLine ? "lines" : "markers", cliponaxis: isLine,
-    line: {shape: panel.what === "rate" ? "linear" : "hv", dash: DASHES[place % DASHES.length], width: 1.5, color: colour},
+    line: {shape: isRate ? "linear" : "hv", dash: DASHES[place % DASHES.length], color: colour,
+      width: one.label.startsWith("effective") ? 4 : one.under ? 1 : 1.5},
     marker: {symbol: symbolOf(own, place), size, color: colour}};
 }
 
-function layoutOf(panel, begin, end) {
+function layoutOf(panel, top, begin, end) {
   const scale = now.unit[0], coarse = matchMedia("(pointer: coarse)").matches;
   return {margin: {l: 62, r: 8, t: 8, b: 40}, showlegend: true, dragmode: coarse ? false : "zoom", hovermode: "closest",
     legend: {orientation: "h", x: 0, y: 1.02, yanchor: "bottom", font: {size: 11}}, font: {size: 12, color: "#111"},
     hoverlabel: {align: "left"},
     xaxis: {range: [begin / scale, end / scale], title: {text: now.unit[1], standoff: 4}, gridcolor: "#ddd"},
-    yaxis: {fixedrange: true, rangemode: panel.what === "sequence" ? "normal" : "tozero", title: {text: panel.unit}, gridcolor: "#ddd"}};
+    yaxis: {fixedrange: true, rangemode: panel.what === "sequence" ? "normal" : "tozero",
+      title: {text: inSegments(panel) ? "segments" : panel.unit}, gridcolor: "#ddd", ...(top ? {range: [0, 1.05 * top]} : {})}};
 }
 
 // ---- what is in sight
 
-function paint(panel, begin, end) {
-  const flow = at("flow").value;
-  const own = panel.what === "sequence" ? panel.series.filter((one) => one.label.startsWith(flow + ": ")) : panel.series;
-  const traces = own.map((one, place) => traceOf(panel, own, place, begin, end));
-  const every = panel.what === "rate" && traces.length ? `, in each ${time(traces[0].every)}` : "";
-  panel.heading.textContent = panel.title + every;
-  Plotly.react(panel.place, traces, layoutOf(panel, begin, end), {responsive: true, displaylogo: false,
+function tracesOf(panel, begin, end) {
+  const own = chosenOf(panel);
+  return own.map((one, place) => traceOf(panel, own, place, begin, end));
+}
+
+// The greatest value of what is drawn.
+const topOf = (drawn) => drawn.reduce((top, traces) => traces.reduce((most, trace) =>
+  trace.y.reduce((one, value) => value > one ? value : one, most), top), 0);
+
+function paint(panel, traces, top, begin, end) {
+  const every = panel.what === "rate" && traces.length && traces[0].every ? `, in each ${time(traces[0].every)}` : "";
+  const left = panel.left ? ` (${panel.left} lines more are left out: choose a flow)` : "";
+  const of = panel.what === "sequence" && panel.flow ? `: ${panel.flow}` : "";
+  panel.heading.textContent = panel.title + of + every + left;
+  Plotly.react(panel.place, traces, layoutOf(panel, top, begin, end), {responsive: true, displaylogo: false,
     displayModeBar: false, doubleClick: false});
   if (!panel.isHeard) listen(panel);
   panel.isHeard = true;
@@ -176,97 +182,137 @@ function paint(panel, begin, end) {
 
 // Draws one panel after the other, so that the first stand at once; what is asked for meanwhile takes their place.
 async function draw() {
-  const turn = ++drawing, [begin, end] = now.range;
+  const turn = ++drawing, [begin, end] = span;
   at("range").textContent = `in sight: ${time(begin)} to ${time(end)}`;
-  for (const panel of now.panels.filter((one) => one.place)) {
-    paint(panel, begin, end);
+  for (let k = 0; k < sides[0].panels.length; k++) {
+    const drawn = sides.map((side) => { now = side; return side.panels[k].place ? tracesOf(side.panels[k], begin, end) : []; });
+    // Two that stand side by side have one frame, so that they compare.
+    const top = sides.length > 1 && sides[0].panels[k].what !== "sequence" ? topOf(drawn) : 0;
+    sides.forEach((side, place) => {
+      now = side;
+      if (side.panels[k].place) paint(side.panels[k], drawn[place], top, begin, end);
+    });
+    now = sides[0];
     document.body.dataset.first ||= Math.round(performance.now());
     await new Promise((next) => setTimeout(next));
     if (turn !== drawing) return;
   }
   // Behind the last of many steps, since browsers take only so many of these.
   clearTimeout(saving);
-  saving = setTimeout(() => history.replaceState(null, "", `#${now.name},${Math.round(begin)},${Math.round(end)}`), 300);
-  document.body.dataset.drawn = now.name;
+  const others = sides.slice(1).map((side) => `,${side.name}`).join("");
+  saving = setTimeout(() => history.replaceState(null, "", `#${sides[0].name},${Math.round(begin)},${Math.round(end)}${others}`), 300);
+  document.body.dataset.drawn = sides[0].name + others;
   document.body.dataset.opened ||= Math.round(performance.now());
 }
 
 // Shows a span of time, within the experiment's and not below 10 ns.
 function show(begin, end) {
-  const width = Math.min(Math.max(end - begin, 10), now.until);
-  const first = Math.min(Math.max(begin, 0), now.until - width);
-  now.range = [first, first + width];
+  const width = Math.min(Math.max(end - begin, 10), until);
+  const first = Math.min(Math.max(begin, 0), until - width);
+  span = [first, first + width];
   return draw();
 }
 
 function zoom(factor) {
-  const [begin, end] = now.range, middle = (begin + end) / 2, half = (end - begin) / 2 * factor;
+  const [begin, end] = span, middle = (begin + end) / 2, half = (end - begin) / 2 * factor;
   show(middle - half, middle + half);
 }
 
 function move(share) {
-  const [begin, end] = now.range, by = (end - begin) * share;
+  const [begin, end] = span, by = (end - begin) * share;
   show(begin + by, end + by);
 }
 
-const whole = () => show(0, now.until);
+const whole = () => show(0, until);
 
-function frame(panel) {
+function frame(panel, column, before) {
   panel.heading = document.createElement("h2");
   panel.heading.textContent = panel.title;
   const words = document.createElement("p");
   words.textContent = panel.words;
-  at("panels").append(panel.heading, panel.words ? words : "");
+  column.append(panel.heading, panel.words ? words : "");
   if (!panel.series.length) return;
   panel.place = document.createElement("div");
   panel.place.className = "panel";
-  panel.place.id = "panel-" + panel.what;
+  panel.place.id = before + panel.what;
   panel.place.setAttribute("role", "img");
   panel.place.setAttribute("aria-label", `${panel.title}: ${panel.series.map((one) => one.label).join(", ")}`);
-  at("panels").append(panel.place);
+  column.append(panel.place);
 }
 
 function listen(panel) {
+  const side = now;
   panel.place.on("plotly_relayout", (change) => {
-    const scale = now.unit[0];
+    const scale = side.unit[0];
     if (change["xaxis.range[0]"] !== undefined) show(change["xaxis.range[0]"] * scale, change["xaxis.range[1]"] * scale);
   });
   panel.place.on("plotly_doubleclick", whole);
-  panel.place.on("plotly_click", (event) => { if (event.points[0].customdata !== undefined) tell(event.points[0].customdata); });
+  panel.place.on("plotly_click", (event) => {
+    if (event.points[0].customdata === undefined) return;
+    now = side;
+    tell(event.points[0].customdata);
+    now = sides[0];
+  });
 }
 
-async function choose(place, range) {
-  const turn = ++turns, head = heads[place], columns = await unpack(place);
+async function sideOf(place) {
+  const head = heads[place], columns = await unpack(place);
+  const table = Object.fromEntries(Object.entries(head.table).map(([name, block]) => [name, columns[block]]));
+  return {...head, place, columns, table, panels: head.panels.map((panel) => ({...panel}))};
+}
+
+// Shows an experiment, or two side by side, from a moment to another (all of them where there is no range).
+async function choose(place, range, beside = null) {
+  const turn = ++turns, loaded = [await sideOf(place)];
+  if (beside !== null && beside !== place) loaded.push(await sideOf(beside));
   // Another was chosen meanwhile.
   if (turn !== turns) return;
-  const table = Object.fromEntries(Object.entries(head.table).map(([name, block]) => [name, columns[block]]));
-  now = {...head, columns, table, range: [0, head.until], panels: head.panels.map((panel) => ({...panel}))};
+  document.querySelectorAll(".panel").forEach(Plotly.purge);
+  [sides, now, until] = [loaded, loaded[0], Math.max(...loaded.map((side) => side.until))];
+  const {unit} = sides.find((side) => side.until === until);
+  sides.forEach((side) => { side.unit = unit; });
   at("experiment").value = place;
-  at("about").textContent = head.about;
-  at("notes").replaceChildren(...head.notes.map((text) => Object.assign(document.createElement("li"), {textContent: text})));
-  const flows = [...new Set(now.panels[0].series.map((one) => one.label.split(": ")[0]))];
-  at("flow").replaceChildren(...flows.map((flow) => new Option(flow, flow)));
-  at("flow").disabled = !flows.length;
+  at("beside").value = sides.length > 1 ? beside : "";
+  at("about").textContent = sides.map((side) => (sides.length > 1 ? `${side.name}: ` : "") + side.about).join("\n");
+  at("notes").replaceChildren(...sides.flatMap((side) => side.notes.map((text) =>
+    Object.assign(document.createElement("li"), {textContent: (sides.length > 1 ? `${side.name}: ` : "") + text}))));
+  const flows = [...new Set(sides.flatMap((side) => side.panels[0].series.map((one) => one.label.split(": ")[0])))];
+  const flow = at("flow").value;
+  at("flow").replaceChildren(new Option("all flows", ""), ...flows.map((one) => new Option(one, one)));
+  at("flow").value = flows.includes(flow) ? flow : "";
+  at("flow").disabled = flows.length < 2;
+  at("unit").disabled = !sides.some((side) => side.panels.some((panel) => panel.segment));
   at("packet").value = "";
   tell(null);
-  document.querySelectorAll(".panel").forEach(Plotly.purge);
-  at("panels").replaceChildren();
-  now.panels.forEach(frame);
-  await show(...(range || now.range));
+  document.body.classList.toggle("two", sides.length > 1);
+  at("panels").replaceChildren(...sides.map((side, k) => {
+    const column = document.createElement("div");
+    column.className = "side";
+    if (sides.length > 1) column.append(Object.assign(document.createElement("h2"), {textContent: side.name}));
+    side.panels.forEach((panel) => frame(panel, column, k ? "panel-beside-" : "panel-"));
+    return column;
+  }));
+  await show(...(range || [0, until]));
 }
 
-// `#NAME` or `#NAME,FROM,TO`, in ns, says what is shown first.
+// `#NAME`, `#NAME,FROM,TO` or `#NAME,FROM,TO,BESIDE`, in ns, says what is shown first.
 function byAddress() {
-  const [name, from, to] = decodeURIComponent(location.hash.slice(1)).split(",");
-  const place = Math.max(heads.findIndex((head) => head.name === name), 0);
-  return choose(place, to && +to > +from ? [+from, +to] : null);
+  const [name, from, to, other] = decodeURIComponent(location.hash.slice(1)).split(",");
+  const placeOf = (wanted) => heads.findIndex((head) => head.name === wanted);
+  const beside = placeOf(other);
+  return choose(Math.max(placeOf(name), 0), to && +to > +from ? [+from, +to] : null, beside < 0 ? null : beside);
 }
 
+const besides = () => at("beside").value === "" ? null : +at("beside").value;
 const KEYS = {"+": () => zoom(0.5), "=": () => zoom(0.5), "-": () => zoom(2), "0": whole, ArrowLeft: () => move(-0.5),
   ArrowRight: () => move(0.5)};
 heads.forEach((head, place) => at("experiment").append(new Option(head.name, place)));
 at("tools").addEventListener("submit", (event) => event.preventDefault());
-at("experiment").addEventListener("change", () => choose(+at("experiment").value));
+at("beside").append(new Option("nothing", ""), ...heads.map((head, place) => new Option(head.name, place)));
+at("beside").disabled = heads.length < 2;
+at("experiment").addEventListener("change", () => choose(+at("experiment").value, null, besides()));
+at("beside").addEventListener("change", () => choose(+at("experiment").value, span, besides()));
+at("unit").addEventListener("change", () => draw());
 at("flow").addEventListener("change", () => draw());
 at("packet").addEventListener("input", () => tell(at("packet").value === "" ? null : +at("packet").value));
 for (const [name, key] of [["in", "+"], ["out", "-"], ["earlier", "ArrowLeft"], ["later", "ArrowRight"], ["whole", "0"]]) {

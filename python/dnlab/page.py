@@ -1,7 +1,7 @@
 """A page of HTML to look at runs in a browser: what `dnlab-view` writes.
 
 Each experiment is its panels (`dnlab.series`, whole) and its packets' journeys, in columns that are packed into one
-text; `page.js` unpacks and draws them, thinned to what is in sight. plotly draws (Debian: python3-plotly).
+text; `page.js`, behind `page.shared.js`, unpacks and draws them, thinned to what is in sight. plotly draws (Debian: python3-plotly).
 """
 import base64
 import html
@@ -16,7 +16,7 @@ from dnlab.digits import Ints
 from dnlab.lines import pipe_name
 from dnlab.makings import ACKNOWLEDGES
 from dnlab.packets import DELIVERED, DROPPED, FATES, UNKNOWN
-from dnlab.series import Panel, Series, Values, queues, rates, sojourns, windows
+from dnlab.series import Panel, Series, Values, link_rates, queues, rates, sojourns, windows
 from dnlab.view import View, flows_of
 from dnlab.outputs import whole_file
 
@@ -82,12 +82,14 @@ class Pane(NamedTuple):
     unit: str
     shown: list[Shown]
     words: str
+    # How many bytes a segment has, 0 if the flows differ or it isn't known.
+    segment: int = 0
 
 
 def pane_of(panel: Panel) -> Pane:
     """A panel of pictures, whole."""
     shown = [Shown(one) for one in panel.series if len(one.moments)]
-    return Pane(panel.title, panel.unit, shown, panel.words.replace("\n", " "))
+    return Pane(panel.title, panel.unit, shown, panel.words.replace("\n", " "), panel.also[1] if panel.also else 0)
 
 
 def sequences(view: View) -> Pane:
@@ -117,7 +119,7 @@ def _of(view: View, flow: int, what: str, form: str, packets: Ints, moments: Int
 
 def delays(view: View) -> Pane:
     """The times under way, with the packets: those of each sender stand in the order of delivery."""
-    pane, table, senders = pane_of(sojourns(view)), view.packets, dict(view.senders)
+    pane, table, senders = pane_of(sojourns(view, None)), view.packets, dict(view.senders)
 
     def own(one: Series) -> Ints:
         delivered = senders[one.label][table.fate[senders[one.label]] == DELIVERED]
@@ -128,15 +130,16 @@ def delays(view: View) -> Pane:
 
 
 def speeds(view: View) -> Pane:
-    """What was delivered, added up: the script makes rates of it, of as long a time as is in sight."""
-    pane = pane_of(rates(view))
-    return pane._replace(title=pane.title.replace("Delivered", "Rate of what was delivered"),
+    """What was delivered, added up: the script makes rates of it, of as long a time as is in sight; and what pipes can carry."""
+    pane = pane_of(rates(view, None))
+    links = [Shown(one._replace(form="level")) for one in link_rates(view)] if pane.unit == "bytes" else []
+    return pane._replace(shown=pane.shown + links, title=pane.title.replace("Delivered", "Rate of what was delivered"),
                          unit="Mbit/s" if pane.unit == "bytes" else "packets/s")
 
 
 def panes_of(view: View) -> dict[str, Pane]:
     """The panels of a page by their names, whole."""
-    return {"sequence": sequences(view), "window": pane_of(windows(view)), "queue": pane_of(queues(view)),
+    return {"sequence": sequences(view), "window": pane_of(windows(view, None)), "queue": pane_of(queues(view)),
             "delay": delays(view), "rate": speeds(view)}
 
 
@@ -164,7 +167,8 @@ def drawn(view: View) -> Drawn:
     """An experiment for a page."""
     blocks = Blocks()
     panels = [{"what": what, "title": pane.title, "unit": pane.unit, "words": "" if pane.shown else pane.words,
-               "series": [{"label": one.label, "form": one.form, "x": blocks.add(one.moments), "y": blocks.add(one.values),
+               "segment": pane.segment,
+               "series": [{"label": one.label, "form": one.form, "under": one.under, "x": blocks.add(one.moments), "y": blocks.add(one.values),
                            "packets": -1 if packets is None else blocks.add(packets)} for one, packets in pane.shown]}
               for what, pane in panes_of(view).items()]
     until = max(view.ended.moment if view.ended.is_short() else view.last, 1)
@@ -189,7 +193,8 @@ def about(view: View) -> str:
 
 def page(title: str, experiments: Iterable[Drawn], plotly: Optional[str]) -> Iterable[str]:
     """The page, part by part; with plotly's script within where it is given, else it is beside the page."""
-    style, script = ((_HERE / f"page.{kind}").read_text(encoding="utf-8") for kind in ("css", "js"))
+    style, shared, own = ((_HERE / f"page.{kind}").read_text(encoding="utf-8") for kind in ("css", "shared.js", "js"))
+    script = shared + own
     yield (f'<!DOCTYPE html>\n<html lang="en">\n<meta charset="utf-8">\n<title>{html.escape(title)}</title>\n'
            f'<meta name="viewport" content="width=device-width, initial-scale=1">\n<style>\n{style}</style>\n')
     yield f'<script src="{SCRIPT}"></script>\n' if plotly is None else f"<script>{_within(plotly)}</script>\n"
@@ -223,7 +228,9 @@ def write(path: str, title: str, experiments: Iterable[Drawn], plotly: str, sing
 
 _BODY = """<form id="tools" aria-label="what is drawn">
 <label>experiment <select id="experiment"></select></label>
+<label>beside <select id="beside"></select></label>
 <label>flow <select id="flow"></select></label>
+<label>windows in <select id="unit"><option>bytes</option><option>segments</option></select></label>
 <span role="group" aria-label="time in sight">
 <button type="button" id="in" title="key +">zoom in</button>
 <button type="button" id="out" title="key -">zoom out</button>

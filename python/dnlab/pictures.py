@@ -7,12 +7,13 @@ from matplotlib.backends.backend_agg import FigureCanvasAgg
 from matplotlib.figure import Figure
 from matplotlib.ticker import NullLocator
 
+from dnlab.analysis.spans import Span
 from dnlab.outputs import whole_file
-from dnlab.series import Panel, Series, Span, panel_of
+from dnlab.series import Panel, Series, panel_of
 from dnlab.view import View
 
 # Texts stay texts, and nothing in a file hangs on the day or on chance: the same report gives the same bytes.
-STYLE = {"svg.fonttype": "none", "svg.hashsalt": "dnlab", "font.size": 8, "legend.fontsize": 6, "axes.titlesize": 8}
+STYLE = {"svg.fonttype": "none", "pdf.fonttype": 42, "svg.hashsalt": "dnlab", "font.size": 8, "legend.fontsize": 6, "axes.titlesize": 8}
 LINES: tuple[Any, ...] = ("-", "--", "-.", ":", (0, (5, 1)), (0, (1, 3)), (0, (3, 1, 1, 1, 1, 1)), (0, (8, 3)),
                           (0, (2, 2)))
 MARKERS = ("o", "s", "^", "D", "v", "P", "*", "<", ">")
@@ -22,6 +23,10 @@ Unit = tuple[int, str]
 UNITS: tuple[Unit, ...] = ((10**9, "s"), (10**6, "ms"), (10**3, "us"), (1, "ns"))
 # Shares and boxes are of ns or bit/s, and drawn as ms or Mbit/s.
 _MILLION = 10**6
+# More thresholds and effective windows than this stand in no legend: they have their window's colour.
+_MOST_UNDER = 8
+# So many lines that lie above the frame are named.
+_MOST_NAMED = 3
 METADATA: dict[str, dict[str, Any]] = {"svg": {"Date": None}, "pdf": {"CreationDate": None}, "png": {}}
 
 
@@ -42,13 +47,18 @@ def time_unit(panels: Sequence[Panel]) -> Unit:
 
 
 def draw_series(axes: Any, one: Series, place: int, scale: int) -> None:
-    """One series on the axes; marks and points have no line, steps a few markers on theirs."""
+    """One series on the axes; marks and points have no line, steps a few markers on theirs, but those under another line,
+    which are thin or wide and have its place. Beyond nine colours other lines and markers go with them."""
     moments = np.asarray(one.moments) / scale
     colour = COLOURS[place % len(COLOURS)]
-    marker = MARKERS[place % len(MARKERS)]
-    if one.form in ("steps", "share"):
+    marker = MARKERS[(place + 2 * (place // len(MARKERS))) % len(MARKERS)]
+    if one.under:
+        is_wide = one.label.lstrip("_").startswith("effective")
+        axes.plot(moments, one.values, drawstyle="steps-post", color=colour, linewidth=2.6 if is_wide else 0.8, label=one.label,
+                  linestyle="-" if is_wide else ":", alpha=0.45 if is_wide else 1)
+    elif one.form in ("steps", "share"):
         axes.plot(moments, one.values, drawstyle="steps-post", color=colour, linewidth=1.0, label=one.label,
-                  linestyle=LINES[place % len(LINES)], marker=marker, markersize=2.5,
+                  linestyle=LINES[(place + place // len(LINES)) % len(LINES)], marker=marker, markersize=2.5,
                   markevery=max(1, len(moments) // 12))
     elif one.form == "points":
         axes.plot(moments, one.values, linestyle="none", color=colour, marker=marker, markersize=2.5,
@@ -71,14 +81,22 @@ def draw_panel(axes: Any, panel: Panel, unit: Unit) -> None:
         if panel.series[0].form == "box":
             draw_boxes(axes, panel.series)
             return
-        for place, one in enumerate(panel.series):
-            draw_series(axes, one, place, _MILLION if panel.across else unit[0])
+        parents = [one.label for one in panel.series if not one.under]
+        is_crowded = sum(bool(one.under) for one in panel.series) > _MOST_UNDER
+        for one in panel.series:
+            place = parents.index(one.under or one.label)
+            # (matplotlib's legend leaves out what begins with an underscore)
+            shown = one._replace(label=f"_{one.label}") if one.under and is_crowded else one
+            draw_series(axes, shown, place, _MILLION if panel.across else unit[0])
+        if panel.also is not None:
+            also, size = panel.also
+            axes.secondary_yaxis("right", functions=(lambda y: y / size, lambda y: y * size)).set_ylabel(also)
         if panel.across:
             axes.set_xlabel(panel.across)
             axes.set_xlim(left=0)
         # Where a legend hides least is looked for at length; among many points it has its corner.
         many = sum(len(one.moments) for one in panel.series) > 20000
-        axes.legend(loc="upper right" if many else "best", framealpha=0.7)
+        axes.legend(loc="upper right" if many else "best", framealpha=0.7, ncols=1 + len(parents) // 9)
 
 
 def draw_boxes(axes: Any, boxes: Sequence[Series]) -> None:
@@ -104,7 +122,8 @@ def frame(row: Sequence[Any], panels: Sequence[Panel]) -> None:
     top = row[0].get_ylim()[1]
     for axes, panel in drawn:
         above = [one for one in panel.series if one.form != "box" and max(one.values) > top]
-        names = ", ".join(f"{one.label} to {max(one.values)}" for one in above)
+        names = ", ".join(f"{one.label} to {max(one.values)}" for one in above[:_MOST_NAMED])
+        names += f" and {len(above) - _MOST_NAMED} lines more" if len(above) > _MOST_NAMED else ""
         if above:
             axes.text(0.02, 0.96, f"above the frame: {names}", va="top", size=6, transform=axes.transAxes)
 

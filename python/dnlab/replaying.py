@@ -104,7 +104,7 @@ class Session:
         elif words[1] == "fault":
             raise Faulty(f"the link refuses `{line}`: {words[2]}")
         elif words[1] == "refused":
-            raise Faulty(f"the link refuses `{line}`: code {words[2]} (docs/use/SCENARIO.md)")
+            raise Faulty(f"the link refuses `{line}`: code {words[2]} (docs/reference/faults.md)")
         elif words[1] == "next":
             self.next = None if words[2] == "none" else int(words[2])
         elif words[1] == "over":

@@ -1,4 +1,4 @@
-"""The one reader of report texts (docs/use/REPORT.md), one experiment at a time.
+"""The one reader of report texts (docs/reference/report.md), one experiment at a time.
 
 `pieces` finds the experiments of a report by their headings and passes over the rest; `read_piece` reads one, in
 columns, or raises `Refused` with the line and the cause. What a report says twice is compared: the commands' numbers

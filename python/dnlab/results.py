@@ -9,6 +9,9 @@ from typing import Any, Iterator, Optional, Sequence, Union
 import pandas as pd
 
 from dnlab import frames
+from dnlab.analysis import names
+from dnlab.analysis.options import columns_in, varied
+from dnlab.analysis.spans import span_of
 from dnlab.errors import Faulty
 from dnlab.figures import Percentile
 from dnlab.figures import interval as interval_of
@@ -16,7 +19,7 @@ from dnlab.marks import Refusal
 from dnlab.origin import Origin, check_beside
 from dnlab.report import Counters, Piece
 from dnlab.scenario import Plan
-from dnlab.summing import lacking, summed, varied
+from dnlab.summing import lacking, summed
 from dnlab.tables import PERCENTILES, Tables, columns_of, losses, windows
 from dnlab.view import Ended, Note, View, view_of
 from dnlab.work import Given, bytes_of, pieces_of, plans_of
@@ -49,9 +52,15 @@ class Experiment:
         return self.view.plan.seed if self.view.plan else None
 
     @property
-    def settings(self) -> Optional[str]:
+    def params(self) -> Optional[str]:
         """The configurations of its pipes, as the scenario has them."""
         return self.view.plan.settings() if self.view.plan else None
+
+    @property
+    def settings(self) -> Optional[str]:
+        """The older name of `params`."""
+        names.warn("settings", "params", 2)
+        return self.params
 
     @property
     def refused(self) -> list[Refusal]:
@@ -59,9 +68,15 @@ class Experiment:
         return self.view.refused
 
     @property
-    def marks(self) -> str:
-        """The marks of all its rows, with spaces between; docs/use/TOOLS.md says what each means."""
+    def warnings(self) -> str:
+        """The marks of all its rows, with spaces between; docs/reference/tools.md says what each means."""
         return self.view.marks()
+
+    @property
+    def marks(self) -> str:
+        """The older name of `warnings`."""
+        names.warn("marks", "warnings", 2)
+        return self.warnings
 
     @property
     def notes(self) -> list[Note]:
@@ -69,50 +84,54 @@ class Experiment:
         return self.view.notes
 
     def packets(self) -> pd.DataFrame:
-        """A row for each packet, by serial number: made, delivered, delay (ns), size (bytes, with headers), of (who sent
-        it), pipe (the last that it is known to have come to), fate (`held`, `delivered`, or the cause of its drop),
-        ended (ns, also of a drop), kind, flow and number of its load, again (a segment that was sent before)."""
-        return frames.packets(self.view)
+        """A row for each packet, by serial number: made, delivered, delay (ns), bytes (with headers), sender, queue (of the
+        last pipe that it is known to have come to), outcome (`held`, `delivered`, or the cause of its drop), ended (ns, also
+        of a drop), kind, flow and number of its load, retransmission (a segment that was sent before)."""
+        return names.named(frames.packets(self.view), "retransmission")
 
     def visits(self) -> pd.DataFrame:
-        """A row for each visit of a packet to an instance: packet, pipe, arrival, finish and exit (ns)."""
-        return frames.visits(self.view)
+        """A row for each visit of a packet to an instance: packet, queue, arrival, finish and exit (ns)."""
+        return names.named(frames.visits(self.view))
 
     def windows(self) -> pd.DataFrame:
         """A row for each `ack` and `expire` line and each flow's begin: moment (ns), flow, event, cwnd and ssthresh (bytes)."""
         return frames.windows(self.view)
 
     def queues(self) -> pd.DataFrame:
-        """A row for each moment at which an instance changed: moment (ns), pipe, waiting (packets that wait or are in
-        service), flying (packets in the delay line); they hold until its next row."""
-        return frames.queues(self.view)
+        """A row for each moment at which an instance changed: moment (ns), queue, waiting (packets that wait or are in
+        service), in_flight (packets in the delay line); they hold until its next row."""
+        return names.named(frames.queues(self.view))
 
     def drops(self) -> pd.DataFrame:
-        """A row for each drop: moment (ns), packet, of, cause, pipe where a line tells it, size (bytes)."""
-        return frames.drops(self.view)
+        """A row for each drop: moment (ns), packet, sender, cause, queue where a line tells it, bytes."""
+        return names.named(frames.drops(self.view))
 
     def commands(self) -> pd.DataFrame:
         """A row for each command: moment (ns), text and line of the scenario, answer (`ok`, `refused`), code."""
         return frames.commands(self.view)
 
     def records(self) -> pd.DataFrame:
-        """The report's own lines, by line: word, moment, packet, pipe, kind, flow, number, more (see
+        """The report's own lines, by line: word, moment, packet, queue, kind, flow, number, more (see
         `dnlab.lines.Columns`)."""
-        return frames.records(self.view)
+        return names.named(frames.records(self.view))
 
-    def summary(self, percentiles: Sequence[Percentile] = PERCENTILES) -> pd.DataFrame:
-        """The rows of this experiment in a summary (docs/use/TOOLS.md has the columns)."""
-        return frames.of_rows(Tables(self.view, percentiles, self.varied).rows(), columns_of(percentiles))
+    def summary(self, percentiles: Sequence[Percentile] = PERCENTILES, begin: int = 0,
+                end: Optional[int] = None) -> pd.DataFrame:
+        """The rows of this experiment in a summary (docs/reference/tools.md has the columns); of what happened from the moment
+        `begin` on and before `end` (ns), as without its warm-up."""
+        span = span_of(begin, end)
+        return names.named(
+            frames.of_rows(Tables(self.view, percentiles, self.varied, span=span).rows(), columns_of(percentiles, span)))
 
     def throughput(self, every: int) -> pd.DataFrame:
-        """What each sender's packets brought in each window of `every` ns: of, begin, end (ns), packets, bytes, rate
+        """What each sender's packets brought in each window of `every` ns: sender, begin, end (ns), packets, bytes, rate
         (bit/s), useful (bytes, each once), goodput (bit/s)."""
         rows = windows(self.view, every)
-        return frames.of_rows(rows, list(rows[0]) if rows else ["experiment", "of", "begin", "end"])
+        return names.named(frames.of_rows(rows, list(rows[0]) if rows else ["experiment", "of", "begin", "end"]))
 
     def losses(self) -> pd.DataFrame:
-        """Drops by sender, cause and pipe: of, cause, pipe (<NA> where no line tells it), packets."""
-        return frames.of_rows(losses(self.view), ["experiment", "of", "cause", "pipe", "packets"])
+        """Drops by sender, cause and queue (<NA> where no line tells it): sender, cause, queue, packets."""
+        return names.named(frames.of_rows(losses(self.view), ["experiment", "of", "cause", "pipe", "packets"]))
 
     def plot(self, what: Sequence[str] = ("window", "queue", "sojourn", "rate", "drops")) -> Any:
         """A matplotlib figure with a panel for each of `what`."""
@@ -139,8 +158,8 @@ class Report(Mapping[str, Experiment]):
 
     def __init__(self, report: Union[str, Path], scenario: Names = (), keep: Any = None,
                  origin: Optional[Origin] = None) -> None:
-        names = [scenario] if isinstance(scenario, (str, Path)) else scenario
-        self.given = Given(str(report), tuple(str(name) for name in names))
+        files = [scenario] if isinstance(scenario, (str, Path)) else scenario
+        self.given = Given(str(report), tuple(str(name) for name in files))
         # What must live as long as the report does: the file of a run that nobody named.
         self._keep = keep
         # What made it: the checksums of scenario and program, its version, the command; None where nothing tells it.
@@ -183,14 +202,28 @@ class Report(Mapping[str, Experiment]):
     def __repr__(self) -> str:
         return f"Report({self.given.report!r}, {len(self)} experiments)"
 
+    def params(self, changed: bool = False) -> pd.DataFrame:
+        """A row for each experiment, by name: the options of its pipes, flows and trains, each a column as `pipe1_queue`,
+        defaults filled in (rates in bit/s, times and moments in ns); `changed` leaves out those that are the same in all.
+        It needs the scenario."""
+        if self.plans is None:
+            raise Faulty(f"{self.given.report}: its settings stand in its scenario, which isn't given")
+        rows = [{"experiment": name, **columns_in(self.plans[name])} for name in self]
+        columns = list(dict.fromkeys(name for row in rows for name in row))
+        frame = frames.of_rows(rows, columns).set_index("experiment")
+        return frame if not changed else frame[[name for name in frame if frame[name].nunique(dropna=False) > 1]]
+
     def summary(self, percentiles: Sequence[Percentile] = PERCENTILES, of: Sequence[str] = (),
-                experiments: Sequence[str] = (), workers: Optional[int] = None) -> pd.DataFrame:
+                experiments: Sequence[str] = (), workers: Optional[int] = None, begin: int = 0,
+                end: Optional[int] = None) -> pd.DataFrame:
         """The rows of all experiments (or of some, by name), by several processes where the report is long; `of` keeps
-        the rows of some names, as "train *". docs/use/TOOLS.md has the columns."""
+        the rows of some names, as "train *", and `begin` and `end` are as in `Experiment.summary`. docs/reference/tools.md has
+        the columns."""
         patterns = [of] if isinstance(of, str) else of
-        rows = [row for one in summed(self.given, self.plans, experiments, percentiles, patterns, workers=workers)
+        span = span_of(begin, end)
+        rows = [row for one in summed(self.given, self.plans, experiments, percentiles, patterns, workers=workers, span=span)
                 for row in one.rows]
-        return frames.of_rows(rows, columns_of(percentiles))
+        return names.named(frames.of_rows(rows, columns_of(percentiles, span)))
 
 
 def read(report: Union[str, Path], scenario: Names = ()) -> Report:
@@ -201,22 +234,23 @@ def read(report: Union[str, Path], scenario: Names = ()) -> Report:
 
 
 def intervals(rows: pd.DataFrame, by: Union[str, Sequence[str]], columns: Union[str, Sequence[str]]) -> pd.DataFrame:
-    """Of each group of rows and each column: how many have a value (`n`), the `mean`, and `half` the width of its 95 %
+    """Of each group of rows and each column: how many have a value (`n`), the `mean`, and `ci95`, half the width of its 95 %
     interval (Student). Groups stand in the order of their first row.
 
     by       the columns that a group has in common
     columns  of what the means are
     """
-    keys = [by] if isinstance(by, str) else list(by)
-    names = [columns] if isinstance(columns, str) else list(columns)
+    keys = names.now_of(rows, [by] if isinstance(by, str) else by)
+    wanted = names.now_of(rows, [columns] if isinstance(columns, str) else columns)
     found: dict[Any, dict[tuple[str, str], Any]] = {}
     for key, group in rows.groupby(keys if len(keys) > 1 else keys[0], sort=False, observed=True):
         found[key] = {}
-        for name in names:
+        for name in wanted:
             made = interval_of(float(value) for value in group[name].dropna())
             found[key].update({(name, part): getattr(made, field) for part, field in
-                               (("n", "count"), ("mean", "mean"), ("half", "half"))})
+                               (("n", "count"), ("mean", "mean"), ("ci95", "half"))})
     frame = pd.DataFrame.from_dict(found, orient="index")
     frame.columns = pd.MultiIndex.from_tuples(frame.columns, names=(None, None)) if len(frame) else frame.columns
     frame.index.names = keys if len(keys) > 1 else [keys[0]]
-    return frame if len(names) > 1 or not len(frame) else frame[names[0]]
+    found_frame = frame if len(wanted) > 1 or not len(frame) else frame[wanted[0]]
+    return names.Table(found_frame)

@@ -1,4 +1,4 @@
-"""The one reader of scenario texts, written from docs/use/SCENARIO.md alone.
+"""The one reader of scenario texts, written from docs/reference/scenario.md alone.
 
 `Judged` says which fault stands where, as `dnlab check` must; `read` gives the experiments with their commands. It
 needs nothing but Python itself, and has no simulation.

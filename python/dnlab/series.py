@@ -9,6 +9,7 @@ from typing import Callable, NamedTuple, Optional, Sequence
 import numpy as np
 from numpy.typing import NDArray
 
+from dnlab.analysis.spans import Span
 from dnlab.digits import Ints
 from dnlab.lines import ACK, CAUSES, DROP, EXPIRE, pipe_name
 from dnlab.makings import DATA, first_window
@@ -18,19 +19,15 @@ from dnlab.view import Note, View
 WHAT = ("window", "queue", "sojourn", "rate", "drops")
 # Panels that are drawn where they are asked for by name (`dnlab.shares` makes them).
 MORE = ("throughput", "cdf:sojourn", "cdf:throughput", "box:sojourn", "box:throughput")
-# So many lines can be told apart in one panel without colour; thresholds are drawn of so many flows.
+# So many lines can be told apart in one panel without colour; windows are drawn of so many flows, and losses and timeouts of
+# so many apart.
 MOST = 8
-THRESHOLDS = 2
+FLOWS = 16
+APART = 2
 # A panel is some 750 dots wide. What has more moments than this many times four is thinned to so many stretches.
 STRETCHES = 1500
 
 Values = NDArray[np.float64]
-
-
-class Span(NamedTuple):
-    """From which moment to which is drawn, ns; to the last one where there is no end."""
-    begin: int = 0
-    end: Optional[int] = None
 
 
 class Series(NamedTuple):
@@ -38,23 +35,26 @@ class Series(NamedTuple):
     (the part of all, 0 to 1, that isn't above what stands in `moments`) and `box` (`moments` are the least, the 5th,
     25th, 50th, 75th and 95th percentile, and the greatest).
 
-    `moments` are int64, ns (of a share or box the values, ns or bit/s), in order; `values` have the same shape (n,)."""
+    `moments` are int64, ns (of a share or box the values, ns or bit/s), in order; `values` have the same shape (n,). `under`
+    is the label of another line, whose colour it has."""
     label: str
     form: str
     moments: Ints
     values: "Ints | Values"
+    under: str = ""
 
 
 @dataclass
 class Panel:
     """`words` stand in a panel that has no series; `top`, where it is given, is the frame's greatest value; `across` is
-    what stands along it where that isn't time."""
+    what stands along it where that isn't time; `also` is a further unit on the right, and how much of `unit` is one of it."""
     title: str
     unit: str
     series: list[Series]
     words: str = ""
     top: Optional[float] = None
     across: str = ""
+    also: Optional[tuple[str, int]] = None
 
 
 def panel_of(view: View, what: str, span: Span = Span(), every: Optional[int] = None) -> Panel:
@@ -121,45 +121,52 @@ def steps(view: View, label: str, moments: Ints, amounts: "Ints | int") -> Serie
     return Series(label, "steps", moments, values)
 
 
-def most(view: View, panel_name: str, series: Sequence[Series]) -> list[Series]:
-    """The series with most steps or points, where there are too many to be told apart."""
+def most(view: View, panel_name: str, series: Sequence[Series], limit: Optional[int] = MOST) -> list[Series]:
+    """The series with most steps or points, where there are too many to be told apart; all where there is no limit."""
     series = [one for one in series if len(one.moments)]
-    kept = fewest(series)
+    kept = list(series) if limit is None else fewest(series, limit)
     if len(kept) < len(series):
-        view.more_notes.append(too_many(panel_name, len(series)))
+        view.more_notes.append(too_many(panel_name, len(series), len(kept)))
     return kept
 
 
-def fewest(series: Sequence[Series]) -> list[Series]:
+def fewest(series: Sequence[Series], limit: int = MOST) -> list[Series]:
     """As many series as can be told apart: acknowledgements are left out first, then those with fewest changes."""
     kept = sorted(range(len(series)),
-                  key=lambda place: (series[place].label.endswith(" acks"), -len(series[place].moments)))[:MOST]
+                  key=lambda place: (series[place].label.endswith(" acks"), -len(series[place].moments)))[:limit]
     return [series[place] for place in sorted(kept)]
 
 
-def too_many(panel_name: str, count: int) -> Note:
+def too_many(panel_name: str, count: int, kept: int = MOST) -> Note:
     """What is said where lines are left out."""
-    return Note(f"{panel_name} lines", f"{panel_name}: {count} lines are too many to be told apart, so {MOST} are drawn:"
+    return Note(f"{panel_name} lines", f"{panel_name}: {count} lines are too many to be told apart, so {kept} are drawn:"
                 " those with most changes, acknowledgements last")
 
 
-def windows(view: View) -> Panel:
-    """cwnd and ssthresh of each flow, as the lines have them, with losses and timeouts."""
+def windows(view: View, limit: Optional[int] = FLOWS) -> Panel:
+    """cwnd and ssthresh of each flow, as the lines have them, with losses and timeouts; and, where the flow's `window` is the
+    lesser, the effective window, which is what may be under way. Of more than 16 flows those with most changes, if there is
+    a limit."""
     columns = view.experiment.columns
+    # Flows by name are chosen by whom the panel shows (`dnlab-plot --of`).
+    shown = {name for name, _ in view.senders}
     rows = np.flatnonzero((columns.word == ACK) | (columns.word == EXPIRE))
-    flows = np.unique(columns.flow[rows]).tolist()
-    found = [flow_windows(view, flow, rows[columns.flow[rows] == flow]) for flow in flows]
+    flows = [flow for flow in np.unique(columns.flow[rows]).tolist() if f"flow {flow}" in shown or not view.is_told]
+    found = {flow: flow_windows(view, flow, rows[columns.flow[rows] == flow]) for flow in flows}
     if not found:
         return Panel("Windows", "bytes", [], "no flow: no `ack` or `expire` line")
-    if len(flows) > THRESHOLDS:
-        view.more_notes.append(Note("thresholds", f"window: the thresholds of {len(flows)} flows can't be told apart,"
-                                    " so none is drawn"))
-        marks = [Series(label, "marks", *merged([parts[place] for parts in found]))
-                 for place, label in ((2, "loss"), (3, "timeout"))]
-        series = most(view, "window", [parts[0] for parts in found]) + [one for one in marks if len(one.moments)]
-    else:
-        series = [one for parts in found for one in parts if len(one.moments)]
-    return Panel("Windows", "bytes", series, top=1.25 * max(int(parts[0].values.max()) for parts in found))
+    cwnds = most(view, "window", [parts[0] for parts in found.values()], limit)
+    kept = [parts for parts in found.values() if any(parts[0] is one for one in cwnds)]
+    lines = [one for parts in kept for one in parts[:-2] if len(one.moments)]
+    marks = [one for parts in kept for one in parts[-2:]]
+    if limit is not None and len(kept) > APART:
+        marks = [Series(label, "marks", *merged(marks[place::2])) for place, label in ((0, "loss"), (1, "timeout"))]
+    is_effective = any(one.label.startswith("effective") for one in lines)
+    title = "Windows (dotted: ssthresh" + ("; wide: effective window)" if is_effective else ")")
+    sizes = {view.sends[f"flow {flow}"][1].smss for flow in found if f"flow {flow}" in view.sends}
+    return Panel(title, "bytes", lines + [one for one in marks if len(one.moments)],
+                 top=1.25 * max(int(parts[0].values.max()) for parts in kept),
+                 also=("segments", sizes.pop()) if len(sizes) == 1 else None)
 
 
 def merged(marks: Sequence[Series]) -> tuple[Ints, Ints]:
@@ -171,7 +178,7 @@ def merged(marks: Sequence[Series]) -> tuple[Ints, Ints]:
 
 
 def flow_windows(view: View, flow: int, rows: Ints) -> list[Series]:
-    """cwnd, ssthresh, losses and timeouts of a flow; marks stand on the window of their moment."""
+    """cwnd, the effective window where that is less, ssthresh, losses and timeouts of a flow; marks stand on cwnd."""
     columns = view.experiment.columns
     moments, cwnd, ssthresh = columns.moment[rows], columns.number[rows], columns.more[rows]
     moment, sends = view.sends.get(f"flow {flow}", (0, None))
@@ -185,8 +192,11 @@ def flow_windows(view: View, flow: int, rows: Ints) -> list[Series]:
     for label, at in (("loss", columns.moment[dropped]), ("timeout", timeouts)):
         held = np.maximum(np.searchsorted(moments, at, side="right") - 1, 0)
         marks.append(Series(f"{label} {flow}", "marks", at, cwnd[held]))
-    return [Series(f"cwnd {flow}", "steps", moments, cwnd), Series(f"ssthresh {flow}", "steps", moments, ssthresh),
-            *marks]
+    name = f"cwnd {flow}"
+    lines = [Series(name, "steps", moments, cwnd)]
+    if sends is not None and int(cwnd.max()) > sends.window:
+        lines.append(Series(f"effective {flow}", "steps", moments, np.minimum(cwnd, sends.window), name))
+    return [*lines, Series(f"ssthresh {flow}", "steps", moments, ssthresh, name), *marks]
 
 
 def queues(view: View) -> Panel:
@@ -228,7 +238,7 @@ def in_flight(view: View, own: Ints) -> tuple[Ints, Ints]:
     return _changes(visits.finish[own], left[left >= 0])
 
 
-def sojourns(view: View) -> Panel:
+def sojourns(view: View, limit: Optional[int] = MOST) -> Panel:
     """Of each delivered packet the time from being made, at the moment of its delivery."""
     if not view.is_told:
         return Panel("Time from being made to delivery", "ms", [],
@@ -240,11 +250,11 @@ def sojourns(view: View) -> Panel:
         # In the order of delivery, as long series are thinned by it.
         delivered = delivered[np.argsort(table.ended[delivered], kind="stable")]
         series.append(Series(who, "points", table.ended[delivered], delay[delivered] / 10**6))
-    series = most(view, "sojourn", series)
+    series = most(view, "sojourn", series, limit)
     return Panel("Time from being made to delivery", "ms", series, "" if series else "nothing was delivered")
 
 
-def rates(view: View) -> Panel:
+def rates(view: View, limit: Optional[int] = MOST) -> Panel:
     """What was delivered, by who sent it, and what went through each pipe, added up over time."""
     known = view.is_told
     table, visits = view.packets, view.visits
@@ -256,9 +266,26 @@ def rates(view: View) -> Panel:
     for pipe, own in visits.pipes():
         served = own[visits.finish[own] >= 0]
         series.append(steps(view, f"through {pipe_name(pipe)}", visits.finish[served], amounts[visits.packet[served]]))
-    series = most(view, "rate", series)
+    series = most(view, "rate", series, limit)
     title = "Delivered, and through each pipe" + ("" if known else " (bytes need the scenario)")
     return Panel(title, "bytes" if known else "packets", series, "" if series else "nothing was delivered")
+
+
+def link_rates(view: View) -> list[Series]:
+    """Of each pipe with a rate what it can carry over time, Mbit/s, by the configurations that were done; not a number where
+    it has no limit, or isn't there."""
+    found = []
+    for pipe, changes in view.changes.items():
+        moments = np.array([change.moment for change in changes], dtype=np.int64)
+        values = np.array([change.config.bw / 10**6 if change.config and change.config.bw else np.nan for change in changes])
+        if np.isnan(values).all() or int(moments[0]) > view.last:
+            continue
+        last = np.flatnonzero(np.append(moments[1:] != moments[:-1], True))
+        moments, values = moments[last], values[last]
+        if int(moments[-1]) < view.last:
+            moments, values = np.append(moments, view.last), np.append(values, values[-1])
+        found.append(Series(f"rate of pipe {pipe}", "steps", moments, values))
+    return found
 
 
 def drops(view: View) -> Panel:

@@ -15,7 +15,7 @@ LEAST_SIZE, MOST_SIZE = 40, 1500
 
 
 class NotTaken(Faulty):
-    """A line was not taken: `cause` is one of docs/use/SCENARIO.md, `line` what was sent. Nothing has changed."""
+    """A line was not taken: `cause` is one of docs/reference/faults.md, `line` what was sent. Nothing has changed."""
 
     def __init__(self, cause: str, line: str, more: str = "") -> None:
         super().__init__(f"{cause}: {line}{more}")
@@ -23,11 +23,11 @@ class NotTaken(Faulty):
 
 
 class CommandRefused(Faulty):
-    """A command was refused: `code` is one of docs/use/SCENARIO.md, `line` the command. It stands in the transcript, and it
+    """A command was refused: `code` is one of docs/reference/faults.md, `line` the command. It stands in the transcript, and it
     changed nothing else."""
 
     def __init__(self, code: int, line: str) -> None:
-        super().__init__(f"refused {code}: {line} (SCENARIO.md says what each code means)")
+        super().__init__(f"refused {code}: {line} (docs/reference/faults.md says what each code means)")
         self.code, self.line = code, line
 
 
@@ -54,7 +54,7 @@ class Packet:
 
 
 class Event(NamedTuple):
-    """A packet was delivered at a moment (ns; `cause` is ''), or dropped for a cause of docs/use/REPORT.md.
+    """A packet was delivered at a moment (ns; `cause` is ''), or dropped for a cause of docs/reference/report.md.
 
     `packet` is None of what `until_any` tells of packets that the link's own flows and trains sent; `number` is the
     packet's serial number and `load` what it carries, in the words of a report."""

@@ -1,18 +1,21 @@
-"""What the commands of a scenario set pipes to, by docs/use/SCENARIO.md: rates, delays and queues, and when they hold."""
+"""What the commands of a scenario set pipes to, by docs/reference/scenario.md: rates, delays and queues, and when they hold."""
 from dataclasses import dataclass
 from typing import Iterable, NamedTuple, Optional
 
-from dnlab.scenario import BIT_UNITS, SCALES, Command
+from dnlab.scenario import BIT_UNITS, MASKS, SCALES, TIMES, Command
 
 _MILLION = 10**6
 # The options whose defaults are easily got back by a second `config` that doesn't name them, with these defaults in words.
+# CoDel's times where none are said (RFC 8289, sections 4.3 and 4.4), ns.
+CODEL = {"target": 5 * 10**6, "interval": 100 * 10**6}
 DEFAULTS = {"bw": "no limit", "delay": "0 ms", "queue": "50 slots", "plr": "0"}
 
 
 @dataclass(frozen=True)
 class Config:
     """A `config` of a pipe, and its line: `bw` in bit/s (0 is no limit), `delay` in ns, `slots` or `bytes` of its queue
-    (the other is None), `plr` in millionths, whether it is CoDel's; `given` has the options that it names, with their words."""
+    (the other is None), `plr` in millionths, whether it is CoDel's with its `target` and `interval` in ns (None without CoDel),
+    the words of its `mask`; `given` has the options that it names, with their words."""
     line: int
     bw: int = 0
     delay: int = 0
@@ -20,6 +23,9 @@ class Config:
     bytes: Optional[int] = None
     plr: int = 0
     codel: bool = False
+    target: Optional[int] = None
+    interval: Optional[int] = None
+    mask: str = ""
     given: tuple[tuple[str, str], ...] = ()
 
     def words(self, *names: str) -> str:
@@ -42,7 +48,7 @@ def config_of(line: int, text: str) -> Config:
     """
     words = text.split()[3:]
     given = [(name, value) for name, value in zip(words, words[1:]) if name in DEFAULTS]
-    own: dict[str, Optional[int]] = {}
+    own: dict[str, Optional[int]] = dict(_codel_in(words)) if "codel" in words else {}
     for name, value in given:
         if name == "bw":
             own["bw"] = rate_of(value)
@@ -54,7 +60,29 @@ def config_of(line: int, text: str) -> Config:
         else:
             number = value.partition("K")[0]
             own |= {"slots": None, "bytes": int(number) * 1024} if number != value else {"slots": int(value)}
-    return Config(line, codel="codel" in words, given=tuple(given), **own)  # type: ignore[arg-type]
+    return Config(line, codel="codel" in words, mask=_mask_in(words), given=tuple(given), **own)  # type: ignore[arg-type]
+
+
+def _codel_in(words: list[str]) -> dict[str, int]:
+    """CoDel's times, ns: those of the words, else its defaults."""
+    given = {name: value for name, value in zip(words, words[1:]) if name in CODEL}
+    found = dict(CODEL)
+    for name, value in given.items():
+        number = value.rstrip("mus")
+        found[name] = int(number) * TIMES[value[len(number):]]
+    return found
+
+
+def _mask_in(words: list[str]) -> str:
+    """The words behind `mask`, '' without."""
+    if "mask" not in words:
+        return ""
+    rest = words[words.index("mask") + 1:]
+    if rest[:1] == ["all"]:
+        return "all"
+    pairs = [pair for pair in zip(rest[::2], rest[1::2])]
+    count = next((place for place, (name, _) in enumerate(pairs) if name not in MASKS), len(pairs))
+    return " ".join(f"{name} {value}" for name, value in pairs[:count])
 
 
 def rate_of(word: str) -> int:

@@ -4,11 +4,12 @@ from typing import Optional, Sequence
 
 import numpy as np
 
+from dnlab.analysis.spans import Span
 from dnlab.digits import Ints
 from dnlab.errors import Faulty
 from dnlab.figures import place
 from dnlab.packets import DELIVERED
-from dnlab.series import MOST, Panel, Series, Span, fewest, most, too_many
+from dnlab.series import MOST, Panel, Series, fewest, link_rates, most, too_many
 from dnlab.view import Note, View
 
 # Throughput is taken over times of which there are so many or more, where nobody says which.
@@ -60,7 +61,7 @@ def panel_of(view: View, what: str, span: Span, every: Optional[int]) -> Panel:
         return Panel(title, unit, [], _NEEDS[of], across=across)
     if not kind:
         series = [_stairs(label, moments, values, every) for label, moments, values in throughputs(view, every)]
-        return Panel(title, unit, most(view, what, series), "" if series else "nothing was delivered")
+        return Panel(title, unit, most(view, what, series) + link_rates(view), "" if series else "nothing was delivered")
     samples = _times(view, span) if of == "sojourn" else [
         (label, np.sort(values[(moments >= span.begin) & (moments + every <= until)]))
         for label, moments, values in throughputs(view, every)]

@@ -1,10 +1,10 @@
 """Sums up a report: the rows of all experiments, what is to be said of them, and groups with intervals."""
-import re
 import sys
-from collections import Counter
 from functools import partial
 from typing import Callable, Iterable, Iterator, NamedTuple, Optional, Sequence, TypeVar
 
+from dnlab.analysis.options import varied
+from dnlab.analysis.spans import Span
 from dnlab.errors import Faulty
 from dnlab.figures import Percentile, interval
 from dnlab.metrics import is_named
@@ -25,40 +25,15 @@ class Summed(NamedTuple):
     notes: list[Note]
 
 
-_OPTION = re.compile(r"codel(?: (?:target|interval) \S+)*|droptail|mask (?:all|(?:(?:src|dst)-(?:ip|port)|proto) \S+"
-                     r"(?: (?:(?:src|dst)-(?:ip|port)|proto) \S+)*)|\S+ \S+")
-
-
-def varied(plans: dict[str, Plan]) -> dict[str, str]:
-    """Of each experiment those options of its pipes that aren't the same in all, as `pipe 1 queue 50`."""
-    found: dict[str, list[tuple[str, str]]] = {}
-    for name, plan in plans.items():
-        options: list[tuple[str, str]] = []
-        for configuration in filter(None, plan.settings().split("; ")):
-            _, number, *_ = configuration.split(" ")
-            rest = configuration.split(" ", 2)[2:]
-            options += [(number, option) for option in (_OPTION.findall(rest[0]) if rest else [])]
-        found[name] = options
-    counts = Counter(option for options in found.values() for option in set(options))
-    shown = {}
-    for name, options in found.items():
-        own: dict[str, list[str]] = {}
-        for number, option in options:
-            if counts[number, option] < len(plans):
-                own.setdefault(number, []).append(option)
-        shown[name] = "; ".join(f"pipe {number} {' '.join(words)}" for number, words in own.items())
-    return shown
-
-
 def sum_one(view: View, percentiles: Sequence[Percentile], shown: dict[str, str], patterns: Sequence[str],
-            kind: str, every: int) -> Summed:
-    """The rows of one experiment, for another process: `summary`, `windows` or `losses`."""
+            kind: str, every: int, span: Span = Span()) -> Summed:
+    """The rows of one experiment, for another process: `summary` (of a part of its time), `windows` or `losses`."""
     if kind == "windows":
         rows = windows(view, every)
     elif kind == "losses":
         rows = losses(view)
     else:
-        rows = Tables(view, percentiles, shown.get(view.name)).rows()
+        rows = Tables(view, percentiles, shown.get(view.name), span=span).rows()
     if kind != "summary":
         own = {"seed": view.plan.seed if view.plan else None, "varied": shown.get(view.name), "ended": view.ended.how}
         rows = [{**row, **own} for row in rows]
@@ -69,11 +44,11 @@ def sum_one(view: View, percentiles: Sequence[Percentile], shown: dict[str, str]
 
 def summed(given: Given, plans: Optional[dict[str, Plan]], wanted: Sequence[str] = (),
            percentiles: Sequence[Percentile] = PERCENTILES, patterns: Sequence[str] = (), kind: str = "summary",
-           every: int = 0, workers: Optional[int] = None) -> Iterator[Summed]:
+           every: int = 0, workers: Optional[int] = None, span: Span = Span()) -> Iterator[Summed]:
     """The rows and notes of each experiment of a report, in order; `Faulty` where the scenario isn't the report's."""
     shown = varied(plans) if plans else {}
     one = partial(sum_one, percentiles=tuple(percentiles), shown=shown, patterns=tuple(patterns), kind=kind,
-                  every=every)
+                  every=every, span=span)
     return whole(given, plans, wanted, over(given, one, plans, wanted, workers, "summary"), lambda made: made.name)
 
 

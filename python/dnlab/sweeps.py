@@ -2,61 +2,35 @@
 import re
 import shlex
 from pathlib import Path
-from typing import Any, Iterable, Iterator, Mapping, NamedTuple, Optional, Sequence, Union
+from typing import Any, Iterable, Iterator, Mapping, Optional, Sequence, Union
 
-import pandas as pd
-
-from dnlab import children, ending, frames
-from dnlab.asking import USUAL, Ask, Found, check, merged, names_in, stats_of, unit_of, usual
+from dnlab import ending
+from dnlab.analysis.batches import Answered, Waiting, answer_of, judged, raise_first, steps_of, together
+from dnlab.analysis.own import Own
+from dnlab.analysis.spans import Span, span_of
+from dnlab.analysis.swept import Swept
+from dnlab.asking import USUAL, Ask, Found, check, merged, names_in, stats_given, usual
 from dnlab.children import Killed
-from dnlab.crew import Crew, Outcome
+from dnlab.crew import Crew
 from dnlab.errors import Failed, Faulty
-from dnlab.estimates import Kind, estimate
-from dnlab.grids import Case, cases_of
+from dnlab.grids import TAKEN, Case, cases_of
 from dnlab.kept import Kept, checksum, program_checksum
 from dnlab.making import Maker
 from dnlab.measuring import measured
-from dnlab.metrics import is_named
 from dnlab.notes import Note
 from dnlab.programs import program as program_of
-from dnlab.scenario import MOST_BYTES, MOST_EXPERIMENTS, BadWord, Plan, Words, experiment, read
+from dnlab.scenario import MOST_BYTES, MOST_EXPERIMENTS, Plan, read
 from dnlab.splitting import experiments_in
 from dnlab.templates import Template, shown
 from dnlab.work import Progress, cores
 
-# What a process runs at once: the program keeps all reports of a text until its end, so their steps are bounded too.
-_MOST_TOGETHER = 4
-_MOST_STEPS = 3 * 10**6
 # An experiment's name hangs on the order of --set, and its answers don't.
 _HEADING = re.compile(r"^( *experiment +)\S+", re.MULTILINE)
 # Marks of experiments that weren't run as their texts have it: a table of them is no answer, unless they are allowed.
 STOPPING = ("refused", "spent")
 
 
-class Waiting(NamedTuple):
-    """An experiment that must be run: what it is kept by, and its budget of steps."""
-    case: Case
-    key: str
-    steps: int
-
-
-Answered = tuple[list[Waiting], list[Found]]
-
-
-def together(waiting: Sequence[Waiting], workers: int) -> Iterator[list[Waiting]]:
-    """Experiments that are run as one text, in order."""
-    most = max(1, min(_MOST_TOGETHER, len(waiting) // (4 * workers)))
-    batch: list[Waiting] = []
-    for one in waiting:
-        if batch and (len(batch) == most or sum(other.steps for other in batch) + one.steps > _MOST_STEPS):
-            yield batch
-            batch = []
-        batch.append(one)
-    if batch:
-        yield batch
-
-
-class Sweep:
+class Sweep(Swept):
     """The experiments of a template, `cases` in order; they are run when their rows or the table are asked for.
 
     template  the path of the template, or its text
@@ -71,14 +45,17 @@ class Sweep:
     anew      whether all are run, whatever is kept
     allow     which of `refused` and `spent` don't stop it: an experiment with a command that was refused, or whose steps
               were spent before its end, raises `Faulty` where it isn't allowed
+    span      the part of each experiment's time that is summed up, as without a warm-up
     """
 
     def __init__(self, template: Union[str, Path], grid: Mapping[str, Sequence[Any]], seeds: Iterable[int] = (1,),
                  asks: Sequence[Ask] = (), kept: Union[str, Path, None] = None, workers: Optional[int] = None,
                  on: Optional[str] = None, there: Optional[str] = None, dnlab: Optional[str] = None,
-                 anew: bool = False, allow: Sequence[str] = (), parts: Optional[int] = None) -> None:
+                 anew: bool = False, allow: Sequence[str] = (), parts: Optional[int] = None, span: Span = Span()) -> None:
         self.template = Template(template)
         for name in grid:
+            if name in TAKEN:
+                raise Faulty(f"no setting can be called {name}: the tables, or a template, have this name")
             if name not in self.template.names:
                 raise Faulty(f"{self.template.name}: {name} is set, and there is no {{{{ {name} }}}} in it")
         self.settings = list(grid)
@@ -87,6 +64,7 @@ class Sweep:
         self.workers = workers or cores()
         self.on, self.there, self.parts = on, there, parts
         self.allow = frozenset(allow)
+        self.span = span
         self._maker = Maker(self.template)
         self._named = dnlab
         self.kept = Kept(kept)
@@ -98,9 +76,9 @@ class Sweep:
     def text(self, case: Case) -> str:
         """The text of an experiment; one that isn't just this experiment is refused."""
         text = self._maker.made(case.name, case.seed, case.settings, case.told())
-        names = [part.name for part in experiments_in([text.encode()])]
-        if names != [case.name]:
-            has = f"it has {', '.join(names)}" if names else "it has none"
+        found = [part.name for part in experiments_in([text.encode()])]
+        if found != [case.name]:
+            has = f"it has {', '.join(found)}" if found else "it has none"
             raise Faulty(f"{self.template.name}: {case.told()}: its text must have this one experiment, and {has}: let it"
                          " begin with `experiment {{ name }} seed {{ seed }} budget 1000`")
         return text
@@ -113,10 +91,10 @@ class Sweep:
     def check_texts(self, cases: Sequence[tuple[Case, str]], program: str) -> None:
         """Has the program judge some texts, of one experiment each; the first fault is told as `--explain` has it."""
         joined = "".join(text for _, text in cases).encode()
-        if len(joined) <= MOST_BYTES and _judged(program, joined) is None:
+        if len(joined) <= MOST_BYTES and judged(program, joined) is None:
             return
         for case, text in cases:
-            said = _judged(program, text.encode())
+            said = judged(program, text.encode())
             if said is not None:
                 raise self._faulty(case, said)
 
@@ -150,7 +128,7 @@ class Sweep:
             if case.name in self.found:
                 continue
             text = self.text(case)
-            key = checksum(_HEADING.sub(r"\1", text, count=1), own)
+            key = checksum(_HEADING.sub(r"\1", text, count=1) + self.span.words(), own)
             found = None if self.anew else self.kept.get(key, self.asks)
             if found is not None:
                 self.found[case.name] = found
@@ -160,7 +138,7 @@ class Sweep:
                 texts, size = [], 0
             texts.append((case, text))
             size += len(text)
-            waiting.append(Waiting(case, key, _steps(text)))
+            waiting.append(Waiting(case, key, steps_of(text)))
         self.check_texts(texts, program)
         return waiting
 
@@ -184,7 +162,7 @@ class Sweep:
         try:
             for batch, found in self._answers(waiting, program):
                 with ending.held():
-                    self.kept.put([(one.key, answered) for one, answered in zip(batch, found)])
+                    self.kept.put([(one.key, self._keepable(answered)) for one, answered in zip(batch, found)])
                     self.found.update((one.case.name, answered) for one, answered in zip(batch, found))
                     self.ran += len(batch)
                 progress.step(len(batch))
@@ -193,6 +171,12 @@ class Sweep:
         finally:
             progress.close()
             ending.remove(progress.close)
+
+    def _keepable(self, found: Found) -> Found:
+        """What is kept: not what functions of one's own answered, since what they do may change."""
+        own = {str(stat) for ask in self.asks for stat in ask.stats if isinstance(stat, Own)}
+        return found if not own else found._replace(values={
+            of: {stat: values for stat, values in stats.items() if stat not in own} for of, stats in found.values.items()})
 
     def _answers(self, waiting: Sequence[Waiting], program: str) -> Iterator[Answered]:
         if self.on is None:
@@ -213,7 +197,8 @@ class Sweep:
         failures: list[Failed] = []
         with Crew[tuple[Waiting, ...]](min(self.workers, max(len(waiting), 1))) as crew:
             def begin(batch: Sequence[Waiting]) -> None:
-                crew.give(tuple(batch), measured, [self.text(one.case) for one in batch], self.asks, program)
+                crew.give(tuple(batch), measured, [self.text(one.case) for one in batch], self.asks, program,
+                          self.span)
 
             for batch in together(waiting, self.workers):
                 begin(batch)
@@ -236,59 +221,6 @@ class Sweep:
             for one in batch:
                 begin([one])
 
-    def rows(self) -> pd.DataFrame:
-        """A row for each experiment and each of whom was asked: its settings, seed, experiment, of, a column for each
-        stat (times in ns, rates in bit/s, sizes in bytes; <NA> where it can't be told or wasn't asked), marks."""
-        self.run()
-        stats = list(dict.fromkeys(stat for ask in self.asks for stat in ask.stats))
-        is_text = {name: not all(isinstance(case.settings[name], (int, float)) for case in self.cases)
-                   for name in self.settings}
-        rows = []
-        for case in self.cases:
-            settings = {name: str(shown(value)) if is_text[name] else float(value) if isinstance(value, float) else value
-                        for name, value in case.settings.items()}
-            found = self.found[case.name]
-            own: dict[str, dict[str, Any]] = {}
-            for ask in self.asks:
-                # Who sent nothing in this experiment has a row without figures, so that no setting is left out.
-                nobody = {} if re.search(r"[*?[]", ask.of) else {ask.of: None}
-                for stat in ask.stats:
-                    for of, value in {**nobody, **found.values[ask.of][stat]}.items():
-                        own.setdefault(of, {})[stat] = value
-            marks = " ".join(dict.fromkeys(note.mark for note in found.notes))
-            rows += [{**settings, "seed": case.seed, "experiment": case.name, "of": of, **values, "marks": marks}
-                     for of, values in own.items()]
-        return frames.of_rows(rows, [*self.settings, "seed", "experiment", "of", *stats, "marks"])
-
-    def table(self, level: float = 95, interval: Kind = "t") -> pd.DataFrame:
-        """A row for each setting, of and stat: over the seeds n (how many have a value), mean, low and high (the ends of
-        its interval, Student's t or the bootstrap), least and greatest, in `unit`; the interval's
-        level and method; and the marks of its experiments (see `view.Note`)."""
-        rows = self.rows()
-        found: list[dict[str, Any]] = []
-        names = [*self.settings, "of"]
-        for keys, group in rows.groupby(names if len(names) > 1 else names[0], sort=False, dropna=False):
-            own = dict(zip(names, keys if isinstance(keys, tuple) else (keys,)))
-            marks = " ".join(dict.fromkeys(word for words in group.marks for word in words.split()))
-            for stat in self._stats_of(own["of"]):
-                values = [float(value) for value in group[stat].dropna()]
-                made = estimate(values, level, interval)
-                found.append({**own, "stat": stat, "unit": unit_of(stat), **made._asdict(),
-                              "least": min(values, default=None), "greatest": max(values, default=None),
-                              "level": level, "method": interval, "marks": marks})
-        return frames.of_rows(found, [*self.settings, "of", "stat", "unit", "n", "mean", "low", "high", "least",
-                                      "greatest", "level", "method", "marks"])
-
-    def _stats_of(self, of: str) -> list[str]:
-        """The stats that were asked of somebody, in the order in which they were."""
-        return list(dict.fromkeys(stat for ask in self.asks if is_named(of, ask.of) for stat in ask.stats))
-
-    def plot(self, level: float = 95, interval: Kind = "t") -> Any:
-        """A matplotlib figure: a panel for each of and stat, over the first setting that has several values."""
-        from dnlab import curves
-
-        return curves.figure_of(self.table(level, interval), self.settings)
-
     def changeless(self) -> Optional[str]:
         """What is to be said where the seeds change nothing, so that intervals would have no width."""
         by_setting: dict[tuple[str, ...], list[Case]] = {}
@@ -306,51 +238,20 @@ class Sweep:
                 for note in self.found[case.name].notes]
 
 
-def _steps(text: str) -> int:
-    """The steps that a text's experiment may take."""
-    heading = next(line for line in text.splitlines() if line.split()[:1] == ["experiment"])
-    try:
-        return experiment(Words(heading.split()))[3]
-    except BadWord:
-        return _MOST_STEPS
-
-
-def _judged(program: str, text: bytes) -> Optional[str]:
-    """What the program says of a faulty text, None where it has no fault."""
-    done = children.run([program, "check", "--explain"], text)
-    if done.status == 0:
-        return None
-    if done.status != 1:
-        raise Failed(done.status, done.said() or f"{program} check ended with status {done.status}")
-    return done.said()
-
-
-def answer_of(outcome: Outcome[tuple[Waiting, ...]]) -> list[Found]:
-    """What experiments answer; a program that a signal ended is told with the first of them."""
-    if isinstance(outcome.fault, Killed):
-        first, *others = outcome.token
-        more = f" or one of {len(others)} behind it" if others else ""
-        raise Killed(3, f"{first.case.told()}{more}: {outcome.fault.said}")
-    found: list[Found] = outcome.get()
-    return found
-
-
-def raise_first(failures: Sequence[Failed]) -> None:
-    """Raises the first of some failures, with how many there are."""
-    if failures:
-        more = f" (and {len(failures) - 1} experiments more)" if len(failures) > 1 else ""
-        raise Failed(failures[0].status, failures[0].said + more)
-
-
 def sweep(template: Union[str, Path], *, seed: Union[int, Iterable[int]] = 1, of: Any = None, stat: Any = USUAL,
           settings: Mapping[str, Any] = {}, kept: Union[str, Path, None] = None, workers: Optional[int] = None,
-          on: Optional[str] = None, dnlab: Optional[str] = None, allow: Sequence[str] = (), **grid: Any) -> Sweep:
+          on: Optional[str] = None, dnlab: Optional[str] = None, allow: Sequence[str] = (), begin: int = 0,
+          end: Optional[int] = None, **grid: Any) -> Sweep:
     """Runs a template with each setting and each seed: `dnlab.sweep("link.tmpl", queue=[10, 50], seed=range(30)).table()`.
 
     template  the path of a template in Jinja2, or its text (a str of several lines)
     seed      one or several; `settings` has settings that are called as a word here is
     of, stat  whom and what to ask: `of="train 9", stat=["delay.p95", "lost"]`, or of={"train 9": ["delay.p95"], ..}
+    begin, end  only what happened from the moment `begin` on and before `end` (ns), so that a warm-up is left out
     kept, workers, on, dnlab, allow   see `Sweep`
+
+    A stat may be a function of one's own: it is given the run, a `dnlab.Experiment`, or the run and of whom it is asked, and
+    gives a number. What it answers isn't kept.
 
     A setting is a value or a list of them. Faults of the template, and of a text that was made of it, raise `Faulty`.
     """
@@ -358,5 +259,10 @@ def sweep(template: Union[str, Path], *, seed: Union[int, Iterable[int]] = 1, of
              for name, value in {**settings, **grid}.items()}
     asked = of if isinstance(of, Mapping) else {} if of is None else {
         one: stat for one in ([of] if isinstance(of, str) else of)}
-    asks = [Ask(one, stats_of(stats if isinstance(stats, str) else ",".join(stats))) for one, stats in asked.items()]
-    return Sweep(template, every, [seed] if isinstance(seed, int) else seed, asks, kept, workers, on, dnlab=dnlab, allow=allow)
+    if of is None and stat is not USUAL:
+        if not all(callable(one) for one in (stat if isinstance(stat, (list, tuple)) else [stat])):
+            raise Faulty("stat without of: say of whom, as of='train 9' (a function alone is asked of the whole run)")
+        asked = {"all": stat}
+    asks = [Ask(one, stats_given(stats)) for one, stats in asked.items()]
+    return Sweep(template, every, [seed] if isinstance(seed, int) else seed, asks, kept, workers, on, dnlab=dnlab,
+                 allow=allow, span=span_of(begin, end))

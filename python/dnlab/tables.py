@@ -7,6 +7,7 @@ from typing import Any, Optional, Sequence
 
 import numpy as np
 
+from dnlab.analysis.spans import Span
 from dnlab.digits import Ints
 from dnlab.errors import Faulty
 from dnlab.figures import Percentile, jain, percentile_name, place
@@ -33,9 +34,10 @@ def times_of(percentiles: Sequence[Percentile]) -> tuple[str, ...]:
     return "least", *(percentile_name(one) for one in percentiles), "greatest"
 
 
-def columns_of(percentiles: Sequence[Percentile] = PERCENTILES) -> tuple[str, ...]:
-    """All columns of a summary, in order."""
-    return ("experiment", "of", *_COUNTS, *CAUSES, *times_of(percentiles), *_MORE)
+def columns_of(percentiles: Sequence[Percentile] = PERCENTILES, span: Span = Span()) -> tuple[str, ...]:
+    """All columns of a summary, in order; one of a part of the time has `from` and `to` at the end."""
+    return ("experiment", "of", *_COUNTS, *CAUSES, *times_of(percentiles), *_MORE,
+            *(() if span.is_whole() else ("from", "to")))
 
 
 def spread(times: Optional[Ints], percentiles: Sequence[Percentile], with_mean: bool = False) -> Row:
@@ -102,11 +104,18 @@ def sum_of(sizes: Ints) -> Optional[int]:
 @dataclass
 class Tables:
     """Makes the rows of an experiment; `varied` is what of its settings isn't the same in all experiments, and
-    `with_mean` gives the rows of packets and pipes the `mean` time under way."""
+    `with_mean` gives the rows of packets and pipes the `mean` time under way.
+
+    Of a `span` that isn't whole the rows have what happened in it: packets made, delivered and dropped in it, those under
+    way at its end, and rates over its whole length."""
     view: View
     percentiles: Sequence[Percentile] = PERCENTILES
     varied: Optional[str] = None
     with_mean: bool = True
+    span: Span = Span()
+
+    def __post_init__(self) -> None:
+        self.span.check(self.view)
 
     def rows(self) -> list[Row]:
         """All rows of the experiment, its whole last."""
@@ -115,7 +124,7 @@ class Tables:
         rows += [row for pipe, visits in view.visits.pipes() for row in self.pipe(pipe, visits)]
         rows += self.whole()
         own = self.own()
-        return [{**dict.fromkeys(columns_of(self.percentiles)), **row, **own,
+        return [{**dict.fromkeys(columns_of(self.percentiles, self.span)), **row, **own,
                  "marks": view.marks("" if row["of"] in WHOLE else row["of"])} for row in rows]
 
     def own(self) -> Row:
@@ -125,18 +134,40 @@ class Tables:
                 "seed": plan.seed if plan else None, "budget_packets": plan.budget if plan else None,
                 "budget_steps": plan.steps if plan else None, "settings": plan.settings() if plan else None,
                 "varied": self.varied, "refused": len(self.view.refused), "codes": codes_of(self.view.refused),
-                "ended": ended.how, "ended_at": ended.moment, "end": ended.end}
+                "ended": ended.how, "ended_at": ended.moment, "end": ended.end,
+                **({} if self.span.is_whole() else {"from": self.span.begin, "to": self.until()})}
+
+    def until(self) -> int:
+        """The end of the span, ns, or of the experiment if that comes before."""
+        last = self.view.ended.moment
+        return last if self.span.end is None else min(self.span.end, last)
+
+    def over(self, firsts: Ints, lasts: Ints, size: Optional[int]) -> Row:
+        """As `span`, but of a part of the time the rate is over its whole length."""
+        found = span(firsts, lasts, size)
+        if self.span.is_whole():
+            return found
+        time = self.until() - self.span.begin
+        return {**found, "time": time, "rate": None if size is None else size * 8 * 10**9 // time}
+
+    def arrived(self, packets: Ints) -> Ints:
+        """Those of some packets that were delivered, in the span."""
+        table = self.view.packets
+        delivered: Ints = packets[(table.fate[packets] == DELIVERED) & self.span.has(table.ended[packets])]
+        return delivered
 
     def packets(self, of: str, packets: Ints) -> Row:
         """A row of packets: bytes, last and rate are of what was delivered, first is the first packet's making."""
         table = self.view.packets
-        fate = table.fate[packets]
-        delivered = packets[fate == DELIVERED]
+        fate, ended = table.fate[packets], table.ended[packets]
+        delivered, made = self.arrived(packets), packets[self.span.has(table.made[packets])]
         size = sum_of(table.size[delivered])
-        causes = np.bincount(np.maximum(fate.astype(np.int64) - DROPPED + 1, 0), minlength=len(CAUSES) + 1)[1:]
-        return {"of": of, "packets": len(packets), "delivered": len(delivered),
-                "held": int(np.count_nonzero(fate == HELD)), "bytes": size,
-                **span(table.made[packets], table.ended[delivered], size),
+        lost = fate[(fate >= DROPPED) & self.span.has(ended)].astype(np.int64) - DROPPED
+        causes = np.bincount(lost, minlength=len(CAUSES))
+        held = ((fate == HELD) | self.span.is_over(ended)) & ~self.span.is_over(table.made[packets])
+        return {"of": of, "packets": len(made), "delivered": len(delivered),
+                "held": int(np.count_nonzero(held)), "bytes": size,
+                **self.over(table.made[made], table.ended[delivered], size),
                 **dict(zip(CAUSES, causes.tolist())),
                 **spread(table.delay[delivered], self.percentiles, self.with_mean),
                 "jitter": jitter(table.delay[delivered[np.argsort(table.ended[delivered], kind="stable")]])}
@@ -149,23 +180,23 @@ class Tables:
         table = self.view.packets
         kinds = table.kind[packets]
         packets = packets[(kinds == DATA) | (kinds == PLAIN)]
-        delivered = packets[table.fate[packets] == DELIVERED]
+        delivered = self.arrived(packets)
         if not len(packets) or (len(delivered) and int(table.size[delivered].min()) < 0):
             return {}
-        once = packets[table.is_new[packets]]
+        once = delivered[table.is_new[delivered]]
         size = int(table.size[once].sum()) - HEADER * int(np.count_nonzero(table.kind[once] == DATA))
-        return {"useful": size, "goodput": span(table.made[packets], table.ended[once], size)["rate"]}
+        return {"useful": size, "goodput": self.over(table.made[packets], table.ended[once], size)["rate"]}
 
     def progress(self, of: str, packets: Ints) -> Row:
         """Of a flow how many segments were sent again, and the time from its command to its last missing byte."""
         table = self.view.packets
         if int(table.kind[packets[0]]) != DATA or not self.view.is_told:
             return {}
-        again = int(np.count_nonzero(table.again[packets]))
+        again = int(np.count_nonzero(table.again[packets] & self.span.has(table.made[packets])))
         moment, sends = self.view.sends.get(of, (0, None))
-        once = packets[table.is_new[packets]]
-        whole = sends is not None and len(once) == sends.count
-        return {"again": again, "completion": int(table.ended[once].max()) - moment if whole else None}
+        ended = np.sort(table.ended[packets[table.is_new[packets]]])
+        whole = sends is not None and len(ended) == sends.count and bool(self.span.has(ended[-1:]).all())
+        return {"again": again, "completion": int(ended[-1]) - moment if whole else None}
 
     def pipe(self, pipe: int, visits: Ints) -> list[Row]:
         """The rows of an instance: one, or one for each direction where packets of both came through it."""
@@ -182,16 +213,16 @@ class Tables:
         finish before them."""
         table, packets = self.view.visits, self.view.packets
         finish, left, packet = table.finish[visits], table.exit[visits], table.packet[visits]
-        is_served = finish >= 0
-        served, gone = visits[is_served], visits[is_served & (left >= 0)]
-        size = sum_of(packets.size[packet[is_served]])
-        held = is_served & (left < 0) & (packets.fate[packet] == HELD)
+        is_served, now = finish >= 0, self.span
+        served, gone = visits[is_served & now.has(finish)], visits[is_served & (left >= 0) & now.has(left)]
+        size = sum_of(packets.size[table.packet[served]])
+        held = is_served & ~now.is_over(finish) & (((left < 0) & (packets.fate[packet] == HELD)) | now.is_over(left))
         arrival = table.arrival[gone]
         times = np.where(arrival < 0, -1, table.exit[gone] - arrival)
-        lost = packets.fate[packet[~is_served & (left >= 0)]].astype(np.int64) - DROPPED
+        lost = packets.fate[packet[~is_served & (left >= 0) & now.has(left)]].astype(np.int64) - DROPPED
         causes = np.bincount(lost[lost >= 0], minlength=len(CAUSES)).tolist()
         known = CAUSES if self.view.is_traced else ("codel",)
-        known_span = span(table.arrival[served], table.finish[served], size)
+        known_span = self.over(table.arrival[served], table.finish[served], size)
         return {"of": of, "packets": len(served), "delivered": len(gone), "held": int(np.count_nonzero(held)),
                 "bytes": size, **known_span, "utilisation": self.utilisation(of, known_span, size),
                 **{cause: count if cause in known else None for cause, count in zip(CAUSES, causes)},
@@ -203,6 +234,8 @@ class Tables:
         if size is None or not known["time"]:
             return None
         could, begin, end = 0, known["first"], known["last"]
+        if not self.span.is_whole():
+            begin, end = self.span.begin, self.until()
         changes = [change for change in self.view.changes.get(int(of.split()[1].split(".")[0]), []) if change.config]
         for change, following in zip(changes, [*changes[1:], None]):
             assert change.config is not None

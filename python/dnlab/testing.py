@@ -13,22 +13,25 @@ and in a test:
 Refused commands, and an experiment whose steps were spent, fail as well, unless `allow` names them.
 """
 from pathlib import Path
-from typing import Callable, Sequence, Union
+from typing import Callable, Optional, Sequence, Union
 
 import pytest
 
+from dnlab.analysis.spans import span_of
 from dnlab.bounds import allowed_of, bound_of, bounds_in, failing, judge, percentiles_for
 from dnlab.errors import Faulty
 from dnlab.results import Report
 from dnlab.summing import summed
 
 
-def expecting(report: Report, *bounds: Union[str, Path], allow: Union[str, Sequence[str]] = ()) -> None:
+def expecting(report: Report, *bounds: Union[str, Path], allow: Union[str, Sequence[str]] = (), begin: int = 0,
+              end: Optional[int] = None) -> None:
     """Fails where a bound doesn't hold, where commands were refused and where steps were spent, with all bounds that were
     looked at; `dnlab.Faulty` for what is no bound, and where there is nothing to judge.
 
     bounds  each one in words, or a file of them (`dnlab.bounds` has the form)
     allow   `refused`, `spent`, or both: what doesn't fail
+    begin, end  only what happened from the moment `begin` on and before `end`, ns
     """
     allowed = allowed_of(allow if isinstance(allow, str) else ",".join(allow)) if allow else []
     found = []
@@ -36,7 +39,8 @@ def expecting(report: Report, *bounds: Union[str, Path], allow: Union[str, Seque
         found += bounds_in(one, one.read_text()) if isinstance(one, Path) else [bound_of(one, f"bound {number}")]
     if not found:
         raise Faulty("no bound was given, so nothing is judged")
-    runs = list(summed(report.given, report.plans, percentiles=percentiles_for(found)))
+    runs = list(summed(report.given, report.plans, percentiles=percentiles_for(found),
+                       span=span_of(begin, end)))
     if not runs:
         raise Faulty(f"{report.given.report}: it has no experiment, so no bound can hold")
     failed = failing([(one.name, note) for one in runs for note in one.notes], allowed)

@@ -1,4 +1,4 @@
-"""What the pages show is what comes out: the ten lines of docs/use/QUESTION.md and the notebook docs/use/queues.ipynb."""
+"""What the pages show is what comes out: the ten lines of docs/howto/sweep_settings.md and the notebook docs/howto/queues.ipynb."""
 import os
 import re
 import subprocess
@@ -17,7 +17,7 @@ def plain(text: str) -> str:
 
 
 def test_the_ten_lines(program: str) -> None:
-    page = (ROOT / "docs" / "use" / "QUESTION.md").read_text()
+    page = (ROOT / "docs" / "howto" / "sweep_settings.md").read_text()
     code, shown = re.findall(r"```(?:python)?\n(.*?)```", page, re.S)[:2]
     assert len([line for line in code.split("\n") if line.strip()]) == 9
     done = subprocess.run([sys.executable, "-c", code], cwd=ROOT, capture_output=True, text=True, check=False,
@@ -41,14 +41,17 @@ def told(cell) -> list[str]:
 
 
 def test_the_notebook(program: str, monkeypatch: pytest.MonkeyPatch) -> None:
+    """It runs in the folder in which it lies, where nothing says where the package is."""
     nbformat = pytest.importorskip("nbformat", reason="nbconvert is missing (Debian: python3-nbconvert)")
     execute = pytest.importorskip("nbconvert.preprocessors", reason="nbconvert is missing (Debian: python3-nbconvert)")
     pytest.importorskip("ipykernel", reason="ipykernel is missing (Debian: python3-ipykernel)")
     pytest.importorskip("matplotlib_inline", reason="matplotlib is missing (Debian: python3-matplotlib)")
-    for name, value in {**WORDS, "DNLAB": program}.items():
+    monkeypatch.delenv("PYTHONPATH", raising=False)
+    for name, value in {"PYTHONDONTWRITEBYTECODE": "1", "DNLAB": program}.items():
         monkeypatch.setenv(name, value)
-    book = nbformat.read(ROOT / "docs" / "use" / "queues.ipynb", 4)
+    [path] = (ROOT / "docs").rglob("queues.ipynb")
+    book = nbformat.read(path, 4)
     wanted = [told(cell) for cell in book.cells]
-    execute.ExecutePreprocessor(timeout=600, kernel_name="python3").preprocess(book, {"metadata": {"path": str(ROOT)}})
+    execute.ExecutePreprocessor(timeout=600, kernel_name="python3").preprocess(book, {"metadata": {"path": str(path.parent)}})
     assert [told(cell) for cell in book.cells] == wanted
     assert sum("a picture" in one for one in wanted) == 2

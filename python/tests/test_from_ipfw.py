@@ -1,6 +1,6 @@
 """tools/from-ipfw: five configurations of an administrator's, and what each word of ipfw(8) becomes.
 
-The expected commands beside the scripts (tests/ipfw/NAME.txt) were worked out by hand from ipfw(8) and docs/use/SCENARIO.md.
+The expected commands beside the scripts (tests/ipfw/NAME.txt) were worked out by hand from ipfw(8) and docs/reference/scenario.md.
 """
 import os
 import stat

@@ -1,4 +1,4 @@
-"""docs/use/LIVE.md: what its sessions show is what comes of them."""
+"""docs/howto/own_protocol.md: what its sessions show is what comes of them."""
 import os
 import re
 import subprocess
@@ -8,7 +8,7 @@ from pathlib import Path
 import pytest
 from conftest import ROOT
 
-PAGE = (ROOT / "docs/use/LIVE.md").read_text()
+PAGE = (ROOT / "docs/howto/own_protocol.md").read_text()
 PROGRAMS = re.findall(r"```python\n(.*?)```\n\n((?:    [^\n]*\n)+)", PAGE, re.DOTALL)
 
 

@@ -1,12 +1,7 @@
-"""CUBIC's window (stacks/own_sender) beside numbers that were worked out by hand from the formulas of RFC 9438."""
-import sys
-
+"""CUBIC's window (`dnlab.senders.cubic`) beside numbers that were worked out by hand from the formulas of RFC 9438."""
 import pytest
-from conftest import ROOT
 
-sys.path.insert(0, str(ROOT / "stacks" / "own_sender"))
-
-from cubic import Cubic, curve, plateau_time  # noqa: E402  (the path is set first)
+from dnlab.senders.cubic import Cubic, curve, plateau_time
 
 
 def test_the_curve() -> None:

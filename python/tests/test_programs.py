@@ -108,7 +108,7 @@ def test_all_say_the_same_version() -> None:
     assert tomllib.loads((ROOT / "python" / "pyproject.toml").read_text(encoding="utf-8"))["project"]["version"] == number
     assert copied_version(ROOT / "crates" / "dnlab" / "src" / "version.rt", r'VERSION: &str = "(\S+) \(commit ') == number
     assert copied_version(ROOT / "CHANGELOG.md", r"(?m)^## (\S+)$") == number
-    for page in sorted((ROOT / "docs" / "use").glob("*.1")):
+    for page in sorted((ROOT / "docs" / "man").glob("*.1")):
         assert copied_version(page, r'"dnlab ([0-9.]+)') == number, page
     for command in COMMANDS:
         done = subprocess.run([ROOT / "tools" / command, "--version"], capture_output=True, text=True, check=False)

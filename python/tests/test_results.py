@@ -22,15 +22,15 @@ def experiment(name: str, joined: bool = True) -> Experiment:
 
 def test_packets() -> None:
     table = experiment("reno_four_segments").packets()
-    assert list(table.columns[:7]) == ["made", "delivered", "delay", "size", "of", "pipe", "fate"]
+    assert list(table.columns[:7]) == ["made", "delivered", "delay", "bytes", "sender", "queue", "outcome"]
     assert table.made.dtype == "Int64" and table.index.name == "packet"
     assert table.made.tolist() == [0, 0, 0, 11200000, 12400000, 13600000, 21200000, 32400000]
-    assert table[table.of == "flow 1"].delay.tolist() == [11200000, 12400000, 13600000, 11200000]
-    assert table["pipe"].tolist() == ["1.0"] * 3 + ["2.0"] * 3 + ["1.0", "2.0"]
-    assert set(table.fate) == {"delivered"} and not table.again.any()
+    assert table[table.sender == "flow 1"].delay.tolist() == [11200000, 12400000, 13600000, 11200000]
+    assert table.queue.tolist() == ["1.0"] * 3 + ["2.0"] * 3 + ["1.0", "2.0"]
+    assert set(table.outcome) == {"delivered"} and not table.retransmission.any()
     lost = experiment("reno_timeouts").packets()
-    assert lost.delivered.isna().all() and lost.fate.tolist() == ["lost"] * 5
-    assert lost.again.tolist() == [False, False, False, True, True]
+    assert lost.delivered.isna().all() and lost.outcome.tolist() == ["lost"] * 5
+    assert lost.retransmission.tolist() == [False, False, False, True, True]
     bare = experiment("reno_four_segments", joined=False).packets()
     assert bare.made.isna().all() and bare.delay.isna().all() and bare.delivered.notna().all()
 
@@ -41,9 +41,9 @@ def test_other_tables() -> None:
     assert list(windows.event) == ["begin", "ack", "ack", "ack", "ack"]
     assert windows.cwnd.tolist() == [4380, 5840, 7300, 8760, 10220] and windows.moment.iloc[1] == 21200000
     queues = one.queues()
-    first = queues[queues["pipe"] == "1.0"]
+    first = queues[queues.queue == "1.0"]
     assert list(zip(first.moment, first.waiting))[:4] == [(0, 3), (1200000, 2), (2400000, 1), (3600000, 0)]
-    assert first.flying.max() == 3 and first.flying.iloc[-1] == 0
+    assert first.in_flight.max() == 3 and first.in_flight.iloc[-1] == 0
     visits = one.visits()
     assert visits.iloc[0].tolist() == [0, "1.0", 0, 1200000, 11200000]
     commands = one.commands()
@@ -51,7 +51,7 @@ def test_other_tables() -> None:
     assert one.records().loc[2].word == "ok" and len(one.records()) == 26
     assert (one.counters.made, one.counters.delivered, one.ended) == (8, 8, ("end", 100000000, 100000000))
     drops = experiment("codel_one_drop").drops()
-    assert drops[["moment", "of", "cause", "pipe", "size"]].values.tolist() == [[112000000, "train 1", "codel", "1.0", 1000]]
+    assert drops[["moment", "sender", "cause", "queue", "bytes"]].values.tolist() == [[112000000, "train 1", "codel", "1.0", 1000]]
 
 
 def test_nothing_is_rounded() -> None:
@@ -68,7 +68,7 @@ def test_read() -> None:
     with pytest.raises(KeyError):
         report["none"]
     rows = report.summary(percentiles=(50, 95), of="flow *")
-    assert "p95" in rows and "p99" not in rows and all(of.startswith("flow") for of in rows.of)
+    assert "p95" in rows and "p99" not in rows and all(sender.startswith("flow") for sender in rows.sender)
     assert rows.seed.notna().all() and (rows.ended == "end").all()
     for name in report:
         assert report[name].summary().to_csv() == report.summary(experiments=[name]).to_csv()
@@ -105,7 +105,7 @@ def test_run_more_than_the_program_takes(program: str, monkeypatch: pytest.Monke
 def test_intervals() -> None:
     rows = pd.DataFrame({"varied": ["a", "a", "b", "b"], "p95": pd.array([1, 3, 5, None], "Int64"), "rate": [1, 1, 1, 3]})
     found = dnlab.intervals(rows, "varied", "p95")
-    assert found.loc["a", "mean"] == 2 and found.loc["b", "n"] == 1 and np.isclose(found.loc["a", "half"], 12.7062)
+    assert found.loc["a", "mean"] == 2 and found.loc["b", "n"] == 1 and np.isclose(found.loc["a", "ci95"], 12.7062)
     both = dnlab.intervals(rows, ["varied"], ["p95", "rate"])
     assert both.loc["b", ("rate", "mean")] == 2
 

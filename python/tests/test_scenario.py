@@ -1,4 +1,4 @@
-"""The reader of scenarios: what each command tells, and faults in lines that docs/use/SCENARIO.md names."""
+"""The reader of scenarios: what each command tells, and faults in lines that docs/reference/scenario.md names."""
 import doctest
 import importlib
 import pkgutil

@@ -51,7 +51,7 @@ exit ${status:-0}
 # Each has 3 commands, so that 3 parts hold 1 experiment each and 2 parts hold 2 and 1, or 1 and 2.
 SMALL = "".join(f"# {name}\nexperiment {name} seed 0 budget 10\n@0 add 100 allow ip from any to any\n"
                 f"@5 inject udp 10.0.0.1 1 10.0.0.2 2 100\n@9 end\n\n" for name in ("one", "bad", "two")).encode()
-# By hand from docs/use/RULES.md and REPORT.md: the rule, then the packet, 1 ns by the link of `allow`, then `end`.
+# By hand from docs/explanation/rules.md and report.md: the rule, then the packet, 1 ns by the link of `allow`, then `end`.
 SMALL_REPORT = "".join(f"experiment {name}\n0 ok 0\n5 ok 1\n6 deliver 0 plain\n9 ok 2\n"
                        "counters 1 1 0 0 0 0 0 0 0 0 0\n" for name in ("one", "bad", "two")).encode()
 # Wrong words, and what standard error must have of them.

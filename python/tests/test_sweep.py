@@ -237,11 +237,11 @@ def test_the_table_by_hand(tmp_path: Path, program: str) -> None:
         times = [8000 * size + delay * 10**6 for size in sizes[:5]]
         mean = sum(times) / 5
         half = t * math.sqrt(sum((time - mean) ** 2 for time in times) / 4 / 5)
-        assert (row.n, row.unit, row.least, row.greatest, row.level) == (5, "ns", min(times), max(times), level)
+        assert (row.n, row.unit, row["min"], row["max"], row.level) == (5, "ns", min(times), max(times), level)
         assert row["mean"] == mean and abs(row.high - mean - half) < 1e-6 * half
         assert abs(row.high + row.low - 2 * mean) < 1
     rows = made.rows()
-    assert list(rows.columns) == ["delay", "seed", "experiment", "of", "delay.median", "bytes", "marks"]
+    assert list(rows.columns) == ["delay", "seed", "experiment", "sender", "delay.median", "bytes", "warnings"]
     assert rows.bytes.tolist() == sizes and rows.experiment.tolist()[:2] == ["delay5-s1", "delay5-s2"]
 
 
@@ -303,7 +303,7 @@ def test_flows_together(tmp_path: Path, program: str) -> None:
 """
     stats = ["goodput", "completion", "jain", "again", "useful"]
     made = dnlab.sweep(text, of={"flows": stats, "flow *": ["completion"], "flow * acks": ["delivered"]}, dnlab=program)
-    rows = {(row.of, row.stat): row["mean"] for _, row in made.table().iterrows()}
+    rows = {(row.sender, row.stat): row["mean"] for _, row in made.table().iterrows()}
     # `flow *` names flows alone. Each segment has its own acknowledgement.
     assert {of for of, stat in rows if stat == "completion"} == {"flows", "flow 1", "flow 2"}
     assert {of: mean for (of, stat), mean in rows.items() if stat == "delivered"} == {"flow 1 acks": 4, "flow 2 acks": 2}
@@ -371,7 +371,7 @@ def test_the_picture(program: str) -> None:
     bars, = axes.containers
     sizes = [size_of(made.text(case)) for case in made.cases[:3]]
     mean = sum(sizes) / 3 * 0.008
-    assert list(bars[0].get_xdata()) == [5, 10, 20] and axes.get_ylabel() == "ms" and axes.get_xlabel() == "delay"
+    assert list(bars[0].get_xdata()) == [5, 10, 20] and axes.get_ylabel() == "Median delay (ms)" and axes.get_xlabel() == "Delay"
     assert list(bars[0].get_ydata()) == pytest.approx([mean + 5, mean + 10, mean + 20])
     half = 4.302653 * math.sqrt(sum((size * 0.008 - mean) ** 2 for size in sizes) / 2 / 3)
     segment = bars[2][0].get_segments()[0]

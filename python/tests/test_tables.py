@@ -8,9 +8,11 @@ from hypothesis import strategies as some
 
 from dnlab import report, scenario
 from dnlab.errors import Faulty
-from dnlab.figures import Interval, interval, jain, percentile_name, place, student
+from dnlab.estimates import half_of
+from dnlab.figures import Interval, interval, jain, percentile_name, place
 from dnlab.layout import milliseconds, table
-from dnlab.summing import grouped, varied
+from dnlab.analysis.options import varied
+from dnlab.summing import grouped
 from dnlab.tables import Tables, losses, times_of, windows
 from dnlab.view import View
 
@@ -147,7 +149,7 @@ def test_what_is_silently_wrong(alone) -> None:
     assert rows["flow 1"]["marks"].split() == ["spent", "budget"]
     assert {"spent", "no-way-back", "denied", "budget"} == set(rows["all"]["marks"].split())
     assert (rows["all"]["ended"], rows["all"]["end"]) == ("spent", 20000000)
-    assert f"spent {milliseconds(view.ended.moment)} of 20.000000 ms" in table(Tables(view).rows())
+    assert f"spent {milliseconds(view.ended.moment)} of 20.000000 ms" in table(Tables(view).rows(), exact=True)
 
 
 def test_ranks() -> None:
@@ -172,7 +174,12 @@ def test_fairness() -> None:
 def test_intervals() -> None:
     # From tables of Student's t (97.5 %).
     wanted = {1: 12.706, 2: 4.303, 3: 3.182, 4: 2.776, 10: 2.228, 29: 2.045, 30: 2.042, 120: 1.980}
-    assert {freedom: round(student(freedom), 3) for freedom in wanted} == wanted
+    # Values of which half is -1 and half 1, or one is 0: t is half the width over their standard error.
+    for freedom, t in wanted.items():
+        values = [float(place % 2) for place in range(freedom + 1)]
+        mean = sum(values) / len(values)
+        error = (sum((value - mean) ** 2 for value in values) / freedom / len(values)) ** 0.5
+        assert round(half_of(values) / error, 3) == t
     found = interval([2.0, 4.0, 4.0, 6.0])
     # Mean 4, squares 4 + 0 + 0 + 4, so the spread is sqrt(8 / 3), over sqrt(4).
     assert found.count == 4 and found.mean == 4.0
@@ -194,7 +201,22 @@ def test_what_varies() -> None:
                    "@9 end\n" for name, queue in
                    (("a", "queue 5"), ("b", "queue 5 codel target 5 interval 9"), ("c", "mask proto 0xff queue 7")))
     assert varied(scenario.read(text.encode())) == {
-        "a": "pipe 1 queue 5", "b": "pipe 1 queue 5 codel target 5 interval 9", "c": "pipe 1 mask proto 0xff queue 7"}
+        "a": "pipe 1 queue 5 droptail", "b": "pipe 1 queue 5 codel target 5 interval 9",
+        "c": "pipe 1 queue 7 droptail mask proto 0xff"}
+
+
+def test_what_varies_counts_defaults_and_not_words() -> None:
+    """A queue of 50 slots is the default, and 1000Kbit/s are 1Mbit/s: only what differs in value is told."""
+    text = "".join(f"experiment {name} seed 1 budget 9\n@0 pipe 1 config {words}\n@9 end\n" for name, words in
+                   (("a", "bw 1Mbit/s"), ("b", "bw 1000Kbit/s queue 50"), ("c", "bw 1Mbit/s queue 9")))
+    assert varied(scenario.read(text.encode())) == {"a": "pipe 1 queue 50", "b": "pipe 1 queue 50", "c": "pipe 1 queue 9"}
+    # A pipe that not all have: what was given is told, its defaults aren't.
+    more = ("experiment a seed 1 budget 9\n@0 pipe 1 config\n@0 pipe 2 config delay 9\n@9 end\n"
+            "experiment b seed 1 budget 9\n@0 pipe 1 config\n@9 end\n")
+    assert varied(scenario.read(more.encode())) == {"a": "pipe 2 delay 9", "b": ""}
+    outage = "".join(f"experiment {name} seed 1 budget 9\n@0 pipe 1 config bw 1Mbit/s\n@5 pipe 1 config {words}\n@9 end\n"
+                     for name, words in (("a", "bw 2Mbit/s"), ("b", "bw 1Mbit/s")))
+    assert varied(scenario.read(outage.encode())) == {"a": "pipe 1 bw 1Mbit/s then bw 2Mbit/s", "b": "pipe 1 bw 1Mbit/s"}
 
 
 @pytest.mark.parametrize("name", ["masked_instances", "deleted_everywhere", "one_packet_held"])

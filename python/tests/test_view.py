@@ -184,7 +184,7 @@ def test_keys_chooser_and_a_phone(tmp_path: Path) -> None:
              "await new Promise((next) => setTimeout(next, 1000)); told.tabs = [...document.querySelectorAll('select, button, input')]" \
              ".map((one) => one.tabIndex);"
     found = read_back(page, choose)
-    assert found["name"] == "codel" and "codel target" in found["about"] and found["tabs"] == [0] * 8
+    assert found["name"] == "codel" and "codel target" in found["about"] and found["tabs"] == [0] * 10
     assert near(found["panels"]["sequence"]["flow 1: dropped"]["points"], drops_of((folder / "report.txt").read_text()), (1250, 30000))
     # In a frame as wide as a phone nothing is wider than it.
     inner = page.read_text().replace("</body>", "<script>setTimeout(() => parent.postMessage(`${innerWidth} "

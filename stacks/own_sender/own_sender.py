@@ -14,13 +14,14 @@ import sys
 
 sys.dont_write_bytecode = True
 HERE = pathlib.Path(__file__).resolve().parent
-sys.path[:0] = [str(HERE), str(HERE.parents[1] / "python")]
+sys.path.insert(0, str(HERE.parents[1] / "python"))
 
 import dnlab  # noqa: E402  (the path is set first)
-from cubic import Cubic  # noqa: E402
 from dnlab import ending  # noqa: E402
 from dnlab.errors import status_of  # noqa: E402
 from dnlab.hosts import Loop  # noqa: E402
+from dnlab.senders import Timeout  # noqa: E402
+from dnlab.senders.cubic import Cubic  # noqa: E402
 from dnlab.session_events import Address, Event  # noqa: E402
 
 MS, S = 10**6, 10**9
@@ -41,25 +42,6 @@ class Receiver:
         assert event.packet is not None
         self.numbers.add(event.packet.payload)
         self.loop.link.send(self.here, self.there, HEADER, event.packet.payload, "tcp")
-
-
-class Timeout:
-    """How long an acknowledgement may take (ns), by RFC 6298: at least a second."""
-
-    def __init__(self) -> None:
-        self.smoothed = self.varied = 0.0
-        self.value = float(S)
-
-    def measured(self, rtt: float) -> None:
-        if self.smoothed:
-            self.varied = 0.75 * self.varied + 0.25 * abs(self.smoothed - rtt)
-            self.smoothed = 0.875 * self.smoothed + 0.125 * rtt
-        else:
-            self.smoothed, self.varied = rtt, rtt / 2
-        self.value = max(self.smoothed + 4 * self.varied, float(S))
-
-    def passed(self) -> None:
-        self.value = min(2 * self.value, 60.0 * S)
 
 
 class Sender:

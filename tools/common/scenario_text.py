@@ -1,7 +1,7 @@
 """Which texts are scenarios, by the package's reader (python/dnlab/scenario.py), and whether a report is whole.
 
 tools/attack/hostile, tools/attack/limits and tools/second/differ have here a second word on which fault stands where,
-written from docs/use/SCENARIO.md and docs/use/REPORT.md alone. It has no simulation: which finishes and drops a report
+written from docs/reference/scenario.md, faults.md and report.md alone. It has no simulation: which finishes and drops a report
 has is not judged here.
 """
 import pathlib

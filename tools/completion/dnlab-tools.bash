@@ -19,19 +19,22 @@ _dnlab_tools() {
     *:--tolerance) words="delay.p95=5% goodput=1% drops=2 *=1%" ;;
     *:--lines) words="3 10" ;;
     *:--allow) words="refused spent refused,spent" ;;
-    *:--experiment | *:--only | *:--of | *:--columns | *:--ssh | *:--on | *:--set | *:--seeds | *:--from | *:--to) return ;;
-    *:--out | *:--work | *:--program | *:--csv | *:--json | *:--parquet | *:--each | *:--plot | *:--kept | *:--bounds) ;;
+    *:--within) words="1% 5% 10%" ;;
+    *:--log) words="x y x,y" ;;
+    *:--experiment | *:--only | *:--pairs | *:--along | *:--rows | *:--label | *:--of | *:--columns | *:--ssh | *:--on | *:--set | *:--seeds | *:--from | *:--to) return ;;
+    *:--out | *:--work | *:--program | *:--csv | *:--json | *:--parquet | *:--each | *:--long | *:--plot | *:--kept | *:--bounds) ;;
     dnlab-summary:*)
-      words="--experiment --of --percentiles --every --losses --by --columns --workers --csv --json --help"
+      words="--experiment --of --percentiles --every --losses --by --columns --from --to --exact --workers --csv --json --help"
       ;;
     dnlab-plot:*) words="--experiment --only --of --what --from --to --bin --overlay --out --workers --help" ;;
     dnlab-compare:*) words="--experiment --of --tolerance --percentiles --lines --all --json --help" ;;
-    dnlab-expect:*) words="--experiment --bounds --first --all --allow --json --workers --help" ;;
+    dnlab-expect:*) words="--experiment --bounds --first --all --allow --json --from --to --workers --help" ;;
     dnlab-view:*) words="--experiment --out --single --workers --help" ;;
     dnlab-pcap:*) words="--experiment --of --at --out --help" ;;
     dnlab-spread:*) words="--parts --jobs --ssh --slurm --program --out --work --resume --help" ;;
     dnlab-sweep:*)
-      words="--set --seeds --of --stat --ci --interval --csv --json --parquet --each --plot --dry-run --kept --anew"
+      words="--set --seeds --of --stat --from --to --ci --interval --csv --json --parquet --each --long --pairs --within"
+      words+=" --plot --along --rows --columns --log --label --dry-run --kept --anew"
       words+=" --workers --on --program --help"
       ;;
     dnlab-from-ipfw:*) words="--if --me --flatten --drop-unmatchable --lenient --all --traffic --moment --end --name --seed --budget --trust --out --help" ;;

@@ -8,7 +8,7 @@ HEAD = """# Wrong bodies, and what refuses each
 
 For an auditor: the edits of `plants/` that were tried, and where the proof of each fails first: in which function, by its whole name where it fails in the function's answers or invariants (`proofs/`), and at what. `returns-clause-exact` is that function's clause `exact`, `returns` its only clause; `pre-` and the like are a condition (`requires`) of what it calls, or one of the language's: an index, a sum. Written by
 
-    tools/gate/plants --all --table docs/proof/PLANTS.md
+    tools/gate/plants --all --table docs/reports/PLANTS.md
 
 over what it tried; the day of a crate's last try stands beside its name. An edit without a row is newer than the last try.
 """

@@ -1,7 +1,7 @@
 """What a program says of itself by --version: its number, the commit of its sources, and by which kit it is proved.
 
-It stands in one line of the crate `dnlab`, above all others, so that another one costs a proof of seconds. Whoever builds the program writes it into the
-copy that is built. The commit is the last one that changed the program's sources: an edit of a page builds nothing again.
+It stands in one line of the crate `dnlab`, above all others, so that another one costs a proof of seconds; the library `dnlab_c` has one of its own. Whoever
+builds one of them writes it into the copy that is built. The commit is the last one that changed the program's sources: an edit of a page builds nothing again.
 """
 import pathlib
 import re
@@ -10,7 +10,6 @@ from typing import List, Optional, Sequence
 
 import crates
 
-FILE = pathlib.Path("crates") / "dnlab" / "src" / "version.rt"
 _LINE = re.compile(r'(?m)^(pub const VERSION: &str = ")(\S+) \(.*\)";$')
 
 
@@ -23,6 +22,11 @@ def _git(root: pathlib.Path, words: Sequence[str], paths: Sequence[str]) -> Opti
     except OSError:
         return None
     return None if done.returncode else done.stdout.decode(errors="replace").strip()
+
+
+def file_of(crate: str) -> pathlib.Path:
+    """The file of a crate that has the line."""
+    return pathlib.Path("crates") / crate / "src" / "version.rt"
 
 
 def paths_of(names: Sequence[str]) -> List[str]:
@@ -39,10 +43,10 @@ def commit_of(root: pathlib.Path, names: Sequence[str]) -> str:
     return found[:7] + (" with changes" if changed else "")
 
 
-def version_of(root: pathlib.Path, names: Sequence[str], is_proved: bool) -> Optional[str]:
-    """What the program of these sources says of itself; None where the sources have no such line."""
+def version_of(root: pathlib.Path, names: Sequence[str], is_proved: bool, crate: str = "dnlab") -> Optional[str]:
+    """What the program of these sources says of itself, or the library; None where the sources have no such line."""
     try:
-        line = _LINE.search((root / FILE).read_text(encoding="utf-8"))
+        line = _LINE.search((root / file_of(crate)).read_text(encoding="utf-8"))
     except OSError:
         return None
     if line is None:
@@ -52,11 +56,11 @@ def version_of(root: pathlib.Path, names: Sequence[str], is_proved: bool) -> Opt
     return f"{line[2]} (commit {commit_of(root, names)}, {proof})"
 
 
-def put(copy: pathlib.Path, version: Optional[str]) -> None:
+def put(copy: pathlib.Path, version: Optional[str], crate: str = "dnlab") -> None:
     """Writes it into a copy of the sources."""
     if version is not None:
-        text = (copy / FILE).read_text(encoding="utf-8")
-        (copy / FILE).write_text(_LINE.sub(lambda line: f'{line[1]}{version}";', text), encoding="utf-8")
+        text = (copy / file_of(crate)).read_text(encoding="utf-8")
+        (copy / file_of(crate)).write_text(_LINE.sub(lambda line: f'{line[1]}{version}";', text), encoding="utf-8")
 
 
 def is_of(program: pathlib.Path, version: Optional[str]) -> bool:

@@ -83,5 +83,7 @@ def package(installed: pathlib.Path, room: pathlib.Path, to: pathlib.Path, numbe
     size = sum(it.stat().st_size for it in usr.rglob("*") if it.is_file()) // 1024
     depends = "" if needs == "nothing" else f"libc6 (>= {needs.split()[1]}), "
     (room / "DEBIAN").mkdir()
+    if (usr / "lib" / "libdnlab.so.1").exists():
+        (room / "DEBIAN" / "triggers").write_text("activate-noawait ldconfig\n", encoding="utf-8")
     (room / "DEBIAN" / "control").write_text(CONTROL.format(version=number, depends=depends, size=size), encoding="utf-8")
     archives.deb(room, to, date)

@@ -10,8 +10,8 @@ PLATFORM = "manylinux_2_34_x86_64"
 PYTHON = "/usr/bin/python3"
 
 
-def packages(root: pathlib.Path, program: pathlib.Path, room: pathlib.Path, to: pathlib.Path, date: int) -> None:
-    """Puts the wheel and the source package into a folder."""
+def packages(root: pathlib.Path, program: pathlib.Path, library: str, room: pathlib.Path, to: pathlib.Path, date: int) -> None:
+    """Puts the wheel and the source package into a folder; the library's shared object goes along, where one is named."""
     shutil.copytree(root / "python", room, ignore=shutil.ignore_patterns("__pycache__", ".*", "tests", "examples", "build", "*.egg-info", "bin"))
     for name in "LICENSE-MIT", "LICENSE-APACHE":
         shutil.copy(root / name, room)
@@ -27,6 +27,9 @@ def packages(root: pathlib.Path, program: pathlib.Path, room: pathlib.Path, to: 
     archives.tar_gz(top, to / sdist.name, date)
     (top / "dnlab" / "bin").mkdir()
     shutil.copy(program, top / "dnlab" / "bin" / "dnlab")
+    if library:
+        # By its own name: python/dnlab/library/places.py looks for it there.
+        shutil.copy(library, top / "dnlab" / "bin" / "libdnlab.so.1")
     archives.dated(top, date)
     words = [f"-C--build-option=--plat-name={PLATFORM}", "--outdir", str(to), "."]
     archives.run([PYTHON, "-m", "build", "--no-isolation", "--wheel", *words], date, top)

@@ -1,4 +1,4 @@
-"""Parts of tools/second/second: what moves packets in one experiment, written from docs/use/RULES.md and docs/use/ORDER.md."""
+"""Parts of tools/second/second: what moves packets in one experiment, written from docs/explanation/rules.md and docs/explanation/order.md."""
 import heapq
 from collections import deque
 from collections.abc import Callable, Iterator
@@ -16,7 +16,7 @@ DEFAULT = "add 65535 deny ip from any to any".split()
 Ends = tuple[int, int, int, int]
 # A packet's masked fields, by which its instance is found.
 Name = tuple[int, ...]
-# A moment, a class and a number, by which ORDER.md sorts what is due.
+# A moment, a class and a number, by which order.md sorts what is due.
 Due = tuple[int, int, int]
 
 

@@ -1,5 +1,5 @@
-"""Parts of tools/second/second: loss words, one instance of a pipe, one sender. Written from docs/use/RULES.md, docs/use/CODEL.md and
-docs/use/RENO.md alone, for reading and not for speed."""
+"""Parts of tools/second/second: loss words, one instance of a pipe, one sender. Written from docs/explanation/rules.md, docs/explanation/codel.md and
+docs/explanation/reno.md alone, for reading and not for speed."""
 from collections import deque
 from math import isqrt
 from typing import Protocol

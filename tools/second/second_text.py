@@ -1,5 +1,5 @@
-"""Parts of tools/second/second: rules and configurations as they are read and listed, written from docs/use/RULES.md,
-docs/use/SCENARIO.md and docs/use/REPORT.md. The words are taken to be a line of a scenario."""
+"""Parts of tools/second/second: rules and configurations as they are read and listed, written from docs/explanation/rules.md,
+docs/reference/scenario.md and docs/reference/report.md. The words are taken to be a line of a scenario."""
 from collections import deque
 from dataclasses import dataclass
 from typing import NamedTuple

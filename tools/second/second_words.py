@@ -1,5 +1,5 @@
-"""Parts of tools/second/second: what commands do, and the report of a text, written from docs/use/SCENARIO.md, docs/use/RULES.md and
-docs/use/ORDER.md."""
+"""Parts of tools/second/second: what commands do, and the report of a text, written from docs/reference/scenario.md, docs/explanation/rules.md and
+docs/explanation/order.md."""
 from collections import deque
 from collections.abc import Callable, Iterator
 

@@ -13,6 +13,8 @@ ghost use Rattle.command_line.specs.Status.{status_after};
 
 use clap::Error;
 use clap::error::ErrorKind;
+use control::parse_scenario;
+use explain_text::{explained, faults_text, refusals_text, warnings_text};
 use kept::{Keeper, Kept};
 use lab::{Device, OpenGate, Plan, RunFault, check, live, run_alone_told, run_told};
 use meter::Meter;
@@ -22,7 +24,7 @@ use std::rt::{Clock, Env};
 use std::sync::Wait;
 use std::thread::Threads;
 use std::{env, io};
-use tell::{faults_text, hint_at, print, tell_refusals, tell_warnings};
+use tell::{hint_at, print};
 use watched::{Watched, Watcher};
 use words::{Task, stray_word, task_of};
 
@@ -63,9 +65,21 @@ fn tell_all(
     if !kept.is_wanted() {
         return Ok(());
     }
-    tell_refusals(rt, alloc, kept, watched)?;
-    let notes = if has_run { Some(watched.notes()) } else { None };
-    tell_warnings(rt, alloc, kept, notes)
+    if !has_run {
+        let said = explained(alloc, kept.text(), None)?;
+        print(rt, said.as_slice());
+        return Ok(());
+    }
+    let refused = refusals_text(alloc, kept.text(), watched.refusals())?;
+    print(rt, refused.as_slice());
+    // The text was read before, so that it is a scenario.
+    let Ok(scenario) = parse_scenario(alloc, kept.text()) else {
+        return Err(AllocError);
+    };
+    let notes = Some(watched.notes());
+    let warned = warnings_text(alloc, kept.text(), scenario.experiments(), notes)?;
+    print(rt, warned.as_slice());
+    Ok(())
 }
 
 // Says of a strict run that commands were refused or steps were spent, if so, and how the program ends.

@@ -112,6 +112,12 @@ impl DueIndex {
         requires { place < length self.old.leaves }
         ensures { self.new ≡ record self.old { leaves = slice_set self.old.leaves place due } }
     {
+        // The only leaf is the first node.
+        if self.half == 1 {
+            self.nodes[1] = due;
+            self.least = due;
+            return;
+        }
         let leaf = self.half + place;
         if is_same(self.nodes[leaf], due) {
             return;

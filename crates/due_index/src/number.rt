@@ -173,22 +173,6 @@ impl DueNumber {
         self.class_place() == 0
     }
 
-    /// What is due is an exit.
-    #[inline(always)]
-    pub fn is_exit(self) -> bool
-        ensures { result ≡ option_map_or (λ d. rank d.source.class == 1) self false }
-    {
-        self.class_place() == 1
-    }
-
-    /// What is due is a finish.
-    #[inline(always)]
-    pub fn is_finish(self) -> bool
-        ensures { result ≡ option_map_or (λ d. rank d.source.class == 2) self false }
-    {
-        self.class_place() == 2
-    }
-
     /// What is due is a timer.
     #[inline(always)]
     pub fn is_expiry(self) -> bool

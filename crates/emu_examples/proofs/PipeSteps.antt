@@ -138,7 +138,7 @@ another_discipline_clears = refl
 held_in_order : held_in instance ≡ packet 9 ∷ packet 0 ∷ packet 1 ∷ packet 2 ∷ []
 held_in_order = refl
 
--- the drops of the counters, in the order of docs/use/REPORT.md
+-- the drops of the counters, in the order of docs/reference/report.md
 causes_in_order :
     map cause_number (Denied ∷ NoPipe ∷ NoInstance ∷ Lost ∷ Full ∷ Codel ∷ Deleted ∷ Budget ∷ [])
     ≡ 1 ∷ 2 ∷ 3 ∷ 4 ∷ 5 ∷ 6 ∷ 7 ∷ 8 ∷ []

@@ -85,7 +85,7 @@ fn bad_word(line: &[u8], ranges: bool) -> Inside
     ensures { IsWithin result.place line.now }
 {
     let Some(trouble) = first_trouble(line, ranges) else {
-        return whole("a line of docs/use/SCENARIO.md", None);
+        return whole("a line of docs/reference/scenario.md", None);
     };
     let wanted = trouble.wanted;
     let place = place_of_word(line, trouble.index);
@@ -134,7 +134,7 @@ fn in_line(line: &[u8], cause: Cause) -> Inside
     match cause {
         Cause::TooBig => whole(
             "at most 16777216 bytes",
-            Some("split it between its experiments (docs/use/MANY_MACHINES.md)"),
+            Some("split it between its experiments (docs/howto/many_machines.md)"),
         ),
         Cause::Cut => cut_off(line),
         Cause::TooLong => whole("at most 512 bytes in a line, comments too", None),

@@ -93,7 +93,7 @@ fn of_sources(code: u64) -> Option<Meaning> {
 
 const UNKNOWN: Meaning = Meaning {
     text: "a code that this program doesn't know",
-    hint: "docs/use/REPORT.md lists the codes",
+    hint: "docs/reference/report.md lists the codes",
 };
 
 /// What a code of the report means. Own.

@@ -9,5 +9,5 @@ mod walk;
 mod wanted;
 
 pub use hints::{byte_hint, hint, range_hint};
-pub use walk::{Trouble, first_trouble};
+pub use walk::{Behind, Trouble, first_trouble, trouble_behind};
 pub use wanted::{Choice, Form, Wanted};

@@ -3,7 +3,7 @@
 ghost use Rattle.std.specs.Prelude.{◌≡◌, ◌-◌, IfErr};
 
 use crate::tables;
-use crate::wanted::{Verdict, Wanted, judge};
+use crate::wanted::{Form, Verdict, Wanted, judge};
 use control_words::{Words, is};
 
 /// Where a line isn't what it should be: the number of the word, from 0, and what was wanted there.
@@ -21,15 +21,18 @@ pub struct Walk<'a> {
     taken: usize,
     // Whether a number outside its range is at fault; else only a word without the form.
     ranges: bool,
+    // Words before the one with this number are passed over, whatever they are.
+    from: usize,
 }
 
 impl<'a> Walk<'a> {
-    /// All of a line.
-    pub fn new(line: &'a [u8], ranges: bool) -> Walk<'a> {
+    /// All of a line, of which the words from this number on are judged.
+    pub fn new(line: &'a [u8], ranges: bool, from: usize) -> Walk<'a> {
         Walk {
             words: Words { rest: line },
             taken: 0,
             ranges,
+            from,
         }
     }
 
@@ -75,6 +78,9 @@ impl<'a> Walk<'a> {
         ensures blamed { IfErr result
             (λ t. t ≡ record { index = self.now.taken - 1; wanted = wanted }) }
     {
+        if self.taken <= self.from {
+            return Ok(());
+        }
         match judge(wanted.form, word) {
             Verdict::Fine => Ok(()),
             Verdict::OutOfRange if !self.ranges => Ok(()),
@@ -166,8 +172,8 @@ impl<'a> Walk<'a> {
     }
 
     fn train(&mut self) -> Result<(), Trouble> {
-        self.want(tables::SOURCE)?;
-        self.send()?;
+        with_example(self.want(tables::SOURCE), tables::COUNT.example)?;
+        with_example(self.send(), tables::COUNT.example)?;
         self.want(tables::COUNT_WORD)?;
         self.want(tables::COUNT)?;
         self.want(tables::GAP_WORD)?;
@@ -176,7 +182,7 @@ impl<'a> Walk<'a> {
 
     fn flow(&mut self) -> Result<(), Trouble> {
         self.want(tables::SOURCE)?;
-        self.ends()?;
+        with_example(self.ends(), tables::SMSS.example)?;
         self.want(tables::SMSS_WORD)?;
         self.want(tables::SMSS)?;
         self.want(tables::SEGMENTS_WORD)?;
@@ -242,8 +248,50 @@ impl<'a> Walk<'a> {
     }
 }
 
+// What a command shares with others, with an example of its own.
+fn with_example(outcome: Result<(), Trouble>, example: &'static str) -> Result<(), Trouble> {
+    match outcome {
+        Ok(()) => Ok(()),
+        Err(Trouble { index, wanted }) => Err(Trouble {
+            index,
+            wanted: Wanted { example, ..wanted },
+        }),
+    }
+}
+
 /// The first word of a line that hasn't the form that is wanted at its place, or else, where ranges count, whose
 /// number is outside its range. Own.
 pub fn first_trouble(line: &[u8], ranges: bool) -> Option<Trouble> {
-    Walk::new(line, ranges).line().err()
+    Walk::new(line, ranges, 0).line().err()
+}
+
+// Whether it is a value of its own, not a word by which the line goes on.
+fn is_value(form: Form) -> bool {
+    !matches!(form, Form::Choice(_) | Form::Word(_))
+}
+
+/// What is found behind a word at fault, if the line goes on as if that word were fine.
+#[derive(Clone, Copy)]
+pub enum Behind {
+    /// Nothing: all other words are as they should be.
+    Fine,
+    /// Another value that isn't what is wanted.
+    Fault(Trouble),
+    /// A word is missing or too many, or is another one: the first may have been taken for what it isn't.
+    Unsure,
+}
+
+/// The next word at fault behind one.
+pub fn trouble_behind(line: &[u8], before: &Trouble) -> Behind {
+    if !is_value(before.wanted.form) {
+        return Behind::Unsure;
+    }
+    let from = before.index.saturating_add(1);
+    match Walk::new(line, true, from).line() {
+        Ok(()) => Behind::Fine,
+        Err(trouble) if trouble.index >= from && is_value(trouble.wanted.form) => {
+            Behind::Fault(trouble)
+        }
+        Err(_) => Behind::Unsure,
+    }
 }

@@ -4,7 +4,8 @@ use Rattle.std.specs.Io.KnownBytes.{Appends, Keeps}
 use Rattle.control.specs.declared.scenario.Experiment.{Experiment}
 use Rattle.lab.specs.Bytes.{IsCut, Puts, Stops}
 use Rattle.std.specs.Prelude.{flat_map}
-use Rattle.lab.specs.Reports.{report_alone, reports, tally, Reads, Writes, WritesCut}
+use Rattle.lab.specs.declared.whole.Tally.{Tally}
+use Rattle.lab.specs.Reports.{report_alone, reports, tally, tally_of, tally_line, Reads, Writes, WritesCut}
 use Rattle.lab.proofs.Writing.{writing_none, writing_done, appends_kept, puts_both, stops_behind}
 use Rattle.lab.proofs.Reporting.{texts_alone}
 
@@ -40,14 +41,35 @@ texts_written read a b c kept l es plans texts reads none are made f g = (
       (all-written a c kept (flat_map (λ x. x) texts ++ []) none (puts_both a b c kept l [] (flat_map (λ x. x) texts) [] f g)),
 )
 
+-- reports that were made of the text that was read
+pub made_cut : (read a b : Option (List ℕ)) (kept bytes r : List ℕ) → ((es : List Experiment) × Reads read es × (r ≡ reports es)) →
+    kept ≡ [] → bytes ≡ r → Stops a kept b bytes → WritesCut reports read a b
+made_cut read a b kept bytes r (es, reads, made) none is f =
+    (es, reads, subst (IsCut a b) (is ∙ made) (cut-all a b kept bytes none f))
+
+pub made_cut_after : (read a b c : Option (List ℕ)) (kept l bytes r : List ℕ) → ((es : List Experiment) × Reads read es × (r ≡ reports es)) →
+    kept ≡ [] → bytes ≡ r → Puts a kept b l bytes → Stops b l c [] → WritesCut reports read a c
+made_cut_after read a b c kept l bytes r made none is f g =
+    made_cut read a c kept bytes r made none is
+    (subst (Stops a kept c) (append-nil bytes) (stops_behind a b c kept l bytes [] f g))
+
+pub made_written : (read a b c : Option (List ℕ)) (kept l bytes r : List ℕ) → ((es : List Experiment) × Reads read es × (r ≡ reports es)) →
+    kept ≡ [] → bytes ≡ r → Puts a kept b l bytes → Puts b l c [] [] → Writes reports read a c
+made_written read a b c kept l bytes r (es, reads, made) none is f g = (
+  es,
+  reads,
+  subst (Appends a c) (append-nil bytes ∙ is ∙ made)
+      (all-written a c kept (bytes ++ []) none (puts_both a b c kept l [] bytes [] f g)),
+)
+
 -- the line of `check`
-pub written : (read a b c : Option (List ℕ)) (line : List ℕ) (es plans : List Experiment) → Reads read es → plans ≡ es → line ≡ tally plans → Appends a b line → Keeps b c → Writes tally read a c
-written read a b c line es plans reads are is f g = (es, reads, subst (Appends a c) (is ∙ ap tally are) (appends_kept a b c line f g))
+pub written : (read a b c : Option (List ℕ)) (line : List ℕ) (t : Tally) → ((es : List Experiment) × Reads read es × (t ≡ tally_of es)) → line ≡ tally_line t → Appends a b line → Keeps b c → Writes tally read a c
+written read a b c line t (es, reads, are) is f g = (es, reads, subst (Appends a c) (is ∙ ap tally_line are) (appends_kept a b c line f g))
 
-pub cut : (read a b : Option (List ℕ)) (line : List ℕ) (es plans : List Experiment) → Reads read es → plans ≡ es → line ≡ tally plans → IsCut a b line → WritesCut tally read a b
-cut read a b line es plans reads are is f = (es, reads, subst (IsCut a b) (is ∙ ap tally are) f)
+pub cut : (read a b : Option (List ℕ)) (line : List ℕ) (t : Tally) → ((es : List Experiment) × Reads read es × (t ≡ tally_of es)) → line ≡ tally_line t → IsCut a b line → WritesCut tally read a b
+cut read a b line t (es, reads, are) is f = (es, reads, subst (IsCut a b) (is ∙ ap tally_line are) f)
 
-pub cut_after : (read a b c : Option (List ℕ)) (line : List ℕ) (es plans : List Experiment) → Reads read es → plans ≡ es → line ≡ tally plans → Appends a b line → Keeps b c → WritesCut tally read a c
+pub cut_after : (read a b c : Option (List ℕ)) (line : List ℕ) (t : Tally) → ((es : List Experiment) × Reads read es × (t ≡ tally_of es)) → line ≡ tally_line t → Appends a b line → Keeps b c → WritesCut tally read a c
 unfolding IsCut
-cut_after read a b c line es plans reads are is f g =
-    (es, reads, (tally es, [], subst (Appends a c) (is ∙ ap tally are) (appends_kept a b c line f g), sym (append-nil (tally es))))
+cut_after read a b c line t (es, reads, are) is f g =
+    (es, reads, (tally es, [], subst (Appends a c) (is ∙ ap tally_line are) (appends_kept a b c line f g), sym (append-nil (tally es))))

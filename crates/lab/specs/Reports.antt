@@ -7,6 +7,7 @@ use Rattle.control.specs.declared.scenario.Experiment.{Experiment}
 use Rattle.control.specs.Scenario.{Spells, HasFault}
 use Rattle.lab.specs.declared.fault.RunFault.{RunFault}
 use Rattle.lab.specs.declared.fault.RunFault.TheVariants as faults
+use Rattle.lab.specs.declared.whole.Tally.{Tally}
 use Rattle.lab.specs.Bytes.{IsCut, TakesFew}
 
 -- an experiment by itself, after all steps of its budget
@@ -23,9 +24,15 @@ report_alone e = report_with e (trace_alone e)
 abbrev pub reports : List Experiment → List ℕ
 reports es = flat_map report_alone es
 
--- the line of `check`: how many experiments and commands there are
+-- how many experiments and commands there are, and the line of `check` for that
+abbrev pub tally_of : List Experiment → Tally
+tally_of es = record { experiments = length es; commands = sum (map (λ e. length e.commands) es) }
+
+abbrev pub tally_line : Tally → List ℕ
+tally_line t = codes "ok " ++ decimal t.experiments ++ codes " " ++ decimal t.commands ++ codes "\n"
+
 abbrev pub tally : List Experiment → List ℕ
-tally es = codes "ok " ++ decimal (length es) ++ codes " " ++ decimal (sum (map (λ e. length e.commands) es)) ++ codes "\n"
+tally es = tally_line (tally_of es)
 
 -- the text that was read spells a scenario, of which this is written
 abbrev pub Writes : (List Experiment → List ℕ) → Option (List ℕ) → Option (List ℕ) → Option (List ℕ) → Type 0

@@ -1,12 +1,12 @@
 //! `run_alone`, `run` and `check`: all is read before any step, and all steps are made before anything is written.
 
-ghost use Rattle.std.specs.Prelude.{◌≡◌, ◌≤◌, length, sum, map, IfOk, IfErr, Err, true};
+ghost use Rattle.std.specs.Prelude.{◌≡◌, ◌≤◌, List, length, sum, map, IfOk, IfErr, Err, true};
 ghost use Rattle.lab.specs.Bytes.{TakesFew};
 ghost use Rattle.lab.specs.Gathers.{IsFollowed};
 ghost use Rattle.lab.specs.Plans.{IsOwnFault, fault_of};
-ghost use Rattle.lab.specs.Reports.{reports, tally, Calls, Ends, Reads, ReadsFault, reader_failed};
+ghost use Rattle.control.specs.declared.scenario.Experiment.{Experiment as Script};
+ghost use Rattle.lab.specs.Reports.{reports, tally, tally_of, Calls, Ends, Reads, ReadsFault, reader_failed};
 
-use crate::alone::run_all;
 use crate::ends::{Inlet, Outlet, flush_all, write_all};
 use crate::fault::RunFault;
 use crate::input::read_text;
@@ -15,9 +15,9 @@ use crate::plan::{Gate, Plan};
 use crate::progress::{Progress, Silent};
 use crate::texts::texts_together;
 use crate::together::run_together;
-use control::{Experiment, ParseError, Scenario, parse_scenario};
-use itoa::Buffer as Digits;
-use std::alloc::{AllocError, Global};
+use crate::whole::{Reports, Tally, check_of, reports_told};
+use control::{ParseError, Scenario, parse_scenario};
+use std::alloc::Global;
 use std::sync::Wait;
 use std::thread::Threads;
 
@@ -38,6 +38,36 @@ fn read_scenario<R: Inlet>(alloc: Global, reader: &mut R) -> Result<Scenario, Ru
     }
 }
 
+// The reports of the scenario that is read.
+#[tactic(auto, using(crate::proofs::ReadFacts::read_reports, crate::proofs::ReadFacts::read_text_fault))]
+fn reports_read<R: Inlet, P: Progress>(
+    alloc: Global,
+    reader: &mut R,
+    progress: &P,
+) -> Result<Reports, RunFault>
+    ensures made { IfOk result (λ r.
+        (es : List Script) × Reads (R.remaining reader.old) es × (r ≡ reports es)) }
+    ensures taken { TakesFew (R.remaining reader.old) (R.remaining reader.new) }
+    ensures fault { IfErr result (λ e. ReadsFault (R.remaining reader.old) e) }
+    ensures failed { R.failed reader.new ≡ reader_failed result }
+{
+    let text = read_text(alloc, reader)?;
+    reports_told(alloc, text.as_slice(), progress)
+}
+
+// How many experiments and commands the scenario has that is read.
+#[tactic(auto, using(crate::proofs::ReadFacts::read_tally, crate::proofs::ReadFacts::read_text_fault))]
+fn tally_read<R: Inlet>(alloc: Global, reader: &mut R) -> Result<Tally, RunFault>
+    ensures made { IfOk result (λ t.
+        (es : List Script) × Reads (R.remaining reader.old) es × (t ≡ tally_of es)) }
+    ensures taken { TakesFew (R.remaining reader.old) (R.remaining reader.new) }
+    ensures fault { IfErr result (λ e. ReadsFault (R.remaining reader.old) e) }
+    ensures failed { R.failed reader.new ≡ reader_failed result }
+{
+    let text = read_text(alloc, reader)?;
+    check_of(alloc, text.as_slice())
+}
+
 /// Reads a scenario and runs each of its experiments by itself; then writes their reports in its order.
 /// A `Scenario` fault is that of the text; `Read` comes just where the reader failed, `Write` where the
 /// writer did. After `Write` some first bytes of the reports were written, after any other fault none.
@@ -56,7 +86,7 @@ pub fn run_alone<R: Inlet, W: Outlet>(
 }
 
 /// `run_alone`, with somebody who is told how far it is.
-#[tactic(auto, using(crate::proofs::Endings::texts_written, crate::proofs::Endings::texts_cut, crate::proofs::Endings::texts_cut_after))]
+#[tactic(auto, using(crate::proofs::Endings::made_written, crate::proofs::Endings::made_cut, crate::proofs::Endings::made_cut_after))]
 pub fn run_alone_told<R: Inlet, W: Outlet, P: Progress>(
     alloc: Global,
     reader: &mut R,
@@ -69,15 +99,11 @@ pub fn run_alone_told<R: Inlet, W: Outlet, P: Progress>(
         (R.failed reader.new) (W.failed writer.old) (W.failed writer.new) writer.old writer.new }
     ensures own { IfErr result IsOwnFault }
 {
-    let scenario = read_scenario(alloc, reader)?;
-    let scripts = scenario.experiments();
-    let Ok(texts) = run_all(alloc, scripts, progress) else {
-        return Err(RunFault::Memory);
-    };
+    let made = reports_read(alloc, reader, progress)?;
     let Ok(mut buffer) = Buffer::new(alloc) else {
         return Err(RunFault::Memory);
     };
-    let Ok(()) = buffer.put_texts(writer, texts.as_slice()) else {
+    let Ok(()) = buffer.put_texts(writer, made.texts()) else {
         return Err(RunFault::Write);
     };
     let Ok(()) = buffer.finish(writer) else {
@@ -142,34 +168,6 @@ pub fn run_told<H: Threads + Wait + Sync, R: Inlet, W: Outlet, G: Gate, P: Progr
     Ok(())
 }
 
-// How many commands the experiments have.
-#[tactic(auto, using(crate::proofs::ReadFacts::count_more, crate::proofs::ReadFacts::count_few))]
-fn count_commands(scripts: &[Experiment]) -> u64
-    requires { sum (map (λ e. length e.commands) scripts.now) ≤ 16777216 }
-    ensures { result ≡ sum (map (λ e. length e.commands) scripts.now) }
-{
-    let mut count = 0u64;
-    for script in scripts {
-        count += script.commands.as_slice().len() as u64;
-    }
-    count
-}
-
-// The line of `check`.
-fn tally_line(alloc: Global, scripts: &[Experiment]) -> Result<Vec<u8>, AllocError>
-    requires { sum (map (λ e. length e.commands) scripts.now) ≤ 16777216 }
-    ensures { IfOk result (λ text. text.items ≡ tally scripts.now) }
-{
-    let mut text = Vec::new(alloc);
-    let mut digits = Digits::new();
-    text.extend_from_slice(b"ok ")?;
-    text.extend_from_slice(digits.format(scripts.len() as u64).as_bytes())?;
-    text.extend_from_slice(b" ")?;
-    text.extend_from_slice(digits.format(count_commands(scripts)).as_bytes())?;
-    text.extend_from_slice(b"\n")?;
-    Ok(text)
-}
-
 /// Reads a scenario and writes `ok`, how many experiments and how many commands it has. The faults are
 /// those of `run_alone`.
 #[tactic(auto, using(crate::proofs::Endings::written, crate::proofs::Endings::cut, crate::proofs::Endings::cut_after))]
@@ -184,8 +182,8 @@ pub fn check<R: Inlet, W: Outlet>(
         (R.failed reader.new) (W.failed writer.old) (W.failed writer.new) writer.old writer.new }
     ensures own { IfErr result IsOwnFault }
 {
-    let scenario = read_scenario(alloc, reader)?;
-    let Ok(line) = tally_line(alloc, scenario.experiments()) else {
+    let tally = tally_read(alloc, reader)?;
+    let Ok(line) = tally.line(alloc) else {
         return Err(RunFault::Memory);
     };
     let Ok(()) = write_all(writer, line.as_slice()) else {

@@ -30,4 +30,4 @@ pub use plan::{Gate, OpenGate, Plan};
 pub use progress::{Progress, Silent};
 pub use talk::live;
 pub use texts::Text;
-pub use whole::{Reports, reports_of, reports_told};
+pub use whole::{Reports, Tally, check_of, reports_of, reports_told};

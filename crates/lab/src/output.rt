@@ -11,6 +11,9 @@ use std::marker::Model;
 /// How many bytes are kept back before they are written.
 const CAPACITY: usize = 65_536;
 
+/// So many bytes are written by themselves: to copy them would cost more than a call.
+const LONG: usize = 16_384;
+
 /// What was not handed to the writer yet, at most 65536 bytes.
 #[derive(Drop)]
 pub struct Buffer {
@@ -60,7 +63,7 @@ impl Buffer {
             (Stops (W.contents writer.old) self.old (W.contents writer.new) bytes.now) }
         ensures failed { OnErr result (W.failed writer.new ≡ true) }
     {
-        if bytes.len() > CAPACITY {
+        if bytes.len() > LONG {
             self.hand_on(writer)?;
             return write_all(writer, bytes);
         }

@@ -150,7 +150,7 @@ impl Network {
         ensures ready { IfOk result (λ passage. CanMake send.now passage self.new) }
     {
         let Some(held) = self.ways.recall(line, send) else {
-            return self.make_searched(shelf, owner, now, line, send);
+            return self.make_searched(shelf, owner, now, line, *send);
         };
         self.table
             .accept_ready_at(held.way.pipe, held.way.instance, send.size, now)?;
@@ -166,7 +166,7 @@ impl Network {
         owner: Owner,
         now: u64,
         line: usize,
-        send: &SendSpec,
+        send: SendSpec,
     ) -> Result<Passage, AllocError>
         requires { line < 512 }
         ensures still { IsStill self.old self.new }
@@ -179,15 +179,15 @@ impl Network {
         ensures pockets { AllStay (S.pocket shelf.old) (S.pocket shelf.new) }
         ensures rooms { (o : ℕ) → S.room shelf.old o ≤ S.room shelf.new o }
         ensures places { OnOk result (KeepsPlaces self.old.table.pipes self.new.table.pipes) }
-        ensures ready { IfOk result (λ passage. CanMake send.now passage self.new) }
+        ensures ready { IfOk result (λ passage. CanMake send passage self.new) }
     {
-        let packet = packet_of(Load::Plain, send, 0);
+        let packet = packet_of(Load::Plain, &send, 0);
         let found = self.book.foresee_rule(&packet);
         let known = self.arrival_ready(shelf, owner, now, found, &packet)?;
         let Some(way) = known else {
             return Ok(Passage::Searched);
         };
-        if self.ways.learn(line, send, &way) {
+        if self.ways.learn(line, &send, &way) {
             return Ok(Passage::OnLine(line));
         }
         Ok(Passage::Searched)
@@ -266,7 +266,7 @@ impl Network {
         if !self.trace {
             return;
         }
-        self.table.note_arrival(&mut self.log, now, number, packet);
+        self.table.note_arrival(&mut self.log, now, number, *packet);
     }
 
     // A packet enters the link of `allow`.
@@ -487,20 +487,20 @@ impl Network {
     // A packet passes the rules from the first on, by a search.
     #[tactic(auto, using(crate::proofs::WayFacts::known_searched))]
     #[inline(never)]
-    fn pass_rules<S: Shelf>(&mut self, shelf: &mut S, owner: Owner, at: Setting, packet: &Packet)
+    fn pass_rules<S: Shelf>(&mut self, shelf: &mut S, owner: Owner, at: Setting, packet: Packet)
         requires stands { Stands at (S.pocket shelf.old owner) self.old }
         requires budget { (S.pocket shelf.old owner).count < (S.pocket shelf.old owner).budget }
         requires room { 0 < S.room shelf.old owner }
         requires log { 2 < self.old.log.spare }
-        requires ready { CanPass 0 packet.now None self.old }
+        requires ready { CanPass 0 packet None self.old }
         ensures becomes { Becomes 0
-            (pass_rules at packet.now (net_of (S.pocket shelf.old owner) self.old))
+            (pass_rules at packet (net_of (S.pocket shelf.old owner) self.old))
             (S.pocket shelf.old owner) (S.pocket shelf.new owner) self.old self.new }
         ensures takes { TakesRoom 3 owner (S.pocket shelf.old) (S.pocket shelf.new)
             self.old self.new }
     {
-        let verdict = self.book.verdict(packet);
-        self.hand_on(shelf, owner, at, verdict, packet);
+        let verdict = self.book.verdict(&packet);
+        self.hand_on(shelf, owner, at, verdict, &packet);
     }
 
     // A packet that left a pipe passes the rules behind the one that sent it there.
@@ -529,7 +529,7 @@ impl Network {
                 return;
             }
             None => {
-                self.search_behind(shelf, owner, at, packet);
+                self.search_behind(shelf, owner, at, *packet);
                 return;
             }
         }
@@ -538,20 +538,20 @@ impl Network {
     // The same by a search.
     #[tactic(auto, using(crate::proofs::WayFacts::known_searched))]
     #[inline(never)]
-    fn search_behind<S: Shelf>(&mut self, shelf: &mut S, owner: Owner, at: Setting, packet: &Packet)
+    fn search_behind<S: Shelf>(&mut self, shelf: &mut S, owner: Owner, at: Setting, packet: Packet)
         requires stands { Stands at (S.pocket shelf.old owner) self.old }
         requires budget { (S.pocket shelf.old owner).count < (S.pocket shelf.old owner).budget }
         requires room { 0 < S.room shelf.old owner }
         requires log { 2 < self.old.log.spare }
-        requires ready { CanPass (start_after packet.now self.old) packet.now None self.old }
+        requires ready { CanPass (start_after packet self.old) packet None self.old }
         ensures becomes { Becomes 0
-            (go_on at packet.now (net_of (S.pocket shelf.old owner) self.old))
+            (go_on at packet (net_of (S.pocket shelf.old owner) self.old))
             (S.pocket shelf.old owner) (S.pocket shelf.new owner) self.old self.new }
         ensures takes { TakesRoom 3 owner (S.pocket shelf.old) (S.pocket shelf.new)
             self.old self.new }
     {
-        let verdict = self.book.verdict_after(packet.place, packet);
-        self.hand_on(shelf, owner, at, verdict, packet);
+        let verdict = self.book.verdict_after(packet.place, &packet);
+        self.hand_on(shelf, owner, at, verdict, &packet);
     }
 
     // A packet of the next number is made, and passes the rules if it may be held.
@@ -588,7 +588,7 @@ impl Network {
                     return;
                 }
                 Passage::Searched => {
-                    self.pass_rules(shelf, owner, at, &packet);
+                    self.pass_rules(shelf, owner, at, packet);
                     return;
                 }
             }

@@ -82,7 +82,7 @@ HasLineRoomAt k p = (s : Slot) → slice_get p.slots k ≡ Some s → 0 < s.inst
 
 -- a finish at this moment drops nothing for sure
 abbrev pub IsPlain : ℕ → Slot → Type 0
-IsPlain now s = is_plain s.instance.queue.discipline now s.instance.queue.waiting ≡ true
+IsPlain now s = is_plain s.instance.queue.discipline s.instance.queue.control now s.instance.queue.waiting ≡ true
 
 abbrev pub IsPlainAt : ℕ → ℕ → KeyedPipe → Type 0
 IsPlainAt k now p = (s : Slot) → slice_get p.slots k ≡ Some s → IsPlain now s

@@ -190,7 +190,7 @@ impl Instance {
     /// A finish at the moment `now` (ns) drops nothing for sure.
     #[inline(always)]
     pub fn drops_none(&self, now: u64) -> bool
-        ensures plain { result ≡ is_plain self.now.queue.discipline now self.now.queue.waiting }
+        ensures plain { result ≡ is_plain self.now.queue.discipline self.now.queue.control now self.now.queue.waiting }
         ensures none { let q = self.now.queue in
             IsTrue result → (dequeue q.discipline now q.control q.waiting).dropped ≡ [] }
     {
@@ -203,7 +203,7 @@ impl Instance {
     pub fn finish_plainly(&mut self, now: u64, delay: Delay) -> Result<Key, AllocError>
         requires early { IsMoment now }
         requires due { option_map (λ s. s.period.finish) self.old.service.busy ≡ Some now }
-        requires plain { is_plain self.old.queue.discipline now self.old.queue.waiting ≡ true }
+        requires plain { is_plain self.old.queue.discipline self.old.queue.control now self.old.queue.waiting ≡ true }
         ensures ok { IfOk result (λ key. IsFinish now delay key [] self.old self.new) }
         ensures unchanged { OnErr result
             (self.new

@@ -65,17 +65,19 @@ impl PipeTable {
     /// Records that a packet comes to an instance of a pipe at the moment `now` (ns), and before that
     /// whose the instance is, where the packet is what makes it. Nothing where there is no such pipe, or
     /// no instance for it.
-    pub fn note_arrival(&self, log: &mut RecordLog, now: u64, number: PipeNumber, packet: &Packet)
+    #[cold]
+    #[inline(never)]
+    pub fn note_arrival(&self, log: &mut RecordLog, now: u64, number: PipeNumber, packet: Packet)
         requires { 2 ≤ log.old.spare }
         ensures records { (p : Pocket) (n : Net) → log.new.records
             ≡ log.old.records
-            ++ option_map_or (arrivals now packet.now)
+            ++ option_map_or (arrivals now packet)
             (find_pipe number (with_pipes p self.now n)) [] }
         ensures room { log.old.spare ≤ log.new.spare + 2 }
     {
         let Some(place) = self.place_of(number) else {
             return;
         };
-        note_at(&self.pipes[place], log, now, packet);
+        note_at(&self.pipes[place], log, now, &packet);
     }
 }

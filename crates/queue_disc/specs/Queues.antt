@@ -1,12 +1,12 @@
 -- The queues as their callers see them.
-use Rattle.std.specs.Prelude.{◌≡◌, ℕ, zero, suc, ◌≤◌, Bool, true, Option, List, [], ◌∷◌, ◌++◌, All}
+use Rattle.std.specs.Prelude.{◌≡◌, ℕ, zero, suc, ◌≤◌, ◌==◌, ◌&&◌, ◌||◌, not, nat_lt, if◌then◌else◌, Bool, true, false, Option, List, [], ◌∷◌, ◌++◌, All}
 use Rattle.emu_model.specs.declared.pipes.QueueLimit.{QueueLimit}
 use Rattle.emu_model.specs.declared.pipes.Discipline.{Discipline}
 use Rattle.emu_model.specs.declared.pipes.Discipline.TheVariants.{TailDrop, ControlledDelay}
 use Rattle.emu_model.specs.DropTail.{Waiting, bytes_of}
 use Rattle.emu_model.specs.Codel.{Times, CodelState, Dequeued}
 use Rattle.emu_model.specs.Pipes.{dequeue}
-use Rattle.emu_model.proofs.CodelParts.{is_short}
+use Rattle.emu_model.proofs.CodelParts.{is_short, look_empty, stop_dropping}
 
 -- a queue under a discipline; up to `capacity` may wait before it has to grow
 pub record DisciplinedQueue (A : Type 0) : Type 0 where
@@ -68,11 +68,28 @@ abbrev pub stays_short : {A : Type 0} → Times → ℕ → List (Waiting A) →
 stays_short times now [] = true
 stays_short times now (w ∷ ws) = is_short times now w ws
 
--- a dequeue drops nothing for sure
-abbrev pub is_plain : {A : Type 0} → Discipline → ℕ → List (Waiting A) → Bool
-is_plain TailDrop now ws = true
-is_plain (ControlledDelay target interval) now ws =
+-- the same under a discipline; under the limit alone no stay is long
+abbrev pub head_is_short : {A : Type 0} → Discipline → ℕ → List (Waiting A) → Bool
+head_is_short TailDrop now ws = true
+head_is_short (ControlledDelay target interval) now ws =
     stays_short (record { target = target; interval = interval }) now ws
+
+-- a head whose stay is long is not dropped yet: its stay hasn't been long for an interval, or the moment of the next
+-- drop hasn't come
+abbrev pub drops_later : CodelState → ℕ → Bool
+drops_later c now = not (c.first_above_time == 0)
+    && (nat_lt now c.first_above_time || (c.dropping && nat_lt now c.drop_next))
+
+-- the state after a head that is given: its stay is short, or it is not dropped yet
+abbrev pub given : Bool → ℕ → CodelState → CodelState
+given true now c = stop_dropping (look_empty c)
+given false now c = if nat_lt now c.first_above_time then stop_dropping c else c
+
+-- a dequeue drops nothing for sure
+abbrev pub is_plain : {A : Type 0} → Discipline → CodelState → ℕ → List (Waiting A) → Bool
+is_plain TailDrop c now ws = true
+is_plain (ControlledDelay target interval) c now ws =
+    drops_later c now || head_is_short (ControlledDelay target interval) now ws
 
 -- the sum that is kept beside what waits. Each limit lets at most 1,500,000 bytes wait, and a change
 -- of limit drops nothing

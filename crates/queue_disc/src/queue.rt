@@ -5,7 +5,7 @@ ghost use Rattle.emu_model.specs.Moments.{IsMoment};
 ghost use Rattle.emu_model.specs.DropTail.{bytes_of, accepts};
 ghost use Rattle.emu_model.specs.Codel.{initial_control};
 ghost use Rattle.emu_model.specs.Pipes.{dequeue, configured_control};
-ghost use Rattle.queue_disc.specs.Queues.{with_item, put_last, passed, is_plain, IsDequeue};
+ghost use Rattle.queue_disc.specs.Queues.{with_item, put_last, passed, head_is_short, is_plain, IsDequeue};
 
 use crate::entries::Waiting;
 use crate::state::{CodelState, Times};
@@ -119,13 +119,26 @@ impl<A> Queue<A> {
         self.dequeue_long(now)
     }
 
-    /// A dequeue at the moment `now` (ns) drops nothing for sure: nothing waits, or its head's stay is
-    /// short.
+    /// A dequeue at the moment `now` (ns) drops nothing for sure: nothing waits, its head's stay is short, or
+    /// CoDel drops later.
     #[inline(always)]
     pub fn drops_none(&self, now: u64) -> bool
-        ensures plain { result ≡ is_plain self.now.discipline now self.now.waiting }
+        ensures plain { result ≡ is_plain self.now.discipline self.now.control now self.now.waiting }
         ensures none { let q = self.now in
             IsTrue result → (dequeue q.discipline now q.control q.waiting).dropped ≡ [] }
+    {
+        match self.discipline {
+            Discipline::TailDrop => true,
+            Discipline::ControlledDelay { .. } => {
+                self.control.drops_later(now) || self.is_short(now)
+            }
+        }
+    }
+
+    // Whether nothing waits, or the head's stay is short; always under the limit alone.
+    #[inline(always)]
+    fn is_short(&self, now: u64) -> bool
+        ensures { result ≡ head_is_short self.now.discipline now self.now.waiting }
     {
         match self.discipline {
             Discipline::TailDrop => true,
@@ -136,20 +149,19 @@ impl<A> Queue<A> {
     }
 
     /// The dequeue at a moment (ns) at which `drops_none` is true. Takes no memory.
+    #[tactic(auto, using(crate::proofs::Later::later_gives))]
     #[inline(always)]
     pub fn dequeue_plainly(&mut self, now: u64) -> Option<Waiting<A>>
-        requires { is_plain self.old.discipline now self.old.waiting ≡ true }
+        requires { is_plain self.old.discipline self.old.control now self.old.waiting ≡ true }
         ensures given { IsDequeue now [] result self.old self.new }
         ensures same { self.new
             ≡ record self.old { control = self.new.control; waiting = self.new.waiting } }
     {
-        match self.discipline {
-            Discipline::TailDrop => self.tail.dequeue(),
-            Discipline::ControlledDelay { .. } => {
-                self.control.rest();
-                self.tail.dequeue()
-            }
+        if let Discipline::ControlledDelay { .. } = self.discipline {
+            let short = self.is_short(now);
+            self.control.give_head(short, now);
         }
+        self.tail.dequeue()
     }
 
     /// The same where the head is judged, and those behind it.

@@ -5,6 +5,7 @@ ghost use Rattle.std.specs.Prelude.{◌≡◌, ◌+◌, ◌-◌, ◌*◌, ◌^�
 ghost use Rattle.emu_model.specs.Moments.{IsMoment};
 ghost use Rattle.emu_model.specs.Codel.{initial_control, count_up, enter_drop_state};
 ghost use Rattle.emu_model.proofs.CodelParts.{found_by, look_empty, stop_dropping, set_next};
+ghost use Rattle.queue_disc.specs.Queues.{drops_later, given};
 
 use crate::law::control_law;
 use emu_model::CodelTime;
@@ -186,6 +187,28 @@ impl CodelState {
     {
         self.first_above_time = 0;
         self.dropping = false;
+    }
+
+    /// Whether a head whose stay is long is not dropped yet: its stay hasn't been long for an interval, or the
+    /// moment of the next drop hasn't come. A stay that is long for the first time is judged the long way.
+    #[inline(always)]
+    pub(crate) fn drops_later(self, now: u64) -> bool
+        ensures { result ≡ drops_later self now }
+    {
+        self.first_above_time != 0
+            && (now < self.first_above_time || (self.dropping && now < self.drop_next))
+    }
+
+    /// After a head that is given at the moment `now` (ns): its stay is short, or it is not dropped yet.
+    #[inline(always)]
+    pub(crate) fn give_head(&mut self, short: bool, now: u64)
+        ensures { self.new ≡ given short now self.old }
+    {
+        if short {
+            self.rest();
+        } else if now < self.first_above_time {
+            self.dropping = false;
+        }
     }
 
     pub(crate) fn stop_dropping(self) -> Self

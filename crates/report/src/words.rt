@@ -20,7 +20,7 @@ pub fn append_instance(out: &mut Vec<u8>, pipe: PipeNumber, instance: u8)
     append_labelled(out, b".", u64::from(instance));
 }
 
-/// The code of a refused command (docs/use/REPORT.md).
+/// The code of a refused command (docs/reference/report.md).
 pub fn refusal_code(refusal: Refusal) -> u64
     ensures { result ≡ code_of refusal }
 {

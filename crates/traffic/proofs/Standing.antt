@@ -17,7 +17,7 @@ use Rattle.traffic.specs.declared.sources.SourcePlace.{SourcePlace}
 use Rattle.traffic.specs.declared.sources.SourcePlace.TheVariants.{Flow, Train}
 use Rattle.traffic.specs.Kept.{KeptFlow, KeptTraffic, with_traffic, IsSound, HasRoomFor}
 use Rattle.traffic.specs.Sends.{may_send, has_left, next_send, reply_send}
-use Rattle.traffic.specs.Standing.{flow_place, train_place, source_place, MaySendAt, MayTakeAt, FlowHead, TrainHead, Heads, heads_of, send_at, reply_at}
+use Rattle.traffic.specs.Standing.{flow_place, train_place, source_place, MaySendAt, FlowHead, TrainHead, Heads, heads_of, send_at}
 use Rattle.traffic.proofs.FirstPlaces.{place_from_some}
 use Rattle.traffic.proofs.Changes.{kept, IsFlowAt, IsTrainAt, same_states, flow_at, train_at, no_flow, no_train}
 use Rattle.traffic.proofs.Sendings.{send_by_train, send_by_flow, send_by_none, emission_by_train, emission_by_flow, emission_by_none, emitting_by_train, emitting_by_flow}
@@ -123,35 +123,6 @@ module _ (t : KeptTraffic) (fs : List KeptFlow) (ts : List TrainState) (i : ℕ)
       send_by_flow k (with_traffic t n) f.state (no_train_here k place n) ((here k place).found n)
       ∙ ap (λ (x : Sending). Some x.send) (sym er)
 
-  pub room_there : (k : ℕ) → flow_place k t ≡ Some i → HasRoomFor k t → nat_lt 0 f.room ≡ true
-  room_there k e room =
-      sym (ap (λ o. option_map_or (λ (f : KeptFlow). nat_lt 0 f.room) o true) (here k (sym e)).first) ∙ room
-
-  pub may_take : MayTakeAt i t → 0 < f.room
-  may_take m = ltb-true 0 f.room (room_there m.number m.place m.room)
-
-  pub flow_takes : (first : ℕ) (g : KeptFlow) (r : Sending) → (g.state ≡ record f.state { came = with_segment first f.state.came }) →
-      (r ≡ record { load = Ack f.state.number (missing f.state.flow.smss (with_segment first f.state.came)); send = ack_send f.state.flow }) →
-      (s : Setting) (k : ℕ) (n : Net) → flow_place k t ≡ Some i →
-      option_map_or (take_segment s first (with_traffic t n)) (find_flow k (with_traffic t n)) (with_traffic t n)
-      ≡ make s r.load r.send (with_traffic (kept (set fs i g) ts) n)
-  flow_takes first g r e er s k n source =
-      let h = here k (sym source) in
-      let m = with_traffic t n in
-      let new = with_traffic (kept (set fs i g) ts) n in
-      let came = with_segment first f.state.came in
-      ap (λ o. option_map_or (take_segment s first m) o m) (h.found n)
-      ∙ ap (make s (Ack f.state.number (missing f.state.flow.smss came)) (ack_send f.state.flow))
-      (ap (λ x. put_flow x m) (sym e) ∙ h.put g n (ap (λ (x : FlowState). x.number) e ∙ h.number))
-      ∙ ap (λ (x : Sending). make s x.load x.send new) (sym er)
-
-  pub flow_answers : (first : ℕ) (r : Sending) →
-      (r ≡ record { load = Ack f.state.number (missing f.state.flow.smss (with_segment first f.state.came)); send = ack_send f.state.flow }) →
-      (k : ℕ) (n : Net) → flow_place k t ≡ Some i → reply_send k (with_traffic t n) ≡ Some r.send
-  flow_answers first r er k n source =
-      ap (option_map (λ (f : FlowState). ack_send f.flow)) ((here k (sym source)).found n)
-      ∙ ap (λ (x : Sending). Some x.send) (sym er)
-
   pub room_after : (g : KeptFlow) (k : ℕ) → flow_place k t ≡ Some i → g.state ≡ f.state → 0 < g.room →
       HasRoomFor k (kept (set fs i g) ts)
   room_after g k e same room =
@@ -251,15 +222,6 @@ module _ (k i : ℕ) (t : KeptTraffic) (fs : List KeptFlow) (ts : List TrainStat
       ∙ headed flow_head (λ h. data_send h.flow) fs i f.0 l f.1
       ∙ ap (λ t. send_at (Flow i) (heads_of t)) is
 
-  pub flow_replies : IsSound fs ts → Some i ≡ flow_place k t → (n : Net) →
-      reply_send k (with_traffic t n) ≡ reply_at i (heads_of t)
-  flow_replies sound e n =
-      let l = subst (λ (t : KeptTraffic). i < length t.flows) (sym is) (flow_within k i t e) in
-      let f = element fs i l in
-      ap (option_map (λ (f : FlowState). ack_send f.flow)) ((here t fs ts i f.0 is sound f.1 k e).found n)
-      ∙ headed flow_head (λ h. ack_send h.flow) fs i f.0 l f.1
-      ∙ ap (λ t. reply_at i (heads_of t)) is
-
   pub train_sends : Some i ≡ train_place k t → (n : Net) →
       next_send k (with_traffic t n) ≡ send_at (Train i) (heads_of t)
   train_sends e n =
@@ -269,12 +231,6 @@ module _ (k i : ℕ) (t : KeptTraffic) (fs : List KeptFlow) (ts : List TrainStat
       ∙ headed train_head (λ h. h.train.packet) ts i u.0 l u.1
       ∙ ap (λ t. send_at (Train i) (heads_of t)) is
 
-pub flow_reply : (k : ℕ) (t : KeptTraffic) (fs : List KeptFlow) (ts : List TrainState) (o : Option ℕ) → kept fs ts ≡ t →
-    IsSound fs ts → o ≡ flow_place k t →
-    IfSome o (λ i. (n : Net) → reply_send k (with_traffic t n) ≡ reply_at i (heads_of t))
-flow_reply k t fs ts None is sound e = tt
-flow_reply k t fs ts (Some i) is sound e = flow_replies k i t fs ts is sound e
-
 pub sends_nothing : (k : ℕ) (t : KeptTraffic) → None ≡ flow_place k t → None ≡ train_place k t →
     (at : Setting) (n : Net) → emission at k (with_traffic t n) ≡ with_traffic t n
 sends_nothing k t none other at n = emission_by_none at k (with_traffic t n) (no_train k t other n) (no_flow k t none n)
@@ -283,11 +239,6 @@ sends_nothing k t none other at n = emission_by_none at k (with_traffic t n) (no
 pub within_kept : (t : KeptTraffic) (fs : List KeptFlow) (ts : List TrainState) (i : ℕ) → kept fs ts ≡ t →
     i < length t.flows → i < length fs
 within_kept t fs ts i is l = subst (λ (t : KeptTraffic). i < length t.flows) (sym is) l
-
-pub flow_none : (k : ℕ) (t : KeptTraffic) (o : Option ℕ) → o ≡ flow_place k t →
-    IfNone o ((n : Net) → find_flow k (with_traffic t n) ≡ None)
-flow_none k t None e = no_flow k t e
-flow_none k t (Some i) e = tt
 
 -- a flow that is as it was
 pub still_there : (t : KeptTraffic) (fs : List KeptFlow) (ts : List TrainState) (i : ℕ) (f g : KeptFlow) →

@@ -33,12 +33,6 @@ pub record MaySendAt (p : SourcePlace) (t : KeptTraffic) : Type 0 where
   pub place : source_place number t ≡ Some p
   pub may : IsEmitting number t
 
--- the receiver of the flow there takes any segment without memory
-pub record MayTakeAt (i : ℕ) (t : KeptTraffic) : Type 0 where
-  pub number : ℕ
-  pub place : flow_place number t ≡ Some i
-  pub room : HasRoomFor number t
-
 -- what never changes of a flow and of a train
 pub record FlowHead : Type 0 where
   pub number : ℕ
@@ -56,9 +50,6 @@ pub record Heads : Type 0 where
 abbrev pub send_at : SourcePlace → Heads → Option SendSpec
 send_at (Flow i) h = option_map (λ f. data_send f.flow) (slice_get h.flows i)
 send_at (Train i) h = option_map (λ u. u.train.packet) (slice_get h.trains i)
-
-abbrev pub reply_at : ℕ → Heads → Option SendSpec
-reply_at i h = option_map (λ f. ack_send f.flow) (slice_get h.flows i)
 
 -- what never changes of the sources that are there, in their places
 abbrev pub heads_of : KeptTraffic → Heads

@@ -103,17 +103,6 @@ impl Flow {
         }
     }
 
-    /// The bytes of its segments with their headers.
-    #[inline(always)]
-    pub(crate) fn size(&self) -> Size
-        ensures { result ≡ (data_send self.now.state.flow).size }
-    {
-        let Some(size) = Size::new(self.sender.flow_ref().smss.get() + HEADER) else {
-            unreachable!()
-        };
-        size
-    }
-
     /// The header of its acknowledgements.
     #[inline(always)]
     pub(crate) fn reply(&self) -> SendSpec

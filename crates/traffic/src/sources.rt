@@ -6,13 +6,13 @@ ghost use Rattle.std.specs.List.{best_of};
 ghost use Rattle.emu_model.specs.Moments.{IsMoment};
 ghost use Rattle.emu_model.specs.declared.records.Record.TheVariants.{AckTaken, TimerExpired};
 ghost use Rattle.emu_model.specs.declared.commands.Setting.{Setting};
-ghost use Rattle.emu_model.specs.Net.{Net, find_flow, make, note, ack_send, take_segment, take_ack};
+ghost use Rattle.emu_model.specs.Net.{Net, find_flow, make, note, take_segment, take_ack};
 ghost use Rattle.emu_model.specs.Commands.{is_in_use, source_refusal, start_flow, start_train, stop_flow};
 ghost use Rattle.emu_model.specs.Dues.{is_before};
 ghost use Rattle.emu_model.specs.Events.{emission, expire_flow};
 ghost use Rattle.traffic.specs.Kept.{with_traffic, IsFree, HasRoomFor};
 ghost use Rattle.due_index.specs.Least.{least_of};
-ghost use Rattle.traffic.specs.Standing.{flow_place, source_place, IsThere, MaySendAt, MayTakeAt, heads_of, send_at, reply_at};
+ghost use Rattle.traffic.specs.Standing.{flow_place, source_place, IsThere, MaySendAt, heads_of, send_at};
 ghost use Rattle.traffic.specs.Sends.{IsEmitting, IsAllowed, IsNumbered, next_send, reply_send, source_dues};
 
 use crate::dues::append;
@@ -21,7 +21,7 @@ use crate::index::SourceIndex;
 use crate::sends::{Sending, Window};
 use crate::train::Train;
 use due_index::DueNumber;
-use emu_model::{Class, Due, FlowNumber, FlowSpec, Refusal, SendSpec, Size, TrainSpec};
+use emu_model::{Class, Due, FlowNumber, FlowSpec, Refusal, SendSpec, TrainSpec};
 use number_table::NumberTable;
 use std::alloc::{AllocError, Global};
 use std::marker::Model;
@@ -344,14 +344,6 @@ impl Traffic {
         Ok(())
     }
 
-    /// The bytes of each acknowledgement (our choice).
-    #[inline(always)]
-    pub fn reply_size() -> Size
-        ensures { (f : FlowSpec) → result ≡ (ack_send f).size }
-    {
-        Size::new(40).unwrap()
-    }
-
     /// Where the source of this number stands; None where there is none.
     #[inline(always)]
     pub fn find(&self, number: FlowNumber) -> Option<SourcePlace>
@@ -371,19 +363,6 @@ impl Traffic {
         match self.train_place(number) {
             Some(place) => Some(SourcePlace::Train(place)),
             None => None,
-        }
-    }
-
-    /// The bytes of what `emit_at` sends there.
-    #[inline(always)]
-    pub fn size_at(&self, source: &SourcePlace) -> Size
-        requires { IsThere source.now self.now }
-        ensures { (k : ℕ) (n : Net) → source_place k self.now ≡ Some source.now →
-            option_map (λ s. s.size) (next_send k (with_traffic self.now n)) ≡ Some result }
-    {
-        match source {
-            SourcePlace::Flow(place) => self.flows[*place].size(),
-            SourcePlace::Train(place) => self.trains[*place].send().size,
         }
     }
 
@@ -427,50 +406,6 @@ impl Traffic {
                 sending
             }
         }
-    }
-
-    /// Where the flow of this number stands.
-    #[inline(always)]
-    pub fn flow_at(&self, number: FlowNumber) -> Option<usize>
-        ensures place { result ≡ flow_place number self.now }
-        ensures there { IfSome result (λ i. i < length self.now.flows) }
-        ensures header { IfSome result (λ i. (n : Net) →
-            reply_send number (with_traffic self.now n) ≡ reply_at i (heads_of self.now)) }
-        ensures none { IfNone result
-            ((n : Net) → find_flow number (with_traffic self.now n) ≡ None) }
-    {
-        let _ = &self.alloc;
-        self.flow_place(number)
-    }
-
-    /// `take_ready` of the flow at a place.
-    #[inline(always)]
-    pub fn take_ready_at(&mut self, place: usize, first: u64) -> Result<(), AllocError>
-        requires { place < length self.old.flows }
-        ensures ready { (k : ℕ) → flow_place k self.old ≡ Some place →
-            OnOk result (HasRoomFor k self.new) }
-        ensures others { (k : ℕ) → HasRoomFor k self.old → HasRoomFor k self.new }
-        ensures succeeds { (k : ℕ) → flow_place k self.old ≡ Some place →
-            HasRoomFor k self.old → IsOk result }
-        ensures same { (n : Net) → with_traffic self.new n ≡ with_traffic self.old n }
-        ensures heads { heads_of self.new ≡ heads_of self.old }
-    {
-        self.flows[place].take_ready(first)
-    }
-
-    /// `take` of the flow at a place.
-    #[inline(always)]
-    pub fn take_at(&mut self, place: usize, first: u64) -> Sending
-        requires { MayTakeAt place self.old }
-        ensures taken { (at : Setting) (k : ℕ) (n : Net) → flow_place k self.old ≡ Some place →
-            let m = with_traffic self.old n in
-            option_map_or (take_segment at first m) (find_flow k m) m
-            ≡ make at result.load result.send (with_traffic self.new n) }
-        ensures header { (k : ℕ) (n : Net) → flow_place k self.old ≡ Some place →
-            reply_send k (with_traffic self.old n) ≡ Some result.send }
-        ensures heads { heads_of self.new ≡ heads_of self.old }
-    {
-        self.flows[place].take(first)
     }
 
     /// There is a flow or a train of this number.

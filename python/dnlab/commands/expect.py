@@ -5,8 +5,9 @@ import re
 import sys
 from typing import Sequence
 
+from dnlab.analysis.spans import Span
 from dnlab.bounds import FORM, Bound, Failing, Judged, allowed_of, bound_of, bounds_in, failing, judge, percentiles_for
-from dnlab.commands.words import add_texts, count_of, parser_of, taken
+from dnlab.commands.words import add_span, add_texts, count_of, parser_of, span_in, taken
 from dnlab.errors import DIFFERS, Faulty, status_of
 from dnlab.metrics import WORDS
 from dnlab.summing import summed, tell
@@ -49,6 +50,7 @@ def words(given: Sequence[str]) -> argparse.Namespace:
     parser.add_argument("--allow", action="append", default=[], type=allowed, metavar="MARK,..",
                         help="don't fail for `refused` commands, or for steps that were `spent`")
     parser.add_argument("--json", action="store_true", help="print an object, amounts in ns, bytes, bit/s, or as shares of 1")
+    add_span(parser)
     parser.add_argument("--workers", type=count_of, metavar="N",
                         help="how many processes [all cores where the report is long]")
     said = [word for word in given if is_bound(word)]
@@ -57,6 +59,7 @@ def words(given: Sequence[str]) -> argparse.Namespace:
     found.allow = [word for words in found.allow for word in words]
     if found.all and found.first:
         parser.error("--all and --first can't be both")
+    span_in(parser, found)
     if not said and not found.bounds:
         parser.error(f"no bound: {FORM}")
     if [found.report, *found.scenarios, *found.bounds].count("-") > 1:
@@ -105,7 +108,7 @@ def main(words_given: Sequence[str]) -> int:
         bounds = bounds_of(given)
         plans = plans_of(given.scenarios)
         found = list(summed(Given(given.report, tuple(given.scenarios)), plans, given.experiment,
-                            percentiles_for(bounds), workers=given.workers))
+                            percentiles_for(bounds), workers=given.workers, span=Span(given.begin, given.end)))
         if not found:
             raise Faulty(f"{given.report}: it has no experiment, so no bound can hold")
         judged = list(judge(bounds, [row for one in found for row in one.rows], given.first))

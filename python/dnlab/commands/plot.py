@@ -4,23 +4,25 @@ import sys
 from functools import partial
 from typing import NamedTuple, Optional, Sequence
 
+from dnlab.analysis.spans import Span
 from dnlab.commands.words import add_texts, count_of, moment_of, parser_of, taken, time_of
 from dnlab.errors import Faulty, status_of
 from dnlab.metrics import is_named
-from dnlab.series import MORE, WHAT, Panel, Span, panel_of
+from dnlab.series import MORE, WHAT, Panel, panel_of
 from dnlab.shares import overlaid
 from dnlab.summing import tell, whole
 from dnlab.view import Note, View
 from dnlab.work import Given, TooMany, over, plans_of
 
 EXAMPLE = """A column for each experiment, a panel for each of --what:
-  window   cwnd and ssthresh of each flow, with its losses (x) and timeouts (triangle)
+  window   cwnd and ssthresh of each flow, 16 at most, with its losses (x) and timeouts (triangle), in bytes and segments; and
+           the effective window, the lesser of cwnd and the flow's `window`, where the two differ
   queue    packets that wait or are in service, by pipe, and all under way
   sojourn  the time from being made to delivery, at each delivery
   rate     bytes delivered and bytes through each pipe, added up
   drops    drops by cause, added up
 and where it is asked for:
-  throughput      what was delivered in each --bin of time, Mbit/s
+  throughput      what was delivered in each --bin of time, Mbit/s, and the rates of the pipes
   cdf:sojourn, cdf:throughput
                   which part of the values isn't above a value
   box:sojourn, box:throughput
@@ -73,7 +75,7 @@ def words(given: Sequence[str]) -> argparse.Namespace:
     parser.add_argument("--what", type=chosen, default=list(WHAT),
                         help=f"panels, with commas between [{','.join(WHAT)}]")
     parser.add_argument("--of", action="append", default=[], metavar="PATTERN",
-                        help="only these senders, as 'flow 1' or 'train *' (not in window, queue, drops); may be said again")
+                        help="only these senders, as 'flow 1' or 'train *' (not in queue, drops); may be said again")
     parser.add_argument("--from", type=moment_of, default=0, dest="begin", metavar="TIME",
                         help="the moment from which on is drawn, as 500ms [0s]")
     parser.add_argument("--to", type=moment_of, dest="end", metavar="TIME", help="the moment up to which is drawn [the last]")

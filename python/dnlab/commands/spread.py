@@ -29,7 +29,7 @@ of several texts the fault has its text's name before it. The report is written 
 made it is kept beside it in REPORT.json, by which the other tools know its scenario again. The program is that of the
 environment variable DNLAB, else the proved one of the repository, else a checked build of its sources. By ssh the
 engine is GNU parallel (Debian: parallel, and rsync on both sides). SIGINT, SIGTERM and SIGHUP end it and all that it
-began; parts that are done are kept. docs/use/MANY_MACHINES.md says more.
+began; parts that are done are kept. docs/howto/many_machines.md says more.
 
 Example:
   tools/spread scenario.txt --parts 8 --ssh 4/alpha,4/beta --program /usr/bin/dnlab --out report.txt

@@ -5,7 +5,8 @@ import json
 import sys
 from typing import Sequence, TextIO
 
-from dnlab.commands.words import add_texts, count_of, parser_of, percentiles_of, taken, time_of
+from dnlab.analysis.spans import Span
+from dnlab.commands.words import add_span, add_texts, count_of, parser_of, percentiles_of, span_in, taken, time_of
 from dnlab.errors import Faulty, status_of
 from dnlab.layout import bare_table, table
 from dnlab.summing import grouped, summed, tell, tell_empty
@@ -31,7 +32,7 @@ instance (two rows where packets of both directions came through it), both direc
   jain       Jain's index over the flows' goodputs, 1 where all are equal
   ended      `end`, or `spent` with the moment at which the steps were spent, and that of the end
   marks      what may be silently wrong: refused, spent, no-way-back, denied, budget, unsent, reconfigured, outage,
-             half-duplex, window-limited, units (docs/use/TOOLS.md says what each means)
+             half-duplex, window-limited, units (docs/reference/tools.md says what each means)
 What can't be told is `-` (nothing in --csv, null in --json, where times are nanoseconds): without the scenario
 sizes and the moments at which packets were made, unless all of the report was made under `trace 1`. --csv and
 --json have besides the mean and the jitter (RFC 3550) of the time under way, utilisation (of a pipe: what it served
@@ -61,6 +62,8 @@ def words(given: Sequence[str]) -> argparse.Namespace:
                       " width of the 95 %% interval")
     parser.add_argument("--columns", type=lambda text: text.split(","), metavar="COLUMN,..",
                         help="with --by: of what the means are [the times under way and goodput]")
+    add_span(parser)
+    parser.add_argument("--exact", action="store_true", help="print all digits of times and fractions [three behind the point]")
     parser.add_argument("--workers", type=count_of, metavar="N",
                         help="how many processes [all cores where the report is long]")
     form = parser.add_mutually_exclusive_group()
@@ -68,6 +71,8 @@ def words(given: Sequence[str]) -> argparse.Namespace:
     form.add_argument("--json", action="store_true", help="print a list of objects")
     found = taken(parser, list(given))
     known = columns_of(found.percentiles)
+    if span_in(parser, found) != Span() and (found.every or found.losses):
+        parser.error("--from and --to go with the rows of the summary; --every has each time by itself")
     if found.columns and not found.by:
         parser.error("--columns goes with --by")
     for name in [*(found.by or []), *(found.columns or [])]:
@@ -89,6 +94,7 @@ def print_json(rows: Sequence[Row], out: TextIO) -> None:
 
 def main(words_given: Sequence[str]) -> int:
     given = words(words_given)
+    span = Span(given.begin, given.end)
     kind = "windows" if given.every else "losses" if given.losses else "summary"
     rows: list[Row] = []
     notes: list[tuple[str, Note]] = []
@@ -96,14 +102,14 @@ def main(words_given: Sequence[str]) -> int:
     try:
         plans = plans_of(given.scenarios)
         for one in summed(Given(given.report, tuple(given.scenarios)), plans, given.experiment, given.percentiles,
-                          given.of, kind, given.every or 0, given.workers):
+                          given.of, kind, given.every or 0, given.workers, span):
             rows += one.rows
             notes += [(one.name, note) for note in one.notes]
             total += 1
     except Faulty as faulty:
         print(f"summary: {faulty}", file=sys.stderr)
         return status_of(faulty)
-    names: Sequence[str] = columns_of(given.percentiles) if kind == "summary" else list(rows[0]) if rows else []
+    names: Sequence[str] = columns_of(given.percentiles, span) if kind == "summary" else list(rows[0]) if rows else []
     if given.by:
         rows = grouped(rows, given.by, given.columns or [*times_of(given.percentiles), "goodput"])
         names = list(rows[0]) if rows else []
@@ -112,9 +118,9 @@ def main(words_given: Sequence[str]) -> int:
     elif given.json:
         print_json(rows, sys.stdout)
     elif kind == "summary" and not given.by:
-        sys.stdout.write(table(rows, given.percentiles))
+        sys.stdout.write(table(rows, given.percentiles, given.exact))
     elif rows:
-        sys.stdout.write(bare_table(rows))
+        sys.stdout.write(bare_table(rows, given.exact))
     tell("summary", notes, total)
     tell_empty("summary", Given(given.report), total)
     return 0

@@ -10,10 +10,11 @@ from dnlab.view import Note, View
 from dnlab.work import Given, TooMany, over, plans_of
 
 EXAMPLE = """The page has, over one axis of time: the bytes of a flow (sent, sent again, acknowledged, dropped), windows, the
-packets at each pipe, delays, and rates. Experiment and flow are chosen in the page. Zoom by dragging, by its buttons
+packets at each pipe, delays, and rates with those of the pipes. Experiment, a second one beside it, and a flow are
+chosen in the page, and whether windows are in bytes or segments; a flow changes every panel. Zoom by dragging, by its buttons
 or by the keys + - left right 0; a double click shows all. Pointing at a packet tells its journey, a click keeps it;
 so does its serial number in the field `packet`. What has more points than the page has dots is thinned to what is in
-sight, so that no peak is lost. page.html#NAME,FROM,TO (ns) opens at an experiment and a span.
+sight, so that no peak is lost. page.html#NAME,FROM,TO (ns) opens at an experiment and a span, #NAME,FROM,TO,OTHER at two.
 
 plotly's script stands as dnlab-plotly.js beside the page, once for all pages of a folder; with --single it is within.
 Without the scenario (or `trace 1`) the page has what a report tells by itself, and says what it lacks.

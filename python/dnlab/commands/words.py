@@ -2,11 +2,15 @@
 import argparse
 import re
 from fractions import Fraction
-from typing import NoReturn
+from typing import TYPE_CHECKING, NoReturn
 
 from dnlab import __version__
+from dnlab.errors import Faulty
 from dnlab.programs import is_repository
 from dnlab.units import TIMES
+
+if TYPE_CHECKING:
+    from dnlab.analysis.spans import Span
 
 
 class Parser(argparse.ArgumentParser):
@@ -50,6 +54,24 @@ def add_texts(parser: argparse.ArgumentParser) -> None:
                         help="its scenario, or - for standard input; several where it was run from several")
     parser.add_argument("--experiment", action="append", default=[], metavar="NAME",
                         help="only this experiment, the others stay unread; may be said again [all]")
+
+
+def add_span(parser: argparse.ArgumentParser) -> None:
+    """The part of the time that is summed up."""
+    parser.add_argument("--from", dest="begin", type=moment_of, default=0, metavar="TIME",
+                        help="only what happened from then on, as 5s, so that the warm-up is left out [0]")
+    parser.add_argument("--to", dest="end", type=moment_of, metavar="TIME", help="and before then [the end]")
+
+
+def span_in(parser: argparse.ArgumentParser, given: argparse.Namespace) -> "Span":
+    """The span of `--from` and `--to`; one without a time between is refused."""
+    # Here, since it needs numpy, which not all commands do.
+    from dnlab.analysis.spans import span_of
+
+    try:
+        return span_of(given.begin, given.end)
+    except Faulty as fault:
+        parser.error(str(fault))
 
 
 def taken(parser: argparse.ArgumentParser, words: list[str]) -> argparse.Namespace:

@@ -1,4 +1,4 @@
-//! Each cause as it is printed: by itself, and with its line. The words are those of docs/use/SCENARIO.md.
+//! Each cause as it is printed: by itself, and with its line. The words are those of docs/reference/scenario.md.
 
 use super::limits::experiments;
 use super::*;

@@ -5,8 +5,8 @@ use Rattle.due_index.specs.Tree.{leaves_of, node_at, IsIndex}
 use Rattle.due_index.proofs.Trees.{leaves_long, set_index, set_leaves}
 use Rattle.due_index.proofs.index.DueIndex.set.Goals as goal
 
-pub invariant_of-self : goal.invariant_of-self
-invariant_of-self c =
+pub invariant_of-self-2 : goal.invariant_of-self-2
+invariant_of-self-2 c =
     let s = c.self.inside in
     let xs = s.nodes.items in
     let ys = c.put-self-inside.new.nodes in

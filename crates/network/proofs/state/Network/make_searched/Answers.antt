@@ -21,8 +21,8 @@ invariant_of-self-then-learn g c =
     let m = the_view c.self-2.inside in
     let known : (start : ℕ) → Foresees start x f old → CanGo start x way after =
     subst (λ o. IfSome o (λ v. (start : ℕ) → Foresees start x f old → CanGo start x v after)) c.in-Some.is c.in_ok-known.ensures.known in
-    let go : CanGo 0 (plain c.args.send.now) way m =
-    subst (λ (n : KeptNet). CanGo 0 (plain c.args.send.now) way n) (sym c.self-2.view_is)
+    let go : CanGo 0 (plain c.args.send) way m =
+    subst (λ (n : KeptNet). CanGo 0 (plain c.args.send) way n) (sym c.self-2.view_is)
     (subst (λ (y : Packet). CanGo 0 y way after) c.packet_of-packet.ensures
     (known 0 foreseen)) in
     c.learn.ensures.known m.book.rules m.table.pipes c.self-2.invariant go.way
@@ -40,8 +40,8 @@ returns-then-learn-clause-ready g c =
     let m = the_view c.self-2.inside in
     let known : (start : ℕ) → Foresees start x f old → CanGo start x way after =
     subst (λ o. IfSome o (λ v. (start : ℕ) → Foresees start x f old → CanGo start x v after)) c.in-Some.is c.in_ok-known.ensures.known in
-    let go : CanGo 0 (plain c.args.send.now) way m =
-    subst (λ (n : KeptNet). CanGo 0 (plain c.args.send.now) way n) (sym c.self-2.view_is)
+    let go : CanGo 0 (plain c.args.send) way m =
+    subst (λ (n : KeptNet). CanGo 0 (plain c.args.send) way n) (sym c.self-2.view_is)
     (subst (λ (y : Packet). CanGo 0 y way after) c.packet_of-packet.ensures
     (known 0 foreseen)) in
     record { way = way; there = c.if-learn.ensures.there refl; room = go.room }
@@ -59,8 +59,8 @@ invariant_of-self-2 g c =
     let m = the_view c.self-2.inside in
     let known : (start : ℕ) → Foresees start x f old → CanGo start x way after =
     subst (λ o. IfSome o (λ v. (start : ℕ) → Foresees start x f old → CanGo start x v after)) c.in-Some.is c.in_ok-known.ensures.known in
-    let go : CanGo 0 (plain c.args.send.now) way m =
-    subst (λ (n : KeptNet). CanGo 0 (plain c.args.send.now) way n) (sym c.self-2.view_is)
+    let go : CanGo 0 (plain c.args.send) way m =
+    subst (λ (n : KeptNet). CanGo 0 (plain c.args.send) way n) (sym c.self-2.view_is)
     (subst (λ (y : Packet). CanGo 0 y way after) c.packet_of-packet.ensures
     (known 0 foreseen)) in
     c.learn.ensures.known m.book.rules m.table.pipes c.self-2.invariant go.way

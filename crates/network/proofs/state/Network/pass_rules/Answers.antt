@@ -8,4 +8,4 @@ pub invariant_of-self : goal.invariant_of-self
 invariant_of-self g c =
     let s = c.self.inside in
     subst (λ (b : RuleBook). AreKnown b.rules s.table.pipes s.ways) (sym c.verdict-verdict.ensures.counted)
-    (known_searched 0 c.args.packet.now s.book s.table.pipes s.ways c.self.invariant)
+    (known_searched 0 c.args.packet s.book s.table.pipes s.ways c.self.invariant)

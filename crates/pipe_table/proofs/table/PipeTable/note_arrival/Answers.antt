@@ -13,7 +13,7 @@ pub returns-in_default-clause-records : goal.returns-in_default-clause-records
 returns-in_default-clause-records c = λ p n.
     let rs = c.args.log.now.records in
     sym (append-nil rs)
-    ∙ ap (λ o. rs ++ option_map_or (arrivals c.args.now c.args.packet.now) o [])
+    ∙ ap (λ o. rs ++ option_map_or (arrivals c.args.now c.args.packet) o [])
     (sym (find-none p c.args.number c.args.self.now.pipes n (position-none (has_number c.args.number) c.args.self.now.pipes c.in_default.ensures)))
 
 pub returns-clause-records : goal.returns-clause-records
@@ -21,5 +21,5 @@ returns-clause-records c = λ p n.
     let rs = c.args.log.now.records in
     rw (← c.self.view_is)
     (c.note_at.ensures.records (packet_at p.find)
-    ∙ ap (λ o. rs ++ option_map_or (arrivals c.args.now c.args.packet.now) o [])
+    ∙ ap (λ o. rs ++ option_map_or (arrivals c.args.now c.args.packet) o [])
     (sym (find-some p c.args.number c.self.inside.pipes.items c.index.result.now n (pipe-at c.args.number c.in-Some.place c.self.inside.pipes.items c.index.result.now (rw (← c.self.view_is) at c.in-Some.ensures) c.index.ensures))))

@@ -1,0 +1,81 @@
+//! The commands that are refused whatever the packets do, found without a run.
+
+ghost use Rattle.packet_store.specs.Own.{own_pocket};
+ghost use Rattle.experiment.specs.Kept.{IsHousedIn};
+
+use control::Experiment as Script;
+use emu_model::{Command, Record, Timed};
+use experiment::{ApplyError, Event, Experiment};
+use explain::Refusal;
+use packet_store::OwnShelf;
+use std::alloc::{AllocError, Global};
+
+// Whether a command can be refused, or can have another be refused: it changes rules, pipes, flows or trains.
+fn counts(command: &Command) -> bool {
+    match command {
+        Command::Inject(_) | Command::Show | Command::PipeShow => false,
+        Command::OnePass(_) | Command::Trace(_) => false,
+        _ => true,
+    }
+}
+
+// Takes one command at moment 0, and says its code if it is refused. No packet is made at the moments of commands, so
+// that rules, pipes and sources stand as the commands alone leave them.
+fn code_of(
+    experiment: &mut Experiment,
+    shelf: &mut OwnShelf,
+    command: Command,
+) -> Result<Option<u64>, AllocError>
+    requires { IsHousedIn (own_pocket shelf.old) experiment.old }
+    ensures { IsHousedIn (own_pocket shelf.new) experiment.new }
+{
+    match experiment.apply(&Timed { moment: 0, command }) {
+        Ok(()) => {}
+        Err(ApplyError::NoMemory) => return Err(AllocError),
+        Err(_) => return Ok(None),
+    }
+    if experiment.event(shelf, 0) == Event::Halted {
+        return Err(AllocError);
+    }
+    let code = match experiment.records().first() {
+        Some(Record::CommandRefused { refusal, .. }) => Some(u64::from(*refusal as u8)),
+        _ => None,
+    };
+    experiment.forget_records();
+    Ok(code)
+}
+
+// Those of the experiment with this number.
+fn expect_of(
+    out: &mut Vec<Refusal>,
+    alloc: Global,
+    number: u64,
+    script: &Script,
+) -> Result<(), AllocError> {
+    let mut shelf = OwnShelf::new(alloc, script.spec.budget.packets);
+    let mut experiment = Experiment::new(alloc, script.spec)?;
+    for (place, timed) in script.commands.as_slice().iter().enumerate() {
+        if !counts(&timed.command) {
+            continue;
+        }
+        if let Some(code) = code_of(&mut experiment, &mut shelf, timed.command)? {
+            out.push(Refusal {
+                experiment: number,
+                command: place as u64,
+                code,
+            })?;
+        }
+    }
+    Ok(())
+}
+
+/// The commands of a scenario that are refused whatever the packets do, in its order: rules, pipes, flows and trains with
+/// numbers that don't serve, are taken, or that nobody has. One that goes by packets (a mask of a pipe that holds some) is
+/// found by a run alone.
+pub fn refusals_expected(alloc: Global, scripts: &[Script]) -> Result<Vec<Refusal>, AllocError> {
+    let mut out = Vec::new(alloc);
+    for (place, script) in scripts.iter().enumerate() {
+        expect_of(&mut out, alloc, (place as u64).saturating_add(1), script)?;
+    }
+    Ok(out)
+}

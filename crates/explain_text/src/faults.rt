@@ -1,0 +1,77 @@
+//! What is said of a text that is no scenario.
+
+use control::{Cause, Fault};
+use explain::{faults_behind, find, line_at, place_of_word, put_row, show_finding, show_found};
+use explain_line::{Behind, Trouble, first_trouble, trouble_behind};
+use std::alloc::{AllocError, Global};
+
+/// So many further words of one line are told at most.
+const MOST_WORDS: usize = 8;
+
+// The word at fault that is told first, if the fault is one of a word.
+fn told_word(line: &[u8], cause: Cause) -> Option<usize> {
+    match cause {
+        Cause::BadWord => Some(first_trouble(line, false)?.index),
+        Cause::OutOfRange => Some(first_trouble(line, true)?.index),
+        _ => None,
+    }
+}
+
+// A row for another word at fault: the word, and what was expected. Whether there is such a word.
+fn put_word(out: &mut Vec<u8>, line: &[u8], trouble: &Trouble) -> Result<bool, AllocError> {
+    let place = place_of_word(line, trouble.index);
+    out.extend_from_slice(b"  also: `")?;
+    out.extend_from_slice(&line[place.start..place.start + place.width])?;
+    put_row(out, "`, expected: ", trouble.wanted.expected.as_bytes())?;
+    Ok(place.width > 0)
+}
+
+// The other words at fault of a line. None where the line's words may stand at other places than they seem to.
+fn others_in(alloc: Global, line: &[u8], told: usize) -> Result<Vec<u8>, AllocError> {
+    let mut out = Vec::new(alloc);
+    let mut next = first_trouble(line, true);
+    for _ in 0..MOST_WORDS {
+        let Some(trouble) = next else {
+            return Ok(out);
+        };
+        if trouble.index != told && !put_word(&mut out, line, &trouble)? {
+            return Ok(Vec::new(alloc));
+        }
+        next = match trouble_behind(line, &trouble) {
+            Behind::Fine => None,
+            Behind::Fault(behind) => Some(behind),
+            Behind::Unsure => return Ok(Vec::new(alloc)),
+        };
+    }
+    Ok(out)
+}
+
+// The other words at fault of the line of a fault.
+fn put_others(
+    out: &mut Vec<u8>,
+    alloc: Global,
+    text: &[u8],
+    fault: &Fault,
+) -> Result<(), AllocError> {
+    let Some(line) = line_at(text, fault.line) else {
+        return Ok(());
+    };
+    let Some(told) = told_word(line, fault.cause) else {
+        return Ok(());
+    };
+    let others = others_in(alloc, line, told)?;
+    out.extend_from_slice(others.as_slice())
+}
+
+/// What is said of the first fault of a text behind its line, and of those behind it.
+pub fn faults_text(alloc: Global, text: &[u8], first: &Fault) -> Result<Vec<u8>, AllocError> {
+    let mut out = show_finding(alloc, &find(text, first))?;
+    put_others(&mut out, alloc, text, first)?;
+    let behind = faults_behind(alloc, text, first)?;
+    for fault in behind.as_slice() {
+        let shown = show_found(alloc, fault, &find(text, fault))?;
+        out.extend_from_slice(shown.as_slice())?;
+        put_others(&mut out, alloc, text, fault)?;
+    }
+    Ok(out)
+}

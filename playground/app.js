@@ -1,0 +1,187 @@
+// The page: a text is run at each change of it, in a worker; what came of it is shown, beside another setting if wanted.
+"use strict";
+const at = (name) => document.getElementById(name), coded = new TextEncoder(), plain = new TextDecoder();
+const MOST_SHOWN = 200_000, PAUSE = 120;
+const examples = JSON.parse(at("examples").textContent);
+let worker = null, module = null, turn = 0, waiting = 0, shown = null, kept = null;
+
+// ---- runs
+
+function stop(why) {
+  worker?.terminate();
+  worker = null;
+  at("stop").disabled = true;
+  if (why) say(why);
+}
+function start() {
+  worker = new Worker(URL.createObjectURL(new Blob([at("engine").textContent], {type: "text/javascript"})));
+  worker.onmessage = ({data}) => answered(data);
+  worker.onerror = (event) => stop(`the engine failed: ${event.message}`);
+}
+const say = (text) => { at("state").textContent = text; };
+// Runs the text as it stands; what still runs is given up.
+function run() {
+  clearTimeout(waiting);
+  const text = at("text").value, {sliders, wrong} = slidersOf(text);
+  showSliders(sliders);
+  keepLink(text);
+  if (!at("stop").disabled) stop();
+  if (wrong.length) {
+    shown = null;
+    at("said").textContent = wrong.join("\n");
+    return say("not run: a slider isn't right");
+  }
+  if (!worker) start();
+  at("stop").disabled = false;
+  say("running ..");
+  const whole = filled(text, sliders);
+  worker.postMessage({turn: ++turn, module, text: coded.encode(whole), traced: coded.encode(tracing(whole))});
+}
+function answered(data) {
+  at("stop").disabled = true;
+  if (data.failed) {
+    // Its memory may be half written: the next run has a new one.
+    stop(`the engine ended: ${data.failed}`);
+    document.body.dataset.turn = data.turn;
+    return;
+  }
+  if (data.turn !== turn) return;
+  shown = {...data, text: at("text").value, experiments: data.found.status ? [] : readReport(plain.decode(data.drawn))};
+  at("version").textContent = `dnlab ${data.version}`;
+  show();
+  document.body.dataset.turn = data.turn;
+  document.body.dataset.first ||= Math.round(performance.now());
+}
+
+// ---- what came of it
+
+function show() {
+  const {found, said, spent} = shown;
+  at("said").textContent = firstLine(found) + plain.decode(said);
+  at("report").textContent = plain.decode(found.bytes.subarray(0, MOST_SHOWN)) + (found.bytes.length > MOST_SHOWN ? "\n.. and more: download it" : "");
+  say(found.status ? `status ${found.status}: no report` : `status 0: ${found.bytes.length} bytes of report in ${spent.toFixed(1)} ms`);
+  const names = shown.experiments.map((one) => one.name), chosen = at("experiment").value;
+  at("experiment").replaceChildren(...names.map((name) => new Option(name, name)));
+  if (names.includes(chosen)) at("experiment").value = chosen;
+  at("which").hidden = names.length < 2;
+  pictures();
+}
+function chosenOf(experiments) {
+  return experiments.find((one) => one.name === at("experiment").value) || experiments[0];
+}
+function pictures() {
+  const sides = [kept && ["kept", chosenOf(kept.experiments)], shown && ["now", chosenOf(shown.experiments)]].filter((it) => it && it[1]);
+  const panels = sides.map(([, one]) => panelsOf(one)), until = Math.max(1, ...sides.map(([, one]) => one.last));
+  const titles = [...new Set(panels.flat().map((panel) => panel.title))];
+  at("pictures").className = sides.length > 1 ? "two" : "one";
+  at("pictures").innerHTML = sides.map(([side, one]) => `<p class="counters">${sides.length > 1 ? `<b>${side}</b>: ` : ""}${escaped(countersOf(one))}</p>`).join("")
+    + titles.map((title) => panels.map((own) => {
+      const panel = own.find((it) => it.title === title), all = panels.flat().filter((it) => it.title === title);
+      return `<div>${panel ? svgOf(panel, until, greatest(all)) : ""}</div>`;
+    }).join("")).join("");
+}
+function countersOf(one) {
+  const [made, delivered, held, ...drops] = one.counters || [];
+  return `${one.name}: ${made} packets made, ${delivered} delivered, ${drops.reduce((sum, it) => sum + it, 0)} dropped, ${held} under way at the end${one.isSpent ? "; its steps were spent" : ""}`;
+}
+
+// ---- sliders
+
+function showSliders(sliders) {
+  const same = [...at("sliders").children].map((it) => it.dataset.name).join() === sliders.map((it) => it.name).join();
+  if (!same) at("sliders").replaceChildren(...sliders.map(sliderOf));
+  sliders.forEach((slider, place) => {
+    const [input, output] = at("sliders").children[place].querySelectorAll("input, output");
+    Object.assign(input, {min: slider.least, max: slider.most, step: slider.step});
+    if (+input.value !== slider.value) input.value = slider.value;
+    output.textContent = slider.value;
+  });
+}
+function sliderOf({name, least, most, step, value}) {
+  const label = document.createElement("label"), input = document.createElement("input"), output = document.createElement("output");
+  Object.assign(input, {type: "range", min: least, max: most, step, value});
+  label.dataset.name = name;
+  label.append(`${name} `, input, " ", output);
+  input.addEventListener("input", () => {
+    const slider = slidersOf(at("text").value).sliders.find((one) => one.name === name);
+    if (slider) at("text").value = moved(at("text").value, slider, input.value);
+    run();
+  });
+  return label;
+}
+
+// ---- links, copies, files
+
+async function packed(text) {
+  const stream = new Blob([text]).stream().pipeThrough(new CompressionStream("deflate-raw"));
+  const bytes = new Uint8Array(await new Response(stream).arrayBuffer());
+  return btoa(Array.from(bytes, (byte) => String.fromCharCode(byte)).join("")).replace(/\+/g, "-").replace(/\//g, "_").replace(/=+$/, "");
+}
+async function unpacked(word) {
+  const bytes = Uint8Array.from(atob(word.replace(/-/g, "+").replace(/_/g, "/")), (sign) => sign.charCodeAt(0));
+  return new Response(new Blob([bytes]).stream().pipeThrough(new DecompressionStream("deflate-raw"))).text();
+}
+let linked = "";
+async function keepLink(text) {
+  const word = await packed(text);
+  if (text !== at("text").value) return;
+  linked = `#s=${word}`;
+  history.replaceState(null, "", linked);
+}
+async function fromLink() {
+  const word = /^#s=([\w-]+)$/.exec(location.hash)?.[1];
+  if (!word || location.hash === linked) return false;
+  try {
+    at("text").value = await unpacked(word);
+    return true;
+  } catch {
+    say("the address holds no scenario");
+    return false;
+  }
+}
+async function copy(text, what) {
+  try {
+    await navigator.clipboard.writeText(text);
+    say(`${what} copied`);
+  } catch {
+    say(`this browser doesn't let a page copy: select the ${what} and copy it`);
+  }
+}
+function download(bytes, name) {
+  const link = document.createElement("a");
+  link.href = URL.createObjectURL(new Blob([bytes], {type: "text/plain"}));
+  link.download = name;
+  link.click();
+  setTimeout(() => URL.revokeObjectURL(link.href), 10_000);
+}
+const scenario = () => filled(at("text").value, slidersOf(at("text").value).sliders);
+
+// ---- the page
+
+function listen() {
+  at("text").addEventListener("input", () => { clearTimeout(waiting); waiting = setTimeout(run, PAUSE); });
+  at("example").addEventListener("change", () => { at("text").value = examples[at("example").value]; run(); });
+  at("experiment").addEventListener("change", pictures);
+  at("stop").addEventListener("click", () => stop("stopped"));
+  at("keep").addEventListener("click", () => { kept = shown && !shown.found.status ? shown : kept; at("drop").disabled = !kept; pictures(); });
+  at("drop").addEventListener("click", () => { kept = null; at("drop").disabled = true; pictures(); });
+  at("copy-link").addEventListener("click", () => copy(location.href, "link"));
+  at("copy-scenario").addEventListener("click", () => copy(scenario(), "scenario"));
+  at("copy-report").addEventListener("click", () => copy(shown ? plain.decode(shown.found.bytes) : "", "report"));
+  at("save-scenario").addEventListener("click", () => download(scenario(), "scenario.txt"));
+  at("save-report").addEventListener("click", () => download(shown ? shown.found.bytes : "", "report.txt"));
+  addEventListener("hashchange", async () => { if (await fromLink()) run(); });
+  addEventListener("keydown", (event) => {
+    if (event.key === "Escape" && !at("stop").disabled) stop("stopped");
+    if (event.key === "Enter" && event.ctrlKey) run();
+  });
+}
+async function begin() {
+  const text = atob(at("module").textContent.trim());
+  module = await WebAssembly.compile(Uint8Array.from(text, (sign) => sign.charCodeAt(0)));
+  for (const name of Object.keys(examples)) at("example").append(new Option(name, name));
+  listen();
+  if (!(await fromLink())) at("text").value = Object.values(examples)[0];
+  run();
+}
+begin().catch((fault) => { say(`this browser can't run it: ${fault}`); document.body.dataset.failed = String(fault); });

@@ -1,0 +1,99 @@
+"""What seeds tell: settings compared under the same seeds, and how many seeds a mean takes."""
+import math
+from typing import Any, Optional, Sequence
+
+import pandas as pd
+from scipy import stats as distributions
+
+from dnlab import frames
+from dnlab.asking import unit_of
+from dnlab.errors import Faulty
+from dnlab.estimates import Kind, estimate
+
+# More seeds than this aren't counted.
+_MOST = 10**6
+
+
+def long_of(rows: pd.DataFrame, settings: Sequence[str], stats: Sequence[str]) -> pd.DataFrame:
+    """A row for each experiment, of whom and stat: its settings, seed, experiment, of, stat, unit, value (<NA> if it can't
+    be told) and marks, as `Sweep.rows` has them in columns."""
+    found = [{**{name: row[name] for name in (*settings, "seed", "experiment", "of")}, "stat": str(stat),
+              "unit": unit_of(stat), "value": None if pd.isna(row[stat]) else float(row[stat]), "marks": row["marks"]}
+             for row in rows.to_dict("records") for stat in stats]
+    return frames.of_rows(found, [*settings, "seed", "experiment", "of", "stat", "unit", "value", "marks"])
+
+
+def base_of(along: str, values: Sequence[Any], base: Any) -> Any:
+    """The value with which the others are compared: the first if none is given; `Faulty` if there is nothing to compare.
+
+    >>> base_of("queue", [10, 25], None)
+    10
+    """
+    told = ", ".join(map(str, values))
+    if base is not None and base not in values:
+        raise Faulty(f"--pairs {along}={base}: no value of it; there are {told}")
+    if len(values) < 2:
+        raise Faulty(f"--pairs {along}: it has one value, {told}, so there is nothing to compare")
+    return values[0] if base is None else base
+
+
+def compared(rows: pd.DataFrame, settings: Sequence[str], stats: Sequence[str], along: str, base: Any = None,
+             level: float = 95, interval: Kind = "t") -> pd.DataFrame:
+    """Each value of a setting beside a `base` (else the first), the other settings being the same, seed by seed.
+
+    A row for each of the others, of, stat and value: how many seeds tell both (`n`), the mean of the differences (value
+    less base), the ends of its interval, and whether the interval leaves out 0 (`differs`; <NA> of fewer than two seeds).
+    Since both had the same chance the interval is mostly narrower than those of the two means. `Faulty` for a setting that
+    isn't there or has one value."""
+    if along not in settings:
+        raise Faulty(f"--pairs {along}: no setting; there are {', '.join(settings) or 'none'}")
+    values = list(dict.fromkeys(rows[along]))
+    base = base_of(along, values, base)
+    others = [name for name in settings if name != along]
+    found = []
+    for keys, group in rows.groupby([*others, "of"] if others else "of", sort=False, dropna=False):
+        own = dict(zip([*others, "of"], keys if isinstance(keys, tuple) else (keys,)))
+        by_value = {value: part.set_index("seed") for value, part in group.groupby(along, sort=False)}
+        for stat in stats:
+            for value in values:
+                if value == base or value not in by_value or base not in by_value:
+                    continue
+                both = (by_value[value][stat].astype("Float64") - by_value[base][stat].astype("Float64")).dropna()
+                marks = " ".join(dict.fromkeys(" ".join([*by_value[base].marks, *by_value[value].marks]).split()))
+                made = estimate([float(one) for one in both], level, interval)
+                differs = None if made.low is None or made.high is None else not made.low <= 0 <= made.high
+                found.append({**own, "stat": str(stat), "unit": unit_of(stat), along: value, "base": base, **made._asdict(),
+                              "differs": differs, "level": level, "method": interval, "marks": marks})
+    return frames.of_rows(found, [*others, "of", "stat", "unit", along, "base", "n", "mean", "low", "high", "differs", "level",
+                                  "method", "marks"])
+
+
+def needed(values: Sequence[float], share: float, level: float = 95) -> Optional[int]:
+    """The least number of seeds whose interval (Student) is the mean and at most `share` of it to both sides, if further
+    seeds are spread as these are; None of fewer than two, or around a mean of 0, and from 10^6 seeds on.
+
+    >>> needed([90.0, 110.0], 0.5), needed([7.0, 7.0], 0.01)
+    (3, 2)
+    """
+    if len(values) < 2:
+        return None
+    mean = math.fsum(values) / len(values)
+    spread = math.sqrt(math.fsum((value - mean) ** 2 for value in values) / (len(values) - 1))
+    if not spread:
+        return 2
+    if not mean:
+        return None
+    wanted = abs(mean) * share
+
+    def is_enough(count: int) -> bool:
+        return float(distributions.t.ppf(0.5 + level / 200, count - 1)) * spread / math.sqrt(count) <= wanted
+
+    low, high = 2, 4
+    while not is_enough(high):
+        low, high = high, 2 * high
+        if high > _MOST:
+            return None
+    while low < high:
+        middle = (low + high) // 2
+        low, high = (low, middle) if is_enough(middle) else (middle + 1, high)
+    return low

@@ -1,0 +1,12 @@
+"""dnlab in this process, by the library libdnlab: the bytes of a scenario in, the bytes of its report out.
+
+    from dnlab import library
+    report = library.alone(b"experiment a seed 0 budget 9\\n@0 end\\n")
+
+The GIL is given up while a call runs, so threads run beside each other. A call can't be interrupted: Ctrl-C waits for it. `dnlab.run(.., engine=
+"library")` gives the same with tables.
+"""
+from dnlab.library.calls import FaultIn, alone, check, explain, version
+from dnlab.library.places import library
+
+__all__ = ["FaultIn", "alone", "check", "explain", "library", "version"]

@@ -1,0 +1,1 @@
+"""Pictures for papers and lectures, drawn with matplotlib."""

@@ -1,0 +1,233 @@
+"""One transfer over a link: a sender with a window and a timer, and a receiver that acknowledges what it has in order.
+
+It does as docs/explanation/reno.md has it of the link's own flows: no handshake, each segment acknowledged at once, a segment of
+SMSS bytes and 40 of headers. With `Reno` it is that flow; a window may ask for NewReno's recovery (RFC 6582).
+"""
+from typing import Any, Callable, NamedTuple, Optional, Protocol
+
+from dnlab.senders.timeouts import Timeout
+from dnlab.senders.windows import Window
+from dnlab.session_events import Address
+
+HEADER = 40
+# Section 3.2 of RFC 5681: so many duplicates mean a loss.
+DUPLICATES = 3
+
+
+class Sends(Protocol):
+    """What a flow wants of its network."""
+
+    @property
+    def now(self) -> int:
+        """The moment, ns."""
+
+    def carry(self, source: Address, target: Address, size: int, payload: Any) -> None:
+        """A packet goes out."""
+
+    def wake(self, moment: int, flow: "Flow") -> None:
+        """The flow is called at a moment (ns)."""
+
+    def finished(self, flow: "Flow") -> None:
+        """All that a flow sends was acknowledged."""
+
+
+class Segment(NamedTuple):
+    """What a packet of data carries: the flow's bytes from `first` on and before `after`."""
+    flow: "Flow"
+    first: int
+    after: int
+
+
+class Ack(NamedTuple):
+    """What an acknowledgement carries: the first byte that is missing."""
+    flow: "Flow"
+    upto: int
+
+
+class Flow:
+    """A transfer of some bytes; moments are ns, None before they come.
+
+    begun         when it began, `arrived` when its last missing byte came, `done` when the sender knew
+    sent          segments sent, `retransmissions` those of them that were sent before, `timeouts`
+    history       with `record`: (moment, cwnd, ssthresh) at the begin and whenever they change, bytes
+    """
+
+    def __init__(self, network: Sends, number: int, source: Address, target: Address, size: int, window: Window, smss: int,
+                 limit: Optional[int] = None, timeout: Optional[Timeout] = None, record: bool = False) -> None:
+        if size < 1:
+            raise ValueError(f"a flow has 1 byte or more, not {size}")
+        self.network, self.number, self.source, self.target = network, number, source, target
+        self.size, self.window, self.smss, self.limit = size, window, smss, limit
+        self.timeout = timeout or Timeout()
+        self.begun, self.arrived, self.done = network.now, None, None  # type: int, Optional[int], Optional[int]
+        self.sent = self.retransmissions = self.timeouts = 0
+        self.history: Optional[list[tuple[int, int, int]]] = [] if record else None
+        self._una = self._next = self._max = self._duplicates = 0
+        # Bytes that fast recovery adds to the window (or takes from it); where it ends, None outside of it.
+        self._inflated, self._recover = 0, None  # type: int, Optional[int]
+        self._backed_off = False
+        # When the timer expires, and for when the network was asked to call: a later timer lets that call pass by.
+        self._due: Optional[int] = None
+        self._called_at: Optional[int] = None
+        # What a sample waits for: the byte behind a segment, and when that was sent.
+        self._timed: Optional[tuple[int, int]] = None
+        self._expected, self._early = 0, {}  # type: int, dict[int, int]
+        self._then: list[Callable[[], Any]] = []
+        self._on_arrival: list[Callable[[], Any]] = []
+
+    def begin(self) -> None:
+        """It sends its first segments."""
+        self._note()
+        self._fill()
+
+    def then(self, call: Callable[[], Any]) -> "Flow":
+        """The call is made when the sender knows that all has arrived; at once if it does already."""
+        if self.done is None:
+            self._then.append(call)
+        else:
+            call()
+        return self
+
+    def on_arrival(self, call: Callable[[], Any]) -> "Flow":
+        """The call is made when the last missing byte has come to the receiver."""
+        if self.arrived is None:
+            self._on_arrival.append(call)
+        else:
+            call()
+        return self
+
+    # The sender.
+
+    def _note(self) -> None:
+        if self.history is not None:
+            found = (self.network.now, self.window.cwnd + self._inflated, self.window.ssthresh)
+            if not self.history or self.history[-1][1:] != found[1:]:
+                self.history.append(found)
+
+    def _fill(self) -> None:
+        """Sends what the window allows."""
+        allowed = self.window.cwnd + self._inflated
+        if self.limit is not None:
+            allowed = min(allowed, self.limit)
+        while self._next < self.size:
+            after = min(self._next + self.smss, self.size)
+            if after - self._una > allowed:
+                break
+            self._send(self._next, after)
+            self._next = after
+
+    def _send(self, first: int, after: int) -> None:
+        self.sent += 1
+        if first < self._max:
+            self.retransmissions += 1
+        elif self._timed is None:
+            self._timed = (after, self.network.now)
+        self._max = max(self._max, after)
+        self.network.carry(self.source, self.target, after - first + HEADER, Segment(self, first, after))
+        if self._due is None:
+            self._set_timer()
+
+    def _resend(self) -> None:
+        """The first segment that isn't acknowledged goes out again. What was sent twice gives no sample (RFC 6298, 3)."""
+        self._timed = None
+        after = min(self._una + self.smss, self.size)
+        self._send(self._una, after)
+        self._next = max(self._next, after)
+
+    def _set_timer(self) -> None:
+        self._due = self.network.now + self.timeout.value
+        self._ask_for_call(self._due)
+
+    def _ask_for_call(self, moment: int) -> None:
+        if self._called_at is None or moment < self._called_at:
+            self._called_at = moment
+            self.network.wake(moment, self)
+
+    def acknowledged(self, upto: int) -> None:
+        """An acknowledgement came."""
+        if self.done is not None:
+            return
+        if upto > self._una:
+            self._new(upto)
+        elif upto == self._una < self._max:
+            self._duplicate()
+        self._note()
+
+    def _new(self, upto: int) -> None:
+        """New data was acknowledged."""
+        count, now = upto - self._una, self.network.now
+        if self._timed is not None and upto >= self._timed[0]:
+            self.timeout.measured(now - self._timed[1])
+            self._timed = None
+        is_partial = self._recover is not None and self.window.is_newreno and upto < self._recover
+        if self._recover is None:
+            self.window.acknowledged(count, now, self.timeout.smoothed)
+        elif is_partial:
+            # RFC 6582, section 3.2, step 3: deflate by what was acknowledged, and a segment more; one stays at least.
+            deflated = self._inflated - count + (self.smss if count >= self.smss else 0)
+            self._inflated = max(deflated, self.smss - self.window.cwnd)
+        else:
+            self._recover, self._inflated = None, 0
+        self._una, self._next = upto, max(self._next, upto)
+        self._duplicates, self._backed_off = 0, False
+        self._due = None
+        if upto >= self.size:
+            self._finish()
+            return
+        if self._una < self._max:
+            self._set_timer()
+        if is_partial:
+            self._resend()
+        self._fill()
+
+    def _duplicate(self) -> None:
+        self._duplicates += 1
+        if self._recover is not None:
+            self._inflated += self.smss
+        elif self._duplicates == DUPLICATES:
+            self.window.lost(self._max - self._una, self.network.now)
+            self._inflated, self._recover = DUPLICATES * self.smss, self._max
+            self._resend()
+        self._fill()
+
+    def _finish(self) -> None:
+        self.done = self.network.now
+        self.network.finished(self)
+        for call in self._then:
+            call()
+        self._then.clear()
+
+    def woken(self) -> None:
+        """Looks at the timer; it was set anew since the network was asked to call, or it expires."""
+        if self._called_at is not None and self._called_at <= self.network.now:
+            self._called_at = None
+        if self._due is None or self.done is not None:
+            return
+        if self._due > self.network.now:
+            self._ask_for_call(self._due)
+            return
+        self.timeouts += 1
+        self.window.timed_out(self._max - self._una, self.network.now, self._backed_off)
+        self.timeout.passed()
+        self._next, self._duplicates, self._backed_off = self._una, 0, True
+        self._inflated, self._recover, self._timed = 0, None, None
+        self._set_timer()
+        self._note()
+        self._fill()
+
+    # The receiver.
+
+    def received(self, segment: Segment) -> None:
+        """A segment came: it is acknowledged at once with the first byte that is missing."""
+        if segment.first == self._expected:
+            self._expected = segment.after
+            while self._expected in self._early:
+                self._expected = self._early.pop(self._expected)
+        elif segment.first > self._expected:
+            self._early[segment.first] = segment.after
+        self.network.carry(self.target, self.source, HEADER, Ack(self, self._expected))
+        if self._expected == self.size and self.arrived is None:
+            self.arrived = self.network.now
+            for call in self._on_arrival:
+                call()
+            self._on_arrival.clear()

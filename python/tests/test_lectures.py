@@ -1,0 +1,152 @@
+"""What a lecture shows: the effective window, thresholds of many flows, segments, the link's rate, two experiments side by
+side, and one flow in every panel. Values are worked out by hand."""
+from pathlib import Path
+from typing import Callable
+
+import numpy as np
+import pytest
+
+pytest.importorskip("matplotlib", reason="matplotlib is missing (Debian: python3-matplotlib)")
+pytest.importorskip("plotly", reason="plotly is missing (Debian: python3-plotly)")
+
+from test_view import COOKBOOK, browsing, near, page_of, read_back  # noqa: E402
+
+from dnlab import pictures, report, scenario  # noqa: E402
+from dnlab.series import link_rates, panel_of, windows  # noqa: E402
+from dnlab.tables import Tables  # noqa: E402
+from dnlab.view import View  # noqa: E402
+
+MS = 10**6
+Alone = Callable[[bytes], bytes]
+# A link of 8 Mbit/s with 10 ms each way: flow 1 may have 3000 bytes under way, flow 2 has one segment.
+NARROW = b"""experiment narrow seed 0 budget 99
+@0 pipe 1 config bw 8Mbit/s delay 10
+@0 add 100 pipe 1 tcp from any to 10.0.0.2
+@0 add 200 allow tcp from 10.0.0.2 to any
+@0 flow 1 10.0.0.1 1 10.0.0.2 2 smss 1000 segments 6 window 3000
+@0 flow 2 10.0.0.3 1 10.0.0.2 2 smss 1000 segments 1
+@90000000 end
+"""
+
+
+def seen(text: bytes, alone: Alone) -> View:
+    experiment = next(report.read(alone(text)))
+    return View(experiment, scenario.read(text)[experiment.name])
+
+
+def test_the_effective_window(alone: Alone) -> None:
+    """cwnd begins with 4 segments and grows by one for each acknowledgement; 3000 bytes may be under way all the time. Of flow 2,
+    whose window is wider than cwnd, there is no such line."""
+    panel = windows(seen(NARROW, alone))
+    lines = {one.label: one for one in panel.series}
+    assert lines["cwnd 1"].values.tolist() == [4000 + 1000 * k for k in range(7)]
+    assert lines["effective 1"].values.tolist() == [3000] * 7 and lines["effective 1"].under == lines["ssthresh 1"].under == "cwnd 1"
+    assert set(lines) == {"cwnd 1", "effective 1", "ssthresh 1", "cwnd 2", "ssthresh 2"} and "wide: effective window" in panel.title
+
+
+def test_segments_beside_bytes(alone: Alone) -> None:
+    """1000 bytes are a segment; where segments differ there is no such axis."""
+    axes, = pictures.figure_of([seen(NARROW, alone)], ["window"]).axes
+    right, = axes.child_axes
+    axes.figure.canvas.draw()
+    assert right.get_ylabel() == "segments" and np.allclose(np.array(axes.get_ylim()) / 1000, right.get_ylim())
+    assert windows(seen(NARROW.replace(b"smss 1000 segments 1\n", b"smss 500 segments 1\n"), alone)).also is None
+
+
+def many(flows: int) -> bytes:
+    lines = "".join(f"@{flow} flow {flow} 10.0.0.1 {flow} 10.0.0.2 80 smss 100 segments 3\n" for flow in range(1, flows + 1))
+    return ("experiment many seed 0 budget 999\n@0 pipe 1 config bw 8Mbit/s delay 10 queue 200\n@0 add 1 pipe 1 ip from 10.0.0.1 to"
+            f" 10.0.0.2\n@0 add 2 allow ip from any to any\n{lines}@900000000 end\n").encode()
+
+
+def test_thresholds_of_sixteen_flows(alone: Alone) -> None:
+    """Each has its line and its threshold, told apart; of a seventeenth it is said that it is left out."""
+    panel = windows(seen(many(16), alone))
+    assert len([one for one in panel.series if one.label.startswith("ssthresh")]) == 16
+    axes, = pictures.figure_of([seen(many(16), alone)], ["window"]).axes
+    looks = {(line.get_color(), line.get_linestyle(), line.get_marker()) for line in axes.get_lines() if line.get_label()[:4] == "cwnd"}
+    assert len(looks) == 16
+    view = seen(many(17), alone)
+    assert len([one for one in windows(view).series if one.label.startswith("cwnd")]) == 16
+    assert "window: 17 lines are too many" in view.more_notes[0].text
+
+
+def test_one_flow_s_window(alone: Alone) -> None:
+    """`--of 'flow 3'` chooses in the panel of windows too."""
+    view = seen(many(5), alone)
+    view.senders = [(name, packets) for name, packets in view.senders if name == "flow 3"]
+    assert [one.label for one in windows(view).series] == ["cwnd 3", "ssthresh 3"]
+
+
+CHANGING = b"""experiment changing seed 0 budget 9
+@0 pipe 1 config bw 8Mbit/s delay 1
+@0 add 100 pipe 1 ip from any to any
+@0 inject udp 10.0.0.1 1 10.0.0.2 2 1000
+@1000000 pipe 1 config bw 4Mbit/s delay 1
+@1000000 inject udp 10.0.0.1 1 10.0.0.2 2 1000
+@4000000 pipe 1 config bw 0 delay 1
+@5000000 inject udp 10.0.0.1 1 10.0.0.2 2 1000
+@9000000 end
+"""
+
+
+def test_the_rate_of_the_link(alone: Alone) -> None:
+    """8, then 4 Mbit/s, then no limit, which is no number; it stands beside the throughput."""
+    view = seen(CHANGING, alone)
+    rate, = link_rates(view)
+    assert rate.moments[:3].tolist() == [0, MS, 4 * MS] and rate.values[:2].tolist() == [8, 4] and np.isnan(rate.values[2:]).all()
+    assert [one.label for one in panel_of(view, "throughput").series] == ["injected", "rate of pipe 1"]
+
+
+def test_utilisation_by_what_the_link_could_carry(alone: Alone) -> None:
+    """1000 bytes take 1 ms, then 2 ms: it served all that it could, 8 Mbit/s for 1 ms and 4 for 2."""
+    text = CHANGING.replace(b"@4000000 pipe 1 config bw 0 delay 1\n@5000000 inject udp 10.0.0.1 1 10.0.0.2 2 1000\n", b"")
+    rows = {row["of"]: row for row in Tables(seen(text, alone)).rows()}
+    assert rows["pipe 1.0"]["utilisation"] == 1.0
+    later = text.replace(b"@1000000 inject", b"@2000000 inject")
+    # The same bytes until 4 ms: 16000 bits of 8000 and 12000.
+    assert {row["of"]: row for row in Tables(seen(later, alone)).rows()}["pipe 1.0"]["utilisation"] == 0.8
+
+
+SELECT = ("const one = document.getElementById('%s'); one.value = '%s'; one.dispatchEvent(new Event('change'));"
+          "await new Promise((next) => setTimeout(next, 1000));")
+
+
+@browsing
+def test_two_side_by_side(tmp_path: Path) -> None:
+    """Both have one span of time and one frame; the address names both."""
+    folder = COOKBOOK / "bufferbloat"
+    page = page_of(tmp_path, folder / "report.txt", folder / "scenario.txt")
+    tops = "told.tops = ['panel-queue', 'panel-beside-queue'].map((name) => document.getElementById(name)._fullLayout.yaxis.range[1]);"
+    found = read_back(page, tops, address="#deep,0,1000000000,codel")
+    assert found["name"] == "deep,codel" and found["tops"][0] == found["tops"][1] and found["range"] == "in sight: 0 ms to 1000 ms"
+    assert {"window", "beside-window", "queue", "beside-queue", "delay", "beside-delay"} <= set(found["panels"])
+    assert found["about"].startswith("deep: ") and "\ncodel: " in found["about"]
+    alone_there = read_back(page, address="#codel,0,1000000000")
+    assert near(found["panels"]["beside-delay"]["flow 1"]["points"], alone_there["panels"]["delay"]["flow 1"]["points"], (2000, 900))
+    chosen = read_back(page, SELECT % ("beside", "1"))
+    assert chosen["name"] == "deep,codel" and "beside-rate" in chosen["panels"]
+    assert "beside-rate" not in read_back(page, SELECT % ("beside", "1") + SELECT.replace("one", "two") % ("beside", ""))["panels"]
+
+
+@browsing
+def test_a_flow_changes_every_panel(tmp_path: Path) -> None:
+    folder = COOKBOOK / "two_flows"
+    page = page_of(tmp_path, folder / "report.txt", folder / "scenario.txt")
+    whole = read_back(page)["panels"]
+    assert {"cwnd 1", "cwnd 2"} <= set(whole["window"]) and {"flow 1", "flow 2"} <= set(whole["delay"])
+    found = read_back(page, SELECT % ("flow", "flow 2"))["panels"]
+    assert all(name.startswith("flow 2: ") for name in found["sequence"])
+    assert all(name.endswith(" 2") for name in found["window"]) and "cwnd 2" in found["window"]
+    assert set(found["delay"]) == {"flow 2", "flow 2 acks"}
+    assert {"flow 2", "flow 2 acks", "rate of pipe 1"} <= set(found["rate"]) and not {"flow 1", "flow 1 acks"} & set(found["rate"])
+
+
+@browsing
+def test_windows_in_segments(alone: Alone, tmp_path: Path) -> None:
+    """4 segments at first, 10 at the end; 3 are effective."""
+    (tmp_path / "s").write_bytes(NARROW)
+    (tmp_path / "r").write_bytes(alone(NARROW))
+    lines = read_back(page_of(tmp_path, tmp_path / "r", tmp_path / "s"), SELECT % ("unit", "segments"))["panels"]["window"]
+    assert near(lines["cwnd 1"]["line"][0], (0, 4), (90, 12)) and near(lines["cwnd 1"]["line"][-1][1], 10, (12,))
+    assert near([y for _, y in lines["effective 1"]["line"]], [3] * len(lines["effective 1"]["line"]), (12,))

@@ -1,0 +1,96 @@
+"""The library in this process: which one is called, what it refuses, and that a run by it is a run by the program."""
+import os
+import pickle
+import subprocess
+import sys
+from pathlib import Path
+
+import pytest
+
+import dnlab
+from conftest import EXAMPLES, ROOT
+from dnlab import library
+from dnlab.origin import read_beside
+
+NAMED = os.environ.get("LIBDNLAB", "")
+there = pytest.mark.skipif(not NAMED, reason="no library is named by LIBDNLAB (tools/library makes one)")
+FAULTY = "experiment a seed 0 budget 10\n@0 pipe 1 config bw 10Mbps\n@0 end\n"
+ONE = EXAMPLES / "one_packet"
+
+
+def test_a_library_that_is_not_there(monkeypatch: pytest.MonkeyPatch, tmp_path: Path) -> None:
+    monkeypatch.setenv("LIBDNLAB", str(tmp_path / "none.so"))
+    with pytest.raises(dnlab.Failed) as failed:
+        library.version()
+    assert failed.value.status == 2 and "LIBDNLAB" in failed.value.said
+    monkeypatch.delenv("LIBDNLAB")
+    monkeypatch.setattr("dnlab.library.places._PLACES", (tmp_path / "none.so",))
+    with pytest.raises(dnlab.Failed) as failed:
+        dnlab.run(FAULTY, engine="library")
+    assert failed.value.status == 3 and "tools/library" in failed.value.said
+
+
+def test_a_file_that_is_no_library(monkeypatch: pytest.MonkeyPatch, tmp_path: Path) -> None:
+    (tmp_path / "it.so").write_text("no library")
+    monkeypatch.setenv("LIBDNLAB", str(tmp_path / "it.so"))
+    with pytest.raises(dnlab.Failed) as failed:
+        library.check(b"")
+    assert failed.value.status == 3 and "can't be used" in failed.value.said
+
+
+@pytest.mark.parametrize("words", [{"workers": 2}, {"moves": 3}, {"dnlab": "it"}])
+def test_words_that_do_not_go_together(words: dict[str, object]) -> None:
+    with pytest.raises(ValueError, match="no workers"):
+        dnlab.run(FAULTY, engine="library", **words)  # type: ignore[arg-type]
+    with pytest.raises(ValueError, match="'thread'"):
+        dnlab.run(FAULTY, engine="thread")
+
+
+def test_a_fault_passes_between_processes() -> None:
+    fault = pickle.loads(pickle.dumps(library.FaultIn(3, "badword")))
+    assert (fault.status, fault.said, fault.line, fault.cause) == (1, "line 3: badword", 3, "badword")
+
+
+@there
+def test_a_run_by_the_library(tmp_path: Path) -> None:
+    report = dnlab.run(ONE / "scenario.txt", engine="library", out=tmp_path / "report.txt")
+    assert (tmp_path / "report.txt").read_bytes() == (ONE / "expected.txt").read_bytes()
+    # 1000 bytes at 1 Mbit/s are 8 ms in service, and the delay is 10 ms.
+    assert report["a"].packets().delay.tolist() == [18_000_000]
+    kept = read_beside(tmp_path / "report.txt")
+    assert kept is not None and kept.command == (os.path.abspath(NAMED), "alone") and kept.version.startswith(f"libdnlab {dnlab.__version__} (")
+
+
+@there
+def test_a_fault_is_said_as_by_the_program() -> None:
+    said = []
+    for engine in "process", "library":
+        with pytest.raises(dnlab.Failed) as failed:
+            dnlab.run(FAULTY, engine=engine)
+        said.append((failed.value.status, failed.value.said))
+    assert said[0] == said[1] and said[0][1].startswith("line 2: badword\n")
+
+
+@there
+def test_a_report_longer_than_the_first_room() -> None:
+    text = "experiment a seed 0 budget 9\n@0 train 1 udp 1.1.1.1 1 1.1.1.2 1 100 count 5000 gap 1\n@1000000 end\n".encode()
+    report = library.alone(text)
+    # Each of 5000 packets is denied by the rule that stands there alone.
+    assert len(report) > 1 << 16 and report.count(b" drop ") == 5000 and report.count(b" denied\n") == 5000
+
+
+@there
+def test_more_experiments_than_the_library_takes_at_once() -> None:
+    text = "".join(f"experiment e{k} seed 0 budget 1\n@{k} end\n" for k in range(300))
+    report = dnlab.run(text, engine="library")
+    assert list(report) == [f"e{k}" for k in range(300)]
+    with pytest.raises(dnlab.Failed) as failed:
+        dnlab.run(text + "@5 end\n", engine="library")
+    assert failed.value.said.startswith("line 601: afterend")
+
+
+@there
+def test_without_packages_of_others() -> None:
+    words = "from dnlab import library; print(library.check(b''))"
+    done = subprocess.run([sys.executable, "-S", "-B", "-c", words], capture_output=True, text=True, check=False, env={**os.environ, "PYTHONPATH": str(ROOT / "python")})
+    assert (done.stdout, done.returncode) == ("b'ok 0 0\\n'\n", 0), done.stderr

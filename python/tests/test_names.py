@@ -1,0 +1,108 @@
+"""Names of columns as users of pandas expect them, and the older ones, which work once more with a DeprecationWarning."""
+import pickle
+import warnings
+from pathlib import Path
+from typing import Any
+
+import pandas as pd
+import pytest
+
+import dnlab
+from dnlab.by_hand import FLOWS, TRAIN, Run
+
+
+@pytest.fixture(params=[TRAIN], ids=["train"])
+def run(request: Any, tmp_path: Path) -> dnlab.Report:
+    return opened(request.param, tmp_path)
+
+
+def opened(of: Run, folder: Path) -> dnlab.Report:
+    (folder / "report.txt").write_bytes(of.report)
+    (folder / "scenario.txt").write_bytes(of.scenario)
+    return dnlab.read(folder / "report.txt", folder / "scenario.txt")
+
+
+def test_the_names_in_use(run: dnlab.Report, tmp_path: Path) -> None:
+    """None of them is a name of pandas' own, but `min` and `max`, which are written with brackets; no one warns."""
+    with warnings.catch_warnings():
+        warnings.simplefilter("error")
+        one = run["train"]
+        packets, summary = one.packets(), run.summary()
+        assert packets.bytes.tolist() == [1000] * 5 and packets.queue.iloc[0] == "1.0"
+        assert packets[packets.sender == "train 1"].outcome.tolist() == ["delivered", "delivered", "held", "full"]
+        row = summary[summary.sender == "train 1"].iloc[0]
+        assert (row["min"], row.p50, row["max"], row.in_flight) == (11_000_000, 11_000_000, 12_000_000, 1)
+        assert {"fct", "retransmissions", "params", "warnings", "p99"} <= set(summary.columns)
+        assert "in_flight" in one.queues() and "queue" in one.visits() and "sender" in one.drops()
+        assert one.params == "pipe 1 bw 8Mbit/s delay 10 queue 2" and one.warnings == ""
+        assert dnlab.intervals(summary, "sender", "p50").columns.tolist() == ["n", "mean", "ci95"]
+    assert not {"of", "size", "pipe", "fate", "held", "median", "again", "completion", "settings", "marks"} & {
+        *packets.columns, *summary.columns}
+
+
+@pytest.mark.parametrize("old, new", [("of", "sender"), ("fate", "outcome"), ("again", "retransmission")])
+def test_older_names_warn(run: dnlab.Report, old: str, new: str) -> None:
+    packets = run["train"].packets()
+    with pytest.warns(DeprecationWarning, match=f"{old} is {new} since version 0.2") as told:
+        by_attribute = getattr(packets, old)
+    assert told[0].filename == __file__
+    with pytest.warns(DeprecationWarning) as told:
+        by_key = packets[old]
+    assert told[0].filename == __file__
+    assert by_attribute.tolist() == by_key.tolist() == packets[new].tolist()
+
+
+def test_older_names_in_calls_of_pandas(run: dnlab.Report) -> None:
+    packets = run["train"].packets()
+    with pytest.warns(DeprecationWarning):
+        assert packets[["made", "of", "size"]].columns.tolist() == ["made", "sender", "bytes"]
+    with pytest.warns(DeprecationWarning):
+        found = packets.groupby("of", observed=True).agg(packets=("made", "size"), bytes=("bytes", "sum"))
+    assert found.loc["train 1"].tolist() == [4, 4000] and "of" in packets and "nothing" not in packets
+    with pytest.warns(DeprecationWarning):
+        assert dnlab.intervals(run.summary(), "of", "median").loc["train 1", "mean"] == 11_000_000
+    with pytest.warns(DeprecationWarning):
+        assert run["train"].settings == run["train"].params
+    with pytest.raises(KeyError):
+        packets["nothing"]
+    # size and pipe were never columns by attribute: they are what pandas has.
+    assert packets.size == packets.shape[0] * packets.shape[1] and callable(packets.pipe)
+
+
+def test_a_row_knows_them_too(run: dnlab.Report) -> None:
+    for _, row in run.summary().iterrows():
+        with pytest.warns(DeprecationWarning) as told:
+            assert row.of == row["of"] == row.sender and row["held"] == row.in_flight
+        assert {one.filename for one in told} == {__file__} and "median" not in row.index
+    column = run["train"].packets().delay
+    assert column.iloc[0] == 11_000_000 and isinstance(column.astype("Float64") / 2, pd.Series)
+
+
+def test_a_part_of_a_table_knows_them_too(run: dnlab.Report) -> None:
+    part = run.summary().query("sender == 'train 1'")
+    with pytest.warns(DeprecationWarning):
+        assert part.held.tolist() == [1]
+    again = pickle.loads(pickle.dumps(part))
+    assert isinstance(again, pd.DataFrame) and again.in_flight.tolist() == [1]
+
+
+def test_sweeps_have_them(program: str) -> None:
+    """A setting of a user's own keeps its name, whatever it is called."""
+    text = TRAIN.scenario.decode().replace("experiment train seed 0", "experiment {{ name }} seed {{ seed }}")
+    made = dnlab.sweep(text.replace("queue 2", "queue {{ size }}"), settings={"size": [2, 3]}, of="train 1",
+                       stat=["fct", "delay.max", "in_flight", "delay.p50"], dnlab=program)
+    table = made.table()
+    assert {"sender", "size", "min", "max", "warnings"} <= set(table.columns)
+    assert table[table["size"] == 2].set_index("stat")["mean"].to_dict() == {
+        "delay.max": 12e6, "in_flight": 1, "delay.p50": 11e6, "fct": pytest.approx(float("nan"), nan_ok=True)}
+    assert made.long().columns.tolist() == ["size", "seed", "experiment", "sender", "stat", "unit", "value", "warnings"]
+
+
+def test_bounds_take_both(tmp_path: Path) -> None:
+    from conftest import tool
+
+    opened(FLOWS, tmp_path)
+    words = ["expect", tmp_path / "report.txt", tmp_path / "scenario.txt", "--allow", "refused"]
+    for bound in ("flow 1: fct < 13ms", "flow 1: completion < 13ms", "flow 2: retransmissions == 1", "flow 1: delay.max < 13ms"):
+        assert tool(*words, bound)[0] == 0
+    assert tool(*words, "flow 1: fct < 12ms")[0] == 1

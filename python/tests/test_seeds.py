@@ -1,0 +1,196 @@
+"""What a study says over seeds: pairs, how many are enough, long form, and its picture. Values are worked out by hand: a
+packet of S bytes takes S * 8000 ns over 1 Mbit/s and the delay, and Student's t is that of the printed tables."""
+import csv
+import io
+import re
+import subprocess
+import sys
+import time
+from pathlib import Path
+
+import pandas as pd
+import pytest
+
+pytest.importorskip("jinja2", reason="jinja2 is missing (Debian: python3-jinja2)")
+pytest.importorskip("scipy", reason="scipy is missing (Debian: python3-scipy)")
+
+from conftest import ROOT, tool  # noqa: E402
+
+import dnlab  # noqa: E402
+from dnlab.analysis.seeds import compared, needed  # noqa: E402
+
+MS = 10**6
+# One packet of a size that the seed draws; with `cut` the train is longer than the run.
+ONE = """experiment {{ name }} seed {{ seed }} budget 10
+@0 pipe 1 config bw {{ bw | default("1Mbit/s") }} delay {{ delay }}
+@0 add 100 pipe 1 ip from any to any
+@0 train 1 udp 10.0.0.1 1 10.0.0.2 2 {{ rng.whole(100, 1500) }} count {{ count | default(1) }} gap 300000000
+@1000000000 end
+"""
+
+
+@pytest.fixture
+def template(tmp_path: Path) -> Path:
+    (tmp_path / "one.tmpl").write_text(ONE)
+    return tmp_path / "one.tmpl"
+
+
+# ---- pairs
+
+def test_the_same_chance_leaves_the_setting_alone(program: str) -> None:
+    """Means over seeds are wide, since sizes differ; 15 ms more of delay are 15 ms more at each seed."""
+    made = dnlab.sweep(ONE, delay=[5, 20, 9], seed=range(1, 6), of="train 1", stat="delay.median", dnlab=program)
+    found = made.compare("delay")
+    assert [(row.delay, row.base, row.n, row.mean, row.low, row.high, row.differs) for row in found.itertuples()] == [
+        (20, 5, 5, 15.0 * MS, 15.0 * MS, 15.0 * MS, True), (9, 5, 5, 4.0 * MS, 4.0 * MS, 4.0 * MS, True)]
+    wide = made.table()
+    assert (wide.high - wide.low > MS).all()
+    assert made.compare("delay", base=20)["mean"].tolist() == [-15.0 * MS, -11.0 * MS]
+
+
+def test_pairs_by_hand() -> None:
+    """Differences 1, 2 and 3: their mean is 2, and t of two degrees, 4.303, by their spread 1 over the root of 3 is 2.484.
+    A seed that one of both lacks is left out; 0 lies in the interval."""
+    rows = pd.DataFrame({"q": [1, 1, 1, 1, 2, 2, 2, 2], "seed": [1, 2, 3, 4, 4, 3, 2, 1], "of": "all", "marks": [""] * 7 + ["spent"],
+                         "goodput": pd.array([10, 20, 30, 5, None, 33, 22, 11], "Int64")})
+    found = compared(rows, ["q"], ["goodput"], "q").iloc[0]
+    assert (found.n, found["mean"], found.differs, found.marks) == (3, 2.0, False, "spent")
+    assert (found.low, found.high) == pytest.approx((2 - 2.484, 2 + 2.484), abs=1e-3)
+
+
+@pytest.mark.parametrize("words, said", [(("--pairs", "bw"), "no setting"), (("--pairs", "delay=7"), "no value of it"),
+                                         (("--pairs", "count"), "it has one value")])
+def test_what_can_be_no_pair_is_said_before_anything_runs(template: Path, words: tuple[str, ...], said: str) -> None:
+    status, out, err = tool("sweep", template, "--set", "delay=5,20", "--set", "count=1", "--of", "all", "--stat", "lost", *words)
+    assert (status, out) == (2, "") and said in err and not Path(f"{template}.kept").exists()
+
+
+def test_pairs_are_printed(template: Path) -> None:
+    out = tool("sweep", template, "--set", "delay=5,20", "--seeds", "1-3", "--of", "train 1", "--stat", "delay.median",
+               "--pairs", "delay")[1]
+    assert out.splitlines()[-1].split("  ")[0] == "20 less 5" and out.splitlines()[-1].endswith("15 ± 0")
+
+
+def test_names_of_columns_are_no_settings(template: Path) -> None:
+    """A setting called as a column of the tables would hide it."""
+    for name in ("value", "base", "min", "sender", "n"):
+        status, out, err = tool("sweep", template, "--set", f"{name}=1,2")
+        assert (status, out) == (2, "") and f"no setting can be called {name}: the tables" in err and "differs" in err
+        with pytest.raises(dnlab.Faulty, match="no setting can be called"):
+            dnlab.sweep(ONE + "# {{ " + name + " }}\n", settings={name: [1, 2], "delay": 5})
+
+
+# ---- how many seeds
+
+def test_needed_by_the_tables() -> None:
+    """A spread of 10 around 100, to 2 on both sides: t of 98 degrees is 1.9845, by 10 over the root of 99 that is 1.994;
+    with 98 seeds it is 2.005. To 10: t of 6 degrees is 2.447 and gives 9.25, of 5 degrees 2.571 and gives 10.5."""
+    assert needed([90.0, 100.0, 110.0], 0.02) == 99 and needed([90.0, 100.0, 110.0], 0.10) == 7
+    assert needed([5.0], 0.1) is None and needed([-1.0, 1.0], 0.1) is None and needed([3.0, 3.0], 0.1) == 2
+    # At 99 %: t of 9 degrees is 3.250 and gives 10.3; of 10 degrees 3.169 and gives 9.56.
+    assert needed([90.0, 100.0, 110.0], 0.10, 99) == 11
+
+
+def test_needed_is_said_and_a_column(template: Path) -> None:
+    status, out, err = tool("sweep", template, "--set", "delay=5", "--seeds", "1-3", "--of", "train 1", "--stat",
+                            "delay.median,lost", "--within", "1%", "--csv", "-")
+    rows = list(csv.DictReader(io.StringIO(out)))
+    assert status == 0 and int(rows[0]["needed"]) > 3 and rows[1]["needed"] == "2"
+    assert f"--within 0.01: 1 of 2 means need more than the 3 seeds here; the most, {rows[0]['needed']}, delay.median" in err
+    assert tool("sweep", template, "--set", "delay=5", "--within", "0%")[0] == 2
+
+
+# ---- long form, marks
+
+def test_long_form(template: Path, tmp_path: Path) -> None:
+    """A row for each experiment, of whom and stat: 2 settings, 3 seeds, 2 stats."""
+    status, _, err = tool("sweep", template, "--set", "delay=5,20", "--seeds", "1-3", "--of", "train 1", "--stat",
+                          "delivered,completion", "--long", tmp_path / "long.csv")
+    rows = list(csv.DictReader(open(tmp_path / "long.csv")))
+    assert status == 0 and len(rows) == 12, err
+    assert [(row["delay"], row["seed"], row["stat"], row["unit"], row["value"]) for row in rows[:2]] == [
+        ("5", "1", "delivered", "packets", "1.0"), ("5", "1", "completion", "ns", "")]
+
+
+def test_marked_cells_are_told_in_the_table(template: Path) -> None:
+    """A train of five packets needs 1.2 s, and the run has one."""
+    out = tool("sweep", template, "--set", "count=1,5", "--set", "delay=5", "--of", "train 1", "--stat", "delivered")[1]
+    lines = [line.split() for line in out.splitlines()]
+    assert lines[0][-1] == "marks" and [line[-1] for line in lines[1:]] == ["-", "unsent"]
+
+
+# ---- the picture
+
+def test_a_picture_for_a_paper(program: str, tmp_path: Path) -> None:
+    """Labels have words and units, panels stand by settings, axes are logarithmic, and marked points are hollow."""
+    pytest.importorskip("matplotlib")
+    made = dnlab.sweep(ONE, delay=[5, 20], count=[1, 5], bw=["1Mbit/s", "2Mbit/s"], seed=[1, 2], of="train 1",
+                       stat="delay.p95", dnlab=program)
+    figure = made.plot(along="delay", columns="count", log=["x", "y"],
+                       labels={"delay": "One-way delay (ms)", "count": "Packets", "bw": "Link", "bw:1Mbit/s": "1 Mbit/s"})
+    left, right = figure.axes
+    assert (left.get_ylabel(), left.get_xlabel()) == ("95th percentile of delay (ms)", "One-way delay (ms)")
+    assert [axes.get_title("left") for axes in figure.axes] == ["train 1, Packets: 1", "train 1, Packets: 5"]
+    assert left.get_xscale() == left.get_yscale() == "log"
+    assert [tick.get_text() for tick in left.get_xticklabels()] == ["5", "20"]
+    # Plain numbers, 1, 2 and 5 in each decade.
+    assert all(re.fullmatch(r"[125]0*|0\.0*[125]", tick.get_text()) for tick in left.get_yticklabels())
+    legend = left.get_legend()
+    assert legend.get_title().get_text() == "Link" and [text.get_text() for text in legend.get_texts()] == ["1 Mbit/s", "2Mbit/s"]
+
+    def hollow(axes) -> int:
+        return sum(len(line.get_xdata()) for line in axes.get_lines() if line.get_markerfacecolor() == "white")
+
+    assert (hollow(left), hollow(right)) == (0, 4) and [text.get_text() for text in figure.texts] == ["hollow points: unsent"]
+
+
+def test_rows_and_columns(program: str) -> None:
+    made = dnlab.sweep(ONE, delay=[5, 20], count=[1, 2], bw=["1Mbit/s", "2Mbit/s", "4Mbit/s"], of="train 1", stat="delivered",
+                       dnlab=program)
+    figure = made.plot(along="delay", rows="bw", columns="count")
+    assert len(figure.axes) == 6 and figure.axes[5].get_title("left") == "Bw: 4Mbit/s\nCount: 2"
+    for wrong, said in (({"rows": "nothing"}, "no setting"), ({"rows": "bw", "columns": "bw"}, "another setting"),
+                        ({"log": ["z"]}, "--log z")):
+        with pytest.raises(dnlab.Faulty, match=said):
+            made.plot(**wrong)
+
+
+def test_a_pdf_by_the_tool(template: Path, tmp_path: Path) -> None:
+    pytest.importorskip("matplotlib")
+    words = ["--set", "delay=5,20", "--of", "train 1", "--stat", "delay.p95", "--plot", tmp_path / "a.pdf"]
+    status, _, err = tool("sweep", template, *words, "--label", "delay=One-way delay (ms)", "--log", "x")
+    assert status == 0 and (tmp_path / "a.pdf").read_bytes().startswith(b"%PDF"), err
+    assert tool("sweep", template, *words, "--label", "delay")[0] == 2
+    assert tool("sweep", template, *words, "--rows", "bw")[0] == 2
+    assert tool("sweep", template, *words[:6], "--log", "x")[0] == 2
+
+
+# ---- other machines
+
+def test_dask_has_the_same_table(template: Path, tmp_path: Path, program: str) -> None:
+    """By a scheduler and two workers on the loopback, with a statistic of one's own among the others."""
+    pytest.importorskip("distributed", reason="distributed is missing (Debian: python3-distributed)")
+    (tmp_path / "mine.py").write_text("def made(run):\n    return run.counters.made\n")
+    scheduler = "tcp://127.0.0.1:18786"
+    quiet = {"stdout": subprocess.DEVNULL, "stderr": subprocess.DEVNULL, "cwd": ROOT / "python"}
+    started = [subprocess.Popen([sys.executable, "-B", "-m", "distributed.cli.dask_scheduler", "--host", "127.0.0.1", "--port",
+                                 "18786", "--no-dashboard"], **quiet)]
+    started += [subprocess.Popen([sys.executable, "-B", "-m", "distributed.cli.dask_worker", scheduler, "--nthreads", "1",
+                                  "--no-dashboard", "--local-directory", str(tmp_path / f"w{number}")], **quiet)
+                for number in (1, 2)]
+    try:
+        words = ["--set", "delay=5,20", "--seeds", "1-3", "--of", "train 1", "--stat", f"delay.median,{tmp_path}/mine.py:made",
+                 "--csv", "-"]
+        here = tool("sweep", template, *words, "--kept", tmp_path / "here")
+        for _ in range(20):
+            there = tool("sweep", template, *words, "--kept", tmp_path / "there", "--on", "dask", scheduler, "--parts", "3")
+            if there[0] == 0:
+                break
+            time.sleep(1)
+    finally:
+        for one in started:
+            one.terminate()
+        for one in started:
+            one.wait(30)
+    assert here[0] == there[0] == 0, there[2]
+    assert here[1] == there[1] and here[1].count("made") == 2

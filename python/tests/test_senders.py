@@ -1,0 +1,259 @@
+"""Closed-loop senders in a session: beside the link's own Reno flow, which is proved, and beside what follows from the RFCs by
+hand. A session answers a packet 1 ns after it came, so a round trip takes 2 ns more than that of the link's own flow."""
+from pathlib import Path
+from typing import Any, Callable, Optional
+
+import pytest
+
+pytest.importorskip("pandas", reason="pandas is missing (Debian: python3-pandas)")
+
+import dnlab  # noqa: E402
+from dnlab.chance import Chance  # noqa: E402
+from dnlab.senders import Arrivals, Chain, Cubic, Network, Reno, Requests, Web  # noqa: E402
+from dnlab.senders.flows import Ack, Flow, Segment  # noqa: E402
+
+MS, S = 10**6, 10**9
+COMMANDS = ("pipe 1 config bw {bw} delay 20 queue {queue} plr {plr}", "pipe 2 config delay 20",
+            "add 100 pipe 1 ip from 10.0.0.0/24 to 10.0.1.0/24", "add 200 pipe 2 ip from 10.0.1.0/24 to 10.0.0.0/24")
+
+
+def on_link(program: str, play: Callable[[Network], Any], seed: int = 1, steps: int = 10**6, **settings: Any) -> tuple[Network, Any]:
+    """What is played on a link of its own, run to its end."""
+    with dnlab.live(program) as session:
+        link = session.experiment("x", seed=seed, budget=5000, steps=steps)
+        for command in COMMANDS:
+            link.command(command.format(**{"bw": "10Mbit/s", "queue": 50, "plr": 0, **settings}))
+        network = Network(link)
+        made = play(network)
+        network.run()
+        link.end()
+    return network, made
+
+
+# ---- beside the link's own flow
+
+@pytest.mark.parametrize("seed, queue, plr", [(1, 50, "0.01"), (2, 20, "0.05"), (3, 20, "0.05"), (1, 30, "0.2"), (6, 50, "0")])
+def test_reno_is_the_link_s_own_flow(program: str, seed: int, queue: int, plr: str) -> None:
+    """The same losses, since the link draws them by the seed: the same windows one by one, segments sent again, timeouts and
+    completion. After 85 timeouts and 500 s they are 300 ns apart, 2 for each round trip."""
+    _, flow = on_link(program, lambda network: network.flow(300 * 1460, Reno, ("10.0.0.1", 1000), limit=65535, record=True),
+                      seed, queue=queue, plr=plr)
+    commands = "".join(f"@0 {command.format(bw='10Mbit/s', queue=queue, plr=plr)}\n" for command in COMMANDS)
+    own = dnlab.run(f"experiment x seed {seed} budget 5000\n{commands}@0 flow 1 10.0.0.1 1000 10.0.1.1 80 smss 1460 segments 300"
+                    f" rto adaptive ssthresh 1000000000\n@{1000 * S} end\n", dnlab=program)["x"]
+    rows, windows = own.summary(), own.windows()
+    row = rows[rows.sender == "flow 1"].iloc[0]
+    assert 0 <= flow.arrived - row.fct < 400
+    assert (flow.retransmissions, flow.timeouts) == (row.retransmissions, (windows.event == "expire").sum())
+    theirs = [pair for pair in zip(windows.cwnd.tolist(), windows.ssthresh.tolist())]
+    theirs = [one for one, before in zip(theirs, [None, *theirs]) if one != before]
+    ours = [(cwnd, min(ssthresh, S)) for _, cwnd, ssthresh in flow.history]
+    # The end is told apart: the link's own has no line once all is acknowledged.
+    assert ours[:len(theirs) - 1] == theirs[:-1] and len(theirs) > 40
+
+
+# ---- a flow by hand
+
+class Fake:
+    """A network without a link: what goes out is noted."""
+
+    def __init__(self) -> None:
+        self.now, self.out, self.called = 0, [], []  # type: int, list[Any], list[tuple[int, Flow]]
+
+    def carry(self, source: Any, target: Any, size: int, payload: Any) -> None:
+        self.out.append(payload)
+
+    def wake(self, moment: int, flow: Flow) -> None:
+        self.called.append((moment, flow))
+
+    def finished(self, flow: Flow) -> None:
+        pass
+
+    def sent(self) -> list[int]:
+        """The segments that went out since the last call, by number."""
+        found = [one.first // 1000 for one in self.out if isinstance(one, Segment)]
+        self.out.clear()
+        return found
+
+
+def begun(window: Any, segments: int = 40, limit: Optional[int] = None) -> tuple[Fake, Flow]:
+    fake = Fake()
+    flow = Flow(fake, 1, ("10.0.0.1", 1), ("10.0.1.1", 2), segments * 1000, window(1000), 1000, limit)
+    flow.begin()
+    return fake, flow
+
+
+def ack(fake: Fake, flow: Flow, upto: int, times: int = 1) -> list[int]:
+    """Acknowledgements of the first so many segments come; what goes out."""
+    for _ in range(times):
+        fake.now += MS
+        flow.acknowledged(upto * 1000)
+    return fake.sent()
+
+
+def test_slow_start_and_fast_retransmit() -> None:
+    """RFC 5681: 4 segments at first, two for each acknowledgement; at the third duplicate the missing one again, and the
+    window is half of the 8 in flight and 3; each further duplicate adds one."""
+    fake, flow = begun(Reno)
+    assert fake.sent() == [0, 1, 2, 3] and ack(fake, flow, 1) == [4, 5] and ack(fake, flow, 2) == [6, 7]
+    assert ack(fake, flow, 3) == [8, 9] and ack(fake, flow, 4) == [10, 11]
+    assert ack(fake, flow, 4, 2) == [] and ack(fake, flow, 4) == [4] and (flow.window.cwnd, flow.window.ssthresh) == (4000, 4000)
+    # In flight are 8 and the window is 4 + 3: the next duplicates make it 8 and 9, and a ninth segment goes out.
+    assert ack(fake, flow, 4) == [] and ack(fake, flow, 4) == [12]
+    # What was missing came: recovery ends with a window of 4, and there are 3 in flight behind 10.
+    assert ack(fake, flow, 10) == [13] and flow.retransmissions == 1
+
+
+def test_reno_waits_where_newreno_sends() -> None:
+    """Two losses in a window. A partial acknowledgement ends Reno's recovery; by RFC 6582 the next hole is sent at once."""
+    fake, flow = begun(Reno)
+    fake.sent()
+    for upto in (1, 2, 3, 4):
+        ack(fake, flow, upto)
+    assert ack(fake, flow, 4, 3) == [4] and ack(fake, flow, 6) == []
+    fake, flow = begun(Cubic)
+    assert fake.sent() == list(range(10)) and ack(fake, flow, 0, 3) == [0] and flow.window.cwnd == 7000
+    # 10 in flight, 7 + 3 allowed. The first 4 came: 4 less and 1 more, so 7 allowed; 6 in flight, and the hole goes out again.
+    assert ack(fake, flow, 4) == [4, 10] and flow.retransmissions == 2
+    # All that was sent before the loss came: recovery ends with the window of 7, one is in flight.
+    assert ack(fake, flow, 10) == [11, 12, 13, 14, 15, 16]
+
+
+def test_the_timer() -> None:
+    """RFC 6298: a second at first; the measured round trip of 1 ms leaves it there; it doubles when it expires, and what was
+    sent twice is no sample. RFC 5681: one segment then, and half of the flight as the threshold."""
+    fake, flow = begun(Reno)
+    assert fake.called == [(S, flow)]
+    ack(fake, flow, 1)
+    assert (flow.timeout.smoothed, flow.timeout.varied, flow.timeout.value) == (MS, MS // 2, S)
+    fake.sent()
+    fake.now = S + MS
+    flow.woken()
+    assert fake.sent() == [1] and (flow.window.cwnd, flow.window.ssthresh, flow.timeouts, flow.timeout.value) == (1000, 2500, 1, 2 * S)
+    assert ack(fake, flow, 2) == [2, 3] and flow.timeout.value == 2 * S
+    fake.now = 4 * S
+    flow.woken()
+    first = flow.window.ssthresh
+    fake.now = 9 * S
+    flow.woken()
+    assert flow.timeouts == 3 and flow.window.ssthresh == first and flow.timeout.value == 8 * S
+
+
+def test_a_shorter_timer_isn_t_missed() -> None:
+    """After a timeout it is 2 s; a sample brings it back to 1 s, before the call that was asked for."""
+    fake, flow = begun(Reno)
+    fake.now = S
+    flow.woken()
+    ack(fake, flow, 1)
+    ack(fake, flow, 3)
+    assert flow.timeout.value == 2 * S and fake.called[-1][0] == 3 * S
+    # The first segment that was never sent before, 4, is acknowledged 1 ms after it went out.
+    ack(fake, flow, 5)
+    assert flow.timeout.value == S and fake.called[-1][0] == fake.now + S < 3 * S
+
+
+def test_the_receiver_keeps_what_came_early() -> None:
+    fake, flow = begun(Reno, 4)
+    fake.out.clear()
+    for number in (1, 3, 0, 2):
+        flow.received(Segment(flow, number * 1000, (number + 1) * 1000))
+    assert fake.out == [Ack(flow, 0), Ack(flow, 0), Ack(flow, 2000), Ack(flow, 4000)] and flow.arrived == 0
+
+
+def test_the_limit_and_the_last_bytes() -> None:
+    """The receiver's window of 2500 bytes takes two segments of 1000; the last segment has what is left."""
+    fake, flow = begun(Reno, limit=2500)
+    assert fake.sent() == [0, 1]
+    fake = Fake()
+    flow = Flow(fake, 1, ("10.0.0.1", 1), ("10.0.1.1", 2), 2100, Reno(1000), 1000)
+    flow.begin()
+    assert [one.after - one.first for one in fake.out] == [1000, 1000, 100]
+    with pytest.raises(ValueError, match="1 byte or more"):
+        Flow(fake, 1, ("10.0.0.1", 1), ("10.0.1.1", 2), 0, Reno(1000), 1000)
+
+
+# ---- patterns
+
+def test_a_chain(program: str) -> None:
+    """The next begins when the sender knows of the last: 1000 bytes at 10 Mbit/s are 0.832 ms with headers, 20 ms there and 20
+    back, each answered 1 ns later; then 7 ms go by."""
+    network, chain = on_link(program, lambda network: Chain(network, [1000, 1000, 3000], gap=7 * MS))
+    one, two, three = chain.flows
+    assert (one.begun, one.arrived, one.done) == (0, 20_832_001, 40_832_002)
+    assert two.begun == one.done + 7 * MS and three.begun == two.done + 7 * MS and three.done is not None
+    assert [row["fct"] for row in network.rows()][:2] == [20_832_001, 20_832_001]
+
+
+def test_then_is_called_at_once_if_it_is_done(program: str) -> None:
+    called: list[str] = []
+    _, flow = on_link(program, lambda network: network.flow(100))
+    flow.then(lambda: called.append("then")).on_arrival(lambda: called.append("arrived"))
+    assert called == ["then", "arrived"]
+
+
+def test_requests(program: str) -> None:
+    """300 bytes there: 340 at 10 Mbit/s are 0.272 ms, and 20 ms; 5 ms of work; 1000 bytes back by a pipe without a rate, 20 ms.
+    Between them 1 ns each. Then 2 ms to think."""
+    network, asked = on_link(program, lambda network: Requests(network, 3, 300, 1000, work=5 * MS, think=2 * MS, begin=MS))
+    assert asked.times == [45_272_002] * 3 and len(network.flows) == 6
+    assert network.flows[2].begun == MS + 45_272_002 + 2 * MS
+
+
+def test_users_of_a_web(program: str) -> None:
+    """Each user's pages are drawn by his own chance: another window changes when they come, and not what is asked."""
+    def play(window: Any) -> Callable[[Network], Web]:
+        return lambda network: Web(network, 5, lambda chance: chance.pareto(1.3, 3000), 200 * MS, 2 * S, seed=7, window=window)
+
+    one, web = on_link(program, play(Reno), queue=10)
+    other, _ = on_link(program, play(Cubic), queue=10)
+
+    def pages(network: Network) -> list[list[int]]:
+        found: dict[str, list[int]] = {}
+        for flow in network.flows:
+            if flow.source[0] == "10.0.1.1":
+                found.setdefault(flow.target[0], []).append(flow.size)
+        return [sizes[:3] for _, sizes in sorted(found.items())]
+
+    assert pages(one) == pages(other) and len(pages(one)) == 5
+    assert len(web.times()) == len(one.flows) // 2 and min(web.times()) > 40 * MS
+    # A user's moment of beginning is exponential, of his own chance.
+    begins = sorted(Chance(f"7 begin {user}").exponential(200 * MS) for user in range(1, 6))
+    assert one.flows[0].begun == begins[0]
+
+
+def test_arrivals_are_a_poisson_process(program: str) -> None:
+    """Moments and sizes are drawn in turn by one chance; the windows take turns; a table has a row for each."""
+    network, made = on_link(program, lambda network: Arrivals(network, 300, 5 * MS, lambda chance: chance.whole(100, 9000),
+                                                              seed=3, window=[Reno, Cubic]), bw="100Mbit/s")
+    chance, moment, wanted = Chance(3), 0, []
+    gap = chance.exponential(5 * MS)
+    for number in range(300):
+        moment += gap
+        gap = chance.exponential(5 * MS) if number < 299 else 0
+        wanted.append(chance.whole(100, 9000))
+    table = network.table()
+    assert table["bytes"].tolist() == wanted and table["window"].value_counts().to_dict() == {"Reno": 150, "Cubic": 150}
+    # The last begins at the sum of gaps, and what is added up of 1 ns where a packet of another moment is.
+    assert abs(made.flows[-1].begun - moment) < 1000 and (table.fct > 20 * MS).all() and table.retransmissions.sum() == 0
+    goodput = table["bytes"].astype(float) * 8e9 / table.fct.astype(float)
+    assert (abs(goodput - table.goodput.astype(float)) <= 1).all()
+
+
+def test_it_runs_again_by_alone(program: str, alone: Callable[[bytes], bytes], tmp_path: Path) -> None:
+    network, _ = on_link(program, lambda network: Chain(network, [50_000] * 3, Cubic), plr="0.02")
+    assert alone(network.link.transcript().encode()) == network.link.report()
+
+
+def test_steps_that_are_spent_are_told(program: str) -> None:
+    with pytest.raises(dnlab.Faulty, match="its steps are spent"):
+        on_link(program, lambda network: network.flow(10**6), steps=100)
+
+
+def test_a_window_of_one_s_own(program: str) -> None:
+    class Fixed(Reno):
+        def acknowledged(self, count: int, now: int, rtt: int) -> None:
+            """It stays at 3 segments."""
+
+    network, flow = on_link(program, lambda network: network.flow(30 * 1460, Fixed))
+    # Ten round trips of three segments each: 1.2 ms a segment, 20 ms there and back.
+    assert network.rows()[0]["window"] == "Fixed" and 10 * 41_200_000 - 21 * MS < flow.arrived < 10 * 41_200_000 + 4 * MS

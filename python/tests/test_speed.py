@@ -1,0 +1,64 @@
+"""tools/beside/speed: what a run costs, as two tables, of a program that says it is proved."""
+import signal
+import subprocess
+import time
+from pathlib import Path
+
+from conftest import ROOT
+
+TOOL = ROOT / "tools" / "beside" / "speed"
+
+
+def speed(*words: str) -> "subprocess.CompletedProcess[str]":
+    return subprocess.run([str(TOOL), *words, "--small", "--times", "2"], capture_output=True, text=True, timeout=300, check=False)
+
+
+def stub(folder: Path, version: str, body: str) -> str:
+    """A program that says this version, and else does what a line of the shell does."""
+    path = folder / "stub"
+    path.write_text(f"#!/bin/sh\nif [ \"$1\" = --version ]; then echo '{version}'; exit; fi\ncat > /dev/null\n{body}\n")
+    path.chmod(0o755)
+    return str(path)
+
+
+def rows(text: str) -> list[list[str]]:
+    return [[cell.strip() for cell in line.strip("|").split("|")] for line in text.splitlines() if line.startswith("| ")]
+
+
+def test_both_tables(program: str) -> None:
+    done = speed(program, "--unproved")
+    assert done.returncode == 0, done.stderr
+    cells = rows(done.stdout)
+    assert [row[0] for row in cells[:5]] == ["Load", "p1", "p2", "p3", "p4"]
+    # Two loads, each by four ways; alone takes as long as itself.
+    assert len(cells) == 5 + 1 + 8 and {row[5] for row in cells if row[1] == "`alone`"} == {"1.00"}
+
+
+def test_a_program_that_is_not_proved(tmp_path: Path) -> None:
+    done = speed(stub(tmp_path, "dnlab 9 (commit abc, not proved)", "echo same"))
+    assert done.returncode == 3 and "no proved program" in done.stderr and not done.stdout
+
+
+def test_reports_that_differ(tmp_path: Path) -> None:
+    done = speed(stub(tmp_path, "dnlab 9 (commit abc, proved by kit)", "date +%N"))
+    assert done.returncode == 1 and "reports of one load differ" in done.stderr
+
+
+def test_a_run_that_fails(tmp_path: Path) -> None:
+    done = speed(stub(tmp_path, "dnlab 9 (commit abc, proved by kit)", "exit 4"))
+    assert done.returncode == 3 and "status 4" in done.stderr
+
+
+def test_its_end_by_sigint(tmp_path: Path) -> None:
+    # A run that would go on: the tool ends it, and itself within two seconds.
+    words = ["/bin/sh", "-c", "trap - INT; exec \"$0\" \"$@\"", str(TOOL),
+             stub(tmp_path, "dnlab 9 (commit abc, proved by kit)", f"touch {tmp_path}/begun; exec sleep 60"), "--small"]
+    child = subprocess.Popen(words, stdout=subprocess.DEVNULL, stderr=subprocess.PIPE, text=True,
+                             preexec_fn=lambda: signal.signal(signal.SIGINT, signal.default_int_handler))
+    until = time.monotonic() + 20
+    while not (tmp_path / "begun").exists() and time.monotonic() < until:
+        time.sleep(0.05)
+    begun = time.monotonic()
+    child.send_signal(signal.SIGINT)
+    _, said = child.communicate(timeout=20)
+    assert child.returncode == 130 and said == "speed: ended by SIGINT\n" and time.monotonic() - begun < 2

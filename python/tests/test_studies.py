@@ -1,0 +1,207 @@
+"""What a study needs of a summary and a sweep: a part of the time, statistics of one's own, and settings as columns.
+Values are worked out by hand from the experiments of `dnlab.by_hand`."""
+import csv
+import io
+import json
+from pathlib import Path
+
+import pandas as pd
+import pytest
+
+pytest.importorskip("jinja2", reason="jinja2 is missing (Debian: python3-jinja2)")
+pytest.importorskip("scipy", reason="scipy is missing (Debian: python3-scipy)")
+
+from conftest import tool  # noqa: E402
+
+import dnlab  # noqa: E402
+from dnlab import report, scenario  # noqa: E402
+from dnlab.analysis.spans import Span  # noqa: E402
+from dnlab.by_hand import FLOWS, TRAIN, Run  # noqa: E402
+from dnlab.commands.sweep import far  # noqa: E402
+from dnlab.tables import Row, Tables  # noqa: E402
+from dnlab.view import View  # noqa: E402
+
+MS = 10**6
+# TRAIN with a queue that is open.
+TEMPLATE = TRAIN.scenario.decode().replace("experiment train seed 0", "experiment {{ name }} seed {{ seed }}").replace(
+    "queue 2", "queue {{ queue }}")
+
+
+def rows_of(run: Run, span: Span) -> dict[str, Row]:
+    experiment = next(report.read(run.report))
+    view = View(experiment, scenario.read(run.scenario)[experiment.name])
+    return {row["of"]: row for row in Tables(view, (50,), span=span).rows()}
+
+
+def picked(row: Row, *names: str) -> list[object]:
+    return [row[name] for name in names]
+
+
+# ---- a part of the time
+
+def test_the_last_millisecond() -> None:
+    """From 11.5 to 12.5 ms: the second packet comes, the third is on its way, and nothing is made, served or dropped."""
+    rows = rows_of(TRAIN, Span(11_500_000))
+    names = ("packets", "delivered", "held", "full", "bytes", "time", "rate", "median", "from", "to")
+    assert picked(rows["train 1"], *names) == [0, 1, 1, 0, 1000, MS, 8 * MS, 12 * MS, 11_500_000, 12_500_000]
+    assert picked(rows["injected"], *names[:5]) == [0, 0, 1, 0, 0]
+    assert picked(rows["pipe 1.0"], "packets", "delivered", "held", "bytes", "utilisation") == [0, 1, 2, 0, 0.0]
+
+
+def test_before_a_moment() -> None:
+    """Before 5 ms: four are made and one of them dropped; three were served in 3 of 5 ms; the single packet isn't made."""
+    rows = rows_of(TRAIN, Span(0, 5 * MS))
+    assert picked(rows["train 1"], "packets", "delivered", "held", "full", "bytes", "rate", "median") == [4, 0, 3, 1, 0, 0, None]
+    assert picked(rows["injected"], "packets", "held") == [0, 0]
+    assert picked(rows["pipe 1.0"], "packets", "delivered", "held", "bytes", "rate", "utilisation") == [
+        3, 0, 3, 3000, 4_800_000, 0.6]
+
+
+def test_a_moment_belongs_to_what_begins_with_it() -> None:
+    """What came at 12 ms is in the part that begins then, and not in the one that ends then; both make the whole."""
+    one, other = rows_of(TRAIN, Span(0, 12 * MS)), rows_of(TRAIN, Span(12 * MS))
+    assert [rows["train 1"]["delivered"] for rows in (one, other)] == [1, 1]
+    assert [rows["pipe 1.0"]["packets"] for rows in (one, other)] == [4, 0]
+    # 12.5 ms is the end: what lies beyond adds nothing, to the time of a rate neither.
+    assert rows_of(TRAIN, Span(12 * MS, 10**9))["train 1"]["rate"] == 8000 * 10**9 // 500_000
+
+
+def test_flows_in_a_part() -> None:
+    """Flow 1 completes at 12 ms; flow 2 is sent again at 1 s."""
+    before, after = rows_of(FLOWS, Span(0, 12 * MS)), rows_of(FLOWS, Span(12 * MS))
+    assert picked(before["flow 1"], "useful", "goodput", "completion", "packets") == [960, 640_000, None, 2]
+    assert picked(after["flow 1"], "useful", "goodput", "completion", "packets") == [
+        960, 960 * 8 * 10**9 // 1_988_000_000, 12 * MS, 0]
+    assert picked(before["flow 2"], "again", "denied") == [0, 1] and picked(after["flow 2"], "again", "denied") == [1, 0]
+    # Both flows brought 960 bytes in the second part: it is fair.
+    assert after["there"]["jain"] == 1.0
+
+
+def files(folder: Path, run: Run) -> tuple[str, str]:
+    (folder / "report.txt").write_bytes(run.report)
+    (folder / "scenario.txt").write_bytes(run.scenario)
+    return str(folder / "report.txt"), str(folder / "scenario.txt")
+
+
+def test_summary_and_expect_take_it(tmp_path: Path) -> None:
+    names = files(tmp_path, TRAIN)
+    status, out, _ = tool("summary", *names, "--from", "11.5ms", "--of", "train 1", "--json")
+    row = json.loads(out)[0]
+    assert status == 0 and (row["delivered"], row["from"], row["to"]) == (1, 11_500_000, 12_500_000)
+    assert tool("expect", *names, "train 1: drops == 0", "--from", "1ms")[0] == 0
+    assert tool("expect", *names, "train 1: drops == 0", "--to", "1ms")[0] == 1
+    found = dnlab.read(*names).summary(begin=11_500_000)
+    assert int(found[found.sender == "train 1"].delivered.iloc[0]) == 1
+
+
+@pytest.mark.parametrize("words, said", [
+    (("--from", "5ms", "--to", "5ms"), "the second moment comes after the first"),
+    (("--from", "13ms"), "experiment train: it ended at 12500000 ns"),
+    (("--from", "1ms", "--every", "1ms"), "--from and --to go with the rows of the summary"),
+    (("--from", "soon"), "'soon' is no time")])
+def test_what_can_be_no_part(tmp_path: Path, words: tuple[str, ...], said: str) -> None:
+    status, out, err = tool("summary", *files(tmp_path, TRAIN), *words)
+    assert (status, out) == (2, "") and said in err
+
+
+def test_a_part_needs_moments(tmp_path: Path) -> None:
+    """A report alone doesn't tell when packets were made."""
+    status, out, err = tool("summary", files(tmp_path, TRAIN)[0], "--from", "1ms")
+    assert (status, out) == (2, "") and "need its scenario" in err
+
+
+def test_a_sweep_takes_it_and_keeps_it_apart(tmp_path: Path, program: str) -> None:
+    (tmp_path / "t").write_text(TEMPLATE)
+
+    def delivered(**more: int) -> list[float]:
+        found = dnlab.sweep(tmp_path / "t", queue=[2, 3], of="train 1", stat="delivered", kept=tmp_path / "kept",
+                            dnlab=program, **more)
+        return [float(one) for one in found.table()["mean"]]
+
+    # With three slots the fourth packet takes the way too, and comes at 14 ms: not before the end.
+    assert delivered() == [2, 2] and delivered(begin=11_500_000) == [1, 1] and delivered(end=11_500_000) == [1, 1]
+    assert delivered(begin=11_000_000, end=11_000_001) == [1, 1] and delivered() == [2, 2]
+    status, out, err = tool("sweep", tmp_path / "t", "--set", "queue=2", "--of", "train 1", "--stat", "delivered,drops.full",
+                            "--from", "11.5ms", "--csv", "-")
+    assert status == 0 and [row["mean"] for row in csv.DictReader(io.StringIO(out))] == ["1.0", "0.0"], err
+
+
+# ---- statistics of one's own
+
+def late(run: dnlab.Experiment, of: str) -> float:
+    """The share of a sender's delivered packets that took more than 11.5 ms."""
+    packets = run.packets()
+    own = packets[(packets["of"] == of) & (packets["fate"] == "delivered")]
+    return float((own.delay > 11_500_000).mean())
+
+
+def made(run: dnlab.Experiment) -> int:
+    return run.counters.made
+
+
+def test_a_function_is_a_stat(tmp_path: Path, program: str) -> None:
+    """Of the train's two packets that came one took 12 ms; five packets were made in all. Processes of their own ask it."""
+    (tmp_path / "t").write_text(TEMPLATE)
+    swept = dnlab.sweep(tmp_path / "t", queue=[2], seed=[1, 2], of="train 1", stat=[late, "delivered"], dnlab=program)
+    assert [(row.stat, row.n, row.mean) for row in swept.table().itertuples()] == [("late", 2, 0.5), ("delivered", 2, 2.0)]
+    assert dnlab.sweep(tmp_path / "t", queue=[2], stat=made, dnlab=program).rows()["made"].tolist() == [5.0]
+
+
+def test_what_a_function_answers_is_never_kept(tmp_path: Path, program: str) -> None:
+    """Its body may change, and its name stay."""
+    (tmp_path / "t").write_text(TEMPLATE)
+    for wanted in (1.0, 2.0):
+        def mine(run: dnlab.Experiment, wanted: float = wanted) -> float:
+            return wanted
+        swept = dnlab.sweep(tmp_path / "t", queue=[2], stat=mine, kept=tmp_path / "kept", dnlab=program)
+        assert swept.table()["mean"].tolist() == [wanted]
+
+
+def test_what_is_said_where_it_ends_early() -> None:
+    """What functions answer isn't kept, so nothing is said of going on."""
+    assert far(dnlab.sweep(TEMPLATE, queue=[2], of="all", stat="lost"), "k") == (
+        "0 of 1 experiments are kept in k; the same words go on")
+    assert "isn't kept, so the same words begin anew" in far(dnlab.sweep(TEMPLATE, queue=[2], stat=made), "k")
+
+
+def test_a_function_of_a_file(tmp_path: Path) -> None:
+    (tmp_path / "t").write_text(TEMPLATE)
+    (tmp_path / "mine.py").write_text("LIMIT = 11_500_000\ndef late(run, of):\n    p = run.packets()\n"
+                                      "    return int((p[p['of'] == of].delay > LIMIT).sum())\nlate.unit = 'packets'\n")
+    status, out, err = tool("sweep", tmp_path / "t", "--set", "queue=2", "--of", "train 1", "--stat",
+                            f"{tmp_path}/mine.py:late", "--csv", "-")
+    [row] = csv.DictReader(io.StringIO(out))
+    assert (status, row["stat"], row["unit"], row["mean"]) == (0, "late", "packets", "1.0"), err
+    status, out, err = tool("sweep", tmp_path / "t", "--set", "queue=2", "--of", "all", "--stat", f"{tmp_path}/mine.py:never")
+    assert status == 2 and "never" in err
+
+
+@pytest.mark.parametrize("body, said", [("return 'x'", "'x' is no number"), ("return run.nothing", "AttributeError")])
+def test_a_function_that_fails_is_told(tmp_path: Path, body: str, said: str) -> None:
+    (tmp_path / "t").write_text(TEMPLATE)
+    (tmp_path / "mine.py").write_text(f"def mine(run):\n    {body}\n")
+    status, out, err = tool("sweep", tmp_path / "t", "--set", "queue=2", "--of", "all", "--stat", f"{tmp_path}/mine.py:mine")
+    assert (status, out) == (2, "") and "the statistic mine: experiment queue2-s1" in err and said in err
+
+
+def test_stat_without_of_is_refused(tmp_path: Path) -> None:
+    with pytest.raises(dnlab.Faulty, match="say of whom"):
+        dnlab.sweep(TEMPLATE, queue=[2], stat="delay.p95")
+
+
+# ---- settings
+
+def test_settings_are_columns_with_their_defaults(program: str) -> None:
+    """By docs/reference/scenario.md: no rate, no delay, 50 slots, no loss, droptail; CoDel has 5 and 100 ms, a flow 65535 bytes."""
+    text = ("experiment a seed 1 budget 9\n@0 pipe 1 config\n@0 pipe 2 config bw 8Mbit/s delay 3\n"
+            "@0 flow 1 10.0.0.1 1 10.0.0.2 2 smss 100 segments 2\n@1 pipe 2 config bw 4Mbit/s delay 3\n@9 end\n"
+            "experiment b seed 2 budget 9\n@0 pipe 1 config codel interval 200us mask dst-ip 0xff proto 0x0f queue 3KBytes plr 0.5\n@9 end\n"
+            "experiment c seed 2 budget 9\n@0 pipe 1 config codel target 1\n@9 end\n")
+    found = dnlab.run(text, dnlab=program).params()
+    a, b = found.loc["a"], found.loc["b"]
+    assert [a[f"pipe1_{name}"] for name in ("bw", "delay", "queue", "plr", "discipline", "mask")] == [0, 0, 50, 0, "droptail", ""]
+    assert [b[f"pipe1_{name}"] for name in ("queue_bytes", "plr", "discipline", "target", "interval", "mask")] == [
+        3072, 0.5, "codel", 5 * MS, 200_000, "dst-ip 0xff proto 0x0f"]
+    assert found.loc["c", ["pipe1_target", "pipe1_interval"]].tolist() == [MS, 100 * MS] and a["pipe1_target"] is pd.NA
+    assert (a["pipe2_bw"], a["pipe2_delay"], a["flow1_window"], a["flow1_segments"]) == ("varies", 3 * MS, 65535, 2)
+    assert "pipe1_bw" not in dnlab.run(text, dnlab=program).params(changed=True)
