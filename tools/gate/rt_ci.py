@@ -32,11 +32,12 @@ SHOWN = 20
 PAUSE, PATIENCE = 0.05, 3.0
 
 
-def copy_crates(root: pathlib.Path, names: Sequence[str], to: pathlib.Path) -> None:
-    """Copies these crates, in the order in which they stand on each other, to a repository of their own, without their edits."""
+def copy_crates(root: pathlib.Path, names: Sequence[str], to: pathlib.Path, *more: str) -> None:
+    """Copies these crates, in the order in which they stand on each other, to a repository of their own: what a proof reads, what their programs
+    are run with, and more of their folders."""
     lines = crates.lines_of_crates(root)
     for name in names:
-        for part in (*crates.PARTS, *RUN):
+        for part in (*crates.PARTS, *RUN, *more):
             one, other = root / "crates" / name / part, to / "crates" / name / part
             if one.is_dir():
                 shutil.copytree(one, other)
