@@ -1,2 +1,3 @@
 mod RunFacts
 mod Reporting
+mod OpenFacts

@@ -13,7 +13,30 @@ use Rattle.experiment.specs.Kept.{KeptExperiment, IsHousedIn, IsWaiting, IsAlone
 use Rattle.report.specs.Lines.{line_of}
 use Rattle.report_writer.specs.Written.{Written, Counts, CanWrite}
 use Rattle.report_writer.proofs.CallerLemmas.{adds_alone, adds_waiting}
-use Rattle.live.specs.Runs.{KeptRun, IsAt, IsAfter, Goes, Takes, Forgets}
+use Rattle.std.specs.Prelude.{IsSome}
+use Rattle.experiment.specs.Kept.{shown_ending}
+use Rattle.experiment.specs.Moves.{Passes}
+use Rattle.experiment.specs.declared.experiment.Event.{Event}
+use Rattle.experiment.specs.declared.experiment.Event.TheVariants as events
+use Rattle.live.specs.Runs.{KeptRun, IsProper, IsAt, IsAfter, Goes, Takes, Forgets}
+
+-- one that goes on wasn't halted
+pub not_ended : (e : KeptExperiment) → e.ending ≡ None → IsSome e.ending → IsSome (shown_ending e.ending)
+not_ended e none = subst (λ o. IsSome o → IsSome (shown_ending o)) (sym none) (λ x. x)
+
+abbrev pub IsNoHalt : Event → Type 0
+IsNoHalt events.Halted = ⊥
+IsNoHalt _ = Unit {0}
+
+pub proper-passed : (t : ℕ) (e : Event) (p q : Pocket) (old new : KeptExperiment) → IsNoHalt e → Passes t e p old q new →
+    new.steps ≤ new.spec.budget.steps → IsProper old → IsProper new
+proper-passed t events.Ran p q old new well h few was = record { few = few; ends = not_ended new h.1 }
+proper-passed t events.Ended p q old new well h few was = record { few = few; ends = λ some. h.1 }
+proper-passed t events.Halted p q old new well h few was = absurd well
+proper-passed t events.Still p q old new well h few was = subst IsProper (sym h.0) was
+
+pub proper-forgets : (old new : KeptRun) → Forgets old new → IsProper old.experiment → IsProper new.experiment
+proper-forgets old new f h = subst IsProper (sym f.experiment) (record { few = h.few; ends = h.ends })
 
 -- the counts alone matter
 pub can_write_same : (t u : Written) (e : KeptExperiment) → u ≡ record t { text = u.text } → CanWrite t e → CanWrite u e
@@ -64,6 +87,7 @@ goes-written t u was old new g f = record {
               (subst (λ (s : Own). IsWaiting u ((earlier ++ more) ++ rs) (own_pocket s) new.experiment) (sym f.shelf)
               (f.waits u (earlier ++ more) (own_pocket old.shelf) h.1.waits));
           latest = subst (λ (l : List Timed). last_moment 0 l ≤ u) (sym (ap (λ (e : KeptExperiment). e.consumed) f.experiment)) h.1.latest;
+          proper = proper-forgets old new f h.1.proper;
         },
         λ shows.
             f.tells (g.shows ∙ shows) ∙ ap (λ (l : List ℕ). l ++ flat_map line_of rs) (h.2 shows)
@@ -76,9 +100,10 @@ goes-written t u was old new g f = record {
 pub goes-event : (t u v : ℕ) (was old new : KeptRun) → Goes t u was old → u ≤ v →
     new.report ≡ old.report → new.shows_all ≡ old.shows_all → new.experiment.spec ≡ old.experiment.spec →
     new.experiment.consumed ≡ old.experiment.consumed → IsHousedIn (own_pocket new.shelf) new.experiment →
+    (IsProper old.experiment → IsProper new.experiment) →
     ((earlier : List Record) → IsWaiting u earlier (own_pocket old.shelf) old.experiment → IsWaiting v earlier (own_pocket new.shelf) new.experiment) →
     Goes t v was new
-goes-event t u v was old new g up report shows spec consumed housed waits = record {
+goes-event t u v was old new g up report shows spec consumed housed proper waits = record {
   spec = spec ∙ g.spec;
   consumed = consumed ∙ g.consumed;
   shows = shows ∙ g.shows;
@@ -90,6 +115,7 @@ goes-event t u v was old new g up report shows spec consumed housed waits = reco
           counts = subst (λ (w : Written). Counts (earlier ++ h.0) w) (sym report) h.1.counts;
           waits = waits (earlier ++ h.0) h.1.waits;
           latest = let same = ap (last_moment 0) consumed in omega (arith, h.1.latest, up, same);
+          proper = proper h.1.proper;
         },
         λ all. ap (λ (w : Written). w.text) report ∙ h.2 all,
       );
@@ -131,6 +157,7 @@ takes-all begins c was new spec consumed shows report after rests = record {
         counts = now.counts;
         waits = waiting_begins begins c.moment earlier (own_pocket new.shelf) new.experiment (rests going) now.alone;
         latest = let same = ap (last_moment 0) consumed ∙ last-push 0 was.experiment.consumed c in omega (arith, same);
+        proper = now.proper;
       };
 }
 
@@ -142,6 +169,17 @@ at-written t earlier old new h f = record {
   waits = subst (λ (s : Own). IsWaiting t (earlier ++ old.experiment.net.log.records) (own_pocket s) new.experiment) (sym f.shelf)
       (f.waits t earlier (own_pocket old.shelf) h.waits);
   latest = subst (λ (l : List Timed). last_moment 0 l ≤ t) (sym (ap (λ (e : KeptExperiment). e.consumed) f.experiment)) h.latest;
+  proper = proper-forgets old new f h.proper;
+}
+
+-- the same of one whose commands were taken
+pub after-written : (earlier : List Record) (old new : KeptRun) → IsAfter earlier old → Forgets old new → IsAfter (earlier ++ old.experiment.net.log.records) new
+after-written earlier old new h f = record {
+  housed = subst (λ (s : Own). IsHousedIn (own_pocket s) new.experiment) (sym f.shelf) (f.housed (own_pocket old.shelf) h.housed);
+  counts = f.counts earlier h.counts;
+  alone = subst (λ (s : Own). IsAloneAfter (earlier ++ old.experiment.net.log.records) (own_pocket s) new.experiment) (sym f.shelf)
+      (f.after earlier (own_pocket old.shelf) h.alone);
+  proper = proper-forgets old new f h.proper;
 }
 
 pub can_write_after : PacketsAddUp → (earlier : List Record) (r : KeptRun) → IsAfter earlier r → CanWrite r.report r.experiment
@@ -157,4 +195,4 @@ can_write_after law earlier r h = record {
 pub at-handed : (t : ℕ) (earlier : List Record) (old new : KeptRun) → IsAt t earlier old → new ≡ record old { report = record old.report { text = [] } } →
     IsAt t earlier new
 at-handed t earlier old new h same =
-    subst (IsAt t earlier) (sym same) (record { housed = h.housed; counts = record { delivered = h.counts.delivered; drops = h.counts.drops }; waits = h.waits; latest = h.latest })
+    subst (IsAt t earlier) (sym same) (record { housed = h.housed; counts = record { delivered = h.counts.delivered; drops = h.counts.drops }; waits = h.waits; latest = h.latest; proper = h.proper })

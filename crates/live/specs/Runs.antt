@@ -1,10 +1,10 @@
 -- An experiment whose commands come one by one, and what was written of it (our choice).
-use Rattle.std.specs.Prelude.{◌≡◌, ℕ, ◌*◌, ◌^◌, ◌≤◌, Bool, true, None, List, [], ◌∷◌, ◌++◌, flat_map}
+use Rattle.std.specs.Prelude.{◌≡◌, ℕ, ◌*◌, ◌^◌, ◌≤◌, Bool, true, IsSome, None, List, [], ◌∷◌, ◌++◌, flat_map}
 use Rattle.emu_model.specs.declared.commands.Timed.{Timed}
 use Rattle.emu_model.specs.declared.records.Record.{Record}
 use Rattle.packet_store.specs.Pocket.{Pocket}
 use Rattle.packet_store.specs.Own.{Own, own_pocket}
-use Rattle.experiment.specs.Kept.{KeptExperiment, view, IsHousedIn, IsWaiting, IsAloneAfter, last_moment}
+use Rattle.experiment.specs.Kept.{KeptExperiment, view, IsHousedIn, IsWaiting, IsAloneAfter, last_moment, shown_ending}
 use Rattle.report.specs.Lines.{line_of}
 use Rattle.report.specs.Lines as lines
 use Rattle.emu_model.specs.Net.{counters_of}
@@ -19,6 +19,11 @@ pub record KeptRun : Type 0 where
   pub report : Written
   pub shows_all : Bool
 
+-- its steps are within its budget, and it wasn't halted for want of memory
+pub record IsProper (e : KeptExperiment) : Type 0 where
+  pub few : e.steps ≤ e.spec.budget.steps
+  pub ends : IsSome e.ending → IsSome (shown_ending e.ending)
+
 -- these records were told; time has come to a moment, and whatever comes then or later finds the experiment as running
 -- it alone has it
 pub record IsAt (t : ℕ) (earlier : List Record) (r : KeptRun) : Type 0 where
@@ -26,12 +31,14 @@ pub record IsAt (t : ℕ) (earlier : List Record) (r : KeptRun) : Type 0 where
   pub counts : Counts earlier r.report
   pub waits : IsWaiting t earlier (own_pocket r.shelf) r.experiment
   pub latest : last_moment 0 r.experiment.consumed ≤ t
+  pub proper : IsProper r.experiment
 
 -- the same of one whose commands were taken
 pub record IsAfter (earlier : List Record) (r : KeptRun) : Type 0 where
   pub housed : IsHousedIn (own_pocket r.shelf) r.experiment
   pub counts : Counts earlier r.report
   pub alone : IsAloneAfter earlier (own_pocket r.shelf) r.experiment
+  pub proper : IsProper r.experiment
 
 -- what is written of records, where all are
 abbrev pub Tells : List Record → KeptRun → KeptRun → Type 0

@@ -1,15 +1,20 @@
 //! One experiment of a session: how far its time has come, and how it stands.
 
-ghost use Rattle.std.specs.Prelude.{◌≡◌, ◌^◌, ◌≤◌, List, None, OnOk, []};
+ghost use Rattle.std.specs.Prelude.{◌≡◌, ◌^◌, ◌≤◌, ◌<◌, ◌⊎◌, ◌++◌, ◌∷◌, [], ℕ, List, true, false, None, Ok, OnOk, IfOk, IfNone, MatchOption};
+ghost use Rattle.control.specs.declared.fault.Cause.TheVariants.{AfterEnd, Backwards};
 ghost use Rattle.emu_model.specs.declared.records.Record.{Record};
 ghost use Rattle.packet_store.specs.Own.{own_pocket};
 ghost use Rattle.experiment.specs.Kept.{IsHousedIn};
+ghost use Rattle.report.specs.Lines.{heading_of};
 ghost use Rattle.report_writer.specs.Written.{CanWrite};
 ghost use Rattle.live.specs.Runs.{IsAt};
-ghost use Rattle.live.specs.declared.open.Phase.TheVariants.{Lost, Going};
+ghost use Rattle.live.specs.Opens.{IsTold, Tells, Takes, Settles, IsSame, IsFault, stand_of};
+ghost use Rattle.live.specs.declared.answer.Answer.TheVariants as answers;
+ghost use Rattle.live.specs.declared.open.Phase.TheVariants.{Lost, Going, Over};
 
 use crate::answer::Answer;
 use crate::run::{Run, Stop, Taken};
+use crate::run_laws::{ended_runs_are_reports, spent_runs_are_reports};
 use control::Cause;
 use emu_model::{Command, Spec, Timed, packets_add_up};
 use std::alloc::{AllocError, Global};
@@ -48,9 +53,10 @@ impl Model for Open {
       run = o.run;
       reached = o.reached;
       phase = o.phase;
+      is_closed = o.is_closed;
     } };
 
-    ghost invariant = { λ o. IsOpen o.phase o.reached o.run };
+    ghost invariant = { λ o. IsOpen o.phase o.reached o.run o.is_closed };
 }
 
 // Whether a command is an experiment's last.
@@ -61,6 +67,17 @@ fn is_end(command: &Command) -> bool {
     }
 }
 
+// What is said of a command that was taken.
+fn answer_of(taken: Taken) -> Answer
+    ensures { ¬ IsFault result }
+{
+    match taken {
+        Taken::Done => Answer::Done,
+        Taken::Packet(number) => Answer::Packet(number),
+        Taken::Refused(code) => Answer::Refused(code),
+    }
+}
+
 impl Open {
     /// An experiment to which no command came, and the line of its name.
     pub fn new(
@@ -68,7 +85,12 @@ impl Open {
         name: &[u8],
         spec: Spec,
         out: &mut Vec<u8>,
-    ) -> Result<Self, AllocError> {
+    ) -> Result<Self, AllocError>
+        ensures told { IfOk result (λ o. (out.new.items ≡ out.old.items ++ heading_of name.now)
+            × IsTold [] (heading_of name.now) o) }
+        ensures given { IfOk result (λ o. (o.name ≡ name.now) × (o.run.experiment.spec ≡ spec)
+            × (o.reached ≡ 0) × (o.phase ≡ Going) × (o.is_closed ≡ false)) }
+    {
         let mut run = Run::new(alloc, name, spec)?;
         run.hand_out(out)?;
         Ok(Open {
@@ -88,23 +110,30 @@ impl Open {
     }
 
     /// Whether its last command came.
-    pub fn is_closed(&self) -> bool {
+    pub fn is_closed(&self) -> bool
+        ensures { result ≡ self.now.is_closed }
+    {
         self.is_closed
     }
 
     /// Which records are told from now on: all, or those alone that concern injected packets.
-    pub fn show(&mut self, all: bool) {
+    pub fn show(&mut self, all: bool)
+        ensures { self.new ≡ record self.old { run = record self.old.run { shows_all = all } } }
+    {
         self.run.show(all);
     }
 
     // What was recorded is written, and the counters where it has ended; all that was written is handed out.
     fn settle(&mut self, out: &mut Vec<u8>) -> Result<(), AllocError>
         requires lost { self.old.phase ≡ Lost }
+        requires open { self.old.is_closed ≡ false }
         requires early { self.old.reached ≤ 10 ^ 15 }
         requires writes { CanWrite self.old.run.report self.old.run.experiment }
         requires housed { IsHousedIn (own_pocket self.old.run.shelf) self.old.run.experiment }
         requires at { self.old.run.experiment.ending ≡ None →
             (earlier : List Record) × IsAt self.old.reached earlier self.old.run }
+        ensures { OnOk result ((bytes : List ℕ) × (out.new.items ≡ out.old.items ++ bytes)
+            × Settles self.old self.new bytes) }
     {
         self.run.write()?;
         if self.run.ending().is_some() {
@@ -123,8 +152,14 @@ impl Open {
         requires going { self.old.phase ≡ Going }
         requires on { self.old.reached ≤ limit }
         requires early { limit ≤ 10 ^ 15 }
+        ensures told { OnOk result ((bytes : List ℕ) × (out.new.items ≡ out.old.items ++ bytes)
+            × Tells [] bytes self.old self.new) }
+        ensures same { OnOk result (IsSame self.old self.new) }
+        ensures open { OnOk result (self.new.is_closed ≡ false) }
+        ensures between { OnOk result ((self.old.reached ≤ self.new.reached) × (self.new.reached ≤ limit)) }
     {
         packets_add_up();
+        spent_runs_are_reports();
         self.phase = Phase::Lost;
         self.reached = self.run.pass(self.reached, limit, stop)?;
         self.settle(out)
@@ -135,8 +170,18 @@ impl Open {
         requires going { self.old.phase ≡ Going }
         requires on { self.old.reached ≤ command.now.moment }
         requires early { command.now.moment ≤ 10 ^ 15 }
+        ensures told { IfOk result (λ t. (bytes : List ℕ) × (out.new.items ≡ out.old.items ++ bytes)
+            × MatchOption t (Tells [] bytes self.old self.new)
+            (λ _. Takes command.now bytes self.old self.new)) }
+        ensures over { IfOk result (λ t. IfNone t (self.new.phase ≡ Over)) }
+        ensures same { IfOk result (λ _. IsSame self.old self.new) }
+        ensures open { IfOk result (λ _. self.new.is_closed ≡ false) }
+        ensures reached { IfOk result (λ t. MatchOption t (self.new.reached ≤ command.now.moment)
+            (λ _. self.new.reached ≡ command.now.moment)) }
     {
         packets_add_up();
+        spent_runs_are_reports();
+        ended_runs_are_reports();
         self.phase = Phase::Lost;
         self.reached = self.run.pass(self.reached, command.moment, Stop::Moment)?;
         if self.run.ending().is_some() {
@@ -150,16 +195,25 @@ impl Open {
     }
 
     // What is said of where it stands.
-    fn stand(&self) -> Answer {
+    fn stand(&self) -> Answer
+        ensures { result ≡ stand_of self.now }
+    {
         match self.phase {
             Phase::Going => Answer::Now(self.reached),
             _ => Answer::Over(self.reached),
         }
     }
 
-    /// Time goes on to a moment (ns), or until `stop`.
+    /// Time goes on to a moment (ns), or until `stop`; a fault where it has come further already, and nothing changes then.
     pub fn until(&mut self, limit: u64, stop: Stop, out: &mut Vec<u8>) -> Result<Answer, AllocError>
         requires { limit ≤ 10 ^ 15 }
+        ensures told { IfOk result (λ _. (bytes : List ℕ) × (out.new.items ≡ out.old.items ++ bytes)
+            × Tells [] bytes self.old self.new) }
+        ensures same { IfOk result (λ _. IsSame self.old self.new) }
+        ensures closed { IfOk result (λ _. self.new.is_closed ≡ self.old.is_closed) }
+        ensures stands { IfOk result (λ a. a ≡ answers.Fault Backwards ⊎ a ≡ stand_of self.new) }
+        ensures back { IfOk result (λ a. a ≡ answers.Fault Backwards →
+            (limit < self.old.reached) × (self.new ≡ self.old) × (out.new.items ≡ out.old.items)) }
     {
         match self.phase {
             Phase::Over => return Ok(Answer::Over(self.reached)),
@@ -182,15 +236,33 @@ impl Open {
     }
 
     // A command comes to one that is over: it is never reached.
-    fn pass_by(&mut self, command: &Timed) -> Answer {
-        self.phase = Phase::Over;
+    fn pass_by(&mut self, command: &Timed) -> Answer
+        requires over { self.old.phase ≡ Over }
+        requires open { self.old.is_closed ≡ false }
+        requires on { self.old.reached ≤ command.now.moment }
+        ensures told { Tells (command.now ∷ []) [] self.old self.new }
+        ensures same { IsSame self.old self.new }
+        ensures answer { result ≡ answers.Over command.now.moment }
+    {
         self.reached = command.moment;
+        self.is_closed = is_end(&command.command);
         Answer::Over(self.reached)
     }
 
-    /// Takes a command: all that is due below its moment happens, and then it is done or refused.
+    /// Takes a command: all that is due below its moment happens, and then it is done or refused. A fault changes nothing:
+    /// its `end` came before, or else its moment is below the one to which time has come.
     pub fn take(&mut self, command: &Timed, out: &mut Vec<u8>) -> Result<Answer, AllocError>
         requires { command.now.moment ≤ 10 ^ 15 }
+        ensures told { IfOk result (λ a. ¬ IsFault a → (bytes : List ℕ)
+            × (out.new.items ≡ out.old.items ++ bytes)
+            × Tells (command.now ∷ []) bytes self.old self.new) }
+        ensures same { IfOk result (λ _. IsSame self.old self.new) }
+        ensures closed { self.old.is_closed ≡ true → result ≡ Ok (answers.Fault AfterEnd) }
+        ensures back { self.old.is_closed ≡ false → command.now.moment < self.old.reached →
+            result ≡ Ok (answers.Fault Backwards) }
+        ensures fault { IfOk result (λ a. IsFault a → (self.new ≡ self.old)
+            × (out.new.items ≡ out.old.items)
+            × ((self.old.is_closed ≡ true) ⊎ (command.now.moment < self.old.reached))) }
     {
         if self.is_closed {
             return Ok(Answer::Fault(Cause::AfterEnd));
@@ -198,20 +270,18 @@ impl Open {
         if command.moment < self.reached {
             return Ok(Answer::Fault(Cause::Backwards));
         }
-        self.is_closed = is_end(&command.command);
         match self.phase {
             Phase::Over => return Ok(self.pass_by(command)),
             Phase::Lost => return Err(AllocError),
             Phase::Going => {}
         }
-        let taken = self.obey(command, out)?;
-        if self.phase == Phase::Over {
+        let Some(taken) = self.obey(command, out)? else {
             return Ok(self.pass_by(command));
+        };
+        if self.phase == Phase::Over {
+            self.is_closed = is_end(&command.command);
+            return Ok(Answer::Over(self.reached));
         }
-        match taken {
-            Some(Taken::Packet(number)) => Ok(Answer::Packet(number)),
-            Some(Taken::Refused(code)) => Ok(Answer::Refused(code)),
-            _ => Ok(Answer::Done),
-        }
+        Ok(answer_of(taken))
     }
 }

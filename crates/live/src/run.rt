@@ -4,7 +4,7 @@ ghost use Rattle.std.specs.Prelude.{◌≡◌, ℕ, ◌+◌, ◌*◌, ◌^◌, �
 ghost use Rattle.emu_model.specs.declared.records.Record.{Record};
 ghost use Rattle.report.specs.Lines.{heading_of};
 ghost use Rattle.report_writer.specs.Written.{CanWrite};
-ghost use Rattle.live.specs.Runs.{KeptRun, IsAt, Forgets, Goes, Takes, closing_of, first_moment};
+ghost use Rattle.live.specs.Runs.{KeptRun, IsAt, IsProper, Forgets, Goes, Takes, closing_of, first_moment};
 ghost use Rattle.packet_store.specs.Own.{own_pocket};
 ghost use Rattle.session_laws.specs.Waits.{IsSettled};
 ghost use Rattle.experiment.specs.Kept.{view, IsHousedIn, IsAloneAfter};
@@ -157,8 +157,10 @@ fn mark_injected(mine: &mut Marks, command: &Command, number: u64) -> Result<(),
 
 // Events are made until the command that came is done, or the experiment has ended.
 fn obey(experiment: &mut Experiment, shelf: &mut OwnShelf) -> Result<(), AllocError>
-    requires { IsHousedIn (own_pocket shelf.old) experiment.old }
+    requires housed { IsHousedIn (own_pocket shelf.old) experiment.old }
+    requires proper { IsProper experiment.old }
     ensures housed { OnOk result (IsHousedIn (own_pocket shelf.new) experiment.new) }
+    ensures proper { OnOk result (IsProper experiment.new) }
     ensures after { OnOk result ((earlier : List Record) →
         IsAloneAfter earlier (own_pocket shelf.old) experiment.old →
         IsAloneAfter earlier (own_pocket shelf.new) experiment.new) }

@@ -2,11 +2,13 @@ use Rattle.std.proofs.Common.{◌≡◌, ◌-◌, List}
 use Rattle.emu_model.specs.declared.records.Record.{Record}
 use Rattle.packet_store.specs.Own.{own_pocket}
 use Rattle.experiment.specs.Kept.{IsHousedIn, IsAloneAfter}
+use Rattle.live.specs.Runs.{IsProper}
 use Rattle.live.proofs.run.obey.Given as goal
 
 abbrev pub invariant-loop-experiment : goal.invariant-loop-experiment
 invariant-loop-experiment l = record {
   housed : IsHousedIn (own_pocket l.shelf) l.experiment;
+  proper : IsProper l.experiment;
   after : (earlier : List Record) → IsAloneAfter earlier (own_pocket l.initial.shelf) l.initial.experiment → IsAloneAfter earlier (own_pocket l.shelf) l.experiment;
   spec : l.experiment.spec ≡ l.initial.experiment.spec;
   consumed : l.experiment.consumed ≡ l.initial.experiment.consumed;

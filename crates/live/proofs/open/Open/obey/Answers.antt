@@ -1,6 +1,8 @@
-use Rattle.std.proofs.Common.{◌≡◌, ◌++◌, ap, ◌∙◌, subst}
+use Rattle.std.proofs.Common.{◌≡◌, ◌++◌, [], refl, ap, ◌∙◌, subst}
 use Rattle.live.specs.declared.open.Phase.TheVariants.{Going}
-use Rattle.live.specs.Opens.{KeptOpen, IsOpen}
+use Rattle.live.specs.Opens.{KeptOpen, IsOpen, Tells, Takes}
+use Rattle.live.specs.contracts.open.Open.{the_view}
+use Rattle.live.proofs.OpenFacts.{passed, took}
 use Rattle.live.proofs.RunFacts.{can_write_at}
 use Rattle.live.proofs.open.Open.obey.Goals as goal
 
@@ -8,14 +10,33 @@ pub settle-requires-clause-writes : goal.settle-requires-clause-writes
 settle-requires-clause-writes c =
     let inside = c.self.inside in
     let phase : inside.phase ≡ Going = ap (λ (o : KeptOpen). o.phase) c.self.view_is ∙ c.requires.going in
-    let inv : IsOpen Going inside.reached inside.run = subst (λ p. IsOpen p inside.reached inside.run) phase c.self.invariant in
-    let told = c.in_ok-self-inside.ensures.goes.tells inv.2 inv.3 in
-    can_write_at c.packets_add_up.ensures c.in_ok-self-inside.field-0 (inv.2 ++ told.0) c.pass.new.self told.1
+    let inv : IsOpen Going inside.reached inside.run inside.is_closed = subst (λ p. IsOpen p inside.reached inside.run inside.is_closed) phase c.self.invariant in
+    let told = c.in_ok-self-inside.ensures.goes.tells inv.3 inv.4 in
+    can_write_at c.packets_add_up.ensures c.in_ok-self-inside.field-0 (inv.3 ++ told.0) c.pass.new.self told.1
 
 pub settle-requires-2-clause-housed : goal.settle-requires-2-clause-housed
 settle-requires-2-clause-housed c =
     let inside = c.self.inside in
     let phase : inside.phase ≡ Going = ap (λ (o : KeptOpen). o.phase) c.self.view_is ∙ c.requires.going in
-    let inv : IsOpen Going inside.reached inside.run = subst (λ p. IsOpen p inside.reached inside.run) phase c.self.invariant in
-    let told = c.in_ok-self-inside.ensures.goes.tells inv.2 inv.3 in
-    (c.in_ok-taken.ensures.after c.in_ok-self-inside.field-0 (inv.2 ++ told.0) told.1 c.in_ok-self-inside.ensures.between.1).housed
+    let inv : IsOpen Going inside.reached inside.run inside.is_closed = subst (λ p. IsOpen p inside.reached inside.run inside.is_closed) phase c.self.invariant in
+    let told = c.in_ok-self-inside.ensures.goes.tells inv.3 inv.4 in
+    (c.in_ok-taken.ensures.after c.in_ok-self-inside.field-0 (inv.3 ++ told.0) told.1 c.in_ok-self-inside.ensures.between.1).housed
+
+pub returns-then-is_some-clause-told : goal.returns-then-is_some-clause-told
+returns-then-is_some-clause-told c =
+    let inside = c.self.inside in
+    let phase : inside.phase ≡ Going = ap (λ (o : KeptOpen). o.phase) c.self.view_is ∙ c.requires.going in
+    let inv : IsOpen Going inside.reached inside.run inside.is_closed = subst (λ p. IsOpen p inside.reached inside.run inside.is_closed) phase c.self.invariant in
+    let h = c.in_ok-settle.ensures in
+    (h.0, h.1, subst (λ (o : KeptOpen). Tells [] h.0 o c.settle.new.self) c.self.view_is
+    (passed c.spent_runs_are_reports.ensures (the_view inside) _ c.settle.new.self h.0 h.2 phase refl inv.2 inv.1 c.in_ok-self-inside.ensures.goes))
+
+pub returns-clause-told : goal.returns-clause-told
+returns-clause-told c =
+    let inside = c.self.inside in
+    let phase : inside.phase ≡ Going = ap (λ (o : KeptOpen). o.phase) c.self.view_is ∙ c.requires.going in
+    let inv : IsOpen Going inside.reached inside.run inside.is_closed = subst (λ p. IsOpen p inside.reached inside.run inside.is_closed) phase c.self.invariant in
+    let h = c.in_ok-settle-2.ensures in
+    (h.0, h.1, subst (λ (o : KeptOpen). Takes c.args.command.now h.0 o c.settle-2.new.self) c.self.view_is
+    (took c.ended_runs_are_reports.ensures (the_view inside) _ c.settle-2.new.self c.pass.new.self c.in_ok-self-inside.field-0 c.args.command.now h.0 h.2 phase refl inv.1
+    c.in_ok-self-inside.ensures.goes c.in_ok-self-inside.ensures.between.1 c.in_ok-taken.ensures refl))

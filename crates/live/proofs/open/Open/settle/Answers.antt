@@ -27,6 +27,7 @@ invariant_of-self-2 c =
     let same = ap (λ (o : KeptOpen). o.reached) c.self.view_is in (
       omega (arith, same, c.requires.early),
       ap (λ (r : KeptRun). r.report.text) handed,
+      ap (λ (o : KeptOpen). o.is_closed) c.self.view_is ∙ c.requires.open,
       at.0 ++ before.experiment.net.log.records,
       at-handed c.self.inside.reached (at.0 ++ before.experiment.net.log.records) after c.hand_out-2.new.self
           (at-written c.self.inside.reached at.0 before after there f) handed,

@@ -1,7 +1,7 @@
 use Rattle.std.proofs.Common.{[], sym, ap, subst, arith}
 use Rattle.packet_store.specs.Own.{own_pocket}
 use Rattle.experiment.specs.Kept.{IsHousedIn, last_moment}
-use Rattle.live.proofs.RunFacts.{waiting_begins}
+use Rattle.live.proofs.RunFacts.{waiting_begins, not_ended}
 use Rattle.live.proofs.run.Run.new.Goals as goal
 
 pub returns-clause-at : goal.returns-clause-at
@@ -14,4 +14,5 @@ returns-clause-at c =
       counts = c.in_ok-new-2.ensures.counts;
       waits = waiting_begins c.waits_begin.ensures 0 [] p e given.1 (c.in_ok-new.ensures.alone p);
       latest = let same = ap (last_moment 0) given.2 in omega (arith, same);
+      proper = record { few = let none = given.3 in omega (arith, none); ends = not_ended e given.4 };
     }

@@ -20,6 +20,7 @@ returns c =
     record {
       housed = c.in_ok-obey.ensures.housed;
       counts = at.counts;
+      proper = c.in_ok-obey.ensures.proper;
       alone = c.in_ok-obey.ensures.after earlier (c.in-Ok.ensures.waited t earlier (own_pocket before.shelf) up at.waits);
     })
     c.in_ok-obey.ensures.done

@@ -1,0 +1,178 @@
+-- What was told of an experiment of a session, from one call to the next.
+use Rattle.std.proofs.Common.{◌≡◌, ℕ, ◌≤◌, Bool, List, [], ◌∷◌, ◌++◌, None, true, false, refl, sym, ap, ◌∙◌, subst, append_assoc, append-nil}
+use Rattle.std.specs.Prelude.{flat_map, IsSome}
+use Rattle.std.proofs.lemmas.List.Concat.{flat_map-append}
+use Rattle.emu_model.specs.declared.commands.Timed.{Timed}
+use Rattle.emu_model.specs.declared.records.Record.{Record}
+use Rattle.experiment.specs.Kept.{KeptExperiment}
+use Rattle.report.specs.Lines.{heading_of, line_of}
+use Rattle.live.specs.declared.open.Phase.TheVariants.{Going, Over, Lost}
+use Rattle.live.specs.declared.open.Phase.{Phase}
+use Rattle.live.specs.Runs.{KeptRun, IsAt, IsAfter, Forgets, Goes, closing_of}
+use Rattle.live.specs.Runs as runs
+use Rattle.report_writer.specs.Written.{Written}
+use Rattle.live.specs.RunLaws.{IsDone, told_of, report_of_commands, EndedRunsAreReports, SpentRunsAreReports}
+use Rattle.live.specs.Opens.{KeptOpen, IsGoing, IsOver, IsWhole, IsToldIn, IsTold, IsTakenIn, Tells, Takes, MayCome, Settles}
+use Rattle.live.proofs.RunFacts.{at-written, at-handed, after-written}
+
+-- what was told and what is not handed out yet are the heading and the lines of these records
+abbrev pub IsPending : List ℕ → List Record → List ℕ → KeptRun → Type 0
+IsPending name earlier told r = told ++ r.report.text ≡ heading_of name ++ flat_map line_of earlier
+
+pub pending-more : (name told : List ℕ) (earlier more : List Record) (old new : KeptRun) → IsPending name earlier told old →
+    new.report.text ≡ old.report.text ++ flat_map line_of more → IsPending name (earlier ++ more) told new
+pending-more name told earlier more old new h e =
+    ap (λ (l : List ℕ). told ++ l) e
+    ∙ sym (append_assoc told old.report.text (flat_map line_of more))
+    ∙ ap (λ (l : List ℕ). l ++ flat_map line_of more) h
+    ∙ append_assoc (heading_of name) (flat_map line_of earlier) (flat_map line_of more)
+    ∙ ap (λ (l : List ℕ). heading_of name ++ l) (sym (flat_map-append line_of earlier more))
+
+-- one that goes on after it settled
+pub settled-going : (a b : KeptOpen) (bytes : List ℕ) (s : Settles a b bytes) (earlier : List Record) (told : List ℕ) →
+    IsAt a.reached earlier a.run → a.run.shows_all ≡ true → IsPending a.name earlier told a.run → b.phase ≡ Going →
+    IsGoing a.run.experiment.consumed (told ++ bytes) b
+settled-going a b bytes s earlier told at shows pending going =
+    let f = s.forgets in
+    let rs : List Record = a.run.experiment.net.log.records in
+    let handed : KeptRun = record s.written { report = record s.written.report { text = [] } } in
+    subst (IsGoing a.run.experiment.consumed (told ++ bytes)) (sym s.is) (record {
+      shows = f.shows ∙ shows;
+      consumed = ap (λ (e : KeptExperiment). e.consumed) f.experiment;
+      earlier = earlier ++ rs;
+      at = at-handed a.reached (earlier ++ rs) s.written handed (at-written a.reached earlier a.run s.written at f) refl;
+      lines = ap (λ (l : List ℕ). told ++ l) (s.going going).1 ∙ pending-more a.name told earlier rs a.run s.written pending (f.tells shows);
+    })
+
+-- what was told of one that is over, with its counters
+pub settled-told : (a b : KeptOpen) (bytes : List ℕ) (s : Settles a b bytes) (earlier : List Record) (told : List ℕ) →
+    a.run.shows_all ≡ true → IsPending a.name earlier told a.run → b.phase ≡ Over →
+    told ++ bytes ≡ told_of a.name (earlier ++ a.run.experiment.net.log.records) s.written
+settled-told a b bytes s earlier told shows pending over =
+    let f = s.forgets in
+    let rs : List Record = a.run.experiment.net.log.records in
+    ap (λ (l : List ℕ). told ++ l) (s.over over).1
+    ∙ sym (append_assoc told s.written.report.text (closing_of s.written))
+    ∙ ap (λ (l : List ℕ). l ++ closing_of s.written) (pending-more a.name told earlier rs a.run s.written pending (f.tells shows))
+
+
+none-both : (b : Bool) → b ≡ false → b ≡ true → ⊥
+none-both false f t = absurd (cc)
+none-both true f t = absurd (cc)
+
+by-rest : (o : KeptOpen) (came : List Timed) (told : List ℕ) → o.is_closed ≡ false →
+    ((c : Timed) (rest : List Timed) → o.reached ≤ c.moment → told ≡ report_of_commands o.name o.run.experiment.spec (came ++ c ∷ rest)) → IsOver came told o
+by-rest o came told unclosed f [] may = absurd (none-both o.is_closed unclosed may)
+by-rest o came told unclosed f (c ∷ rest) may = f c rest may
+
+-- one that ended while time passed
+pub settled-over : SpentRunsAreReports → (a b : KeptOpen) (bytes : List ℕ) (s : Settles a b bytes) (earlier : List Record) (told : List ℕ) →
+    IsAt a.reached earlier a.run → a.run.shows_all ≡ true → IsPending a.name earlier told a.run → a.is_closed ≡ false → b.phase ≡ Over →
+    IsOver a.run.experiment.consumed (told ++ bytes) b
+settled-over law a b bytes s earlier told at shows pending unclosed over =
+    let f = s.forgets in
+    let rs : List Record = a.run.experiment.net.log.records in
+    let now : IsAt a.reached (earlier ++ rs) s.written = at-written a.reached earlier a.run s.written at f in
+    let done : IsDone s.written = record { ended = now.proper.ends (s.over over).0; told = f.records; few = now.proper.few } in
+    let came = ap (λ (e : KeptExperiment). e.consumed) f.experiment in
+    subst (IsOver a.run.experiment.consumed (told ++ bytes)) (sym s.is)
+    (by-rest (record a { phase = b.phase; run = record s.written { report = record s.written.report { text = [] } } }) a.run.experiment.consumed (told ++ bytes) unclosed
+    (λ c more later.
+    settled-told a b bytes s earlier told shows pending over
+    ∙ law a.name a.reached (earlier ++ rs) s.written c more now done later
+    ∙ ap (λ (l : List Timed). report_of_commands a.name s.written.experiment.spec (l ++ c ∷ more)) came))
+
+-- one that a command ended
+pub settled-whole : EndedRunsAreReports → (a b : KeptOpen) (bytes : List ℕ) (s : Settles a b bytes) (earlier : List Record) (told : List ℕ) →
+    IsAfter earlier a.run → a.run.shows_all ≡ true → IsPending a.name earlier told a.run → b.phase ≡ Over →
+    IsWhole a.run.experiment.consumed (told ++ bytes) b
+settled-whole law a b bytes s earlier told after shows pending over =
+    let f = s.forgets in
+    let rs : List Record = a.run.experiment.net.log.records in
+    let now : IsAfter (earlier ++ rs) s.written = after-written earlier a.run s.written after f in
+    let done : IsDone s.written = record { ended = now.proper.ends (s.over over).0; told = f.records; few = now.proper.few } in
+    let came = ap (λ (e : KeptExperiment). e.consumed) f.experiment in
+    subst (IsWhole a.run.experiment.consumed (told ++ bytes)) (sym s.is) (λ rest.
+    settled-told a b bytes s earlier told shows pending over
+    ∙ law a.name (earlier ++ rs) s.written rest now done
+    ∙ ap (λ (l : List Timed). report_of_commands a.name s.written.experiment.spec (l ++ rest)) came)
+
+-- by how it stands
+told-in : (p : Phase) (came : List Timed) (told : List ℕ) (o : KeptOpen) → (p ≡ Going → IsGoing came told o) → (p ≡ Over → IsOver came told o) → IsToldIn p came told o
+told-in Going came told o going over = going refl
+told-in Over came told o going over = over refl
+told-in Lost came told o going over = tt
+
+taken-in : (p : Phase) (came : List Timed) (told : List ℕ) (o : KeptOpen) → (p ≡ Going → IsGoing came told o) → (p ≡ Over → IsWhole came told o) → IsTakenIn p came told o
+taken-in Going came told o going over = going refl
+taken-in Over came told o going over = over refl
+taken-in Lost came told o going over = tt
+
+-- what is pending once time has passed
+record Passed (was a : KeptOpen) (r : KeptRun) (came : List Timed) (told : List ℕ) : Type 0 where
+  earlier : List Record
+  at : IsAt a.reached earlier r
+  shows : r.shows_all ≡ true
+  consumed : r.experiment.consumed ≡ came
+  pending : IsPending a.name earlier told r
+
+-- time passed, and no command came
+pub passed : SpentRunsAreReports → (was a b : KeptOpen) (bytes : List ℕ) → Settles a b bytes → was.phase ≡ Going → a.name ≡ was.name → a.is_closed ≡ false →
+    was.run.report.text ≡ [] → Goes was.reached a.reached was.run a.run → Tells [] bytes was b
+passed law was a b bytes s going name unclosed empty g came told h =
+    let here : IsGoing came told was = subst (λ p. IsToldIn p came told was) going h in
+    let t = g.tells here.earlier here.at in
+    let all : List Record = here.earlier ++ t.0 in
+    let first : IsPending a.name here.earlier told was.run =
+    ap (λ (l : List ℕ). told ++ l) empty ∙ append-nil told ∙ here.lines ∙ ap (λ (n : List ℕ). heading_of n ++ flat_map line_of here.earlier) (sym name) in
+    let pending : IsPending a.name all told a.run = pending-more a.name told here.earlier t.0 was.run a.run first (t.2 here.shows) in
+    let shows = g.shows ∙ here.shows in
+    subst (λ (cs : List Timed). IsToldIn b.phase cs (told ++ bytes) b) (g.consumed ∙ here.consumed ∙ sym (append-nil came))
+    (told-in b.phase a.run.experiment.consumed (told ++ bytes) b
+    (λ p. settled-going a b bytes s all told t.1 shows pending p)
+    (λ p. settled-over law a b bytes s all told t.1 shows pending unclosed p))
+
+-- time passed, and then a command came
+pub took : EndedRunsAreReports → (was a b : KeptOpen) (mid : KeptRun) (u : ℕ) (c : Timed) (bytes : List ℕ) → Settles a b bytes → was.phase ≡ Going → a.name ≡ was.name →
+    was.run.report.text ≡ [] → Goes was.reached u was.run mid → u ≤ c.moment → runs.Takes c mid a.run → a.reached ≡ c.moment → Takes c bytes was b
+took law was a b mid u c bytes s going name empty g up k reached came told h =
+    let here : IsGoing came told was = subst (λ p. IsToldIn p came told was) going h in
+    let t = g.tells here.earlier here.at in
+    let all : List Record = here.earlier ++ t.0 in
+    let first : IsPending a.name here.earlier told was.run =
+    ap (λ (l : List ℕ). told ++ l) empty ∙ append-nil told ∙ here.lines ∙ ap (λ (n : List ℕ). heading_of n ++ flat_map line_of here.earlier) (sym name) in
+    let middle : IsPending a.name all told mid = pending-more a.name told here.earlier t.0 was.run mid first (t.2 here.shows) in
+    let pending : IsPending a.name all told a.run = ap (λ (w : Written). told ++ w.text) k.report ∙ middle in
+    let shows = k.shows ∙ g.shows ∙ here.shows in
+    let consumed = k.consumed ∙ ap (λ (cs : List Timed). cs ++ c ∷ []) (g.consumed ∙ here.consumed) in
+    subst (λ (cs : List Timed). IsTakenIn b.phase cs (told ++ bytes) b) consumed
+    (taken-in b.phase a.run.experiment.consumed (told ++ bytes) b
+    (λ p. settled-going a b bytes s all told
+    (subst (λ m. IsAt m all a.run) (sym reached)
+    (k.at u all t.1 up (sym (ap (λ (e : KeptExperiment). e.ending) s.forgets.experiment) ∙ (s.going p).0))) shows pending p)
+    (λ p. settled-whole law a b bytes s all told (k.after u all t.1 up) shows pending p))
+
+-- a command came to one that is over
+pub passed-by : (a b : KeptOpen) (c : Timed) → a.phase ≡ Over → b.phase ≡ Over → b.name ≡ a.name → b.run ≡ a.run → a.reached ≤ c.moment → Tells (c ∷ []) [] a b
+passed-by a b c over still name run later came told h =
+    let was : IsOver came told a = subst (λ p. IsToldIn p came told a) over h in
+    subst (λ p. IsToldIn p (came ++ c ∷ []) (told ++ []) b) (sym still) (λ rest may.
+    append-nil told ∙ was (c ∷ rest) later
+    ∙ ap (λ (n : List ℕ). report_of_commands n a.run.experiment.spec (came ++ c ∷ rest)) (sym name)
+    ∙ ap (λ (r : KeptRun). report_of_commands b.name r.experiment.spec (came ++ c ∷ rest)) (sym run)
+    ∙ ap (λ (l : List Timed). report_of_commands b.name b.run.experiment.spec l) (sym (append_assoc came (c ∷ []) rest)))
+
+-- one that a command ended, whatever may come
+pub ended-by : (c : Timed) (bytes : List ℕ) (was a b : KeptOpen) → Takes c bytes was a → a.phase ≡ Over → b.phase ≡ Over → b.name ≡ a.name → b.run ≡ a.run → Tells (c ∷ []) bytes was b
+ended-by c bytes was a b k over still name run came told h =
+    let whole : IsWhole (came ++ c ∷ []) (told ++ bytes) a = subst (λ p. IsTakenIn p (came ++ c ∷ []) (told ++ bytes) a) over (k came told h) in
+    subst (λ p. IsToldIn p (came ++ c ∷ []) (told ++ bytes) b) (sym still) (λ rest may.
+    whole rest
+    ∙ ap (λ (n : List ℕ). report_of_commands n a.run.experiment.spec ((came ++ c ∷ []) ++ rest)) (sym name)
+    ∙ ap (λ (r : KeptRun). report_of_commands b.name r.experiment.spec ((came ++ c ∷ []) ++ rest)) (sym run))
+
+-- one that goes on
+pub goes-on : (p : Phase) (came : List Timed) (told : List ℕ) (o : KeptOpen) → (p ≡ Over → ⊥) → IsTakenIn p came told o → IsToldIn p came told o
+goes-on Going came told o never h = h
+goes-on Over came told o never h = absurd (never refl)
+goes-on Lost came told o never h = tt

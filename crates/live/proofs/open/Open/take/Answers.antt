@@ -1,0 +1,27 @@
+use Rattle.std.proofs.Common.{◌≡◌, [], true, refl, ap, ◌∙◌, subst, sym}
+use denote.Enum.Bare.{sameb}
+use Rattle.live.specs.contracts.open.Phase.{the_type}
+use Rattle.live.specs.declared.open.Phase.{Phase}
+use Rattle.std.specs.Prelude.{MatchOption}
+use Rattle.live.specs.declared.open.Phase.TheVariants.{Going, Over, Lost}
+use Rattle.live.specs.Opens.{KeptOpen, Tells, Takes}
+use Rattle.live.proofs.OpenFacts.{ended-by}
+use Rattle.live.proofs.open.Open.take.Goals as goal
+
+is_over : (p : Phase) → true ≡ sameb the_type p Over → p ≡ Over
+is_over Going e = absurd (cc)
+is_over Over e = refl
+is_over Lost e = absurd (cc)
+
+pub returns-then-eq-clause-told : goal.returns-then-eq-clause-told
+returns-then-eq-clause-told c =
+    let h = c.in_ok-taken.ensures.told in
+    let over : c.self-2.inside.phase ≡ Over = is_over c.self-2.inside.phase c.if-eq.ensures in
+    λ fine. (
+      h.0,
+      h.1,
+      ended-by c.args.command.now h.0 c.args.self.now c.obey.new.self _
+          (subst (λ t. MatchOption t (Tells [] h.0 c.args.self.now c.obey.new.self) (λ x. Takes c.args.command.now h.0 c.args.self.now c.obey.new.self)) c.in-Some.is h.2)
+          (sym (ap (λ (o : KeptOpen). o.phase) c.self-2.view_is) ∙ over) over
+          (ap (λ (o : KeptOpen). o.name) c.self-2.view_is) (ap (λ (o : KeptOpen). o.run) c.self-2.view_is),
+    )
