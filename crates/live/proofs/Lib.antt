@@ -1,3 +1,4 @@
 mod RunFacts
 mod Reporting
 mod OpenFacts
+mod SessionFacts

@@ -1,9 +1,10 @@
 -- What was told of an experiment of a session, from one call to the next.
-use Rattle.std.proofs.Common.{◌≡◌, ℕ, ◌≤◌, Bool, List, [], ◌∷◌, ◌++◌, None, true, false, refl, sym, ap, ◌∙◌, subst, append_assoc, append-nil}
+use Rattle.std.proofs.Common.{◌≡◌, ℕ, ◌≤◌, Bool, List, [], ◌∷◌, ◌++◌, Option, Some, None, true, false, refl, sym, ap, ◌∙◌, subst, append_assoc, append-nil}
 use Rattle.std.specs.Prelude.{flat_map, IsSome}
 use Rattle.std.proofs.lemmas.List.Concat.{flat_map-append}
 use Rattle.emu_model.specs.declared.commands.Timed.{Timed}
 use Rattle.emu_model.specs.declared.records.Record.{Record}
+use Rattle.emu_model.specs.declared.records.Ending.{Ending}
 use Rattle.experiment.specs.Kept.{KeptExperiment}
 use Rattle.report.specs.Lines.{heading_of, line_of}
 use Rattle.live.specs.declared.open.Phase.TheVariants.{Going, Over, Lost}
@@ -55,7 +56,6 @@ settled-told a b bytes s earlier told shows pending over =
     ∙ sym (append_assoc told s.written.report.text (closing_of s.written))
     ∙ ap (λ (l : List ℕ). l ++ closing_of s.written) (pending-more a.name told earlier rs a.run s.written pending (f.tells shows))
 
-
 none-both : (b : Bool) → b ≡ false → b ≡ true → ⊥
 none-both false f t = absurd (cc)
 none-both true f t = absurd (cc)
@@ -97,16 +97,28 @@ settled-whole law a b bytes s earlier told after shows pending over =
     ∙ law a.name (earlier ++ rs) s.written rest now done
     ∙ ap (λ (l : List Timed). report_of_commands a.name s.written.experiment.spec (l ++ rest)) came)
 
--- by how it stands
-told-in : (p : Phase) (came : List Timed) (told : List ℕ) (o : KeptOpen) → (p ≡ Going → IsGoing came told o) → (p ≡ Over → IsOver came told o) → IsToldIn p came told o
-told-in Going came told o going over = going refl
-told-in Over came told o going over = over refl
-told-in Lost came told o going over = tt
+either : (e : Option Ending) (p : Phase) → (e ≡ None → p ≡ Going) → (IsSome e → p ≡ Over) → p ≡ Lost → ⊥
+either None Going f g lost = absurd (cc)
+either None Over f g lost = absurd (cc)
+either None Lost f g lost = absurd (let h = f refl in cc)
+either (Some x) Going f g lost = absurd (cc)
+either (Some x) Over f g lost = absurd (cc)
+either (Some x) Lost f g lost = absurd (let h = g refl in cc)
 
-taken-in : (p : Phase) (came : List Timed) (told : List ℕ) (o : KeptOpen) → (p ≡ Going → IsGoing came told o) → (p ≡ Over → IsWhole came told o) → IsTakenIn p came told o
-taken-in Going came told o going over = going refl
-taken-in Over came told o going over = over refl
-taken-in Lost came told o going over = tt
+-- by how it stands
+told-in : (p : Phase) (came : List Timed) (told : List ℕ) (o : KeptOpen) → (p ≡ Going → IsGoing came told o) → (p ≡ Over → IsOver came told o) → (p ≡ Lost → ⊥) → IsToldIn p came told o
+told-in Going came told o going over lost = going refl
+told-in Over came told o going over lost = over refl
+told-in Lost came told o going over lost = absurd (lost refl)
+
+taken-in : (p : Phase) (came : List Timed) (told : List ℕ) (o : KeptOpen) → (p ≡ Going → IsGoing came told o) → (p ≡ Over → IsWhole came told o) → (p ≡ Lost → ⊥) → IsTakenIn p came told o
+taken-in Going came told o going over lost = going refl
+taken-in Over came told o going over lost = over refl
+taken-in Lost came told o going over lost = absurd (lost refl)
+
+-- one that settled goes on or is over
+settled : (a b : KeptOpen) (bytes : List ℕ) (s : Settles a b bytes) → b.phase ≡ Lost → ⊥
+settled a b bytes s lost = either s.written.experiment.ending b.phase s.goes_on s.ends lost
 
 -- what is pending once time has passed
 record Passed (was a : KeptOpen) (r : KeptRun) (came : List Timed) (told : List ℕ) : Type 0 where
@@ -130,7 +142,8 @@ passed law was a b bytes s going name unclosed empty g came told h =
     subst (λ (cs : List Timed). IsToldIn b.phase cs (told ++ bytes) b) (g.consumed ∙ here.consumed ∙ sym (append-nil came))
     (told-in b.phase a.run.experiment.consumed (told ++ bytes) b
     (λ p. settled-going a b bytes s all told t.1 shows pending p)
-    (λ p. settled-over law a b bytes s all told t.1 shows pending unclosed p))
+    (λ p. settled-over law a b bytes s all told t.1 shows pending unclosed p)
+    (settled a b bytes s))
 
 -- time passed, and then a command came
 pub took : EndedRunsAreReports → (was a b : KeptOpen) (mid : KeptRun) (u : ℕ) (c : Timed) (bytes : List ℕ) → Settles a b bytes → was.phase ≡ Going → a.name ≡ was.name →
@@ -150,7 +163,8 @@ took law was a b mid u c bytes s going name empty g up k reached came told h =
     (λ p. settled-going a b bytes s all told
     (subst (λ m. IsAt m all a.run) (sym reached)
     (k.at u all t.1 up (sym (ap (λ (e : KeptExperiment). e.ending) s.forgets.experiment) ∙ (s.going p).0))) shows pending p)
-    (λ p. settled-whole law a b bytes s all told (k.after u all t.1 up) shows pending p))
+    (λ p. settled-whole law a b bytes s all told (k.after u all t.1 up) shows pending p)
+    (settled a b bytes s))
 
 -- a command came to one that is over
 pub passed-by : (a b : KeptOpen) (c : Timed) → a.phase ≡ Over → b.phase ≡ Over → b.name ≡ a.name → b.run ≡ a.run → a.reached ≤ c.moment → Tells (c ∷ []) [] a b
@@ -175,4 +189,4 @@ ended-by c bytes was a b k over still name run came told h =
 pub goes-on : (p : Phase) (came : List Timed) (told : List ℕ) (o : KeptOpen) → (p ≡ Over → ⊥) → IsTakenIn p came told o → IsToldIn p came told o
 goes-on Going came told o never h = h
 goes-on Over came told o never h = absurd (never refl)
-goes-on Lost came told o never h = tt
+goes-on Lost came told o never h = h

@@ -3,3 +3,4 @@ pub mod Lines
 pub mod Requests
 pub mod Opens
 pub mod RunLaws
+pub mod Sessions

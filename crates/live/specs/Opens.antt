@@ -49,7 +49,7 @@ IsWhole came told o = (rest : List Timed) → told ≡ report_of_commands o.name
 abbrev pub IsToldIn : Phase → List Timed → List ℕ → KeptOpen → Type 0
 IsToldIn Going came told o = IsGoing came told o
 IsToldIn Over came told o = IsOver came told o
-IsToldIn Lost came told o = Unit {0}
+IsToldIn Lost came told o = ⊥
 
 abbrev pub IsTold : List Timed → List ℕ → KeptOpen → Type 0
 IsTold came told o = IsToldIn o.phase came told o
@@ -62,7 +62,7 @@ Tells more bytes old new = (came : List Timed) (told : List ℕ) → IsTold came
 abbrev pub IsTakenIn : Phase → List Timed → List ℕ → KeptOpen → Type 0
 IsTakenIn Going came told o = IsGoing came told o
 IsTakenIn Over came told o = IsWhole came told o
-IsTakenIn Lost came told o = Unit {0}
+IsTakenIn Lost came told o = ⊥
 
 abbrev pub Takes : Timed → List ℕ → KeptOpen → KeptOpen → Type 0
 Takes c bytes old new = (came : List Timed) (told : List ℕ) → IsTold came told old → IsTakenIn new.phase (came ++ c ∷ []) (told ++ bytes) new

@@ -1,5 +1,5 @@
 -- What a request may ask (our choice).
-use Rattle.std.specs.Prelude.{◌≤◌, ◌^◌}
+use Rattle.std.specs.Prelude.{◌≡◌, ◌≤◌, ◌^◌, false}
 use Rattle.live.specs.declared.request.Request.{Request}
 use Rattle.live.specs.declared.request.Request.TheVariants.{Until, UntilMine, UntilAny, Next, Use, Show, Help}
 
@@ -12,3 +12,8 @@ IsInRange Next = Unit {0}
 IsInRange (Use name) = Unit {0}
 IsInRange (Show all) = Unit {0}
 IsInRange Help = Unit {0}
+
+-- it asks for what concerns injected packets alone
+abbrev pub IsMine : Request → Type 0
+IsMine (Show all) = all ≡ false
+IsMine _ = ⊥

@@ -1,7 +1,8 @@
 //! What a session is asked besides what a scenario says. To a scenario these lines are comments.
 
-ghost use Rattle.std.specs.Prelude.{◌≤◌, ◌^◌, IfOk};
-ghost use Rattle.live.specs.Requests.{IsInRange};
+ghost use Rattle.std.specs.Prelude.{◌≡◌, ◌≤◌, ◌^◌, ◌∷◌, ◌++◌, [], IfOk, IfSome, codes};
+ghost use Rattle.control_words.specs.Text.{words as words_of};
+ghost use Rattle.live.specs.Requests.{IsInRange, IsMine};
 
 use control::Cause;
 use control_words::addresses::name as name_in;
@@ -32,7 +33,9 @@ pub enum Request<'a> {
 }
 
 /// What a line asks, if it does: its first bytes are `#>`.
-pub fn asked_in(line: &[u8]) -> Option<&[u8]> {
+pub fn asked_in(line: &[u8]) -> Option<&[u8]>
+    ensures { IfSome result (λ rest. line.now ≡ codes "#>" ++ rest.now) }
+{
     match line {
         [b'#', b'>', rest @ ..] => Some(rest),
         _ => None,
@@ -60,7 +63,8 @@ fn hold_in(word: Option<&[u8]>) -> Result<u128, Cause> {
 
 // What stands after `until @M first`.
 fn first<'a>(words: &mut Words<'a>, limit: u128) -> Result<Request<'a>, Cause>
-    ensures { IfOk result IsInRange }
+    ensures range { IfOk result IsInRange }
+    ensures other { IfOk result (λ r. ¬ IsMine r) }
 {
     let mut word = words.next_word();
     let mut any = false;
@@ -84,7 +88,8 @@ fn first<'a>(words: &mut Words<'a>, limit: u128) -> Result<Request<'a>, Cause>
 
 // What stands after `until`.
 fn until<'a>(words: &mut Words<'a>) -> Result<Request<'a>, Cause>
-    ensures { IfOk result IsInRange }
+    ensures range { IfOk result IsInRange }
+    ensures other { IfOk result (λ r. ¬ IsMine r) }
 {
     let word = words.next_word().ok_or(Cause::BadWord)?;
     let limit = moment(word).ok_or(Cause::BadWord)?;
@@ -100,7 +105,8 @@ fn until<'a>(words: &mut Words<'a>) -> Result<Request<'a>, Cause>
 
 // What stands after `use`.
 fn used<'a>(words: &mut Words<'a>) -> Result<Request<'a>, Cause>
-    ensures { IfOk result IsInRange }
+    ensures range { IfOk result IsInRange }
+    ensures other { IfOk result (λ r. ¬ IsMine r) }
 {
     let word = words.next_word().ok_or(Cause::BadWord)?;
     let name = name_in(word).ok_or(Cause::BadWord)?;
@@ -109,7 +115,9 @@ fn used<'a>(words: &mut Words<'a>) -> Result<Request<'a>, Cause>
 
 // What stands after `show`.
 fn shown<'a>(words: &mut Words<'a>) -> Result<Request<'a>, Cause>
-    ensures { IfOk result IsInRange }
+    ensures range { IfOk result IsInRange }
+    ensures mine { IfOk result (λ r. IsMine r →
+        words_of words.old.rest.now ≡ codes "mine" ∷ words_of words.new.rest.now) }
 {
     let word = words.next_word().ok_or(Cause::BadWord)?;
     if is(word, "all") {
@@ -123,9 +131,15 @@ fn shown<'a>(words: &mut Words<'a>) -> Result<Request<'a>, Cause>
 
 // What the first word begins.
 fn asked<'a>(words: &mut Words<'a>) -> Result<Request<'a>, Cause>
-    ensures { IfOk result IsInRange }
+    ensures range { IfOk result IsInRange }
+    ensures mine { IfOk result (λ r. IsMine r →
+        words_of words.old.rest.now
+        ≡ codes "show" ∷ codes "mine" ∷ words_of words.new.rest.now) }
 {
     let word = words.next_word().ok_or(Cause::BadWord)?;
+    if is(word, "show") {
+        return shown(words);
+    }
     if is(word, "until") {
         return until(words);
     }
@@ -134,9 +148,6 @@ fn asked<'a>(words: &mut Words<'a>) -> Result<Request<'a>, Cause>
     }
     if is(word, "use") {
         return used(words);
-    }
-    if is(word, "show") {
-        return shown(words);
     }
     if is(word, "help") {
         return Ok(Request::Help);
@@ -147,7 +158,9 @@ fn asked<'a>(words: &mut Words<'a>) -> Result<Request<'a>, Cause>
 /// What a line asks, without its `#>`: `BadWord` where the words aren't those of a request, `OutOfRange` where a number
 /// is past 10^15 ns, or a time to wait is 0.
 pub fn read_request(line: &[u8]) -> Result<Request, Cause>
-    ensures { IfOk result IsInRange }
+    ensures range { IfOk result IsInRange }
+    ensures mine { IfOk result (λ r. IsMine r →
+        words_of line.now ≡ codes "show" ∷ codes "mine" ∷ []) }
 {
     let mut words = Words { rest: line };
     let found = asked(&mut words)?;

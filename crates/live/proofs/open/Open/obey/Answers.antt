@@ -27,16 +27,22 @@ returns-then-is_some-clause-told c =
     let inside = c.self.inside in
     let phase : inside.phase ≡ Going = ap (λ (o : KeptOpen). o.phase) c.self.view_is ∙ c.requires.going in
     let inv : IsOpen Going inside.reached inside.run inside.is_closed = subst (λ p. IsOpen p inside.reached inside.run inside.is_closed) phase c.self.invariant in
-    let h = c.in_ok-settle.ensures in
-    (h.0, h.1, subst (λ (o : KeptOpen). Tells [] h.0 o c.settle.new.self) c.self.view_is
-    (passed c.spent_runs_are_reports.ensures (the_view inside) _ c.settle.new.self h.0 h.2 phase refl inv.2 inv.1 c.in_ok-self-inside.ensures.goes))
+    let h = c.in_ok-settle.ensures in (
+      h.0,
+      h.1,
+      subst (λ (o : KeptOpen). Tells [] h.0 o c.settle.new.self) c.self.view_is
+          (passed c.spent_runs_are_reports.ensures (the_view inside) _ c.settle.new.self h.0 h.2 phase refl inv.2 inv.1 c.in_ok-self-inside.ensures.goes),
+    )
 
 pub returns-clause-told : goal.returns-clause-told
 returns-clause-told c =
     let inside = c.self.inside in
     let phase : inside.phase ≡ Going = ap (λ (o : KeptOpen). o.phase) c.self.view_is ∙ c.requires.going in
     let inv : IsOpen Going inside.reached inside.run inside.is_closed = subst (λ p. IsOpen p inside.reached inside.run inside.is_closed) phase c.self.invariant in
-    let h = c.in_ok-settle-2.ensures in
-    (h.0, h.1, subst (λ (o : KeptOpen). Takes c.args.command.now h.0 o c.settle-2.new.self) c.self.view_is
-    (took c.ended_runs_are_reports.ensures (the_view inside) _ c.settle-2.new.self c.pass.new.self c.in_ok-self-inside.field-0 c.args.command.now h.0 h.2 phase refl inv.1
-    c.in_ok-self-inside.ensures.goes c.in_ok-self-inside.ensures.between.1 c.in_ok-taken.ensures refl))
+    let h = c.in_ok-settle-2.ensures in (
+      h.0,
+      h.1,
+      subst (λ (o : KeptOpen). Takes c.args.command.now h.0 o c.settle-2.new.self) c.self.view_is
+          (took c.ended_runs_are_reports.ensures (the_view inside) _ c.settle-2.new.self c.pass.new.self c.in_ok-self-inside.field-0 c.args.command.now h.0 h.2 phase refl inv.1
+          c.in_ok-self-inside.ensures.goes c.in_ok-self-inside.ensures.between.1 c.in_ok-taken.ensures refl),
+    )

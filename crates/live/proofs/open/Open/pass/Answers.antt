@@ -25,6 +25,10 @@ returns-clause-told c =
     let phase : inside.phase ≡ Going = ap (λ (o : KeptOpen). o.phase) c.self.view_is ∙ c.requires.going in
     let inv : IsOpen Going inside.reached inside.run inside.is_closed = subst (λ p. IsOpen p inside.reached inside.run inside.is_closed) phase c.self.invariant in
     on_ok _ _ c.settle.result
-    (λ h. (h.0, h.1, subst (λ (o : KeptOpen). Tells [] h.0 o c.settle.new.self) c.self.view_is
-    (passed c.spent_runs_are_reports.ensures (the_view inside) _ c.settle.new.self h.0 h.2 phase refl inv.2 inv.1 c.in_ok-self-inside.ensures.goes)))
+    (λ h. (
+      h.0,
+      h.1,
+      subst (λ (o : KeptOpen). Tells [] h.0 o c.settle.new.self) c.self.view_is
+          (passed c.spent_runs_are_reports.ensures (the_view inside) _ c.settle.new.self h.0 h.2 phase refl inv.2 inv.1 c.in_ok-self-inside.ensures.goes),
+    ))
     c.settle.ensures

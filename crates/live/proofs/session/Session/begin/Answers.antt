@@ -1,0 +1,20 @@
+use Rattle.std.proofs.Common.{◌≡◌, ◌++◌, ◌∷◌, [], ◌∙◌, subst}
+use Rattle.report.specs.Lines.{heading_of}
+use Rattle.control.specs.Scenario.{begun}
+use Rattle.live.specs.Sessions.{KeptSession, Grows}
+use Rattle.live.specs.contracts.session.Session.{the_view}
+use Rattle.live.proofs.SessionFacts.{grows-begun}
+use Rattle.live.proofs.session.Session.begin.Goals as goal
+
+pub returns : goal.returns
+returns c =
+    let name = c.args.name.now in
+    let h = c.in_ok-begun.ensures in
+    let old : KeptSession = the_view c.self.inside in
+    let new : KeptSession = record { opened = c.push.new.self.items; current = c.len-self-inside.result } in (
+      heading_of name,
+      h.told.0,
+      λ fine. subst (λ (s : KeptSession). Grows (λ es. es ++ begun name c.args.spec ∷ []) (heading_of name) s new) c.self.view_is
+          (grows-begun old new c.in_ok-begun.begun (heading_of name) (begun name c.args.spec) c.in_ok-push.ensures.items (c.len-self-inside.ensures ∙ c.self.inside.open.ok.0)
+          (record { name = h.given.0; spec = h.given.1; told = h.told.1 })),
+    )
