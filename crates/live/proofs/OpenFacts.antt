@@ -31,14 +31,15 @@ pending-more name told earlier more old new h e =
 
 -- one that goes on after it settled
 pub settled-going : (a b : KeptOpen) (bytes : List ℕ) (s : Settles a b bytes) (earlier : List Record) (told : List ℕ) →
-    IsAt a.reached earlier a.run → a.run.shows_all ≡ true → IsPending a.name earlier told a.run → b.phase ≡ Going →
+    IsAt a.reached earlier a.run → a.run.shows_all ≡ true → a.is_closed ≡ false → IsPending a.name earlier told a.run → b.phase ≡ Going →
     IsGoing a.run.experiment.consumed (told ++ bytes) b
-settled-going a b bytes s earlier told at shows pending going =
+settled-going a b bytes s earlier told at shows unclosed pending going =
     let f = s.forgets in
     let rs : List Record = a.run.experiment.net.log.records in
     let handed : KeptRun = record s.written { report = record s.written.report { text = [] } } in
     subst (IsGoing a.run.experiment.consumed (told ++ bytes)) (sym s.is) (record {
       shows = f.shows ∙ shows;
+      unclosed = unclosed;
       consumed = ap (λ (e : KeptExperiment). e.consumed) f.experiment;
       earlier = earlier ++ rs;
       at = at-handed a.reached (earlier ++ rs) s.written handed (at-written a.reached earlier a.run s.written at f) refl;
@@ -141,14 +142,14 @@ passed law was a b bytes s going name unclosed empty g came told h =
     let shows = g.shows ∙ here.shows in
     subst (λ (cs : List Timed). IsToldIn b.phase cs (told ++ bytes) b) (g.consumed ∙ here.consumed ∙ sym (append-nil came))
     (told-in b.phase a.run.experiment.consumed (told ++ bytes) b
-    (λ p. settled-going a b bytes s all told t.1 shows pending p)
+    (λ p. settled-going a b bytes s all told t.1 shows unclosed pending p)
     (λ p. settled-over law a b bytes s all told t.1 shows pending unclosed p)
     (settled a b bytes s))
 
 -- time passed, and then a command came
-pub took : EndedRunsAreReports → (was a b : KeptOpen) (mid : KeptRun) (u : ℕ) (c : Timed) (bytes : List ℕ) → Settles a b bytes → was.phase ≡ Going → a.name ≡ was.name →
+pub took : EndedRunsAreReports → (was a b : KeptOpen) (mid : KeptRun) (u : ℕ) (c : Timed) (bytes : List ℕ) → Settles a b bytes → was.phase ≡ Going → a.name ≡ was.name → a.is_closed ≡ false →
     was.run.report.text ≡ [] → Goes was.reached u was.run mid → u ≤ c.moment → runs.Takes c mid a.run → a.reached ≡ c.moment → Takes c bytes was b
-took law was a b mid u c bytes s going name empty g up k reached came told h =
+took law was a b mid u c bytes s going name unclosed empty g up k reached came told h =
     let here : IsGoing came told was = subst (λ p. IsToldIn p came told was) going h in
     let t = g.tells here.earlier here.at in
     let all : List Record = here.earlier ++ t.0 in
@@ -162,7 +163,7 @@ took law was a b mid u c bytes s going name empty g up k reached came told h =
     (taken-in b.phase a.run.experiment.consumed (told ++ bytes) b
     (λ p. settled-going a b bytes s all told
     (subst (λ m. IsAt m all a.run) (sym reached)
-    (k.at u all t.1 up (sym (ap (λ (e : KeptExperiment). e.ending) s.forgets.experiment) ∙ (s.going p).0))) shows pending p)
+    (k.at u all t.1 up (sym (ap (λ (e : KeptExperiment). e.ending) s.forgets.experiment) ∙ (s.going p).0))) shows unclosed pending p)
     (λ p. settled-whole law a b bytes s all told (k.after u all t.1 up) shows pending p)
     (settled a b bytes s))
 

@@ -168,6 +168,7 @@ comes o (c ∷ cs) may = may
 shown : (p : Phase) (came : List Timed) (text : List ℕ) (o : KeptOpen) → IsToldIn p came text o → IsToldIn p came text (record o { run = record o.run { shows_all = true } })
 shown Going came text o h = record {
   shows = refl;
+  unclosed = h.unclosed;
   consumed = h.consumed;
   earlier = h.earlier;
   at = record { housed = h.at.housed; counts = h.at.counts; waits = h.at.waits; latest = h.at.latest; proper = h.at.proper };

@@ -32,6 +32,7 @@ MayCome o (c ∷ rest) = o.reached ≤ c.moment
 -- these records were told of one that goes on, all of them, and these commands came
 pub record IsGoing (came : List Timed) (told : List ℕ) (o : KeptOpen) : Type 0 where
   pub shows : o.run.shows_all ≡ true
+  pub unclosed : o.is_closed ≡ false
   pub consumed : o.run.experiment.consumed ≡ came
   pub earlier : List Record
   pub at : IsAt o.reached earlier o.run

@@ -13,4 +13,4 @@ mod session;
 pub use answer::{Answer, put_answer};
 pub use run::{Run, Stop, Taken};
 pub use run_laws::{ended_runs_are_reports, spent_runs_are_reports};
-pub use session::Session;
+pub use session::{MAX_LINE, Session};

@@ -43,6 +43,6 @@ returns-clause-told c =
       h.0,
       h.1,
       subst (λ (o : KeptOpen). Takes c.args.command.now h.0 o c.settle-2.new.self) c.self.view_is
-          (took c.ended_runs_are_reports.ensures (the_view inside) _ c.settle-2.new.self c.pass.new.self c.in_ok-self-inside.field-0 c.args.command.now h.0 h.2 phase refl inv.1
+          (took c.ended_runs_are_reports.ensures (the_view inside) _ c.settle-2.new.self c.pass.new.self c.in_ok-self-inside.field-0 c.args.command.now h.0 h.2 phase refl inv.2 inv.1
           c.in_ok-self-inside.ensures.goes c.in_ok-self-inside.ensures.between.1 c.in_ok-taken.ensures refl),
     )
