@@ -13,3 +13,4 @@ pub mod Settlings
 pub mod ReportTexts
 pub mod Turns
 pub mod Writing
+pub mod Talking

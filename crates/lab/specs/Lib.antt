@@ -8,3 +8,4 @@ pub mod Serving
 pub mod Joins
 pub mod Gathers
 pub mod Desks
+pub mod Talks

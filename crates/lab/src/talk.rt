@@ -1,21 +1,27 @@
 //! `live`: each line of a session is answered before more is read.
 
-ghost use Rattle.std.specs.Prelude.{◌≡◌, IfErr};
+ghost use Rattle.std.specs.Prelude.{◌≡◌, ◌++◌, ◌∷◌, [], ℕ, List, Some, Ok, All, true, false, flat_map, OnOk, IfErr};
+ghost use Rattle.std.specs.List.{AllByRecursion};
+ghost use Rattle.std.specs.Io.KnownBytes.{Appends};
+ghost use Rattle.control.specs.Scenario.{Spells};
+ghost use Rattle.control.specs.declared.scenario.Experiment.{Experiment as Script};
+ghost use Rattle.control_words.specs.Text.{lines};
+ghost use Rattle.live.specs.Sessions.{Piece, IsPlain, Takes, told, written};
+ghost use Rattle.lab.specs.Bytes.{Puts};
 ghost use Rattle.lab.specs.Plans.{IsOwnFault};
-ghost use Rattle.lab.specs.Reports.{IsInputFault};
+ghost use Rattle.lab.specs.Reports.{reports};
+ghost use Rattle.lab.specs.Talks.{AsksForAll, GoesOn};
 
 use crate::ends::{Inlet, Outlet, flush_all, read_some, write_all};
 use crate::fault::RunFault;
 use control::{Cause, Fault};
 use control_words::first_line;
-use live::Session;
+use live::{Answer, MAX_LINE, Session, put_answer};
 use std::alloc::Global;
+use std::marker::Model;
 
 /// How many bytes are read at a time, and after how many bytes of answers these are written.
 const CHUNK: usize = 65_536;
-
-/// How many bytes a line has at most, before its line feed.
-const MAX_LINE: usize = 512;
 
 /// A session over bytes: its experiments, what came of a line that isn't whole yet, and what isn't written yet.
 #[derive(Drop)]
@@ -29,8 +35,28 @@ struct Talk {
     is_skipping: bool,
 }
 
+impl Model for Talk {
+    ghost use Rattle.lab.specs.Talks.{KeptTalk};
+
+    ghost Value = { KeptTalk };
+
+    ghost view = { λ t. record {
+      session = t.session;
+      part = t.part.items;
+      out = t.out.items;
+      is_skipping = t.is_skipping;
+    } };
+}
+
 impl Talk {
-    fn new(alloc: Global) -> Self {
+    fn new(alloc: Global) -> Self
+        ensures { result ≡ record {
+          session = record { opened = []; current = 0 };
+          part = [];
+          out = [];
+          is_skipping = false;
+        } }
+    {
         Talk {
             session: Session::new(alloc),
             part: Vec::new(alloc),
@@ -42,11 +68,11 @@ impl Talk {
 
     // Writes what was said, and keeps its room.
     fn hand_on<W: Outlet>(&mut self, writer: &mut W) -> Result<(), RunFault>
-        ensures { IfErr result IsOwnFault }
+        ensures own { IfErr result IsOwnFault }
+        ensures puts { OnOk result
+            (Puts (W.contents writer.old) self.old.out (W.contents writer.new) [] []) }
+        ensures same { OnOk result (self.new ≡ record self.old { out = [] }) }
     {
-        if self.out.is_empty() {
-            return Ok(());
-        }
         let Ok(()) = write_all(writer, self.out.as_slice()) else {
             return Err(RunFault::Write);
         };
@@ -56,7 +82,12 @@ impl Talk {
 
     // Has the session answer the line that came in parts.
     fn answer_part(&mut self) -> Result<(), RunFault>
-        ensures { IfErr result IsOwnFault }
+        ensures own { IfErr result IsOwnFault }
+        ensures takes { OnOk result ((qs : List Piece)
+            × (self.new.out ≡ self.old.out ++ flat_map written qs)
+            × Takes self.old.part qs self.old.session self.new.session) }
+        ensures part { OnOk result (self.new.part ≡ []) }
+        ensures same { OnOk result (self.new.is_skipping ≡ self.old.is_skipping) }
     {
         let Ok(()) = self.session.take(self.part.as_slice(), &mut self.out) else {
             return Err(RunFault::Memory);
@@ -65,35 +96,54 @@ impl Talk {
         Ok(())
     }
 
+    // Has the session answer a line.
+    fn answer(&mut self, line: &[u8]) -> Result<(), RunFault>
+        ensures own { IfErr result IsOwnFault }
+        ensures takes { OnOk result ((qs : List Piece)
+            × (self.new.out ≡ self.old.out ++ flat_map written qs)
+            × Takes line.now qs self.old.session self.new.session) }
+        ensures same { OnOk result ((self.new.part ≡ self.old.part)
+            × (self.new.is_skipping ≡ self.old.is_skipping)) }
+    {
+        let Ok(()) = self.session.take(line, &mut self.out) else {
+            return Err(RunFault::Memory);
+        };
+        Ok(())
+    }
+
     // Adds to the line that isn't whole. One that has too many bytes is answered at once, and not kept.
     fn add(&mut self, bytes: &[u8]) -> Result<(), RunFault>
-        ensures { IfErr result IsOwnFault }
+        requires { lines bytes.now ≡ bytes.now ∷ [] }
+        ensures own { IfErr result IsOwnFault }
+        ensures hears { OnOk result ((qs : List Piece)
+            × (self.new.out ≡ self.old.out ++ flat_map written qs)
+            × ((after : List ℕ) → GoesOn (bytes.now ++ after) after qs self.old self.new)) }
     {
         if self.is_skipping {
             return Ok(());
         }
-        let room = (MAX_LINE + 1).saturating_sub(self.part.len());
-        let Ok(()) = self.part.extend_from_slice(&bytes[..room.min(bytes.len())]) else {
+        if self.part.len().saturating_add(bytes.len()) > MAX_LINE {
+            let Ok(()) = put_answer(&mut self.out, Answer::Fault(Cause::TooLong)) else {
+                return Err(RunFault::Memory);
+            };
+            self.part.clear();
+            self.is_skipping = true;
+            return Ok(());
+        }
+        let Ok(()) = self.part.extend_from_slice(bytes) else {
             return Err(RunFault::Memory);
         };
-        if self.part.len() > MAX_LINE {
-            self.answer_part()?;
-            self.is_skipping = true;
-        }
         Ok(())
     }
 
-    // The rest of a line came.
-    fn end_line(&mut self, rest: &[u8]) -> Result<(), RunFault>
-        ensures { IfErr result IsOwnFault }
+    // The rest of a line came, of which there is a part.
+    fn end_part(&mut self, rest: &[u8]) -> Result<(), RunFault>
+        requires { lines rest.now ≡ rest.now ∷ [] }
+        ensures own { IfErr result IsOwnFault }
+        ensures hears { OnOk result ((qs : List Piece)
+            × (self.new.out ≡ self.old.out ++ flat_map written qs)
+            × ((after : List ℕ) → GoesOn (rest.now ++ 10 ∷ after) after qs self.old self.new)) }
     {
-        self.lines = self.lines.saturating_add(1);
-        if self.part.is_empty() && !self.is_skipping && rest.len() <= MAX_LINE {
-            let Ok(()) = self.session.take(rest, &mut self.out) else {
-                return Err(RunFault::Memory);
-            };
-            return Ok(());
-        }
         self.add(rest)?;
         if self.is_skipping {
             self.is_skipping = false;
@@ -102,9 +152,28 @@ impl Talk {
         self.answer_part()
     }
 
+    // The rest of a line came.
+    fn end_line(&mut self, rest: &[u8]) -> Result<(), RunFault>
+        requires { lines rest.now ≡ rest.now ∷ [] }
+        ensures own { IfErr result IsOwnFault }
+        ensures hears { OnOk result ((qs : List Piece)
+            × (self.new.out ≡ self.old.out ++ flat_map written qs)
+            × ((after : List ℕ) → GoesOn (rest.now ++ 10 ∷ after) after qs self.old self.new)) }
+    {
+        self.lines = self.lines.saturating_add(1);
+        if self.part.is_empty() && !self.is_skipping {
+            return self.answer(rest);
+        }
+        self.end_part(rest)
+    }
+
     // Takes bytes that were read: each line that they end is answered.
     fn take<W: Outlet>(&mut self, writer: &mut W, bytes: &[u8]) -> Result<(), RunFault>
-        ensures { IfErr result IsOwnFault }
+        ensures own { IfErr result IsOwnFault }
+        ensures hears { OnOk result ((qs : List Piece)
+            × Puts (W.contents writer.old) self.old.out (W.contents writer.new) self.new.out
+            (flat_map written qs)
+            × ((after : List ℕ) → GoesOn (bytes.now ++ after) after qs self.old self.new)) }
     {
         let mut rest = bytes;
         while let Some((line, after)) = first_line(rest) {
@@ -119,7 +188,9 @@ impl Talk {
 
     // How it ends where no more comes: each experiment has its end, and the last line is whole.
     fn end(&self) -> Result<(), RunFault>
-        ensures { IfErr result IsOwnFault }
+        ensures own { IfErr result IsOwnFault }
+        ensures whole { result ≡ Ok tt → (self.now.part ≡ [])
+            × All (λ o. o.is_closed ≡ true) self.now.session.opened }
     {
         let line = self.lines.saturating_add(1);
         if !self.part.is_empty() || self.is_skipping {
@@ -134,8 +205,9 @@ impl Talk {
     }
 }
 
-/// A session: reads lines of a scenario as they come, with requests among them, and answers each before more is read. A
-/// `Scenario` fault comes at the end of what is read alone: the last line is cut, or an experiment has no end. `Read`
+/// A session: reads lines of a scenario as they come, with requests among them, and answers each before more is read.
+/// Where the text spells a scenario, to which requests are comments, no answer is a fault, and neither `use` nor `show mine`
+/// was asked, what is written is what `run_alone` writes for it, with lines that begin with `#` in between. A `Scenario` fault comes at the end of what is read alone: the last line is cut, or an experiment has no end. `Read`
 /// comes where the reader failed, `Write` where the writer did, `Memory` where memory was refused; what was written is
 /// then the beginning of what would have been.
 pub fn live<R: Inlet, W: Outlet>(
@@ -143,7 +215,12 @@ pub fn live<R: Inlet, W: Outlet>(
     reader: &mut R,
     writer: &mut W,
 ) -> Result<(), RunFault>
-    ensures { IfErr result IsOwnFault }
+    ensures own { IfErr result IsOwnFault }
+    ensures tells { (text : List ℕ) → R.remaining reader.old ≡ Some text → result ≡ Ok tt →
+        (ps : List Piece) × Appends (W.contents writer.old) (W.contents writer.new)
+        (flat_map written ps)
+        × ((es : List Script) → Spells text es → AsksForAll (lines text) →
+        AllByRecursion IsPlain ps → flat_map told ps ≡ reports es) }
 {
     let mut talk = Talk::new(alloc);
     let mut chunk = [0u8; CHUNK];
@@ -160,5 +237,6 @@ pub fn live<R: Inlet, W: Outlet>(
             return Err(RunFault::Write);
         };
     }
-    talk.end()
+    // Nobody lives to see so many reads.
+    Err(RunFault::Read)
 }
