@@ -58,8 +58,8 @@ impl Task {
     }
 }
 
-const ABOUT: &str =
-    "A link emulator in simulated time: rules and pipes of ipfw(8) and dummynet, CoDel of RFC 8289, senders of RFC 5681";
+const ABOUT: &str = "A link emulator in simulated time: rules and pipes of ipfw(8) and dummynet,
+CoDel of RFC 8289, senders of RFC 5681";
 
 const EXAMPLE: &str = "Example:
   A packet of 1000 bytes goes through a pipe of 1 Mbit/s with 10 ms of delay.
@@ -76,7 +76,13 @@ const EXAMPLE: &str = "Example:
   The same by four workers, to the same bytes: dnlab run --workers 4 < scenario
   What is wrong with a text, and where: dnlab check --explain < scenario
 
-Exit status: 0 done, 1 a fault in the scenario (standard error says `line L: CAUSE`), 2 words that are no command, 3 memory was refused or a read or write failed, 4 the workers lost an experiment (never, unless the program is wrong), 5 `--strict` found a refused command or spent steps.";
+Exit status:
+  0  done
+  1  a fault in the scenario (standard error says `line L: CAUSE`)
+  2  words that are no command
+  3  memory was refused, or a read or write failed
+  4  the workers lost an experiment (never, unless the program is wrong)
+  5  `--strict` found a refused command or spent steps";
 
 // How many workers there are where nothing is said.
 const WORKERS: usize = 2;
@@ -88,44 +94,36 @@ fn progress_word<'a>(alloc: Global) -> Arg<'a> {
     Arg::new(alloc, "progress")
         .long("progress")
         .action(ArgAction::SetTrue)
-        .help("Says on standard error how far it is, at most five times a second")
+        .help("Says on standard error how far it is")
 }
 
 fn explain_word<'a>(alloc: Global) -> Arg<'a> {
     Arg::new(alloc, "explain")
         .long("explain")
         .action(ArgAction::SetTrue)
-        .help(
-            "Says on standard error where in its line each of the first ten faults stands and what was expected there; of a scenario what is likely wrong in it, and after a run which commands were refused, and why",
-        )
+        .help("Says where faults stand, what is refused, what looks wrong")
 }
 
 fn strict_word<'a>(alloc: Global) -> Arg<'a> {
     Arg::new(alloc, "strict")
         .long("strict")
         .action(ArgAction::SetTrue)
-        .help(
-            "Ends with status 5, after the report, if a command was refused or an experiment spent its steps",
-        )
+        .help("Ends with status 5 if a command is refused or steps run out")
 }
 
 fn run_command<'a>(alloc: Global) -> Result<Command<'a>, Error> {
     let workers = Arg::new(alloc, "workers")
         .long("workers")
         .value_name("N")
-        .help("How many threads run the experiments, 1 to 16 [default: 2]")
+        .help("Threads that run the experiments, 1 to 16 [default: 2]")
         .value_parser(clap::value_parser!(u64).range(1..=16));
     let moves = Arg::new(alloc, "moves")
         .long("moves")
         .value_name("M")
-        .help(
-            "After how many turns a thread offers an experiment to the others, 0 (never) to 1000000 [default: 64]",
-        )
+        .help("Turns between offers to others, 0: never [default: 64]")
         .value_parser(clap::value_parser!(u32).range(..=1_000_000));
     let run = Command::new(alloc, "run")
-        .about(
-            "Reads a scenario on standard input, runs its experiments by many threads and prints their reports: the same bytes as `alone`",
-        )
+        .about("Runs the experiments by many threads: the same bytes as `alone`")
         .arg(workers)?
         .arg(moves)?
         .arg(progress_word(alloc))?
@@ -136,17 +134,15 @@ fn run_command<'a>(alloc: Global) -> Result<Command<'a>, Error> {
 
 fn command<'a>(alloc: Global, version: &'a str) -> Result<Command<'a>, Error> {
     let alone = Command::new(alloc, "alone")
-        .about("Reads a scenario on standard input, runs each experiment and prints its report")
+        .about("Reads a scenario on standard input and prints its reports")
         .arg(progress_word(alloc))?
         .arg(explain_word(alloc))?
         .arg(strict_word(alloc))?;
     let check = Command::new(alloc, "check")
-        .about(
-            "Reads a scenario on standard input and prints `ok`, its experiments and its commands",
-        )
+        .about("Says `ok`, how many experiments and commands, or the fault")
         .arg(explain_word(alloc))?;
     let live = Command::new(alloc, "live").about(
-        "Reads lines of a scenario as they come, answers each at once, and lets time pass as far as it is asked to: a program of your own can react (`#> help` lists what can be asked)",
+        "Answers lines of a scenario as they come (`#> help`: what to ask)",
     );
     let program = Command::new(alloc, "dnlab")
         .about(ABOUT)
