@@ -1,12 +1,17 @@
 #!/usr/bin/env python3
 """A sender of one's own, with CUBIC's window (RFC 9438), over a link of dnlab.
 
-    own_sender.py SCENARIO REPORT [--mbytes 10] [--bw 10Mbit/s] [--delay 20] [--queue '100 codel'] [--plr 0] [--seed 1] [--reno]
-                  [--trace]
+    own_sender.py SCENARIO REPORT [--mbytes 10] [--bw 10Mbit/s] [--delay 20]
+                  [--queue '100 codel'] [--plr 0] [--seed 1] [--reno] [--trace]
 
-SCENARIO gets the transcript, which `dnlab alone` runs to REPORT. Each packet has a number and is acknowledged by itself; one is
-held for lost once a packet sent three later is acknowledged, or at a timeout of RFC 6298. The program is the one that DNLAB
-names, else the one that ./dnlab starts.
+SCENARIO gets the transcript, which `dnlab alone` runs to REPORT. Each packet
+has a number and is acknowledged by itself; one is held for lost once a packet
+sent three later is acknowledged, or at a timeout of RFC 6298. The program is
+the one that DNLAB names, else the one that ./dnlab starts.
+
+Example:
+  stacks/own_sender/own_sender.py scenario.txt report.txt
+  stacks/own_sender/own_sender.py scenario.txt report.txt --plr 0.01 --reno
 """
 import argparse
 import pathlib

@@ -1,4 +1,4 @@
-"""Says where two reports of dnlab part, and shows their metrics side by side with ratios."""
+"""Says where two reports of dnlab part, with their metrics side by side."""
 import argparse
 import json
 import sys
@@ -21,29 +21,36 @@ from dnlab.tables import Row, Tables
 from dnlab.view import View, view_of
 from dnlab.work import pieces_of, plans_of
 
-EXAMPLE = """Where they first part is said by what packets carry (flow 1 byte 2920, train 9 packet 5), since serial numbers
-shift: the moment, the last line that both have, the lines of each from there on, and of each pipe how many packets
-wait (with the one in service) and how many are in the delay line.
+EXAMPLE = """What packets carry decides where the two first part (flow 1 byte 2920, train 9
+packet 5), since serial numbers shift. It prints the moment, the last line that
+both have, and the lines of each from there on. Of each pipe it prints how many
+packets wait (with the one in service) and how many are in the delay line.
 
-Metrics are those of dnlab-expect: goodput, loss, drops.full, delay.p95 ..; the ratio is B's by A's. Those that differ
-are shown, with --all every one. Without --tolerance any difference is one; with some only the metrics that they name
-are judged, and one that no row has, or that a row can't tell, is never within them:
-  delay.p95=5%   by so much of A's value       drops=2    by so many packets
-  delay.*=1ms    several by a pattern          *=1%       all; what is named twice keeps to the last
+Metrics are those of dnlab-expect: goodput, loss, drops.full, delay.p95 ..; the
+ratio is B's by A's. It shows those that differ, with --all every one. Without
+--tolerance any difference counts. With some, only the metrics that they name
+are judged; one that no row has, or that has no value, is never within them:
+  delay.p95=5%   by so much of A's value
+  delay.*=1ms    several by a pattern
+  drops=2        by so many packets
+  *=1%           all; what is named twice keeps to the last
 
-A and B may be packed by gzip. A file of `dnlab-summary --json` serves as A or B too, as a small baseline: then rows are
-compared, and no lines.
+A and B may be packed by gzip. A file of `dnlab-summary --json` serves as A or B
+too, as a small baseline: then rows are compared, and no lines.
 
-Experiments are those of the same name; --experiment deep=codel has A's experiment deep beside B's codel. A and B may be
-one file. One scenario serves both; of two the first is A's and the second B's. Without it sizes and the moments at
-which packets were made can't be told, but of a report made under `trace 1`.
+Experiments are those of the same name; --experiment deep=codel has A's
+experiment deep beside B's codel. A and B may be one file. One scenario serves
+both; of two the first is A's and the second B's. Without it sizes and the
+moments at which packets were made are missing, unless the report was made under
+`trace 1`.
 
 Example:
-  tools/compare before.txt after.txt scenario.txt --tolerance delay.p95=5% --tolerance goodput=1%
-  tools/compare report.txt report.txt scenario.txt --experiment deep=codel --of 'train *' --percentiles 50,95
+  tools/compare before.txt after.txt scenario.txt --tolerance delay.p95=5%
+  tools/compare report.txt report.txt scenario.txt --experiment deep=codel
 
-Exit status: 0 the same, or within the tolerances; 1 they differ; 2 wrong usage, what can't be told of any row, or a
-faulty input; 3 what this machine lacks (a package, room to write)."""
+Exit status: 0 the same, or within the tolerances; 1 they differ; 2 wrong usage,
+a metric that no row has, or a faulty input; 3 what this machine lacks (a
+package, room to write)."""
 
 
 class Part(NamedTuple):

@@ -1,4 +1,4 @@
-"""Says whether what a report of dnlab tells keeps to bounds, as 'train 9: delay.p95 < 50ms'."""
+"""Says whether a report of dnlab keeps to bounds, as 'train 9: delay.p95 < 50ms'."""
 import argparse
 import json
 import re
@@ -7,7 +7,7 @@ from typing import Sequence
 
 from dnlab.analysis.spans import Span
 from dnlab.bounds import FORM, Bound, Failing, Judged, allowed_of, bound_of, bounds_in, failing, judge, percentiles_for
-from dnlab.commands.words import add_span, add_texts, count_of, parser_of, span_in, taken
+from dnlab.commands.words import add_span, add_texts, count_of, listed, parser_of, span_in, taken
 from dnlab.errors import DIFFERS, Faulty, status_of
 from dnlab.metrics import WORDS
 from dnlab.summing import summed, tell
@@ -15,29 +15,32 @@ from dnlab.units import UNITS, named
 from dnlab.work import Given, bytes_of, plans_of
 
 EXAMPLE = f"""A bound is {FORM}.
-  WHO     a row of dnlab-summary, 'flow 1', 'train 9', 'pipe 1.0', 'all', or a pattern, 'flow *'; with EXPERIMENT/
-          before it only of this experiment, 'codel/train 9'. A bound must hold in every row that it names; 'flow *'
-          names flows, and not their acknowledgements (these are 'flow * acks')
-  METRIC  {', '.join(WORDS[:10])},
-          {', '.join(WORDS[10:17])}, loss (drops of what was made),
-          {', '.join(WORDS[18:24])},
-          {', '.join(WORDS[24:27])},
-          {', '.join(WORDS[27:])} (N up to 100).
-          jitter is that of RFC 3550, utilisation of a pipe what it served by what its rate could have carried,
-          refused how many commands were, ended `end` or `spent`
+  WHO     a row of dnlab-summary, 'flow 1', 'train 9', 'pipe 1.0', 'all', or a
+          pattern, 'flow *'; 'codel/train 9' only of this experiment. A bound
+          must hold in every row that it names; 'flow *' names flows, and not
+          their acknowledgements (these are 'flow * acks')
+  METRIC  {listed(WORDS)}
+          (N up to 100). loss is drops of what was made, jitter that of RFC
+          3550. utilisation of a pipe is what it served by what its rate could
+          have carried; refused is how many commands were, ended `end` or
+          `spent`
   SIGN    < <= > >= == !=
-  VALUE   a number with its unit: {'; '.join(named(kind) for kind in UNITS if kind not in ('count', 'index', 'ending'))};
+  VALUE   a number with its unit:
+          {listed((named(kind) for kind in UNITS if kind not in ('count', 'index', 'ending')), '; ')};
           counts of packets, jain and endings have none
-A file has a bound in each line; what begins with # is skipped. Each bound is said, with what was measured: the value
-nearest to the bound where it names several rows. What can't be told fails. A run in which commands were refused, or
-whose steps were spent before its end, fails whatever the bounds say, unless --allow names that.
+A file has a bound in each line; what begins with # is skipped. It prints each
+bound with what was measured: the value nearest to the bound if it names several
+rows. A value that can't be computed fails. A run in which commands were
+refused, or whose steps were spent before its end, fails whatever the bounds
+say, unless --allow names that.
 
 Example:
-  ./dnlab alone < scenario.txt | tools/expect - scenario.txt 'train 9: delay.p95 < 50ms' 'all: drops.budget == 0'
   tools/expect report.txt scenario.txt --bounds bounds.txt --json
+  ./dnlab alone < scenario.txt | tools/expect - scenario.txt \\
+    'train 9: delay.p95 < 50ms' 'all: drops.budget == 0'
 
-Exit status: 0 all hold, 1 one doesn't, 2 wrong usage, what is no bound of this report, or a faulty input, 3 what this
-machine lacks (a package, room to write)."""
+Exit status: 0 all hold, 1 one doesn't, 2 wrong usage, what is no bound of this
+report, or a faulty input, 3 what this machine lacks (a package, room to write)."""
 
 
 def words(given: Sequence[str]) -> argparse.Namespace:
@@ -45,14 +48,14 @@ def words(given: Sequence[str]) -> argparse.Namespace:
     add_texts(parser)
     parser.add_argument("--bounds", action="append", default=[], metavar="FILE",
                         help="a file of bounds; may be said again. Bounds stand also among the words, each in quotes")
-    parser.add_argument("--first", action="store_true", help="look at none behind the first that fails")
+    parser.add_argument("--first", action="store_true", help="look at none after the first that fails")
     parser.add_argument("--all", action="store_true", help="look at all bounds, as it does anyhow")
     parser.add_argument("--allow", action="append", default=[], type=allowed, metavar="MARK,..",
                         help="don't fail for `refused` commands, or for steps that were `spent`")
     parser.add_argument("--json", action="store_true", help="print an object, amounts in ns, bytes, bit/s, or as shares of 1")
     add_span(parser)
     parser.add_argument("--workers", type=count_of, metavar="N",
-                        help="how many processes [all cores where the report is long]")
+                        help="how many processes [all cores if the report is long]")
     said = [word for word in given if is_bound(word)]
     found = taken(parser, [word for word in given if not is_bound(word)])
     found.said = said

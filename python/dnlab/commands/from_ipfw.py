@@ -13,24 +13,30 @@ from dnlab.ipfw_words import APPROXIMATED, REFUSED
 from dnlab.outputs import whole_file
 from dnlab.scenario import Judged, read
 
-EXAMPLE = f"""FILE is a script that calls ipfw, a file for `ipfw FILE`, or what `ipfw list` or `ipfw pipe show` prints (both may stand
-behind each other); - is standard input.
+EXAMPLE = f"""FILE is a script that calls ipfw, a file for `ipfw FILE`, or what `ipfw list` or
+`ipfw pipe show` prints (both may follow each other); - is standard input.
 
-A script is somebody's code. It is run by sh for at most {SECONDS} s: with stand-ins for ipfw and sysctl that write down their
-words, and text tools alone on its PATH; in an empty folder of memory; without network, with all files read-only. Where
-the machine gives no namespaces for that, it isn't run unless --trust is said. `sleep 5` in it lets 5 s of the scenario
-pass. Each line of ipfw is told on standard error, unless it is the same:
+A script is somebody's code. sh runs it for at most {SECONDS} s: in an empty
+folder of memory, without network, with all files read-only. Stand-ins for ipfw
+and sysctl write down their words; else only text tools are on its PATH. If the
+machine gives no namespaces for that, it isn't run without --trust. `sleep 5` in
+it lets 5 s of the scenario pass. Standard error has each line of ipfw that
+isn't the same here:
 
-  rewritten     other words, the same meaning: told by --all alone
-  approximated  something of its meaning is lost, and what is told
-  dropped       there is nothing to do here, as a `flush` at the beginning: told by --all alone
-  refused       it can't be said: the word and the way out are told. Nothing is written then, unless --lenient is said
+  rewritten     other words, the same meaning; with --all alone
+  approximated  something of its meaning is lost, and what
+  dropped       there is nothing to do, as a `flush` at the beginning; with
+                --all alone
+  refused       no scenario says it: the word and the way out. Nothing is
+                written then, unless --lenient is given
 
 Example:
-  tools/from-ipfw rules.sh --if em1=10.0.1.0/24 --me 203.0.113.10 --traffic senders.txt --out scenario.txt
-  ./dnlab alone < scenario.txt > report.txt
+  tools/from-ipfw rules.sh --if em1=10.0.1.0/24 --out scenario.txt
+  tools/from-ipfw rules.sh --me 203.0.113.10 --traffic senders.txt \\
+    --out scenario.txt && ./dnlab alone < scenario.txt > report.txt
 
-Exit status: 0 written, 2 wrong usage, a script that fails or lines that are refused, 3 what this machine lacks."""
+Exit status: 0 written, 2 wrong usage, a script that fails or lines that are
+refused, 3 what this machine lacks."""
 
 
 def behind_of(text: str) -> tuple[str, str]:
@@ -59,15 +65,15 @@ def words(given: Sequence[str]) -> argparse.Namespace:
     parser = parser_of("from-ipfw", __doc__ or "", EXAMPLE)
     parser.add_argument("file", metavar="FILE", help="a script or a listing, or - for standard input")
     parser.add_argument("--if", action="append", default=[], type=behind_of, metavar="NAME=PREFIX", dest="behind",
-                        help="what is behind an interface, a prefix or `any`; may be said again")
+                        help="what lies beyond an interface, a prefix or `any`; may be said again")
     parser.add_argument("--me", type=address_of, metavar="ADDRESS", help="the address that `me` is")
     parser.add_argument("--flatten", action="store_true", help="hand from queues and schedulers to their pipes; shares are lost")
     parser.add_argument("--drop-unmatchable", action="store_true", help="leave out rules for icmp and others that match no packet here")
     parser.add_argument("--lenient", action="store_true", help="write what is refused as comments, and the rest")
-    parser.add_argument("--all", action="store_true", help="tell each line, with what became of it")
+    parser.add_argument("--all", action="store_true", help="print each line, with what became of it")
     parser.add_argument("--traffic", metavar="FILE", help="commands that send, each with its moment, or a scenario that has them")
     parser.add_argument("--moment", type=moment_of, default=0, metavar="TIME", help="the moment of the first line [0]")
-    parser.add_argument("--end", type=moment_of, metavar="TIME", help="when the experiment ends [10 s behind the last command]")
+    parser.add_argument("--end", type=moment_of, metavar="TIME", help="when the experiment ends [10 s after the last command]")
     parser.add_argument("--name", default="imported", help="the experiment's [imported]")
     parser.add_argument("--seed", type=int, default=1, help="the experiment's [1]")
     parser.add_argument("--budget", type=int, default=1000, help="how many packets may be under way [1000]")

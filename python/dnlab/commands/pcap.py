@@ -1,4 +1,4 @@
-"""Writes the packets of a traced report of dnlab as a capture, for Wireshark, tshark and tcptrace."""
+"""Writes the packets of a traced report as a capture, for Wireshark and tcptrace."""
 import argparse
 import sys
 from fnmatch import fnmatchcase
@@ -14,15 +14,19 @@ from dnlab.summing import tell, whole
 from dnlab.view import View, view_of
 from dnlab.work import Given, pieces_of, plans_of
 
-EXAMPLE = """The scenario must have `@0 trace 1` as the first command of the experiment, and leave it on: only then the report has
-every packet's addresses and size. What else a capture has is made up: Ethernet, no SYN and no FIN, sequence numbers
-from 1 (byte 0 of a flow), the receiver's window (the flow's `window`, where the scenario is given), checksums over
-payloads of zeros, of which only the headers are kept. A packet's serial number is its IP identification (modulo
+EXAMPLE = """The scenario must have `@0 trace 1` as the first command of the experiment, and
+leave it on: only then the report has every packet's addresses and size. What
+else a capture has is made up: Ethernet, no SYN and no FIN, sequence numbers
+from 1 (byte 0 of a flow), the receiver's window (the flow's `window`, if the
+scenario is given). Checksums are over payloads of zeros, of which only the
+headers are kept. A packet's serial number is its IP identification (modulo
 65536); moment 0 is 1970, times are nanoseconds.
 
---at sender has what a capture beside the senders would: segments as they are made (also those that are dropped later),
-acknowledgements as they arrive. So counts are those of dnlab-summary: packets, again, and delivered of the
-acknowledgements. --at receiver has segments that arrive, and acknowledgements as they are made.
+--at sender has what a capture beside the senders would: segments as they are
+made (also those that are dropped later), acknowledgements as they arrive. So
+counts are those of dnlab-summary: packets, again, and delivered of the
+acknowledgements. --at receiver has segments that arrive, and acknowledgements
+as they are made.
 
 It needs python3-dpkt (Debian).
 
@@ -30,9 +34,10 @@ Example:
   sed 's/^experiment .*/&\\n@0 trace 1/' scenario.txt > traced.txt
   ./dnlab alone < traced.txt > report.txt
   tools/pcap report.txt traced.txt --out run.pcap && tcptrace -l run.pcap
+  tools/pcap report.txt traced.txt --of 'flow 1' --at receiver --out flow1.pcap
 
-Exit status: 0 written, 2 wrong usage, a faulty input or one that isn't traced, 3 a file that can't be written, or a
-package that is missing."""
+Exit status: 0 written, 2 wrong usage, a faulty input or one that isn't traced,
+3 a file that can't be written, or a package that is missing."""
 
 
 def words(given: Sequence[str]) -> argparse.Namespace:

@@ -1,4 +1,4 @@
-"""Draws what a report of dnlab tells: windows, queues, times under way, bytes and drops over time."""
+"""Draws a report of dnlab over time: windows, queues, one-way delays, drops."""
 import argparse
 import sys
 from functools import partial
@@ -15,32 +15,39 @@ from dnlab.view import Note, View
 from dnlab.work import Given, TooMany, over, plans_of
 
 EXAMPLE = """A column for each experiment, a panel for each of --what:
-  window   cwnd and ssthresh of each flow, 16 at most, with its losses (x) and timeouts (triangle), in bytes and segments; and
-           the effective window, the lesser of cwnd and the flow's `window`, where the two differ
+  window   cwnd and ssthresh of each flow, 16 at most, in bytes and segments,
+           with its losses (x) and timeouts (triangle); and the effective
+           window, the lesser of cwnd and the flow's `window`, if they differ
   queue    packets that wait or are in service, by pipe, and all under way
   sojourn  the time from being made to delivery, at each delivery
   rate     bytes delivered and bytes through each pipe, added up
   drops    drops by cause, added up
-and where it is asked for:
-  throughput      what was delivered in each --bin of time, Mbit/s, and the rates of the pipes
+and on request:
+  throughput      what was delivered in each --bin of time, Mbit/s, and the
+                  rates of the pipes
   cdf:sojourn, cdf:throughput
                   which part of the values isn't above a value
   box:sojourn, box:throughput
-                  quartiles and median, lines from the 5th to the 95th percentile, the least and the greatest
-With --overlay all experiments stand in one column, each line with its experiment's name.
+                  quartiles and median, lines from the 5th to the 95th
+                  percentile, the least and the greatest
+With --overlay all experiments stand in one column, each line with its
+experiment's name.
 
-Sizes and the moments at which packets were made stand in no line of a report. They are worked out from the
-scenario, and compared with every line; without it the panels that need them say so.
-What has more points than a picture has dots is thinned: each of 1500 stretches of time keeps its first, least,
-greatest and last value.
+Sizes and the moments at which packets were made stand in no line of a report.
+They are worked out from the scenario, and compared with every line; without it
+the panels that need them say so.
+What has more points than a picture has dots is thinned: each of 1500 stretches
+of time keeps its first, least, greatest and last value.
 It needs matplotlib (Debian: apt-get install python3-matplotlib).
 
 Example:
   ./dnlab alone < scenario.txt > report.txt
   tools/plot report.txt scenario.txt --what window,queue --out windows.svg
-  tools/plot report.txt scenario.txt --only q50-s1,q200-s1 --overlay --of 'train 9' --what sojourn,cdf:sojourn --from 1s
+  tools/plot report.txt scenario.txt --only q50-s1,q200-s1 --overlay \\
+    --of 'train 9' --what sojourn,cdf:sojourn --from 1s
 
-Exit status: 0 drawn, 2 wrong usage or a faulty input, 3 a file that can't be written, or a package that is missing."""
+Exit status: 0 drawn, 2 wrong usage or a faulty input, 3 a file that can't be
+written, or a package that is missing."""
 # More columns than this are wider than any picture that is looked at; more experiments have too many lines.
 _MOST = 20
 _MOST_OVER = 250
@@ -85,7 +92,7 @@ def words(given: Sequence[str]) -> argparse.Namespace:
     parser.add_argument("--out", type=picture, default="plot.svg", metavar="FILE",
                         help="what is written, .svg, .png or .pdf [plot.svg]")
     parser.add_argument("--workers", type=count_of, metavar="N",
-                        help="how many processes [all cores where the report is long]")
+                        help="how many processes [all cores if the report is long]")
     found = taken(parser, list(given))
     found.experiment += [name for names in found.only for name in names]
     if found.end is not None and found.end <= found.begin:

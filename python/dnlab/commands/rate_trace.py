@@ -10,23 +10,30 @@ from dnlab.errors import Faulty, status_of
 from dnlab.scenario import Judged, Plan
 from dnlab.settings import rate_of
 
-EXAMPLE = """FILE has Mahimahi's milliseconds, at each of which a packet of 1504 bytes may leave (--every takes them together), or is CSV
-whose first line names the columns, moment (ns) or seconds, and rate (bit/s, or as 5Mbit/s): each rate holds until the next
-row, and the last row says when the trace ends.
+EXAMPLE = """FILE has Mahimahi's milliseconds, at each of which a packet of 1504 bytes may
+leave (--every takes them together). Or it is CSV whose first line names the
+columns, moment (ns) or seconds, and rate (bit/s, or as 5Mbit/s): each rate
+holds until the next row, and the last row is the end of the trace.
 
-What is written are commands `pipe P config bw ..` with all other options as --config has them, or, with --scenario, the
-scenario with these commands put in; the options are those of its own `pipe P config`.
+It writes commands `pipe P config bw ..` with all other options as --config has
+them; or, with --scenario, the scenario with these commands put in. The options
+are those of its own `pipe P config`.
 
-An outage is a rate of 0, where `bw 0` would be no limit. `--outage hold`: the packets wait, and go on as it ends. A packet of
---size bytes that is next in an outage finishes as it would if its service began at the outage's end, at most a --step later;
-a shorter one may pass before, so give the size of the packets that matter. `--outage drop`: what comes is lost, what waits goes
-on. Rates at which a packet takes longer than they hold are told: it keeps its finish, so the link stands until then.
+An outage is a rate of 0; `bw 0` would be no limit. `--outage hold`: the packets
+wait, and go on as it ends. A packet of --size bytes that is next in an outage
+finishes as it would if its service began at the outage's end, at most a --step
+later. A shorter one may pass before, so give the size of the packets that
+matter. `--outage drop`: what comes is lost, what waits goes on. Standard error
+names rates at which a packet takes longer than they hold: it keeps its finish,
+so the link stands until then.
 
 Example:
-  tools/rate-trace verizon.trace --scenario link.txt --pipe 1 --outage hold --out changing.txt
+  tools/rate-trace verizon.trace --config 'delay 20 queue 100' --outage drop
+  tools/rate-trace lte.csv --scenario link.txt --outage hold --out changing.txt
   ./dnlab alone < changing.txt > report.txt
 
-Exit status: 0 written, 2 wrong usage or a faulty input, 3 what this machine lacks."""
+Exit status: 0 written, 2 wrong usage or a faulty input, 3 what this machine
+lacks."""
 
 
 def rate_word(text: str) -> int:
@@ -42,7 +49,7 @@ def words(given: Sequence[str]) -> argparse.Namespace:
     which = parser.add_mutually_exclusive_group()
     which.add_argument("--config", default="", metavar="WORDS", help="the pipe's other options, as 'delay 20 queue 100 codel'")
     which.add_argument("--scenario", metavar="FILE", help="the scenario that the commands are put into")
-    parser.add_argument("--experiment", metavar="NAME", help="which of its experiments, where it has several")
+    parser.add_argument("--experiment", metavar="NAME", help="which of its experiments, if it has several")
     parser.add_argument("--pipe", type=count_of, default=1, metavar="P", help="the pipe [1]")
     parser.add_argument("--every", type=time_of, default=10**8, metavar="TIME", help="over which time Mahimahi's are taken [100ms]")
     parser.add_argument("--outage", choices=("hold", "drop", "refuse"), default="refuse", help="what an outage does [refuse]")

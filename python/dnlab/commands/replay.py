@@ -1,4 +1,4 @@
-"""Sends the packets of a capture through a link, and writes the capture as it leaves."""
+"""Sends the packets of a capture through a link, and writes it as it leaves."""
 import argparse
 import itertools
 import sys
@@ -16,21 +16,28 @@ from dnlab.programs import program
 from dnlab.replaying import Fate
 from dnlab.scenario import Judged
 
-EXAMPLE = """FILE is a capture (pcap or pcapng; tcp and udp over IPv4) or a table of arrivals (CSV, whose first line names the columns:
-moment in ns or seconds, size, and where they are there protocol, source, source_port, target, target_port). Several are
+EXAMPLE = """FILE is a capture (pcap or pcapng; tcp and udp over IPv4) or a table of arrivals
+(CSV, whose first line names the columns: moment in ns or seconds, size, and if
+they are there protocol, source, source_port, target, target_port). Several are
 merged by their moments.
 
---link is one pipe for all packets, in the words of `pipe config`; --scenario FILE has pipes and rules of your own, whose moments count
-from the first packet, and may have other senders. What comes out is by the ending of --out a capture of nanoseconds, with
-each packet as it came but for its moment, or a table (.csv) with what became of each packet.
+--link is one pipe for all packets, in the words of `pipe config`. --scenario
+FILE has pipes and rules of your own, whose moments count from the first packet,
+and may have other senders. The ending of --out decides what comes out: a
+capture of nanoseconds, with each packet as it came but for its moment, or a
+table (.csv) with what became of each packet.
 
-Packets go through `dnlab live` one by one, so that no length but 10000000 steps, some 3 million packets, is too much.
---inject writes them as `inject` lines instead, for a scenario of at most 16777216 bytes.
+Packets go through `dnlab live` one by one, so the limit is 10000000 steps, some
+3 million packets. --inject writes them as `inject` lines instead, for a
+scenario of at most 16777216 bytes.
 
 Example:
-  tools/replay call.pcap --link 'bw 2Mbit/s delay 30 queue 50 plr 0.01' --out received.pcap
+  tools/replay call.pcap --link 'bw 2Mbit/s delay 30 queue 50 plr 0.01' \\
+    --out received.pcap
+  tools/replay call.pcap --scenario link.txt --out fates.csv
 
-Exit status: 0 written, 2 wrong usage or a faulty input, 3 what this machine or the program lacks."""
+Exit status: 0 written, 2 wrong usage or a faulty input, 3 what this machine or
+the program lacks."""
 
 
 def words(given: Sequence[str]) -> argparse.Namespace:

@@ -1,4 +1,4 @@
-"""Runs the experiments of scenarios in parts, on this machine, on others by ssh or as a Slurm array."""
+"""Runs scenarios in parts, here, on other machines by ssh or as a Slurm array."""
 import argparse
 import os
 import shutil
@@ -20,22 +20,30 @@ from dnlab.scenario import MOST_BYTES, MOST_EXPERIMENTS, Judged, Plan, read
 from dnlab.splitting import Fault, Part, experiments_in, heading_fault, lines_in, repeated, shares, texts_of
 
 
-EXAMPLE = """The scenarios are split at their experiments into N parts, each with about as many commands; each part is run by
-`dnlab alone`, its report is read and judged beside its text, and the reports are put together in order: the bytes of
+EXAMPLE = """The scenarios are split at their experiments into N parts, each with about as
+many commands. `dnlab alone` runs each part; its report is read and judged
+beside its text. The reports are put together in order: the bytes of
 `dnlab alone < SCENARIO`. Scenarios may be packed by gzip.
-A text may have more than 256 experiments and 16777216 bytes, which `dnlab` itself refuses: then there are as many
-parts as it takes. The whole text is checked first by `dnlab check`, so that a fault has the line of the whole text;
-of several texts the fault has its text's name before it. The report is written when it is whole, or not at all; what
-made it is kept beside it in REPORT.json, by which the other tools know its scenario again. The program is that of the
-environment variable DNLAB, else the proved one of the repository, else a checked build of its sources. By ssh the
-engine is GNU parallel (Debian: parallel, and rsync on both sides). SIGINT, SIGTERM and SIGHUP end it and all that it
-began; parts that are done are kept. docs/howto/many_machines.md says more.
+
+A text may have more than 256 experiments and 16777216 bytes, which `dnlab`
+itself refuses: then there are as many parts as it takes. `dnlab check` reads
+the whole text first, so a fault has the line of the whole text; of several
+texts it has its text's name before it. The report is written when it is whole,
+or not at all. REPORT.json keeps beside it what made it, by which the other
+tools know its scenario again. The program is that of the environment variable
+DNLAB, else the proved one of the repository, else a checked build of its
+sources. By ssh the engine is GNU parallel (Debian: parallel, and rsync on both
+sides). SIGINT, SIGTERM and SIGHUP end it and all that it began; parts that are
+done are kept. docs/howto/many_machines.md says more.
 
 Example:
-  tools/spread scenario.txt --parts 8 --ssh 4/alpha,4/beta --program /usr/bin/dnlab --out report.txt
+  tools/spread scenario.txt --parts 8 --out report.txt
+  tools/spread scenario.txt --ssh 4/alpha,4/beta --program /usr/bin/dnlab \\
+    --out report.txt
 
-Exit status: 0 done; 1 a fault in the scenario (`line L: CAUSE`); 2 wrong usage; 3 a part failed, a report isn't that of
-its text, memory was refused, or a read or write failed. Ended by a signal, that signal's."""
+Exit status: 0 done; 1 a fault in the scenario (`line L: CAUSE`); 2 wrong usage;
+3 a part failed, a report isn't that of its text, memory was refused, or a read
+or write failed. Ended by a signal, that signal's."""
 
 
 def parser_of_words() -> argparse.ArgumentParser:

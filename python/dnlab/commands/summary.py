@@ -1,4 +1,4 @@
-"""Prints a table of what a report of dnlab tells, by experiment, flow, train and pipe."""
+"""Prints a table of a report of dnlab, by experiment, flow, train and pipe."""
 import argparse
 import csv
 import json
@@ -14,36 +14,47 @@ from dnlab.tables import Row, columns_of, times_of
 from dnlab.view import Note
 from dnlab.work import Given, plans_of
 
-EXAMPLE = """Rows: each flow's segments, each flow's acknowledgements, each train, the injected packets, each pipe and
-instance (two rows where packets of both directions came through it), both directions, and all packets. Columns:
+EXAMPLE = """Rows: each flow's segments, each flow's acknowledgements, each train, the
+injected packets, each pipe and instance (two rows if packets of both directions
+came through it), both directions, and all packets. Columns:
   packets    made; of a pipe: served by it
   delivered  delivered; of a pipe: that have left it
   held       still under way at the end (of a pipe: in its delay line)
   bytes      of what was delivered; of a pipe: that it served
-  time       from the first packet made to the last delivered; of a pipe: from the first arrival to the last finish
+  time       from the first packet made to the last delivered; of a pipe: from
+             the first arrival to the last finish
   bit/s      bytes * 8 over that time, rounded down
-  drops      by cause; of a pipe only those of CoDel, unless all of the report was made under `trace 1`,
-             since no other line says which pipe lost a packet
+  drops      by cause; of a pipe only those of CoDel, unless all of the report
+             was made under `trace 1`: no other line says which pipe lost a
+             packet
   least, median, p99, greatest
-             the time from being made to delivery; of a pipe: from arrival to exit. Percentiles are by nearest rank.
+             the time from being made to delivery; of a pipe: from arrival to
+             exit. Percentiles are by nearest rank.
   goodput    bit/s of what was new: each byte once, a flow's without headers
   again      segments that were sent again
   done       from the flow's command to the delivery of its last missing byte
-  jain       Jain's index over the flows' goodputs, 1 where all are equal
-  ended      `end`, or `spent` with the moment at which the steps were spent, and that of the end
-  marks      what may be silently wrong: refused, spent, no-way-back, denied, budget, unsent, reconfigured, outage,
-             half-duplex, window-limited, units (docs/reference/tools.md says what each means)
-What can't be told is `-` (nothing in --csv, null in --json, where times are nanoseconds): without the scenario
-sizes and the moments at which packets were made, unless all of the report was made under `trace 1`. --csv and
---json have besides the mean and the jitter (RFC 3550) of the time under way, utilisation (of a pipe: what it served
-by what its rate could have carried), refused (how many commands were) and their codes, seed, budgets and settings of
-each row's experiment, and `varied`, what of its pipes isn't the same in all experiments.
+  jain       Jain's index over the flows' goodputs, 1 if all are equal
+  ended      `end`, or `spent` with the moment at which the steps were spent,
+             and that of the end
+  marks      what may be silently wrong: refused, spent, no-way-back, denied,
+             budget, unsent, reconfigured, outage, half-duplex, window-limited,
+             units (docs/reference/tools.md says what each means)
+A missing value is `-` (nothing in --csv, null in --json, whose times are
+nanoseconds). Without the scenario sizes and the moments at which packets were
+made are missing, unless all of the report was made under `trace 1`. --csv and
+--json have besides the mean and the jitter (RFC 3550) of the one-way delay,
+utilisation (of a pipe: what it served by what its rate could have carried),
+refused (how many commands were) and their codes, seed, budgets and settings of
+each row's experiment, and `varied`, what of its pipes isn't the same in all
+experiments.
 
 Example:
   ./dnlab alone < scenario.txt | tools/summary - scenario.txt
-  tools/summary report.txt scenario.txt --of 'train *' --percentiles 50,95 --by varied --columns p95,goodput
+  tools/summary report.txt scenario.txt --of 'train *' --percentiles 50,95 \\
+    --by varied --columns p95,goodput
 
-Exit status: 0 printed, 2 wrong usage or a faulty input, 3 what this machine lacks (a package, room to write)."""
+Exit status: 0 printed, 2 wrong usage or a faulty input, 3 what this machine
+lacks (a package, room to write)."""
 
 
 def words(given: Sequence[str]) -> argparse.Namespace:
@@ -52,7 +63,7 @@ def words(given: Sequence[str]) -> argparse.Namespace:
     parser.add_argument("--of", action="append", default=[], metavar="PATTERN",
                         help="only these rows, as 'flow 1', 'train *', 'pipe 1.0'; may be said again [all]")
     parser.add_argument("--percentiles", type=percentiles_of, default=["50", "99"], metavar="P,P..",
-                        help="of the time under way [50,99]")
+                        help="of the one-way delay [50,99]")
     kind = parser.add_mutually_exclusive_group()
     kind.add_argument("--every", type=time_of, metavar="TIME",
                       help="what came in each window of time, as 100ms, 20us or 1s, in place of the summary")
@@ -61,11 +72,11 @@ def words(given: Sequence[str]) -> argparse.Namespace:
                       help="group rows by `of` and these columns (varied, settings, experiment, seed ..): mean and half"
                       " width of the 95 %% interval")
     parser.add_argument("--columns", type=lambda text: text.split(","), metavar="COLUMN,..",
-                        help="with --by: of what the means are [the times under way and goodput]")
+                        help="with --by: of what the means are [the one-way delays and goodput]")
     add_span(parser)
-    parser.add_argument("--exact", action="store_true", help="print all digits of times and fractions [three behind the point]")
+    parser.add_argument("--exact", action="store_true", help="print all digits of times and fractions [three decimals]")
     parser.add_argument("--workers", type=count_of, metavar="N",
-                        help="how many processes [all cores where the report is long]")
+                        help="how many processes [all cores if the report is long]")
     form = parser.add_mutually_exclusive_group()
     form.add_argument("--csv", action="store_true", help="print lines with commas, a heading first")
     form.add_argument("--json", action="store_true", help="print a list of objects")

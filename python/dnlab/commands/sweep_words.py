@@ -5,50 +5,62 @@ from typing import Any, Callable, Optional, Sequence, TypeVar
 
 from dnlab.asking import STATS, USUAL, Ask, stats_of
 from dnlab.commands.plot import picture
-from dnlab.commands.words import add_span, count_of, parser_of, span_in
+from dnlab.commands.words import add_span, count_of, listed, parser_of, span_in
 from dnlab.elsewhere import DASK
 from dnlab.estimates import KINDS
 from dnlab.grids import seeds_of, setting_of
 from dnlab.sweeps import STOPPING
 from dnlab.templates import value_of
 
-ABOUT = "Runs a template of a scenario with each setting and each seed, and tells means with their intervals."
+ABOUT = "Runs a template with each setting and seed, and prints means with intervals."
 T = TypeVar("T")
-EXAMPLE = f"""TEMPLATE is a scenario of one experiment in Jinja2 (Debian: python3-jinja2), which begins with
+EXAMPLE = f"""TEMPLATE is a scenario of one experiment in Jinja2 (Debian: python3-jinja2),
+which begins with
   experiment {{{{ name }}}} seed {{{{ seed }}}} budget 1000
 It has each setting by its name, and besides
   name, seed      the experiment's own; the name is made of settings and seed
-  rng             drawn from the seed alone, the same on every machine: rng.whole(a, b), rng.uniform(a, b),
-                  rng.exponential(mean), rng.arrivals(mean, end), rng.pareto(shape, least),
-                  rng.choice(list, weights), rng.sample(list, n), rng.shuffled(list), rng.random()
+  rng             drawn from the seed alone, the same on every machine:
+                  rng.whole(a, b), rng.uniform(a, b), rng.exponential(mean),
+                  rng.arrivals(mean, end), rng.pareto(shape, least),
+                  rng.choice(list, weights), rng.sample(list, n),
+                  rng.shuffled(list), rng.random()
   20 | ms         whole nanoseconds; also s and us
-A value of --set is a number where it is one, else a word; a float is written without an exponent.
+A value of --set is a number if it can be read as one, else a word; a float is
+written without an exponent.
 
---of     flows (all segments together), trains, 'flow 1', 'flow *' (each flow, without its acknowledgements),
-         'flow 1 acks', 'flow * acks', 'train 9', 'train *', injected, 'pipe 1.0', there, back, all;
+--of     flows (all segments together), trains, 'flow 1', 'flow *' (each flow,
+         without its acknowledgements), 'flow 1 acks', 'flow * acks',
+         'train 9', 'train *', injected, 'pipe 1.0', there, back, all;
          without any: flows, each train and the injected packets
---stat   of the --of before it, with commas between [{",".join(USUAL)}]:
-         {", ".join(STATS[:10])},
-         {", ".join(STATS[10:22])},
-         {", ".join(STATS[22:])} (N above 0 and up to 100)
-         delay is the time from being made to delivery (of a pipe: in it), lost all drops, drops.lost those by plr;
-         or FILE.py:NAME, a function of one's own, which is given the run (a dnlab.Experiment) and the name, or the run
-         alone, and gives a number
+--stat   of the --of before it, with commas between:
+         {listed(STATS, indent=9)}
+         (N above 0 and up to 100)
+         without any: {",".join(USUAL)}
+         delay is the time from being made to delivery (of a pipe: in it), lost
+         all drops, drops.lost those by plr; or FILE.py:NAME, a function of
+         one's own, which is given the run (a dnlab.Experiment) and the name,
+         or the run alone, and gives a number
 
-What an experiment answered is kept in TEMPLATE.kept by the checksums of its text, of the program and of this package: the
-same words go on where they were broken off, and a new setting, or a template that is changed for some of them, runs alone.
-An experiment with a command that was refused ends the sweep, which names it with the line and the reason; so does one
-whose steps were spent before its end. --allow refused, or --allow spent, goes on and marks its rows.
+What an experiment answered is kept in TEMPLATE.kept by the checksums of its
+text, of the program and of this package. So the same words go on where they
+were broken off, and a new setting, or a template that is changed for some of
+them, runs alone. An experiment with a command that was refused ends the sweep,
+which names it with the line and the reason; so does one whose steps were spent
+before its end. --allow refused, or --allow spent, goes on and marks its rows.
 
---on 4/alpha,beta runs by ssh, --on slurm as an array, --on dask tcp://HOST:8786 by a Dask scheduler's workers.
+--on 4/alpha,beta runs by ssh, --on slurm as an array, and
+--on dask tcp://HOST:8786 by a Dask scheduler's workers.
 
 Example:
-  tools/sweep python/examples/bottleneck.tmpl --set queue=10,25,50,100,200 --seeds 1-30 \\
-    --of 'train 9' --stat delay.median,delay.p95 --of flows --stat goodput,lost --csv best.csv --plot best.svg
+  tools/sweep python/examples/bottleneck.tmpl --set queue=10,25,50,100,200 \\
+    --seeds 1-30 --of 'train 9' --stat delay.median,delay.p95 \\
+    --of flows --stat goodput,lost --csv best.csv --plot best.svg
+  tools/sweep python/examples/bottleneck.tmpl --set queue=50 --dry-run
 
-Exit status: 0 done; 2 wrong usage, a fault in the template, in a text made of it or in what is asked, an experiment that
-wasn't run as it is written; 3 the program failed, or something is missing. SIGINT, SIGTERM and SIGHUP end it, and all that
-it began, by that signal's status; what was done is kept."""
+Exit status: 0 done; 2 wrong usage, a fault in the template, in a text made of
+it or in what is asked, an experiment that wasn't run as it is written; 3 the
+program failed, or something is missing. SIGINT, SIGTERM and SIGHUP end it, and
+all that it began, by that signal's status; what was done is kept."""
 
 
 class Asked(argparse.Action):
@@ -144,7 +156,7 @@ def parser_of_words() -> argparse.ArgumentParser:
     add_span(parser)
     parser.add_argument("--ci", type=level_of, default=95, metavar="LEVEL", help="of the intervals, in percent [95]")
     parser.add_argument("--interval", choices=KINDS, default="t",
-                        help="Student's t, or the bootstrap where values are far from normal [t]")
+                        help="Student's t, or the bootstrap if values are far from normal [t]")
     for form, more in ("csv", ", or - for standard output"), ("json", ", or - too"), ("parquet", " (it needs pyarrow)"):
         parser.add_argument(f"--{form}", metavar="FILE", help=f"the table, a row for each setting, of and stat{more}")
     parser.add_argument("--each", metavar="FILE", help="a row for each experiment and of, as .csv, .json or .parquet")
@@ -164,7 +176,7 @@ def parser_of_words() -> argparse.ArgumentParser:
     parser.add_argument("--parts", type=count_of, metavar="N",
                         help="with --on: in how many parts [each takes about a minute, by ssh 10 s]")
     parser.add_argument("--allow", action="append", choices=STOPPING, default=[],
-                        help="go on where commands were refused, or steps were spent; may be said again")
+                        help="go on if commands were refused, or steps were spent; may be said again")
     return parser
 
 

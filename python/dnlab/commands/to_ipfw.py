@@ -11,22 +11,27 @@ from dnlab.ipfw_export import Machine, script_of
 from dnlab.outputs import whole_file
 from dnlab.scenario import Plan, read
 
-EXAMPLE = """On a router each packet passes the rules twice, coming in and going out; so a rule to a pipe must say which: `--if` says what
-is behind an interface, and the rule gets `in recv` where its source is there, else `out xmit` where its destination is.
-Where the packets begin or end on the machine itself, --host leaves the rules as they are.
+EXAMPLE = """On a router each packet passes the rules twice, coming in and going out; so a
+rule to a pipe must say which. `--if` says what lies beyond an interface: the
+rule gets `in recv` if its source is there, else `out xmit` if its destination
+is. If the packets begin or end on the machine itself, --host leaves the rules
+as they are.
 
-The script says at its top what differs on the real machine. It denies what no rule matches, as the scenario does.
+The script says at its top what differs on the real machine. It denies what no
+rule matches, as the scenario does.
 
 Example:
   tools/to-ipfw scenario.txt --if em1=10.0.1.0/24 --out rules.sh
+  tools/to-ipfw scenario.txt --host --timed --iperf
 
-Exit status: 0 written, 2 wrong usage, a faulty scenario or one that can't be said there, 3 what this machine lacks."""
+Exit status: 0 written, 2 wrong usage, a faulty scenario or one that can't be
+said there, 3 what this machine lacks."""
 
 
 def add_scenario(parser: argparse.ArgumentParser) -> None:
     """The words that both exports have."""
     parser.add_argument("scenario", metavar="SCENARIO", help="a scenario, or - for standard input")
-    parser.add_argument("--experiment", metavar="NAME", help="which of its experiments, where it has several")
+    parser.add_argument("--experiment", metavar="NAME", help="which of its experiments, if it has several")
     parser.add_argument("--out", metavar="FILE", help="what is written [standard output]")
 
 
@@ -35,7 +40,7 @@ def words(given: Sequence[str]) -> argparse.Namespace:
     add_scenario(parser)
     which = parser.add_mutually_exclusive_group()
     which.add_argument("--if", action="append", default=[], type=behind_of, metavar="NAME=PREFIX", dest="behind",
-                       help="what is behind an interface of the router; may be said again")
+                       help="what lies beyond an interface of the router; may be said again")
     which.add_argument("--host", action="store_true", help="the packets begin or end on this machine")
     parser.add_argument("--timed", action="store_true", help="write later commands too, with `sleep` between")
     parser.add_argument("--iperf", action="store_true", help="write commands of iperf3 for the senders, as comments")

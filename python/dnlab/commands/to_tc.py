@@ -11,16 +11,21 @@ from dnlab.errors import Faulty, status_of
 from dnlab.exports import setting_of
 from dnlab.tc_export import Place, script_of
 
-EXAMPLE = """tc shapes what leaves an interface (--dev). Delays and losses stand where packets come in (--in), on an ifb: as many packets
-fly there as the link carries, and none of them takes a place in the queue. For the way back call it again with the two
-interfaces exchanged, on a scenario of that way, or on another machine: the ifb is ifb0.
+EXAMPLE = """tc shapes what leaves an interface (--dev). Delays and losses stand where
+packets come in (--in), on an ifb: as many packets fly there as the link
+carries, and none of them takes a place in the queue. For the way back call it
+again with the two interfaces exchanged, on a scenario of that way, or on
+another machine: the ifb is ifb0.
 
-A pipe with `mask src-ip 0xffffffff` or `mask dst-ip 0xffffffff` gets a class for each of --hosts.
+A pipe with `mask src-ip 0xffffffff` or `mask dst-ip 0xffffffff` gets a class
+for each of --hosts.
 
 Example:
   tools/to-tc scenario.txt --dev eth1 --in eth0 --out shape.sh
+  tools/to-tc per_host.txt --dev eth1 --hosts 10.0.0.1-10.0.0.20
 
-Exit status: 0 written, 2 wrong usage, a faulty scenario or one that can't be said there, 3 what this machine lacks."""
+Exit status: 0 written, 2 wrong usage, a faulty scenario or one that can't be
+said there, 3 what this machine lacks."""
 _MOST_HOSTS = 256
 
 
@@ -50,9 +55,9 @@ def device_of(text: str) -> str:
 def words(given: Sequence[str]) -> argparse.Namespace:
     parser = parser_of("to-tc", __doc__ or "", EXAMPLE)
     add_scenario(parser)
-    parser.add_argument("--dev", required=True, type=device_of, metavar="NAME", help="the interface where the packets leave")
-    parser.add_argument("--in", type=device_of, metavar="NAME", dest="enter", help="the interface where they come in")
-    parser.add_argument("--hosts", type=hosts_of, default=[], metavar="A-B", help="who gets a class where a pipe has a mask")
+    parser.add_argument("--dev", required=True, type=device_of, metavar="NAME", help="the interface by which the packets leave")
+    parser.add_argument("--in", type=device_of, metavar="NAME", dest="enter", help="the interface by which they come in")
+    parser.add_argument("--hosts", type=hosts_of, default=[], metavar="A-B", help="who gets a class if a pipe has a mask")
     return parser.parse_args(list(given))
 
 

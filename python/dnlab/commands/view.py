@@ -1,4 +1,4 @@
-"""Makes a page of HTML to look at runs of dnlab in a browser, packet by packet, without a network."""
+"""Makes a page of HTML to look at runs of dnlab in a browser, packet by packet."""
 import argparse
 import sys
 from typing import Iterator, Sequence, cast
@@ -9,22 +9,28 @@ from dnlab.summing import tell, whole
 from dnlab.view import Note, View
 from dnlab.work import Given, TooMany, over, plans_of
 
-EXAMPLE = """The page has, over one axis of time: the bytes of a flow (sent, sent again, acknowledged, dropped), windows, the
-packets at each pipe, delays, and rates with those of the pipes. Experiment, a second one beside it, and a flow are
-chosen in the page, and whether windows are in bytes or segments; a flow changes every panel. Zoom by dragging, by its buttons
-or by the keys + - left right 0; a double click shows all. Pointing at a packet tells its journey, a click keeps it;
-so does its serial number in the field `packet`. What has more points than the page has dots is thinned to what is in
-sight, so that no peak is lost. page.html#NAME,FROM,TO (ns) opens at an experiment and a span, #NAME,FROM,TO,OTHER at two.
+EXAMPLE = """The page has, over one axis of time: the bytes of a flow (sent, sent again,
+acknowledged, dropped), windows, the packets at each pipe, delays, and rates
+with those of the pipes. In the page you choose the experiment, a second one
+beside it, a flow, which changes every panel, and windows in bytes or segments.
+Zoom by dragging, by its buttons or by the keys + - left right 0; a double click
+shows all. Pointing at a packet shows its journey, a click keeps it; so does its
+serial number in the field `packet`. What has more points than the page has dots
+is thinned to what is in sight, so no peak is lost. page.html#NAME,FROM,TO (ns)
+opens at an experiment and a span, #NAME,FROM,TO,OTHER at two.
 
-plotly's script stands as dnlab-plotly.js beside the page, once for all pages of a folder; with --single it is within.
-Without the scenario (or `trace 1`) the page has what a report tells by itself, and says what it lacks.
+plotly's script stands as dnlab-plotly.js beside the page, once for all pages of
+a folder; with --single it is within. Without the scenario (or `trace 1`) the
+page has what a report has by itself, and says what it lacks.
 It needs python3-plotly (Debian).
 
 Example:
   ./dnlab alone < scenario.txt > report.txt
   tools/view report.txt scenario.txt --out page.html && xdg-open page.html
+  tools/view report.txt scenario.txt --experiment codel --single
 
-Exit status: 0 written, 2 wrong usage or a faulty input, 3 a file that can't be written, or a package that is missing."""
+Exit status: 0 written, 2 wrong usage or a faulty input, 3 a file that can't be
+written, or a package that is missing."""
 # A page holds all its experiments; with more packets than this a browser takes long to open it.
 _MOST_EXPERIMENTS = 256
 
@@ -35,7 +41,7 @@ def words(given: Sequence[str]) -> argparse.Namespace:
     parser.add_argument("--out", default="view.html", metavar="FILE", help="what is written [view.html]")
     parser.add_argument("--single", action="store_true", help="with plotly's script (8 MB) within: one file to pass on")
     parser.add_argument("--workers", type=count_of, metavar="N",
-                        help="how many processes [all cores where the report is long]")
+                        help="how many processes [all cores if the report is long]")
     return taken(parser, list(given))
 
 

@@ -1,8 +1,9 @@
 """What the commands' words have in common."""
 import argparse
 import re
+import textwrap
 from fractions import Fraction
-from typing import TYPE_CHECKING, NoReturn
+from typing import TYPE_CHECKING, Iterable, NoReturn
 
 from dnlab import __version__
 from dnlab.errors import Faulty
@@ -47,11 +48,21 @@ def parser_of(name: str, about: str, more: str) -> argparse.ArgumentParser:
     return parser
 
 
+def listed(words: Iterable[str], between: str = ", ", indent: int = 10) -> str:
+    """Words in the lines of a help text, each line indented but the first, which stands behind what is there.
+
+    >>> listed(["flow"] * 20)
+    'flow, flow, flow, flow, flow, flow, flow, flow, flow, flow, flow,\\n          flow, flow, flow, flow, flow, flow, flow, flow, flow'
+    """
+    room = " " * indent
+    return textwrap.fill(between.join(words), 80, initial_indent=room, subsequent_indent=room).lstrip()
+
+
 def add_texts(parser: argparse.ArgumentParser) -> None:
     """The report and its scenarios, and which experiments are asked for."""
     parser.add_argument("report", metavar="REPORT", help="a report, or - for standard input")
     parser.add_argument("scenarios", metavar="SCENARIO", nargs="*",
-                        help="its scenario, or - for standard input; several where it was run from several")
+                        help="its scenario, or - for standard input; several if it was run from several")
     parser.add_argument("--experiment", action="append", default=[], metavar="NAME",
                         help="only this experiment, the others stay unread; may be said again [all]")
 
