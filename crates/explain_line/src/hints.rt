@@ -310,6 +310,14 @@ fn protocol_hint(word: &[u8]) -> Option<&'static str> {
     }
 }
 
+fn match_hint(word: &[u8]) -> Option<&'static str> {
+    if is(word, "from") {
+        Some("the protocol stands before `from`: allow ip from any to any")
+    } else {
+        protocol_hint(word)
+    }
+}
+
 // A zero in front of one of an address's numbers, as in 010.0.0.1.
 fn has_zero_in_a_part(word: &[u8]) -> bool {
     word.split(|b| *b == b'.')
@@ -530,6 +538,10 @@ fn word_hint(wanted: &str, word: &[u8]) -> Option<&'static str> {
         Some("the source stands before the destination: ip from any to any")
     } else if wanted == "gap" {
         Some("the time between two packets is their gap, in nanoseconds: gap 1000000")
+    } else if wanted == "count" {
+        Some("how many packets there are, and then the time between two: count 7 gap 1000000")
+    } else if wanted == "smss" && is(word, "segments") {
+        Some("a segment's bytes stand before the number of segments: smss 1460 segments 1000")
     } else {
         None
     };
@@ -544,7 +556,8 @@ fn form_hint(form: Form, word: &[u8]) -> Option<&'static str> {
         Form::Number(_, _) | Form::Segment | Form::Window => number_hint(word),
         Form::Moment => moment_hint(word),
         Form::Name => name_hint(word),
-        Form::Protocol | Form::ProtocolMatch => protocol_hint(word),
+        Form::Protocol => protocol_hint(word),
+        Form::ProtocolMatch => match_hint(word),
         Form::Address => address_hint(word),
         Form::Prefix => prefix_hint(word),
         Form::Ports => ports_hint(word),

@@ -259,9 +259,11 @@ pub const OWN_FLOW_OPTIONS: [Says; 3] = [
 ];
 
 /// Where a number is wanted, and a word stands that names a command.
-pub const FOR_NUMBERS: [Says; 6] = [
+pub const FOR_NUMBERS: [Says; 8] = [
     ("flush", EMPTY),
     ("list", "all pipes are listed at once: pipe show"),
+    ("on", "1 is on, and 0 is off"),
+    ("off", "1 is on, and 0 is off"),
     ("config", "the number stands before `config`: pipe 1 config"),
     (
         "allow",
