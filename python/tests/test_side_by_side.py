@@ -37,7 +37,7 @@ def ran(*some: tuple[Any, ...], program: str = "/bin/true", cores: int = 2) -> t
     """The status, and what is said, each number of seconds as S."""
     process = begun(*some, program=program, cores=cores)
     said = process.communicate(timeout=60)[0]
-    return process.returncode, [re.sub(r", \d+ s$", ", S s", line) for line in said.splitlines()]
+    return process.returncode, [re.sub(r", \d+ s \(\d+ s of the processor\)$", ", S s", line) for line in said.splitlines()]
 
 
 def test_what_is_said_stands_in_the_order_of_the_list() -> None:

@@ -37,7 +37,7 @@ SEEN = (
     Piece("tools/gate/docs", "links, paths, lines and figures of README.md, CHANGELOG.md, docs/ and the crates' pages", ("tools/gate/docs",), 2),
     Piece("tools/gate/sentences", "how long their sentences are", ("tools/gate/sentences",), 1),
     Piece("tools/gate/site", "the site of the pages", ("tools/gate/site",), 4, "command -v mkdocs && [ -d /usr/share/mkdocs/themes/material ]"),
-    Piece("tools/gate/lint", "what linters say of Python and of scripts of the shell", ("tools/gate/lint",), 40),
+    Piece("tools/gate/lint", "what linters say of Python and of scripts of the shell", ("tools/gate/lint",), 50),
     Piece("tools/gate/texts", "the texts of the crate example_texts are those of examples/", ("tools/gate/texts", "--check"), 1),
     Piece("tools/definitions/spell", "each theorem of emu_examples spells the scenario of examples/ that it is named after",
           ("tools/definitions/spell", "--check"), 1),
@@ -55,12 +55,13 @@ BY_PROGRAM = (
     tried("tools/attack/hostile", "hostile use", 8, "--quick"),
     tried("stacks/check", "real protocol stacks over sessions", 3, needs="command -v cc"),
     tried("tools/gate/check_explain", "what --explain says of faults and of refused commands", 3),
-    tried("cookbook/check", "the cookbook", 40),
+    tried("cookbook/check", "the cookbook", 46),
     tried("tools/gate/check_install", "the manual pages, completion and the installation", 29, needs="command -v man && command -v groff && command -v zsh"),
-    tried("tools/gate/check_release", "what tools/release makes", 36, needs="command -v dpkg-deb && /usr/bin/python3 -c 'import build, wheel'"),
     tried("tools/gate/check_library", "the library from C, Python and Rust", 10, needs="command -v cc", after=(LIBRARY,)),
     tried("tools/gate/check_playground", "the playground in Node and in Chromium", 19, needs="command -v node && command -v wasm-opt", after=(LIBRARY,)),
 )
+# Beside those what only the whole tries.
+RELEASE = tried("tools/gate/check_release", "what tools/release makes", 36, needs="command -v dpkg-deb && /usr/bin/python3 -c 'import build, wheel'")
 SCRIPT = Piece("tools/gate/check_dnlab", "the script ./dnlab, beside a kit that only says what it is told to say", ("tools/gate/check_dnlab",), 16)
 WORKED = "the worked examples of examples/, alone and by many workers"
 # Each number of workers and of moves that the worked examples are run by.
@@ -95,11 +96,12 @@ LISTS = {
         # as somebody calls it: ./dnlab finds the proved program
         Piece("examples/check", WORKED, ("env", "-u", "DNLAB", "examples/check", "./dnlab", *WAYS), 40),
         SCRIPT,
-        Piece("tools/gate/check_gate", "tools/gate/plants, tools/gate/times and how a module is cut, beside such a kit", ("tools/gate/check_gate",), 60, "command -v git"),
+        Piece("tools/gate/check_gate", "tools/gate/plants, tools/gate/times and how a module is cut, beside such a kit", ("tools/gate/check_gate",), 9, "command -v git"),
         tried("tools/attack/refusals", "allocations refused in turn, and those of worlds in part", 60, "--quick", needs="command -v cc"),
         tried("tools/attack/sessions", "sessions beside alone", 10),
         drawn(2),
         *BY_PROGRAM,
+        RELEASE,
         of_python(700),
     ),
 }
