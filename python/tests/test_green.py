@@ -8,7 +8,7 @@ from pathlib import Path
 from typing import Callable
 
 import pytest
-from conftest import in_part, ROOT, tool
+from conftest import ROOT, in_part, tool
 
 from dnlab.__main__ import COMMANDS
 from dnlab.figures import percentile_name
