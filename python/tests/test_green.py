@@ -8,7 +8,7 @@ from pathlib import Path
 from typing import Callable
 
 import pytest
-from conftest import ROOT, tool
+from conftest import ROOT, in_part, tool
 
 from dnlab.__main__ import COMMANDS
 from dnlab.figures import percentile_name
@@ -203,7 +203,7 @@ def test_status_1_is_a_bound_alone(files: Callable[..., list[Path]], tmp_path: P
     more = {"expect": ["all: drops == 0"], "compare": [], "plot": ["--out", tmp_path / "p.png"],
             "view": ["--out", tmp_path / "p.html"], "summary": [], "pcap": []}
     for name, words in more.items():
-        for texts in ([cut, plan], [report, bad], [tmp_path / "none", plan], [report, tmp_path], [plan, plan], [tmp_path, plan]):
+        for texts in in_part([[cut, plan], [report, bad], [tmp_path / "none", plan], [report, tmp_path], [plan, plan], [tmp_path, plan]], 3):
             files_given = [texts[0], *texts] if name == "compare" else texts
             status, out, err = tool(name, *files_given, *words)
             assert status == 2 and not out and "Traceback" not in err and len(err.splitlines()) == 1, (name, texts, err)

@@ -3,7 +3,7 @@ import os
 import random
 
 import pytest
-from conftest import text_of, view_of
+from conftest import QUICK, text_of, view_of
 
 from dnlab import report, scenario
 from dnlab.errors import Refused
@@ -186,7 +186,7 @@ def compare_listings(view: View) -> int:
     return compared
 
 
-@pytest.mark.parametrize("tens", range(int(os.environ.get("DNLAB_JOINS", "100")) // 10))
+@pytest.mark.parametrize("tens", range(int(os.environ.get("DNLAB_JOINS", "20" if QUICK else "100")) // 10))
 def test_random_scenarios(tens: int, alone) -> None:
     """Ten at a time: the join agrees with each line, with the counters and with each listing, and a traced report tells
     the same without its scenario. DNLAB_JOINS=1000 tries more."""

@@ -1,8 +1,8 @@
 //! What people write where something else is wanted, and what to write instead.
 
 use crate::slips::{
-    ACTIONS, FOR_NUMBERS, OPTIONS, OWN_ACTIONS, OWN_FLOW_OPTIONS, OWN_OPTIONS, OWN_VERBS, VERBS,
-    meant_by, said_of,
+    ACTIONS, FIRSTS, FOR_NUMBERS, FOR_STEPS, MOMENT, OPTIONS, OWN_ACTIONS, OWN_FIRSTS,
+    OWN_FLOW_OPTIONS, OWN_OPTIONS, OWN_VERBS, VERBS, meant_by, said_of,
 };
 use crate::wanted::{Choice, Form};
 use control_words::{addresses, is};
@@ -33,6 +33,18 @@ fn has_zero_in_front(word: &[u8]) -> bool {
     }
 }
 
+fn is_base_16(word: &[u8]) -> bool {
+    match word {
+        [b'0', b'x' | b'X', ..] => true,
+        _ => false,
+    }
+}
+
+// Whether something stands between a number's digits, as in 1_000 and 1'000.
+fn is_grouped(word: &[u8]) -> bool {
+    begins_with_digit(word) && (has(word, b'_') || has(word, b'\''))
+}
+
 fn has_sign(word: &[u8]) -> bool {
     word.first() == Some(&b'-') || word.first() == Some(&b'+')
 }
@@ -57,6 +69,15 @@ const TOO_MANY_DIGITS: &str = "a number has at most 20 digits";
 
 const COMMA: &str = "a number has no comma in it";
 
+const BETWEEN: &str = "a number is digits alone, with nothing between them";
+
+const BASE_10: &str = "a number is written in base 10: 0x10 is 16";
+
+const NO_CODE: &str =
+    "each line is one command, its words with spaces between: @0 pipe 1 config bw 10Mbit/s";
+
+const NO_SEMICOLON: &str = "no semicolon: each command has a line of its own";
+
 const LOWER: &str = "words are in lower case";
 
 // What is wrong with any number, whatever its unit is.
@@ -67,6 +88,8 @@ fn digits_hint(word: &[u8]) -> Option<&'static str> {
         Some(TOO_MANY_DIGITS)
     } else if has(word, b',') {
         Some(COMMA)
+    } else if is_grouped(word) {
+        Some(BETWEEN)
     } else if has_zero_in_front(word) {
         Some(ZERO)
     } else {
@@ -80,9 +103,11 @@ fn number_hint(word: &[u8]) -> Option<&'static str> {
     } else if has_sign(word) {
         Some(SIGN)
     } else if addresses::address(word).is_some() {
-        Some("an address stands where a number is wanted: is a port missing?")
-    } else if has(word, b',') || has(word, b'_') {
-        Some("a number is digits alone, with nothing between them")
+        Some("an address stands where a number is wanted: is a port missing, or a flow's number?")
+    } else if is_base_16(word) {
+        Some(BASE_10)
+    } else if has(word, b',') || is_grouped(word) {
+        Some(BETWEEN)
     } else if has(word, b'^') || has(word, b'*') {
         Some("a number is written out: 10^6 is 1000000")
     } else if has(word, b'.') {
@@ -107,6 +132,11 @@ fn is_foreign_comment(word: &[u8]) -> bool {
     }
 }
 
+// Whether a word is of a programming language, or of JSON.
+fn is_code(word: &[u8]) -> bool {
+    has(word, b'(') || has(word, b'{') || has(word, b'}') || has(word, b'"')
+}
+
 // Whether a word of more than a unit's two letters directly follows digits.
 fn is_run_together(word: &[u8]) -> bool {
     let letters = word.iter().filter(|b| b.is_ascii_lowercase()).count();
@@ -122,19 +152,27 @@ fn moment_hint(word: &[u8]) -> Option<&'static str> {
     match word {
         [b'@'] => Some("no space between @ and the moment: @0"),
         [b'@', number @ ..] => {
-            if is_run_together(number) {
+            if is_base_16(number) {
+                Some(BASE_10)
+            } else if number.first() == Some(&b'+') {
+                Some("a moment is counted from the experiment's begin, not from the command before")
+            } else if is_run_together(number) {
                 Some("a space stands between the moment and the command: @0 show")
-            } else if has(number, b':') {
+            } else if number.last() == Some(&b':') {
                 Some("nothing but a space follows a moment: @0 show")
-            } else if has(number, b'.') || has_letter(number) {
-                Some("a moment is a whole number of nanoseconds without a unit: 1.5 ms is @1500000")
+            } else if has(number, b'.') || has(number, b':') || has_letter(number) {
+                Some(MOMENT)
             } else {
                 number_hint(number)
             }
         }
         _ => {
-            if is_of_ipfw(word) {
+            if said_of(&FIRSTS, word).is_some() {
+                said_of(&FIRSTS, word)
+            } else if is_of_ipfw(word) {
                 Some("leave `ipfw` out, and put the moment in front: @0 pipe 1 config bw 10Mbit/s")
+            } else if is_code(word) {
+                Some(NO_CODE)
             } else if begins_with_digit(word) {
                 Some("a moment has @ in front of it: @0")
             } else if is_foreign_comment(word) {
@@ -142,7 +180,9 @@ fn moment_hint(word: &[u8]) -> Option<&'static str> {
             } else if has_capital(word) {
                 Some(LOWER)
             } else {
-                Some("a command has its moment in front of it: @0 pipe 1 config bw 10Mbit/s")
+                meant_by(&OWN_FIRSTS, word).or(Some(
+                    "a command has its moment in front of it: @0 pipe 1 config bw 10Mbit/s",
+                ))
             }
         }
     }
@@ -241,6 +281,8 @@ fn field_hint(word: &[u8]) -> Option<&'static str> {
         Some("a mask is no prefix length: /24 is 0xffffff00")
     } else if word.len() > 10 && ends_with(word, "f") {
         Some("a mask has at most 8 digits after 0x: 0xffffffff")
+    } else if ends_with(word, "f") && !is_base_16(word) {
+        Some("0x stands in front of it: ffff is 0xffff")
     } else if has(word, b'.') {
         Some("255.255.255.0 is 0xffffff00")
     } else {
@@ -268,6 +310,14 @@ fn protocol_hint(word: &[u8]) -> Option<&'static str> {
     }
 }
 
+fn match_hint(word: &[u8]) -> Option<&'static str> {
+    if is(word, "from") {
+        Some("the protocol stands before `from`: allow ip from any to any")
+    } else {
+        protocol_hint(word)
+    }
+}
+
 // A zero in front of one of an address's numbers, as in 010.0.0.1.
 fn has_zero_in_a_part(word: &[u8]) -> bool {
     word.split(|b| *b == b'.')
@@ -281,6 +331,12 @@ fn prefix_hint(word: &[u8]) -> Option<&'static str> {
         Some("tables aren't here: write a rule for each of their addresses")
     } else if has(word, b'{') || has(word, b',') {
         Some("no lists: write a rule for each address")
+    } else if has(word, b'/') && points(word) > 3 {
+        Some("a mask is a length: 10.0.0.0/255.255.255.0 is 10.0.0.0/24")
+    } else if begins_with_digit(word) && has(word, b'*') {
+        Some("a prefix says its length: 10.0.0.* is 10.0.0.0/24")
+    } else if begins_with_digit(word) && has(word, b'-') {
+        Some("no ranges of addresses: write prefixes, as 10.0.0.0/28")
     } else if has(word, b':') {
         Some("a mask is a length, 10.0.0.0/24, and a port is a word of its own; there is no IPv6")
     } else if has_letter(word) {
@@ -328,7 +384,7 @@ fn ports_hint(word: &[u8]) -> Option<&'static str> {
         Some("the first port is above the last: turn them round")
     } else if has(word, b',') {
         Some("no lists: a rule has one port or one range; write a rule for each")
-    } else if is(word, "src-port") || is(word, "dst-port") {
+    } else if is(word, "src-port") || is(word, "dst-port") || is(word, "port") {
         Some("leave that word out: a port directly follows its address, as in to any 80")
     } else if is(word, "setup") || is(word, "established") || is(word, "keep-state") {
         Some(
@@ -350,6 +406,8 @@ fn name_hint(word: &[u8]) -> Option<&'static str> {
         Some("it is longer than 32")
     } else if has_capital(word) {
         Some("lower case only")
+    } else if has(word, b'"') || has(word, b'\'') || has(word, b',') {
+        Some("neither quotes nor commas: experiment two-flows seed 1 budget 1000")
     } else if has(word, b'=') || has(word, b'.') || has(word, b':') {
         Some("neither = nor a point nor a colon stands in a name: q=10 is q-10 or q10")
     } else {
@@ -389,6 +447,8 @@ fn option_hint(word: &[u8]) -> Option<&'static str> {
         Some(
             "a unit directly follows its number, without a space: 10Mbit/s; packets and slots have none",
         )
+    } else if begins_with_digit(word) {
+        Some("an option is a word and one value: bw 10Mbit/s delay 20; there is no jitter")
     } else {
         said_of(&OPTIONS, word).or(meant_by(&OWN_OPTIONS, word))
     }
@@ -412,7 +472,13 @@ fn flow_option_hint(word: &[u8]) -> Option<&'static str> {
 
 // What stands behind the end of a line.
 fn end_hint(word: &[u8]) -> Option<&'static str> {
-    if is_foreign_comment(word) {
+    if is(word, ";") {
+        Some(NO_SEMICOLON)
+    } else if is(word, "-") {
+        Some("a range is one word: 80-90")
+    } else if is(word, "rules") || is(word, "pipes") || is(word, "all") {
+        Some("`show` lists all rules, and `pipe show` all pipes")
+    } else if is_foreign_comment(word) {
         Some("a comment begins with #, and has a line of its own")
     } else if word.first() == Some(&b'\\') {
         Some("a command stands on one line")
@@ -450,6 +516,8 @@ fn config_hint(word: &[u8]) -> Option<&'static str> {
         Some("all pipes are listed at once: pipe show")
     } else if is(word, "delete") {
         Some("the number stands behind it: pipe delete 1")
+    } else if is(word, "configure") || is(word, "conf") || is(word, "cfg") || is(word, "set") {
+        Some("did you mean `config`?")
     } else {
         None
     }
@@ -464,6 +532,16 @@ fn word_hint(wanted: &str, word: &[u8]) -> Option<&'static str> {
         Some("the name is missing: experiment two-flows seed 1 budget 1000")
     } else if wanted == "seed" && is(word, "budget") {
         Some("the seed stands before the budget: experiment two-flows seed 1 budget 1000")
+    } else if wanted == "steps" {
+        said_of(&FOR_STEPS, word)
+    } else if wanted == "from" && is(word, "to") {
+        Some("the source stands before the destination: ip from any to any")
+    } else if wanted == "gap" {
+        Some("the time between two packets is their gap, in nanoseconds: gap 1000000")
+    } else if wanted == "count" {
+        Some("how many packets there are, and then the time between two: count 7 gap 1000000")
+    } else if wanted == "smss" && is(word, "segments") {
+        Some("a segment's bytes stand before the number of segments: smss 1460 segments 1000")
     } else {
         None
     };
@@ -478,7 +556,8 @@ fn form_hint(form: Form, word: &[u8]) -> Option<&'static str> {
         Form::Number(_, _) | Form::Segment | Form::Window => number_hint(word),
         Form::Moment => moment_hint(word),
         Form::Name => name_hint(word),
-        Form::Protocol | Form::ProtocolMatch => protocol_hint(word),
+        Form::Protocol => protocol_hint(word),
+        Form::ProtocolMatch => match_hint(word),
         Form::Address => address_hint(word),
         Form::Prefix => prefix_hint(word),
         Form::Ports => ports_hint(word),
@@ -497,8 +576,8 @@ pub fn hint(form: Form, word: &[u8]) -> Option<&'static str> {
     if word.first() == Some(&b'#') {
         return Some("a comment has a line of its own");
     }
-    if word.last() == Some(&b';') {
-        return Some("no semicolon: each command has a line of its own");
+    if word.len() > 1 && word.last() == Some(&b';') {
+        return Some(NO_SEMICOLON);
     }
     form_hint(form, word)
 }

@@ -18,8 +18,51 @@ const ORDER: &str = "the action stands before the protocol: add 100 pipe 1 ip fr
 
 const NO_OPTION: &str = "this option of dummynet isn't here: leave it out";
 
+const LINK: &str =
+    "a link is a pipe, and a rule hands packets to it: @0 pipe 1 config bw 10Mbit/s delay 20";
+
+const LASTS: &str = "an experiment goes on to its last command: @5000000000 end";
+
+const WAITS: &str = "nothing waits here: each command says its own moment, as @5000000000 end";
+
+/// What a moment is.
+pub const MOMENT: &str =
+    "a moment is a whole number of nanoseconds without a unit: 1.5 ms is @1500000";
+
+const EXPERIMENT: &str =
+    "an experiment begins so, without a moment: experiment two-flows seed 1 budget 1000";
+
+const RULE: &str = "a rule begins with `add` and its number: add 100 allow ip from any to any";
+
+/// Where a line's first word is wanted.
+pub const FIRSTS: [Says; 11] = [
+    ("tc", LINK),
+    ("$ns", LINK),
+    ("netem", LINK),
+    ("sleep", WAITS),
+    ("wait", WAITS),
+    ("end", "the moment stands before it: @5000000000 end"),
+    ("exp", EXPERIMENT),
+    ("experiment:", EXPERIMENT),
+    ("seed", EXPERIMENT),
+    ("seed:", EXPERIMENT),
+    ("name:", EXPERIMENT),
+];
+
+/// The word that begins an experiment, for slips.
+pub const OWN_FIRSTS: [Says; 1] = [("experiment", "did you mean `experiment`?")];
+
+/// Where `steps` is wanted, or the end of an experiment's line.
+pub const FOR_STEPS: [Says; 5] = [
+    ("duration", LASTS),
+    ("time", LASTS),
+    ("until", LASTS),
+    ("for", LASTS),
+    ("{", LASTS),
+];
+
 /// Where a command's first word is wanted.
-pub const VERBS: [Says; 24] = [
+pub const VERBS: [Says; 39] = [
     ("queue", "ipfw's queue, sched, table and nat aren't here"),
     ("sched", "ipfw's queue, sched, table and nat aren't here"),
     ("table", "ipfw's queue, sched, table and nat aren't here"),
@@ -62,6 +105,21 @@ pub const VERBS: [Says; 24] = [
         "config",
         "the word `pipe` and a number stand before it: pipe 1 config",
     ),
+    ("netem", LINK),
+    ("qdisc", LINK),
+    ("tc", LINK),
+    ("link", LINK),
+    ("sleep", WAITS),
+    ("wait", WAITS),
+    ("ns", MOMENT),
+    ("us", MOMENT),
+    ("ms", MOMENT),
+    ("s", MOMENT),
+    ("sec", MOMENT),
+    ("experiment", EXPERIMENT),
+    ("allow", RULE),
+    ("deny", RULE),
+    ("rule", RULE),
 ];
 
 /// The verbs themselves, for slips.
@@ -143,7 +201,7 @@ pub const OWN_ACTIONS: [Says; 5] = [
 ];
 
 /// Where an option of a pipe is wanted.
-pub const OPTIONS: [Says; 27] = [
+pub const OPTIONS: [Says; 30] = [
     ("target", "`target` and `interval` directly follow `codel`"),
     (
         "interval",
@@ -165,6 +223,9 @@ pub const OPTIONS: [Says; 27] = [
     ("rate", "it is spelled `bw` here: bw 10Mbit/s"),
     ("bandwidth", "it is spelled `bw` here: bw 10Mbit/s"),
     ("latency", "it is spelled `delay` here: delay 20ms"),
+    ("limit", "it is spelled `queue` here: queue 50"),
+    ("buffer", "it is spelled `queue` here: queue 50"),
+    ("slots", "it is spelled `queue` here: queue 50"),
     (
         "jitter",
         "a pipe's delay is the same for each packet: there is no jitter",
@@ -198,9 +259,11 @@ pub const OWN_FLOW_OPTIONS: [Says; 3] = [
 ];
 
 /// Where a number is wanted, and a word stands that names a command.
-pub const FOR_NUMBERS: [Says; 6] = [
+pub const FOR_NUMBERS: [Says; 8] = [
     ("flush", EMPTY),
     ("list", "all pipes are listed at once: pipe show"),
+    ("on", "1 is on, and 0 is off"),
+    ("off", "1 is on, and 0 is off"),
     ("config", "the number stands before `config`: pipe 1 config"),
     (
         "allow",

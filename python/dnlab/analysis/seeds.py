@@ -3,12 +3,11 @@ import math
 from typing import Any, Optional, Sequence
 
 import pandas as pd
-from scipy import stats as distributions
 
 from dnlab import frames
 from dnlab.asking import unit_of
 from dnlab.errors import Faulty
-from dnlab.estimates import Kind, estimate
+from dnlab.estimates import Kind, estimate, student
 
 # More seeds than this aren't counted.
 _MOST = 10**6
@@ -86,7 +85,7 @@ def needed(values: Sequence[float], share: float, level: float = 95) -> Optional
     wanted = abs(mean) * share
 
     def is_enough(count: int) -> bool:
-        return float(distributions.t.ppf(0.5 + level / 200, count - 1)) * spread / math.sqrt(count) <= wanted
+        return student(level, count - 1) * spread / math.sqrt(count) <= wanted
 
     low, high = 2, 4
     while not is_enough(high):
