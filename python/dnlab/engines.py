@@ -8,8 +8,6 @@ import shlex
 import shutil
 import signal
 import subprocess
-import sys
-import time
 from functools import partial
 from pathlib import Path
 from typing import IO, Iterable, Iterator, Optional, Sequence
@@ -290,13 +288,6 @@ def failure(args: argparse.Namespace, parts: Sequence[Job], failed: Sequence[Job
         said.append(f"spread: {len(parts) - len(failed)} parts are kept in {folder}; "
                     "the same words with --resume run the others")
     return Stop(3, "\n".join(said) + "\n")
-
-
-def tell(done: int, total: int, begun: float) -> None:
-    """Says on a terminal how many parts are done."""
-    if sys.stderr.isatty():
-        print(f"\rspread: {done} of {total} parts are done, {time.monotonic() - begun:.0f} s ", end="", file=sys.stderr,
-              flush=True)
 
 
 def _join(parts: Iterable[Job], report: IO[bytes]) -> None:

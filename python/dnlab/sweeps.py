@@ -19,10 +19,11 @@ from dnlab.making import Maker
 from dnlab.measuring import measured
 from dnlab.notes import Note
 from dnlab.programs import program as program_of
+from dnlab.progress import Progress
 from dnlab.scenario import MOST_BYTES, MOST_EXPERIMENTS, Plan, read
 from dnlab.splitting import experiments_in
 from dnlab.templates import Template, shown
-from dnlab.work import Progress, cores
+from dnlab.work import cores
 
 # An experiment's name hangs on the order of --set, and its answers don't.
 _HEADING = re.compile(r"^( *experiment +)\S+", re.MULTILINE)
@@ -156,10 +157,8 @@ class Sweep(Swept):
             self._maker.close()
 
     def _run(self, waiting: Sequence[Waiting]) -> None:
-        progress = Progress("sweep", len(self.cases), len(self.cases) - len(waiting))
         program = program_of(self._named)
-        ending.add(progress.close)
-        try:
+        with Progress("sweep", len(self.cases), len(self.cases) - len(waiting)) as progress:
             for batch, found in self._answers(waiting, program):
                 with ending.held():
                     self.kept.put([(one.key, self._keepable(answered)) for one, answered in zip(batch, found)])
@@ -168,9 +167,6 @@ class Sweep(Swept):
                 progress.step(len(batch))
                 for one in batch:
                     self._judge(one.case)
-        finally:
-            progress.close()
-            ending.remove(progress.close)
 
     def _keepable(self, found: Found) -> Found:
         """What is kept: not what functions of one's own answered, since what they do may change."""

@@ -1,7 +1,6 @@
 """Goes over the experiments of a report, one at a time or by several processes, and says how far it is."""
 import os
 import sys
-import time
 from pathlib import Path
 from typing import BinaryIO, Callable, Iterable, Iterator, NamedTuple, Optional, Sequence, TypeVar, Union
 
@@ -9,6 +8,7 @@ from dnlab.crew import Crew
 from dnlab.errors import Faulty, Refused
 from dnlab.report import Piece, pieces
 from dnlab.packed import unpacked
+from dnlab.progress import Progress
 from dnlab.scenario import Plan, read
 from dnlab.view import View, view_of
 
@@ -84,47 +84,6 @@ class TooMany(Faulty):
         self.most = most
 
 
-class Progress:
-    """Says on standard error how many experiments are done: on a terminal by a line that is written anew at most twice a
-    second, with how long the rest may take; elsewhere by a line each half a minute."""
-
-    def __init__(self, tool: str, total: Optional[int] = None, done: int = 0) -> None:
-        """`done` of them were done before."""
-        self.tool = tool
-        self.total = total
-        self.done = self.before = done
-        self.shown = 0
-        self.begin = self.last = time.monotonic()
-        self.is_seen = sys.stderr.isatty()
-
-    def step(self, count: int = 1) -> None:
-        self.done += count
-        now = time.monotonic()
-        if now - self.last < (0.5 if self.is_seen else 30):
-            return
-        self.last = now
-        text = self.told(now)
-        if self.is_seen:
-            print(f"\r{text.ljust(self.shown)}", end="", file=sys.stderr, flush=True)
-            self.shown = len(text)
-        else:
-            print(text, file=sys.stderr, flush=True)
-
-    def told(self, now: float) -> str:
-        """How far it is at a moment, in seconds."""
-        if not self.total:
-            return f"{self.tool}: {self.done} experiments"
-        full = 20 * self.done // self.total
-        bar = "\u2588" * full + "\u2591" * (20 - full) + " " if self.is_seen else ""
-        left = (now - self.begin) * (self.total - self.done) / max(self.done - self.before, 1)
-        rest = f"{int(left) // 3600:02}:{int(left) // 60 % 60:02}:{int(left) % 60:02}"
-        return f"{self.tool}: {bar}{self.done} of {self.total} experiments, ETA {rest}"
-
-    def close(self) -> None:
-        if self.shown:
-            print(f"\r{' ' * self.shown}\r", end="", file=sys.stderr, flush=True)
-
-
 def _task(function: Callable[[View], T], piece: Piece, plans: Optional[dict[str, Plan]], given: Given) -> T:
     return function(view_of(piece, plans, given.report, given.scenario()))
 
@@ -144,8 +103,7 @@ def over(given: Given, function: Callable[[View], T], plans: Optional[dict[str, 
         workers = max(1, min(workers, total))
         if most is not None and total > most:
             raise TooMany(str(total), most)
-    progress = Progress(tool, total)
-    try:
+    with Progress(tool, total) as progress:
         if (workers or 1) == 1:
             for piece in found:
                 yield _task(function, piece, plans, given)
@@ -154,8 +112,6 @@ def over(given: Given, function: Callable[[View], T], plans: Optional[dict[str, 
             for made in _by_processes(given, function, plans, found, workers or 1):
                 yield made
                 progress.step()
-    finally:
-        progress.close()
 
 
 def _by_processes(given: Given, function: Callable[[View], T], plans: Optional[dict[str, Plan]],

@@ -13,6 +13,8 @@ import re
 import signal
 import sqlite3
 import subprocess
+import sys
+import time
 from decimal import Context, Decimal
 from pathlib import Path
 from typing import Callable
@@ -28,8 +30,8 @@ import dnlab  # noqa: E402
 from dnlab.chance import Chance  # noqa: E402
 from dnlab.estimates import estimate  # noqa: E402
 from dnlab.grids import cases_of, name_of, seeds_of, setting_of  # noqa: E402
+from dnlab.progress import Progress  # noqa: E402
 from dnlab.templates import Template, value_of  # noqa: E402
-from dnlab.work import Progress  # noqa: E402
 
 BOTTLENECK = ROOT / "python" / "examples" / "bottleneck.tmpl"
 # One packet of a size that the seed draws, by a link of 1 Mbit/s: 8000 ns a byte, and the delay.
@@ -620,20 +622,44 @@ def test_by_dask(tmp_path: Path, program: str, monkeypatch: pytest.MonkeyPatch) 
     assert status == 2 and not out and "there is no scheduler" in err
 
 
+@pytest.mark.skipif(importlib.util.find_spec("tqdm") is None, reason="tqdm is missing (Debian: python3-tqdm)")
 def test_how_far_it_is(capsys: pytest.CaptureFixture[str]) -> None:
     """After 100 s 30 of 120 are done besides 20 that were kept, so the 70 others take 233 s."""
     progress = Progress("sweep", 120, 20)
     progress.step(30)
-    assert progress.told(progress.begin + 100) == "sweep: 50 of 120 experiments, ETA 00:03:53"
-    progress.is_seen = True
-    assert progress.told(progress.begin + 100) == "sweep: ████████░░░░░░░░░░░░ 50 of 120 experiments, ETA 00:03:53"
-    progress.last -= 1
-    progress.step()
-    progress.close()
-    assert capsys.readouterr().err.startswith("\rsweep: ████████░░░░░░░░░░░░ 51 of 120")
+    assert progress.told(progress.begin + 100) == "sweep: 50 of 120 experiments, ETA 03:53"
     progress = Progress("sweep", 9)
     progress.step()
     assert not capsys.readouterr().err
     progress.last -= 31
     progress.step()
-    assert capsys.readouterr().err.startswith("sweep: 2 of 9 experiments, ETA")
+    progress.close()
+    assert re.fullmatch("sweep: 2 of 9 experiments, ETA [0-9:]+\n", capsys.readouterr().err)
+
+
+@pytest.mark.skipif(importlib.util.find_spec("tqdm") is None, reason="tqdm is missing (Debian: python3-tqdm)")
+def test_how_far_it_is_on_a_terminal(monkeypatch: pytest.MonkeyPatch) -> None:
+    """A line with a bar is written anew in its place, and at the end nothing of it is left."""
+    class Terminal(io.StringIO):
+        def isatty(self) -> bool:
+            return True
+
+    shown = Terminal()
+    monkeypatch.setattr(sys, "stderr", shown)
+    with Progress("spread", 4, 1, "parts") as progress:
+        progress.step()
+        assert not shown.getvalue()
+        time.sleep(0.6)
+        progress.step()
+    lines = shown.getvalue().split("\r")
+    assert re.fullmatch("spread: #{15} +3 of 4 parts, ETA [0-9:]+ *", lines[1]) and "\n" not in shown.getvalue()
+    assert not lines[-1] and not lines[-2].strip()
+
+
+def test_without_tqdm_nothing_is_said_of_how_far_it_is(tmp_path: Path, program: str) -> None:
+    """A Python that finds no tqdm: the table is there, and the line of what was run."""
+    code = ("import sys; sys.modules['tqdm'] = None; from dnlab.__main__ import main; sys.exit(main(sys.argv[1:]))")
+    done = subprocess.run([sys.executable, "-B", "-c", code, "sweep", str(template(tmp_path)), "--set", "delay=5,7", "--of", "train 1",
+                           "--stat", "delay.p95"], capture_output=True, text=True, check=False,
+                          env={**os.environ, "DNLAB": program, "PYTHONPATH": str(ROOT / "python")})
+    assert done.returncode == 0 and done.stdout.startswith("delay  train 1 delay.p95 ms\n"), done.stderr

@@ -35,7 +35,7 @@ _dnlab_tools() {
     dnlab-sweep:*)
       words="--set --seeds --of --stat --from --to --ci --interval --csv --json --parquet --each --long --pairs --within"
       words+=" --plot --along --rows --columns --log --label --dry-run --kept --anew"
-      words+=" --workers --on --program --help"
+      words+=" --workers --on --parts --allow --program --help"
       ;;
     dnlab-from-ipfw:*) words="--if --me --flatten --drop-unmatchable --lenient --all --traffic --moment --end --name --seed --budget --trust --out --help" ;;
     dnlab-to-ipfw:*) words="--experiment --if --host --timed --iperf --out --help" ;;

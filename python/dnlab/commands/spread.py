@@ -3,18 +3,18 @@ import argparse
 import os
 import shutil
 import sys
-import time
 from pathlib import Path
 from typing import Iterator, Mapping, Optional, Sequence
 
 from dnlab import children, ending
 from dnlab.commands.words import parser_of
 from dnlab.crew import Crew
-from dnlab.engines import Job, Stop, failure, going, put_together, tell
+from dnlab.engines import Job, Stop, failure, going, put_together
 from dnlab.errors import Failed, Refused
 from dnlab.origin import Origin, origin_of, write_beside
 from dnlab.packed import unpacked
 from dnlab.programs import program as program_of
+from dnlab.progress import Progress
 from dnlab.rooms import Room
 from dnlab.scenario import MOST_BYTES, MOST_EXPERIMENTS, Judged, Plan, read
 from dnlab.splitting import Fault, Part, experiments_in, heading_fault, lines_in, repeated, shares, texts_of
@@ -224,6 +224,19 @@ def origin(args: argparse.Namespace, program: str, parts: Sequence[Part]) -> Ori
     return made._replace(program="", version="") if args.ssh or args.slurm else made
 
 
+def run_all(args: argparse.Namespace, program: str, jobs: Sequence[Job], folder: Path) -> None:
+    """Runs the parts that aren't done, and says how far it is."""
+    progress: Optional[Progress] = None
+    if args.work is not None:
+        ending.tells(lambda: f"{progress.done if progress else 0} of {len(jobs)} parts are kept in {folder}; the same words"
+                             " with --resume run the others")
+    groups = going(args, program, jobs, folder)
+    # The first group was done before, so it has no part in how long the rest takes.
+    with Progress("spread", len(jobs), len(next(groups)), "parts") as progress:
+        for finished in groups:
+            progress.step(len(finished))
+
+
 def spread(args: argparse.Namespace, named: Optional[str] = None) -> None:
     """Runs the scenarios in parts, by the program that is named, else that of `dnlab.programs.program`; `Stop` says what went wrong."""
     try:
@@ -235,14 +248,7 @@ def spread(args: argparse.Namespace, named: Optional[str] = None) -> None:
         folder = Path(args.work or passing.path).absolute()
         jobs = [Job(folder, number, [part.name for part in share], b"".join(part.text for part in share))
                 for number, share in enumerate(shares(everything, args.parts), 1)]
-        done = 0
-        begun = time.monotonic()
-        if args.work is not None:
-            ending.tells(lambda: f"{done} of {len(jobs)} parts are kept in {folder}; the same words with --resume run the"
-                                 " others")
-        for finished in going(args, program, jobs, folder):
-            done += len(finished)
-            tell(done, len(jobs), begun)
+        run_all(args, program, jobs, folder)
         check(args, jobs, folder)
         made = origin(args, program, everything) if args.out is not None else None
         with ending.held():
