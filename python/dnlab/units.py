@@ -18,6 +18,8 @@ UNITS: dict[str, dict[str, Fraction]] = {
     "index": {"": Fraction(1)},
     "ending": {"": Fraction(1)},
 }
+# How units of a table are shown to people: the name, and how many of the unit are one of it.
+FOR_PEOPLE = {"ns": ("ms", 10**6), "bit/s": ("Mbit/s", 10**6)}
 # How an experiment may end; as an amount the place in this.
 ENDINGS = ("end", "spent")
 _AMOUNT = re.compile(r"([0-9]+(?:\.[0-9]+)?) ?([^0-9 .]*)")

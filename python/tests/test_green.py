@@ -11,9 +11,9 @@ import pytest
 from conftest import ROOT, tool
 
 from dnlab.__main__ import COMMANDS
-from dnlab.figures import percentile_name
-from dnlab.metrics import metric_of
-from dnlab.tables import jitter
+from dnlab.analysis.figures import percentile_name
+from dnlab.analysis.metrics import metric_of
+from dnlab.analysis.tables import jitter
 
 np = pytest.importorskip("numpy", reason="numpy is missing (Debian: python3-numpy)")
 Alone = Callable[[bytes], bytes]

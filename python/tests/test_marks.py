@@ -6,10 +6,10 @@ from typing import Callable
 import pytest
 from conftest import tool
 
-from dnlab import scenario
-from dnlab.marks import MEANS, codes_of
-from dnlab.report import read
-from dnlab.view import View
+from dnlab.analysis.marks import MEANS, codes_of
+from dnlab.analysis.view import View
+from dnlab.io import scenario
+from dnlab.io.report import read
 
 Alone = Callable[[bytes], bytes]
 LINK = "@0 pipe 1 config bw 10Mbit/s delay 20 queue 50\n"

@@ -8,11 +8,11 @@ from conftest import EXAMPLES, ROOT, text_of
 from hypothesis import given, settings
 from hypothesis import strategies as some
 
-from dnlab import report, scenario
-from dnlab.digits import Text
+from dnlab.analysis.makings import makings_of
 from dnlab.errors import Refused
-from dnlab.lines import CAUSES, CODES, LISTINGS, WORDS, Reader, pipe_code
-from dnlab.makings import makings_of
+from dnlab.io import report, scenario
+from dnlab.io.digits import Text
+from dnlab.io.lines import CAUSES, CODES, LISTINGS, WORDS, Reader, pipe_code
 
 # Counted by hand in the reports: lines by word, then what the counters must be.
 COUNTED = {

@@ -27,11 +27,11 @@ pytest.importorskip("scipy", reason="scipy is missing (Debian: python3-scipy)")
 from conftest import ROOT, tool  # noqa: E402
 
 import dnlab  # noqa: E402
+from dnlab.analysis.estimates import estimate  # noqa: E402
 from dnlab.chance import Chance  # noqa: E402
-from dnlab.estimates import estimate  # noqa: E402
-from dnlab.grids import cases_of, name_of, seeds_of, setting_of  # noqa: E402
-from dnlab.progress import Progress  # noqa: E402
-from dnlab.templates import Template, value_of  # noqa: E402
+from dnlab.processes.progress import Progress  # noqa: E402
+from dnlab.sweeps.grids import cases_of, name_of, seeds_of, setting_of  # noqa: E402
+from dnlab.sweeps.templates import Template, value_of  # noqa: E402
 
 BOTTLENECK = ROOT / "python" / "examples" / "bottleneck.tmpl"
 # One packet of a size that the seed draws, by a link of 1 Mbit/s: 8000 ns a byte, and the delay.
@@ -584,7 +584,7 @@ def test_limits_of_a_template(text: str, cause: str, tmp_path: Path, program: st
 
 def test_a_template_without_end(monkeypatch: pytest.MonkeyPatch) -> None:
     """Its process is ended after some time; the sweep goes on to say so."""
-    monkeypatch.setattr("dnlab.making.MOST_SECONDS", 1.0)
+    monkeypatch.setattr("dnlab.sweeps.making.MOST_SECONDS", 1.0)
     text = "{% for i in range(10**6) %}{% for j in range(10**6) %}{% endfor %}{% endfor %}\n" + ONE
     made = dnlab.sweep(text, delay=5)
     with pytest.raises(dnlab.Faulty, match=r"experiment delay5-s1 \(delay=5, seed 1\): its text takes more than 1 s"):

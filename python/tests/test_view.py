@@ -15,7 +15,7 @@ import pytest
 from conftest import EXAMPLES, ROOT, tool, view_of
 
 pytest.importorskip("plotly", reason="plotly is missing (Debian: python3-plotly)")
-from dnlab.page import Blocks, drawn  # noqa: E402  (plotly is asked for first)
+from dnlab.plot.page import Blocks, drawn  # noqa: E402  (plotly is asked for first)
 
 Alone = Callable[[bytes], bytes]
 COOKBOOK = ROOT / "cookbook"
