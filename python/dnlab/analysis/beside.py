@@ -1,4 +1,5 @@
 """Metrics of two runs side by side, and whether they keep to tolerances."""
+import re
 from fnmatch import fnmatchcase
 from fractions import Fraction
 from typing import Iterator, NamedTuple, Optional, Sequence
@@ -65,14 +66,25 @@ class Pair(NamedTuple):
         """The second run's value by the first's."""
         return float(self.second / self.first) if self.first and self.second is not None else None
 
-    def shown(self) -> list[str]:
-        """Both values in one unit, and their ratio."""
+    def shown(self, exact: bool = True) -> list[str]:
+        """Both values in one unit, and their ratio; with up to three digits behind the point unless they are to be exact.
+        What differs is shown exactly where it would look the same by three, or as if it were nothing."""
         kind = self.metric.kind
         known = [abs(value) for value in (self.first, self.second) if value is not None]
         unit = fitting(max(known, default=Fraction(0)), kind)
+        whole, short = ([shown(value, kind, unit, digits) if value is not None else "-" for value in (self.first, self.second)]
+                        for digits in (9, 3))
+        if exact or (whole[0] != whole[1] and short[0] == short[1]):
+            return [*whole, self._ratio_shown(exact)]
+        values = [short_one if re.search("[1-9]", short_one) else one for one, short_one in zip(whole, short)]
+        return [*values, self._ratio_shown(exact)]
+
+    def _ratio_shown(self, exact: bool) -> str:
         ratio = self.ratio()
-        return [*("-" if value is None else shown(value, kind, unit) for value in (self.first, self.second)),
-                "-" if ratio is None else f"{ratio:.6g}"]
+        if ratio is None:
+            return "-"
+        short = f"{ratio:.3f}"
+        return f"{ratio:.9g}" if exact or (short in ("0.000", "1.000") and ratio != float(short)) else short
 
 
 def pairs(name: str, first: Sequence[Row], second: Sequence[Row], asked: Sequence[Metric],

@@ -18,8 +18,8 @@ from dnlab.cli.layout import lines_of
 from dnlab.cli.words import count_of, parser_of, percentiles_of
 from dnlab.errors import DIFFERS, INPUT, Faulty, status_of
 from dnlab.io.origin import check_beside
-from dnlab.io.report import Piece
-from dnlab.io.scenario import Plan
+from dnlab.io.pieces import Piece
+from dnlab.io.scenario_parts import Plan
 
 EXAMPLE = """Where they first part is said by what packets carry (flow 1 byte 2920, train 9 packet 5), since serial numbers
 shift: the moment, the last line that both have, the lines of each from there on, and of each pipe how many packets
@@ -116,6 +116,7 @@ def words(given: Sequence[str]) -> argparse.Namespace:
     parser.add_argument("--lines", type=count_of, default=3, metavar="N",
                         help="how many lines of each are shown where they part [3]")
     parser.add_argument("--all", action="store_true", help="show metrics that are the same too")
+    parser.add_argument("--exact", action="store_true", help="print all digits of amounts and ratios [three behind the point]")
     parser.add_argument("--json", action="store_true", help="print an object, amounts in ns, bytes and bit/s")
     found = parser.parse_intermixed_args(list(given))
     if len(found.scenarios) > 2:
@@ -193,11 +194,11 @@ def told(name: str, found: Optional[Parting], differs: Sequence[str], lines: int
     return said + (lines_of(cells, (0,)).rstrip("\n").split("\n") if len(cells) > 1 else [])
 
 
-def table(found: Sequence[Pair], everything: bool) -> str:
-    """The metrics that differ, or all, as a table; with how many are the same."""
+def table(found: Sequence[Pair], everything: bool, exact: bool) -> str:
+    """The metrics that differ, or all, as a table; with how many are the same. What isn't to be exact is rounded to three digits."""
     kept = [pair for pair in found if everything or not pair.is_same() or pair.is_bad() or pair.judged.startswith("within")]
     cells = [["experiment", "of", "metric", "A", "B", "B/A", "judged"]]
-    cells += [[pair.experiment, pair.of, pair.metric.word, *pair.shown(), pair.judged or "-"] for pair in kept]
+    cells += [[pair.experiment, pair.of, pair.metric.word, *pair.shown(exact), pair.judged or "-"] for pair in kept]
     same = sum(pair.is_same() and not pair.is_bad() for pair in found)
     return (lines_of(cells, (0, 1, 2, 6)) if kept else "") + f"{same} of {len(found)} metrics are the same\n"
 
@@ -272,6 +273,6 @@ def main(words_given: Sequence[str]) -> int:
     else:
         for part in parts:
             print("\n".join(part.said))
-        print("\n".join(missing) + "\n" if missing else "", table(found, given.all), sep="", end="")
+        print("\n".join(missing) + "\n" if missing else "", table(found, given.all, given.exact), sep="", end="")
     has_parted = not given.tolerance and any(part.parted for part in parts)
     return DIFFERS if missing or has_parted or any(pair.is_bad() for pair in found) else 0

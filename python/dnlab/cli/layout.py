@@ -95,30 +95,31 @@ def bare_table(rows: Sequence[Row], exact: bool = False) -> str:
     return lines_of(cells, texts)
 
 
-def estimated(row: Row) -> str:
-    """A mean with its interval, in the units for people, to two digits of the interval's half width; that of the
-    bootstrap by its ends, since they aren't as far from the mean.
+def estimated(row: Row, exact: bool = False) -> str:
+    """A mean with its interval, in the units for people, to two digits of the interval's half width, or to nine behind the
+    point; that of the bootstrap by its ends, since they aren't as far from the mean.
 
-    >>> estimated({"unit": "ns", "mean": 31270000.0, "low": 31190000.0, "high": 31350000.0, "method": "t"})
-    '31.270 ± 0.080'
+    >>> row = {"unit": "ns", "mean": 31270001.0, "low": 31190001.0, "high": 31350001.0, "method": "t"}
+    >>> estimated(row), estimated(row, exact=True)
+    ('31.270 ± 0.080', '31.270001000 ± 0.080000000')
     """
     if row["mean"] is None:
         return "-"
     _, scale = FOR_PEOPLE.get(row["unit"], ("", 1))
     mean = row["mean"] / scale
     if row["low"] is None:
-        return f"{mean:.6g}"
+        return f"{mean:.9f}" if exact else f"{mean:.6g}"
     low, high = row["low"] / scale, row["high"] / scale
     half = (high - low) / 2
     if half <= 0:
-        return f"{mean:.6g} ± 0"
-    digits = min(9, max(0, 1 - math.floor(math.log10(half))))
+        return f"{mean:.9f} ± 0" if exact else f"{mean:.6g} ± 0"
+    digits = 9 if exact else min(9, max(0, 1 - math.floor(math.log10(half))))
     if row["method"] == "t":
         return f"{mean:.{digits}f} ± {half:.{digits}f}"
     return f"{mean:.{digits}f} [{low:.{digits}f}, {high:.{digits}f}]"
 
 
-def sweep_table(rows: Sequence[Row], settings: Sequence[str]) -> str:
+def sweep_table(rows: Sequence[Row], settings: Sequence[str], exact: bool = False) -> str:
     """The rows of a sweep's table, a line for each setting, a column for each of and stat; times in ms. Marks, if there
     are any, stand at the end of their line."""
     columns = {(row["of"], row["stat"]): FOR_PEOPLE.get(row["unit"], (row["unit"], 1))[0] for row in rows}
@@ -126,7 +127,7 @@ def sweep_table(rows: Sequence[Row], settings: Sequence[str]) -> str:
     marks: dict[tuple[str, ...], dict[str, None]] = {}
     for row in rows:
         key = tuple(plain(row[name]) for name in settings)
-        lines.setdefault(key, {})[row["of"], row["stat"]] = estimated(row)
+        lines.setdefault(key, {})[row["of"], row["stat"]] = estimated(row, exact)
         marks.setdefault(key, {}).update(dict.fromkeys((row["marks"] or "").split()))
     heading = [*settings, *(" ".join(filter(None, (*column, unit))) for column, unit in columns.items())]
     cells = [heading, *([*key, *(own.get(column, "-") for column in columns)] for key, own in lines.items())]

@@ -67,7 +67,7 @@ def write_form(frame: pd.DataFrame, file: BinaryIO, form: str) -> None:
 def write_all(made: Sweep, table: pd.DataFrame, given: argparse.Namespace) -> None:
     """Writes what is asked for: the table first, then files, and the picture last."""
     if "-" not in (given.csv, given.json):
-        sys.stdout.write(sweep_table(records_of(table), made.settings))
+        sys.stdout.write(sweep_table(records_of(table), made.settings, given.exact))
         if given.pairs is not None:
             sys.stdout.write("\n" + pairs_of(made, given))
         sys.stdout.flush()
@@ -94,7 +94,8 @@ def pairs_of(made: Sweep, given: argparse.Namespace) -> str:
     along, base = pair_in(given.pairs)
     rows = records_of(made.raw_compare(along, base, given.ci, given.interval))
     others = [name for name in made.settings if name != along]
-    return sweep_table([{**row, along: f"{plain(row[along])} less {plain(row['base'])}"} for row in rows], [*others, along])
+    return sweep_table([{**row, along: f"{plain(row[along])} less {plain(row['base'])}"} for row in rows], [*others, along],
+                       given.exact)
 
 
 def say_needed(made: Sweep, table: pd.DataFrame, within: float) -> None:

@@ -145,6 +145,8 @@ def parser_of_words() -> argparse.ArgumentParser:
     parser.add_argument("--ci", type=level_of, default=95, metavar="LEVEL", help="of the intervals, in percent [95]")
     parser.add_argument("--interval", choices=KINDS, default="t",
                         help="Student's t, or the bootstrap where values are far from normal [t]")
+    parser.add_argument("--exact", action="store_true",
+                        help="print means and intervals with nine digits behind the point [two of the interval's half width]")
     for form, more in ("csv", ", or - for standard output"), ("json", ", or - too"), ("parquet", " (it needs pyarrow)"):
         parser.add_argument(f"--{form}", metavar="FILE", help=f"the table, a row for each setting, of and stat{more}")
     parser.add_argument("--each", metavar="FILE", help="a row for each experiment and of, as .csv, .json or .parquet")
