@@ -11,7 +11,8 @@ from typing import Callable, Iterator
 import pytest
 from conftest import tool
 
-from dnlab.io.ipfw_import import Became, Import
+from dnlab.io.ipfw_became import Became
+from dnlab.io.ipfw_import import Import
 from dnlab.io.ipfw_script import Line, lines_of
 from dnlab.io.ipfw_words import APPROXIMATED, DROPPED, REFUSED, REWRITTEN, SAME, Cannot, rate
 

@@ -1,4 +1,4 @@
-"""The package's layers: who may import whom, and older names of modules that have moved."""
+"""The package's layers: who may import whom, how long a module is, and older names of modules that have moved."""
 import ast
 import importlib
 import subprocess
@@ -48,6 +48,7 @@ def test_a_module_keeps_to_its_layer(file: Path) -> None:
     if own:
         found = {layer_of(name) for name in imported(file)} - {"", own, *BELOW[own].split()}
         assert not {layer for layer in found if (str(place), layer) not in ASIDE}
+    assert len(file.read_text(encoding="utf-8").splitlines()) <= 300
 
 
 def test_what_stands_below_needs_no_session() -> None:
@@ -69,8 +70,8 @@ def test_an_older_name_warns(old: str) -> None:
 
 def test_the_warning_names_who_imports() -> None:
     """What users write by the older names works, and the warning has their line."""
-    words = ("import dnlab\nfrom dnlab.report import pieces\nfrom dnlab import scenario\nimport dnlab.sessions\n"
-             "print(pieces.__module__, scenario.__name__, dnlab.sessions.Session is dnlab.Session, callable(dnlab.sweep))")
+    words = ("import dnlab\nfrom dnlab.report import read_piece\nfrom dnlab import scenario\nimport dnlab.sessions\n"
+             "print(read_piece.__module__, scenario.__name__, dnlab.sessions.Session is dnlab.Session, callable(dnlab.sweep))")
     done = subprocess.run([sys.executable, "-B", "-W", "always", "-"], input=words, capture_output=True, text=True, check=False,
                           cwd=ROOT / "python")
     assert done.stdout == "dnlab.io.report dnlab.io.scenario True True\n"

@@ -9,7 +9,8 @@ from conftest import EXAMPLES
 import dnlab
 from dnlab.errors import Refused
 from dnlab.io import scenario
-from dnlab.io.scenario import Judged, Sends
+from dnlab.io.scenario import Judged
+from dnlab.io.scenario_parts import Sends
 
 TEXT = b"""experiment a seed 18446744073709551615 budget 7
 # a comment

@@ -11,7 +11,8 @@ from collections.abc import Iterable
 
 sys.path.insert(0, str(pathlib.Path(__file__).resolve().parents[2] / "python"))
 
-from dnlab.io.scenario import MOST_BYTES, MOST_LINE, SCALES, TIMES, Judged  # noqa: E402  (the path is set first)
+from dnlab.io.scenario import Judged  # noqa: E402  (the path is set first)
+from dnlab.io.scenario_parts import MOST_BYTES, MOST_LINE, SCALES, TIMES  # noqa: E402  (the path is set first)
 
 __all__ = ["MOST_BYTES", "MOST_LINE", "SCALES", "TIMES", "Judged", "trouble"]
 

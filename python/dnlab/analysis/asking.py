@@ -14,7 +14,7 @@ from dnlab.analysis.view import Note, View
 from dnlab.errors import Faulty
 from dnlab.io.digits import Ints
 from dnlab.io.lines import CAUSES, pipe_name
-from dnlab.io.scenario import Plan
+from dnlab.io.scenario_parts import Plan
 
 # All flows' segments taken together, and the packets of all trains.
 GROUPS = ("flows", "trains")

@@ -11,12 +11,11 @@ from typing import BinaryIO, Iterator, NamedTuple
 import dpkt
 import numpy as np
 
-from dnlab.analysis.makings import ACKNOWLEDGES, DATA
 from dnlab.analysis.view import View
 from dnlab.errors import Faulty
 from dnlab.io.digits import Flags, Ints
-from dnlab.io.lines import DELIVER, MAKE
-from dnlab.io.scenario import HEADER, WINDOW
+from dnlab.io.lines import ACKNOWLEDGES, DATA, DELIVER, MAKE
+from dnlab.io.scenario_parts import HEADER, WINDOW
 
 SIDES = ("sender", "receiver")
 LACKING = ("experiment {}: {} of its {} packets were made without `trace 1`, and no line has their addresses: make"

@@ -5,9 +5,9 @@ from typing import Any, Optional, Sequence
 import numpy as np
 import pandas as pd
 
-from dnlab.analysis.makings import first_window
+from dnlab.analysis.emissions import first_window
+from dnlab.analysis.losses import dropping_pipes
 from dnlab.analysis.packets import DROPPED, FATES, UNKNOWN
-from dnlab.analysis.tables import dropping_pipes
 from dnlab.analysis.view import View
 from dnlab.io.digits import Ints
 from dnlab.io.lines import ACK, CAUSES, DROP, EXPIRE, KINDS, OK, REFUSED, WORDS, pipe_name

@@ -13,10 +13,10 @@ from typing import TYPE_CHECKING, Iterator, Sequence
 
 import numpy as np
 
-from dnlab.analysis.makings import ACKNOWLEDGES, DATA, first_window
+from dnlab.analysis.emissions import first_window
 from dnlab.analysis.notes import Note
-from dnlab.io.lines import ACK, EXPIRE, pipe_name
-from dnlab.io.scenario import Command, Sends
+from dnlab.io.lines import ACK, ACKNOWLEDGES, DATA, EXPIRE, pipe_name
+from dnlab.io.scenario_parts import Command, Sends
 from dnlab.io.settings import DEFAULTS, Change, Config, stretches_of
 
 if TYPE_CHECKING:

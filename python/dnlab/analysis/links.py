@@ -11,12 +11,12 @@ from typing import Optional
 import numpy as np
 
 from dnlab.analysis.life import Life, limits
-from dnlab.analysis.makings import DATA, PLAIN, Makings
+from dnlab.analysis.makings import Makings
 from dnlab.analysis.packets import HELD, Packets, Visits, never_seen
 from dnlab.io.digits import Ints
-from dnlab.io.lines import CAUSES, DELIVER, DROP, FINISH, OK, PASS, REFUSED, pipe_name
-from dnlab.io.report import Experiment
-from dnlab.io.scenario import Command, Plan
+from dnlab.io.lines import CAUSES, DATA, DELIVER, DROP, FINISH, OK, PASS, PLAIN, REFUSED, pipe_name
+from dnlab.io.report import Recorded
+from dnlab.io.scenario_parts import Command, Plan
 from dnlab.io.settings import Change, changes_of, stretches_of
 
 _FULL, _LOST, _CODEL = (CAUSES.index(cause) for cause in ("full", "lost", "codel"))
@@ -38,7 +38,7 @@ class _Fault:
 class Links:
     """Compares an experiment with its plan; `check` raises `Refused` at the first line that tells otherwise."""
 
-    def __init__(self, experiment: Experiment, plan: Plan, makings: Makings, packets: Packets, visits: Visits) -> None:
+    def __init__(self, experiment: Recorded, plan: Plan, makings: Makings, packets: Packets, visits: Visits) -> None:
         self.experiment = experiment
         self.plan = plan
         self.makings = makings
@@ -262,6 +262,6 @@ def _service(served: Ints, rate: Ints) -> Ints:
     return np.array([-(-8 * 10**9 * one // by) for one, by in zip(served.tolist(), rate.tolist())], dtype=np.int64)
 
 
-def compare_links(experiment: Experiment, plan: Plan, makings: Makings, packets: Packets, visits: Visits) -> None:
+def compare_links(experiment: Recorded, plan: Plan, makings: Makings, packets: Packets, visits: Visits) -> None:
     """Refuses the first line that tells of finishes, exits or queues otherwise than the scenario has them."""
     Links(experiment, plan, makings, packets, visits).check()

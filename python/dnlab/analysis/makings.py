@@ -12,14 +12,12 @@ from typing import Any, NamedTuple
 import numpy as np
 from numpy.typing import NDArray
 
-from dnlab.errors import Refused
+from dnlab.analysis.emissions import NEVER, Emissions, by_flow, first_window, missing_after, sent_by
+from dnlab.analysis.making_checks import compare
 from dnlab.io.digits import Flags, Ints
-from dnlab.io.lines import ACK, DELIVER, EXPIRE, KINDS, MAKE, OK, REFUSED, RULE, SPENT
-from dnlab.io.report import Experiment, follows_ack
-from dnlab.io.scenario import HEADER, Plan, Sends
-
-PLAIN, DATA, ACKNOWLEDGES = range(len(KINDS))
-_NEVER = 2**62
+from dnlab.io.lines import ACK, ACKNOWLEDGES, DATA, DELIVER, EXPIRE, OK, PLAIN, REFUSED, RULE, SPENT
+from dnlab.io.report import Recorded, follows_ack
+from dnlab.io.scenario_parts import HEADER, Plan, Sends
 
 
 @dataclass
@@ -45,12 +43,6 @@ class Makings:
         return len(self.moment)
 
 
-class Emissions(NamedTuple):
-    """What one flow or train sent: moments and first bytes, shape (n,), in order."""
-    moment: Ints
-    first: Ints
-
-
 class Started(NamedTuple):
     """A command that sends, and was done: its row in the report and its moment."""
     row: int
@@ -58,16 +50,7 @@ class Started(NamedTuple):
     sends: Sends
 
 
-def first_window(smss: int) -> int:
-    """The window that a flow begins with, in bytes (RFC 5681, section 3.1, as docs/explanation/reno.md has it).
-
-    >>> first_window(1095), first_window(1460)
-    (4380, 4380)
-    """
-    return (4 if smss <= 1095 else 3) * smss
-
-
-def commands_of(experiment: Experiment, plan: Plan) -> list[int]:
+def commands_of(experiment: Recorded, plan: Plan) -> list[int]:
     """The rows of the scenario's commands, in order; a report with others is refused."""
     columns = experiment.columns
     rows: list[int] = np.flatnonzero((columns.word == OK) | (columns.word == REFUSED)).tolist()
@@ -85,7 +68,7 @@ def commands_of(experiment: Experiment, plan: Plan) -> list[int]:
     return rows
 
 
-def is_spent(experiment: Experiment) -> bool:
+def is_spent(experiment: Recorded) -> bool:
     """Whether the experiment ended with its budget of steps."""
     return len(experiment.columns) > 0 and int(experiment.columns.word[-1]) == SPENT
 
@@ -93,7 +76,7 @@ def is_spent(experiment: Experiment) -> bool:
 class Maker:
     """Works out an experiment's makings."""
 
-    def __init__(self, experiment: Experiment, plan: Plan) -> None:
+    def __init__(self, experiment: Recorded, plan: Plan) -> None:
         self.experiment = experiment
         self.columns = experiment.columns
         self.plan = plan
@@ -241,7 +224,7 @@ class Maker:
         window = np.concatenate((np.array([first_window(started.sends.smss)], dtype=np.int64), columns.number[rows]))
         moment = np.concatenate((np.array([started.moment], dtype=np.int64), columns.moment[rows]))
         sent = sent_by(started.sends, moment, expires, upto, window)
-        until = min(self.stopped.get(number, _NEVER), self.last + self.spent)
+        until = min(self.stopped.get(number, NEVER), self.last + self.spent)
         count = int(np.searchsorted(sent.moment, until, side="left"))
         return Emissions(sent.moment[:count], sent.first[:count])
 
@@ -250,126 +233,7 @@ def _arrays(makings: Makings) -> list[Any]:
     return [makings.moment, makings.size, makings.who, makings.kind, makings.flow, makings.number]
 
 
-def by_flow(flows: NDArray[np.int32]) -> list[tuple[int, Ints]]:
-    """Each flow with its places, in order."""
-    order = np.argsort(flows.astype(np.uint16), kind="stable")
-    ordered = flows[order]
-    cuts = np.flatnonzero(ordered[1:] != ordered[:-1]) + 1
-    return [(int(flows[part[0]]), part) for part in np.split(order, cuts) if len(part)]
-
-
-def missing_after(firsts: Ints, smss: int, count: int) -> Ints:
-    """The first byte that is missing behind each of the segments that came, in the order in which they came."""
-    numbers = firsts // smss
-    good = np.flatnonzero((firsts % smss == 0) & (numbers < count))
-    most = int(numbers[good].max()) + 1 if len(good) else 0
-    came = np.full(most, _NEVER, dtype=np.int64)
-    came[numbers[good[::-1]]] = good[::-1]
-    # The segments 0 to s are there once the latest of them came.
-    there = np.maximum.accumulate(came) if most else came
-    return np.searchsorted(there, np.arange(len(firsts)), side="right") * smss
-
-
-def sent_by(sends: Sends, moment: Ints, expires: Flags, upto: Ints, window: Ints) -> Emissions:
-    """What a sender sends, by what happens to it: event 0 is its beginning, the others `ack` and `expire` lines.
-
-    Events of one moment are followed by what the last of them allows. SND.NXT is then the greatest of what it was, of
-    SND.UNA, and of what the window allows; an expiry takes it back to SND.UNA.
-    """
-    size, total = sends.smss, sends.smss * sends.count
-    una = np.maximum.accumulate(upto)
-    last = np.flatnonzero(np.append(moment[1:] != moment[:-1], True))
-    begin = np.concatenate((np.zeros(1, dtype=np.int64), last[:-1] + 1))
-    taken_back = np.logical_or.reduceat(expires, begin)
-    allowed = una[last] + np.minimum(window[last], sends.window) // size * size
-    reached = np.maximum(una[last], np.minimum(allowed, total))
-    # Greatest values since an expiry: each stretch between two is lifted above the one before.
-    lift = np.cumsum(taken_back) * np.int64(total + int(upto.max()) + size)
-    nxt = np.maximum.accumulate(reached + lift) - lift
-    before = np.concatenate((np.zeros(1, dtype=np.int64), nxt[:-1]))
-    before = np.where(taken_back, una[last], np.maximum(before, una[last]))
-    again = resends(moment, expires, upto, una, nxt, last)
-    counts = (nxt - before) // size + again
-    group = np.repeat(np.arange(len(last)), counts)
-    place = np.arange(len(group)) - np.repeat(np.cumsum(counts) - counts, counts) - again[group]
-    first = np.where(place < 0, una[last][group], before[group] + place * size)
-    return Emissions(moment[last][group], first)
-
-
-def resends(moment: Ints, expires: Flags, upto: Ints, una: Ints, nxt: Ints, last: Ints) -> Ints:
-    """Of each moment 1 where the third duplicate came and the segment at SND.UNA is sent again, else 0."""
-    count = len(moment)
-    group = np.searchsorted(last, np.arange(count))
-    greatest = np.concatenate((np.zeros(1, dtype=np.int64), np.maximum.accumulate(nxt)))[group]
-    known = np.concatenate((np.zeros(1, dtype=np.int64), una[:-1]))
-    is_ack = ~expires
-    is_ack[0] = False
-    is_new = is_ack & (upto > known)
-    is_duplicate = is_ack & (upto == known) & (known < greatest)
-    resets = is_new | expires
-    resets[0] = True
-    duplicates = np.cumsum(is_duplicate)
-    since = duplicates - np.maximum.accumulate(np.where(resets, duplicates, 0))
-    events = np.arange(count)
-    third = np.maximum.accumulate(np.where(is_duplicate & (since == 3), events, -1))[last]
-    reset = np.maximum.accumulate(np.where(resets, events, -1))[last]
-    begin = np.concatenate((np.zeros(1, dtype=np.int64), last[:-1] + 1))
-    sent: Ints = ((third >= begin) & (third > reset)).astype(np.int64)
-    return sent
-
-
-def shown(makings: Makings, packet: int) -> str:
-    """A packet's load as a report shows it."""
-    kind = int(makings.kind[packet])
-    return KINDS[kind] if kind == PLAIN else f"{KINDS[kind]} {makings.flow[packet]} {makings.number[packet]}"
-
-
-def compare(experiment: Experiment, makings: Makings) -> None:
-    """Refuses the first line that says of a packet otherwise than was worked out, and another number of packets."""
-    columns = experiment.columns
-    rows = np.flatnonzero(columns.packet >= 0)
-    packets = columns.packet[rows]
-    inside = packets < len(makings)
-    at = np.where(inside, packets, 0)
-    if not len(makings):
-        bad = ~inside
-    else:
-        kind = columns.kind[rows]
-        bad = ~inside | (columns.moment[rows] < makings.moment[at])
-        bad |= (kind >= 0) & ((kind != makings.kind[at]) | (columns.flow[rows] != makings.flow[at]))
-        bad |= (kind > 0) & (columns.number[rows] != makings.number[at])
-        is_make = columns.word[rows] == MAKE
-        bad |= is_make & ((columns.moment[rows] != makings.moment[at]) | (columns.more[rows] != makings.size[at]))
-    if bad.any():
-        raise parted(experiment, makings, int(rows[np.flatnonzero(bad)[0]]))
-    made = experiment.counters.made
-    if made != len(makings):
-        raise Refused(experiment.line, f"experiment {experiment.name}: {made} packets were made, where the scenario"
-                      f" tells of {len(makings)}")
-
-
-def parted(experiment: Experiment, makings: Makings, row: int) -> Refused:
-    """The refusal of the row at which report and scenario part."""
-    columns = experiment.columns
-    packet = int(columns.packet[row])
-    if packet >= len(makings):
-        return experiment.refused(row, f"packet {packet}, where the scenario makes {len(makings)} by then: the report"
-                                  " isn't this scenario's")
-    kind = int(columns.kind[row])
-    load = shown(makings, packet)
-    if kind >= 0:
-        told = KINDS[kind] if kind == PLAIN else f"{KINDS[kind]} {columns.flow[row]} {columns.number[row]}"
-        if told != load:
-            return experiment.refused(row, f"packet {packet} is {told}, where the scenario makes it {load}: the report"
-                                      " isn't this scenario's")
-    made = int(makings.moment[packet])
-    if int(columns.word[row]) == MAKE:
-        return experiment.refused(row, f"packet {packet} is made otherwise than by the scenario, at {made} with"
-                                  f" {makings.size[packet]} bytes")
-    return experiment.refused(row, f"packet {packet} before it is made, at {made}")
-
-
-def makings_of(experiment: Experiment, plan: Plan) -> Makings:
+def makings_of(experiment: Recorded, plan: Plan) -> Makings:
     """The makings of an experiment by its scenario, compared with each line of the report."""
     makings = Maker(experiment, plan).work_out()
     compare(experiment, makings)

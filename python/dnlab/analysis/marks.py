@@ -10,10 +10,9 @@ from typing import TYPE_CHECKING, Iterable, NamedTuple, Optional, Sequence
 import numpy as np
 
 from dnlab.analysis.likely import likely_of
-from dnlab.analysis.makings import ACKNOWLEDGES
 from dnlab.analysis.notes import Note
 from dnlab.analysis.packets import DELIVERED, DROPPED
-from dnlab.io.lines import CAUSES, OK, REFUSED
+from dnlab.io.lines import ACKNOWLEDGES, CAUSES, OK, REFUSED
 
 if TYPE_CHECKING:
     from dnlab.analysis.view import View

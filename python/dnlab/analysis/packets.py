@@ -6,10 +6,10 @@ from typing import Optional
 import numpy as np
 from numpy.typing import NDArray
 
-from dnlab.analysis.makings import ACKNOWLEDGES, DATA, PLAIN, Makings
+from dnlab.analysis.makings import Makings
 from dnlab.io.digits import Flags, Ints
-from dnlab.io.lines import ARRIVE, CAUSES, DELIVER, DROP, FINISH, KINDS, MAKE, PASS
-from dnlab.io.report import Experiment
+from dnlab.io.lines import ACKNOWLEDGES, ARRIVE, CAUSES, DATA, DELIVER, DROP, FINISH, KINDS, MAKE, PASS, PLAIN
+from dnlab.io.report import Recorded
 
 HELD, DELIVERED, DROPPED = 0, 1, 2
 FATES = ("held", "delivered") + CAUSES
@@ -110,7 +110,7 @@ class Visits:
         return [(int(self.pipe[part[0]]), part) for part in np.split(order, cuts) if len(part)]
 
 
-def packets_of(experiment: Experiment, makings: Optional[Makings] = None) -> Packets:
+def packets_of(experiment: Recorded, makings: Optional[Makings] = None) -> Packets:
     """The packets of an experiment; who made them and when by its makings, else by its `make` lines."""
     columns = experiment.columns
     count = experiment.counters.made
@@ -126,7 +126,7 @@ def packets_of(experiment: Experiment, makings: Optional[Makings] = None) -> Pac
     return _by_lines(experiment, ended, fate)
 
 
-def _by_lines(experiment: Experiment, ended: Ints, fate: NDArray[np.int8]) -> Packets:
+def _by_lines(experiment: Recorded, ended: Ints, fate: NDArray[np.int8]) -> Packets:
     """Packets as far as the report's own lines tell of them."""
     columns = experiment.columns
     count = len(ended)
@@ -157,7 +157,7 @@ def _name(key: int, headers: list[str]) -> str:
     return f"flow {number}" + (" acks" if kind == ACKNOWLEDGES else "")
 
 
-def visits_of(experiment: Experiment, packets: Packets) -> Visits:
+def visits_of(experiment: Recorded, packets: Packets) -> Visits:
     """The visits of all packets to pipes, as far as lines tell of them: `arrive` and `finish` lines, and CoDel's drops,
     which are of the pipe of the finish before them."""
     columns = experiment.columns
@@ -188,7 +188,7 @@ def visits_of(experiment: Experiment, packets: Packets) -> Visits:
     return Visits(serial, pipe, arrival, finish, left)
 
 
-def _servers(experiment: Experiment, rows: Ints) -> NDArray[np.int32]:
+def _servers(experiment: Recorded, rows: Ints) -> NDArray[np.int32]:
     """The pipes of the last finish before some rows."""
     finishes = experiment.rows(FINISH)
     at = np.searchsorted(finishes, rows) - 1

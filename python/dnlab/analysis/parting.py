@@ -11,12 +11,12 @@ from typing import Any, NamedTuple, Optional
 import numpy as np
 from numpy.typing import NDArray
 
-from dnlab.analysis.makings import ACKNOWLEDGES, DATA
 from dnlab.analysis.packets import UNKNOWN
 from dnlab.analysis.series import in_flight, waiting
 from dnlab.analysis.view import View
 from dnlab.io.digits import Ints
-from dnlab.io.lines import ACK, ARRIVE, CAUSES, DROP, EXPIRE, IDENTIFY, MAKE, OK, REFUSED, RULE, WORDS, pipe_name
+from dnlab.io.lines import (ACK, ACKNOWLEDGES, ARRIVE, CAUSES, DATA, DROP, EXPIRE, IDENTIFY, MAKE, OK, REFUSED, RULE, WORDS,
+                            pipe_name)
 
 
 class Names(NamedTuple):

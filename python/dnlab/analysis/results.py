@@ -8,21 +8,21 @@ from typing import Any, Iterator, Optional, Sequence, Union
 
 import pandas as pd
 
-from dnlab.analysis import frames
-from dnlab.analysis import names
-from dnlab.analysis.figures import Percentile
-from dnlab.analysis.figures import interval as interval_of
+from dnlab.analysis import frames, names
+from dnlab.analysis.figures import Percentile, interval as interval_of
+from dnlab.analysis.losses import losses, windows
 from dnlab.analysis.marks import Refusal
 from dnlab.analysis.options import columns_in, varied
 from dnlab.analysis.spans import span_of
 from dnlab.analysis.summing import lacking, summed
-from dnlab.analysis.tables import PERCENTILES, Tables, columns_of, losses, windows
+from dnlab.analysis.tables import PERCENTILES, Tables, columns_of
 from dnlab.analysis.view import Ended, Note, View, view_of
 from dnlab.analysis.work import Given, bytes_of, pieces_of, plans_of
 from dnlab.errors import Faulty
 from dnlab.io.origin import Origin, check_beside
-from dnlab.io.report import Counters, Piece
-from dnlab.io.scenario import Plan
+from dnlab.io.pieces import Piece
+from dnlab.io.report import Counters
+from dnlab.io.scenario_parts import Plan
 
 Names = Union[str, Path, Sequence[Union[str, Path]]]
 

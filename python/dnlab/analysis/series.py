@@ -9,12 +9,12 @@ from typing import Callable, NamedTuple, Optional, Sequence
 import numpy as np
 from numpy.typing import NDArray
 
-from dnlab.analysis.makings import DATA, first_window
+from dnlab.analysis.emissions import first_window
 from dnlab.analysis.packets import DELIVERED, DROPPED
 from dnlab.analysis.spans import Span
 from dnlab.analysis.view import Note, View
 from dnlab.io.digits import Ints
-from dnlab.io.lines import ACK, CAUSES, DROP, EXPIRE, pipe_name
+from dnlab.io.lines import ACK, CAUSES, DATA, DROP, EXPIRE, pipe_name
 
 WHAT = ("window", "queue", "sojourn", "rate", "drops")
 # Panels that are drawn where they are asked for by name (`dnlab.analysis.shares` makes them).

@@ -4,15 +4,16 @@ from functools import partial
 from typing import Callable, Iterable, Iterator, NamedTuple, Optional, Sequence, TypeVar
 
 from dnlab.analysis.figures import Percentile, interval
+from dnlab.analysis.losses import losses, windows
 from dnlab.analysis.metrics import is_named
 from dnlab.analysis.options import varied
 from dnlab.analysis.spans import Span
-from dnlab.analysis.tables import PERCENTILES, Row, Tables, losses, windows
+from dnlab.analysis.tables import PERCENTILES, Row, Tables
 from dnlab.analysis.view import KINDS, Note, View
 from dnlab.analysis.work import Given, over
 from dnlab.errors import Faulty
 from dnlab.io.origin import check_beside
-from dnlab.io.scenario import Plan
+from dnlab.io.scenario_parts import Plan
 
 
 T = TypeVar("T")

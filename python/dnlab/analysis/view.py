@@ -7,15 +7,16 @@ import numpy as np
 from numpy.typing import NDArray
 
 from dnlab.analysis.links import compare_links
-from dnlab.analysis.makings import ACKNOWLEDGES, DATA, is_spent, makings_of
+from dnlab.analysis.makings import is_spent, makings_of
 from dnlab.analysis.marks import Refusal, marks_of, refused_of
 from dnlab.analysis.notes import KINDS, NO_SCENARIO, Note
 from dnlab.analysis.packets import Packets, Visits, never_seen, packets_of, visits_of
 from dnlab.errors import Faulty, Refused
 from dnlab.io.digits import Flags, Ints
-from dnlab.io.lines import MAKE, OK, REFUSED, RULE
-from dnlab.io.report import Counters, Experiment, Piece, read_piece
-from dnlab.io.scenario import Command, Plan, Sends
+from dnlab.io.lines import ACKNOWLEDGES, DATA, MAKE, OK, REFUSED, RULE
+from dnlab.io.pieces import Piece
+from dnlab.io.report import Counters, Recorded, read_piece
+from dnlab.io.scenario_parts import Command, Plan, Sends
 from dnlab.io.settings import Change, changes_of
 
 __all__ = ["KINDS", "NO_SCENARIO", "Ended", "Note", "View", "flows_of", "view_of"]
@@ -36,7 +37,7 @@ class Ended(NamedTuple):
 @dataclass
 class View:
     """An experiment of a report, joined with its plan where that is known."""
-    experiment: Experiment
+    experiment: Recorded
     plan: Optional[Plan] = None
     more_notes: list[Note] = field(default_factory=list)
 

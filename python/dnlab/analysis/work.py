@@ -7,8 +7,9 @@ from typing import BinaryIO, Callable, Iterable, Iterator, NamedTuple, Optional,
 from dnlab.analysis.view import View, view_of
 from dnlab.errors import Faulty, Refused
 from dnlab.io.packed import unpacked
-from dnlab.io.report import Piece, pieces
-from dnlab.io.scenario import Plan, read
+from dnlab.io.pieces import Piece, pieces
+from dnlab.io.scenario import read
+from dnlab.io.scenario_parts import Plan
 from dnlab.processes.crew import Crew
 from dnlab.processes.progress import Progress
 

@@ -7,7 +7,8 @@ from typing import Sequence
 
 from dnlab.cli.words import moment_of, parser_of
 from dnlab.errors import Faulty, Refused, status_of
-from dnlab.io.ipfw_import import Became, Import, scenario_of
+from dnlab.io.ipfw_became import Became, scenario_of
+from dnlab.io.ipfw_import import Import
 from dnlab.io.ipfw_script import SECONDS, lines_of
 from dnlab.io.ipfw_words import APPROXIMATED, REFUSED
 from dnlab.io.outputs import whole_file

@@ -12,7 +12,7 @@ from dnlab.analysis.work import Given, pieces_of, plans_of
 from dnlab.cli.words import add_texts, parser_of, taken
 from dnlab.errors import Faulty, Lacking, status_of
 from dnlab.io.outputs import whole_file
-from dnlab.io.report import Piece
+from dnlab.io.pieces import Piece
 
 EXAMPLE = """The scenario must have `@0 trace 1` as the first command of the experiment, and leave it on: only then the report has
 every packet's addresses and size. What else a capture has is made up: Ethernet, no SYN and no FIN, sequence numbers

@@ -7,7 +7,8 @@ from dnlab.cli.to_ipfw import plan_of, write
 from dnlab.cli.words import count_of, moment_of, parser_of, time_of
 from dnlab.errors import Faulty, status_of
 from dnlab.io import rates
-from dnlab.io.scenario import Judged, Plan
+from dnlab.io.scenario import Judged
+from dnlab.io.scenario_parts import Plan
 from dnlab.io.settings import rate_of
 
 EXAMPLE = """FILE has Mahimahi's milliseconds, at each of which a packet of 1504 bytes may leave (--every takes them together), or is CSV

@@ -10,14 +10,16 @@ from dnlab.cli.words import parser_of
 from dnlab.errors import Failed, Refused
 from dnlab.io.origin import Origin, origin_of, write_beside
 from dnlab.io.packed import unpacked
-from dnlab.io.scenario import MOST_BYTES, MOST_EXPERIMENTS, Judged, Plan, read
+from dnlab.io.scenario import Judged, read
+from dnlab.io.scenario_parts import MOST_BYTES, MOST_EXPERIMENTS, Plan
 from dnlab.io.splitting import Fault, Part, experiments_in, heading_fault, lines_in, repeated, shares, texts_of
 from dnlab.processes import children, ending
 from dnlab.processes.crew import Crew
 from dnlab.processes.progress import Progress
 from dnlab.processes.rooms import Room
 from dnlab.programs import program as program_of
-from dnlab.sweeps.engines import Job, Stop, failure, going, put_together
+from dnlab.sweeps.engines import failure, going, put_together
+from dnlab.sweeps.jobs import Job, Stop
 
 
 EXAMPLE = """The scenarios are split at their experiments into N parts, each with about as many commands; each part is run by
@@ -164,7 +166,8 @@ def experiments_of(args: argparse.Namespace, program: str) -> list[Part]:
 
 def judged_part(whole: str, text: str) -> Optional[str]:
     """What isn't right in the report of a part, for another process; it is read and joined with its text."""
-    from dnlab.io.report import pieces, read_piece
+    from dnlab.io.pieces import pieces
+    from dnlab.io.report import read_piece
     from dnlab.analysis.view import View
 
     name = "its first experiment"

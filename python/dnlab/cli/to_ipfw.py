@@ -9,7 +9,8 @@ from dnlab.errors import Faulty, Refused, status_of
 from dnlab.io.exports import chosen, setting_of
 from dnlab.io.ipfw_export import Machine, script_of
 from dnlab.io.outputs import whole_file
-from dnlab.io.scenario import Plan, read
+from dnlab.io.scenario import read
+from dnlab.io.scenario_parts import Plan
 
 EXAMPLE = """On a router each packet passes the rules twice, coming in and going out; so a rule to a pipe must say which: `--if` says what
 is behind an interface, and the rule gets `in recv` where its source is there, else `out xmit` where its destination is.

@@ -3,7 +3,7 @@ import re
 from typing import NamedTuple, Optional, Sequence
 
 from dnlab.errors import Faulty
-from dnlab.io.scenario import Command, Plan
+from dnlab.io.scenario_parts import Command, Plan
 from dnlab.io.settings import Config, config_of
 
 _SENDS = ("flow", "train", "inject", "stop")

@@ -5,7 +5,7 @@ from typing import Mapping, NamedTuple, Optional
 from dnlab.errors import Faulty
 from dnlab.io.exports import Rule, Setting, iperf_of, printable, rule_of
 from dnlab.io.ipfw_words import network
-from dnlab.io.scenario import Command
+from dnlab.io.scenario_parts import Command
 from dnlab.io.settings import Config, config_of
 
 _MOST_DELAY = 10**10

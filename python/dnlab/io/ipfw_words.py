@@ -8,7 +8,7 @@ import socket
 from decimal import Decimal, InvalidOperation
 from typing import NamedTuple
 
-from dnlab.io.scenario import MASKS, SCALES
+from dnlab.io.scenario_parts import MASKS, SCALES
 
 SAME, REWRITTEN, APPROXIMATED, DROPPED, REFUSED = "same", "rewritten", "approximated", "dropped", "refused"
 KINDS = (SAME, REWRITTEN, APPROXIMATED, DROPPED, REFUSED)

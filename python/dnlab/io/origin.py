@@ -15,7 +15,7 @@ from typing import Any, Mapping, NamedTuple, Optional, Sequence, Union
 
 from dnlab.errors import Faulty
 from dnlab.io.outputs import whole_file
-from dnlab.io.scenario import Plan
+from dnlab.io.scenario_parts import Plan
 
 # What says that a file is such a record, and in which form.
 _KEY, _FORM = "dnlab report", 1

@@ -10,7 +10,7 @@ from pathlib import Path
 from typing import Iterable, Iterator, NamedTuple, Optional, Sequence
 
 from dnlab.errors import Faulty
-from dnlab.io.scenario import BIT_UNITS, MOST_BYTES, SCALES
+from dnlab.io.scenario_parts import BIT_UNITS, MOST_BYTES, SCALES
 from dnlab.io.settings import rate_of
 
 # Mahimahi's packets: so many bytes leave at each moment of a trace.

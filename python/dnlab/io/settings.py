@@ -2,7 +2,7 @@
 from dataclasses import dataclass
 from typing import Iterable, NamedTuple, Optional
 
-from dnlab.io.scenario import BIT_UNITS, MASKS, SCALES, TIMES, Command
+from dnlab.io.scenario_parts import BIT_UNITS, MASKS, SCALES, TIMES, Command
 
 _MILLION = 10**6
 # The options whose defaults are easily got back by a second `config` that doesn't name them, with these defaults in words.

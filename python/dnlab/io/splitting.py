@@ -1,7 +1,8 @@
 """Cuts scenario texts between their experiments, so that the program can take them."""
 from typing import Iterable, Iterator, NamedTuple, Optional, Sequence
 
-from dnlab.io.scenario import MOST_BYTES, MOST_EXPERIMENTS, Judged
+from dnlab.io.scenario import Judged
+from dnlab.io.scenario_parts import MOST_BYTES, MOST_EXPERIMENTS
 
 
 class Part(NamedTuple):

@@ -9,7 +9,7 @@ from typing import Iterator, NamedTuple, Optional, Sequence
 from dnlab.errors import Faulty
 from dnlab.io.exports import Rule, Setting, number_behind, printable
 from dnlab.io.ipfw_words import network
-from dnlab.io.scenario import TIMES
+from dnlab.io.scenario_parts import TIMES
 from dnlab.io.settings import Config
 
 _FAST = "100000000000bit quantum 1514"

@@ -4,7 +4,7 @@ from functools import lru_cache
 from typing import Any, Callable, Union
 
 from dnlab.errors import Failed
-from dnlab.io.scenario import CAUSES
+from dnlab.io.scenario_parts import CAUSES
 from dnlab.library.places import library
 
 _DONE, _FAULT, _ROOM = 0, 1, 5

@@ -9,10 +9,10 @@ from matplotlib.ticker import FuncFormatter, LogLocator, NullLocator
 from pandas.api.types import is_numeric_dtype
 
 from dnlab.analysis.series import MOST
-from dnlab.units import FOR_PEOPLE
 from dnlab.errors import Faulty
 from dnlab.plot import names
 from dnlab.plot.pictures import COLOURS, LINES, MARKERS, STYLE, subplots
+from dnlab.units import FOR_PEOPLE
 
 # More panels than this are no picture.
 _MOST_PANELS = 24

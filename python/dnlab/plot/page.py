@@ -12,12 +12,11 @@ from typing import Any, Iterable, NamedTuple, Optional, Sequence
 
 import numpy as np
 
-from dnlab.analysis.makings import ACKNOWLEDGES
 from dnlab.analysis.packets import DELIVERED, DROPPED, FATES, UNKNOWN
 from dnlab.analysis.series import Panel, Series, Values, link_rates, queues, rates, sojourns, windows
 from dnlab.analysis.view import View, flows_of
 from dnlab.io.digits import Ints
-from dnlab.io.lines import pipe_name
+from dnlab.io.lines import ACKNOWLEDGES, pipe_name
 from dnlab.io.outputs import whole_file
 
 SCRIPT = "dnlab-plotly.js"

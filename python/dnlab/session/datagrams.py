@@ -7,7 +7,7 @@ import os
 from contextlib import contextmanager
 from typing import Any, Iterator, Optional
 
-from dnlab.session.events import MOST_SIZE, LEAST_SIZE, Address, Event
+from dnlab.session.events import LEAST_SIZE, MOST_SIZE, Address, Event
 from dnlab.session.links import Link
 
 # What IPv4 and UDP put before a datagram (bytes).

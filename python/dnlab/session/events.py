@@ -5,7 +5,7 @@ from functools import lru_cache
 from typing import Any, NamedTuple, Optional
 
 from dnlab.errors import Faulty
-from dnlab.io.scenario import MOMENTS
+from dnlab.io.scenario_parts import MOMENTS
 
 # An IPv4 address and a port.
 Address = tuple[str, int]

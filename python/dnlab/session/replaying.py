@@ -11,7 +11,7 @@ import dpkt
 
 from dnlab.errors import Failed, Faulty, Lacking
 from dnlab.io.arrivals import ETHERNET, RAW, Arrival
-from dnlab.io.scenario import MOST_BYTES
+from dnlab.io.scenario_parts import MOST_BYTES
 from dnlab.processes import ending
 
 # A session answers at once: who writes more than a pipe holds before reading would wait for ever.

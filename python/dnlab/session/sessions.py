@@ -19,7 +19,7 @@ from types import TracebackType
 from typing import IO, Literal, Optional
 
 from dnlab.errors import Failed
-from dnlab.io.scenario import STEPS
+from dnlab.io.scenario_parts import STEPS
 from dnlab.processes import children
 from dnlab.programs import program
 from dnlab.session.events import CommandRefused, NotTaken, Packet

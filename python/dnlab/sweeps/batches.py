@@ -3,7 +3,7 @@ from typing import Iterator, NamedTuple, Optional, Sequence
 
 from dnlab.analysis.asking import Found
 from dnlab.errors import Failed
-from dnlab.io.scenario import BadWord, Words, experiment
+from dnlab.io.scenario_words import BadWord, Words, experiment
 from dnlab.processes import children
 from dnlab.processes.children import Killed
 from dnlab.processes.crew import Outcome

@@ -12,8 +12,8 @@ from dnlab.processes.children import Killed
 from dnlab.processes.crew import Crew
 from dnlab.processes.rooms import Room
 from dnlab.sweeps import engines
-from dnlab.sweeps.measuring import answers as read_answers
-from dnlab.sweeps.measuring import measured, measured_by_turns
+from dnlab.sweeps.jobs import Job, Stop
+from dnlab.sweeps.measuring import answers as read_answers, measured, measured_by_turns
 
 if TYPE_CHECKING:
     from dnlab.analysis.asking import Ask, Found
@@ -107,13 +107,13 @@ def by_spread(sweep: "Sweep", waiting: Sequence["Waiting"], program: str, count:
         else:
             found = experiments_in([text.encode() for text in texts.values()])
             named = [[part.name for part in share] for share in shares(found, count)]
-        jobs = [engines.Job(room.path, number, names, "".join(texts[name] for name in names).encode())
+        jobs = [Job(room.path, number, names, "".join(texts[name] for name in names).encode())
                 for number, names in enumerate(named, 1)]
         words = ["-", "--work", str(room.path), "--parts", str(count)]
         words += ["--slurm"] if sweep.on == "slurm" else ["--ssh", str(sweep.on)]
         args = spread.words(words + (["--program", sweep.there] if sweep.there else []))
         args.work = None  # The folder is there by now, and nobody goes on in it.
-        stop: Optional[engines.Stop] = None
+        stop: Optional[Stop] = None
         going = engines.going(args, program, jobs, room.path)
         is_going = True
         while is_going or len(crew):
@@ -123,14 +123,14 @@ def by_spread(sweep: "Sweep", waiting: Sequence["Waiting"], program: str, count:
                               sweep.span)
             except StopIteration:
                 is_going = False
-            except engines.Stop as stopped:
+            except Stop as stopped:
                 is_going, stop = False, stopped
             yield from _read(crew, jobs, by_name, None if not is_going else 0.0)
         if stop is not None:
             raise Failed(stop.status, str(stop).strip())
 
 
-def _read(crew: Crew[int], jobs: Sequence[engines.Job], by_name: dict[str, "Waiting"],
+def _read(crew: Crew[int], jobs: Sequence[Job], by_name: dict[str, "Waiting"],
           seconds: Optional[float]) -> Iterator["Answered"]:
     """What the parts answer that have been read by now; without a time all that are there."""
     while len(crew):

@@ -19,6 +19,7 @@ from dnlab.processes import children, ending
 from dnlab.processes.children import Killed
 from dnlab.processes.crew import Crew
 from dnlab.processes.rooms import CANCEL, cancel
+from dnlab.sweeps.jobs import Job, Stop
 
 # What each task of the Slurm array does: the parts of its line of `tasks`, one after another. It writes under a name of
 # its own and renames, so that a part has a whole report or none, even where an array that was given up still runs
@@ -39,59 +40,6 @@ exit $worst
 _MAX_ARRAY_SIZE = 1001
 # How long this machine waits before it looks again what others have done, in seconds.
 _LOOK = 0.5
-
-
-class Stop(Exception):
-    """Ends the run with a status and what standard error says."""
-
-    def __init__(self, status: int, said: str) -> None:
-        super().__init__(said)
-        self.status = status
-
-
-class Job:
-    """A part in the work folder: its text N.txt, and N.whole, its report once it is done."""
-
-    def __init__(self, folder: Path, number: int, names: list[str], text: bytes) -> None:
-        self.folder = folder
-        self.number = number
-        self.names = names
-        self.text = text
-        # What isn't right in its report, where somebody has looked.
-        self.wrong: Optional[str] = None
-
-    def file(self, kind: str) -> Path:
-        return self.folder / f"{self.number}.{kind}"
-
-    def is_done(self) -> bool:
-        """A report is whole when it has the part's experiments in order and ends with counters."""
-        if not self.file("whole").is_file():
-            return False
-        names: list[str] = []
-        last = b"counters 0\n"
-        with open(self.file("whole"), "rb") as report:
-            for line in report:
-                last = line
-                if line.startswith(b"experiment "):
-                    names.append(line.split()[1].decode(errors="replace"))
-        return names == self.names and last.startswith(b"counters ") and last.endswith(b"\n")
-
-    def why(self) -> str:
-        """What is known of a part that isn't done."""
-        if self.wrong is not None:
-            return self.wrong
-        status = self.file("status")
-        if not status.is_file():
-            return "it didn't run to its end"
-        errors = self.file("err")
-        said = errors.read_bytes().decode(errors="replace").strip().splitlines() if errors.is_file() else []
-        number = status.read_text().strip()
-        if number == "0":
-            return "status 0, but its report is cut or of another scenario"
-        ended_by = children.signal_of(int(number)) if re.fullmatch("-?[0-9]+", number) else None
-        if ended_by:
-            return f"status {number}, {children.told(ended_by)}"
-        return f"status {number}" + (f", {said[-1]}" if said else "")
 
 
 def version_of(program: str) -> bytes:

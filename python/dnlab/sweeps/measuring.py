@@ -7,8 +7,10 @@ from dnlab.analysis.asking import Ask, Found, answer
 from dnlab.analysis.spans import Span
 from dnlab.analysis.view import View
 from dnlab.errors import Failed, Refused
-from dnlab.io.report import pieces, read_piece
-from dnlab.io.scenario import Plan, read
+from dnlab.io.pieces import pieces
+from dnlab.io.report import read_piece
+from dnlab.io.scenario import read
+from dnlab.io.scenario_parts import Plan
 from dnlab.processes import children
 
 

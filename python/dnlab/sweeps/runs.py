@@ -9,8 +9,9 @@ from dnlab.errors import Failed, Refused
 from dnlab.io.origin import Origin, origin_of, write_beside
 from dnlab.io.outputs import whole_file
 from dnlab.io.packed import unpacked
-from dnlab.io.report import pieces
-from dnlab.io.scenario import MOST_BYTES, MOST_EXPERIMENTS, read
+from dnlab.io.pieces import pieces
+from dnlab.io.scenario import read
+from dnlab.io.scenario_parts import MOST_BYTES, MOST_EXPERIMENTS
 from dnlab.io.splitting import experiments_in, texts_of
 from dnlab.processes import children
 from dnlab.processes.rooms import Room

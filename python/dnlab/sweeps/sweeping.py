@@ -10,7 +10,8 @@ from dnlab.analysis.own import Own
 from dnlab.analysis.spans import Span, span_of
 from dnlab.analysis.work import cores
 from dnlab.errors import Failed, Faulty
-from dnlab.io.scenario import MOST_BYTES, MOST_EXPERIMENTS, Plan, read
+from dnlab.io.scenario import read
+from dnlab.io.scenario_parts import MOST_BYTES, MOST_EXPERIMENTS, Plan
 from dnlab.io.splitting import experiments_in
 from dnlab.processes import ending
 from dnlab.processes.children import Killed

@@ -4,9 +4,7 @@ from typing import Any, Optional, Sequence
 
 import pandas as pd
 
-from dnlab.analysis import frames
-from dnlab.analysis import names
-from dnlab.analysis import seeds as over_seeds
+from dnlab.analysis import frames, names, seeds as over_seeds
 from dnlab.analysis.asking import Ask, Found, unit_of
 from dnlab.analysis.estimates import Kind, estimate
 from dnlab.analysis.metrics import is_named

@@ -13,7 +13,7 @@ import jinja2.sandbox
 
 from dnlab.chance import Chance
 from dnlab.errors import Faulty
-from dnlab.io.scenario import MOST_BYTES
+from dnlab.io.scenario_parts import MOST_BYTES
 from dnlab.sweeps.traffic import Traffic
 
 Value = Union[int, float, str]
