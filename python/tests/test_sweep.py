@@ -273,7 +273,7 @@ def test_counts_by_grep(tmp_path: Path, program: str, alone: Callable[[bytes], b
     assert tool("sweep", BOTTLENECK, *words, *stats, DNLAB=program)[0] == 0
     rows = rows_of(each.read_text())
     made = dnlab.sweep(BOTTLENECK, length=2, queue=[10, "200 codel"], seed=3)
-    assert [row["of"] for row in rows] == ["flows", "train 9"] * 2 and rows[0]["experiment"] == "length2-queue10-s3"
+    assert [row["sender"] for row in rows] == ["flows", "train 9"] * 2 and rows[0]["experiment"] == "length2-queue10-s3"
     for case, flows, call in zip(made.cases, rows[::2], rows[1::2]):
         report = alone(made.text(case).encode()).decode()
 
@@ -331,8 +331,8 @@ def test_marks_and_what_is_said(tmp_path: Path, program: str) -> None:
     assert status == 2 and not out and "(delay=5, steps=3, seed " in err and "its steps were spent" in err
     words += ["--allow", "spent"]
     status, out, err = tool("sweep", template(tmp_path, text), *words, DNLAB=program)
-    assert status == 0 and {row["marks"] for row in rows_of(out) if row["steps"] == "3"} == {"spent"}
-    assert {row["marks"] for row in rows_of(out) if row["steps"] == "100"} == {""}
+    assert status == 0 and {row["warnings"] for row in rows_of(out) if row["steps"] == "3"} == {"spent"}
+    assert {row["warnings"] for row in rows_of(out) if row["steps"] == "100"} == {""}
     assert "2 of 4 experiments: their steps were spent" in err and "the seeds change nothing" in err
     assert "rate of pipe 1.0, delay=5, steps=3: 0 of 2 experiments tell it (and 2 more like it)" in err
     assert "seeds change nothing" not in tool("sweep", template(tmp_path), "--set", "delay=5", "--seeds", "1-2",
@@ -556,7 +556,7 @@ def test_a_refused_command_ends_a_sweep(tmp_path: Path, program: str) -> None:
         assert status == 2 and not out and "experiment delay7-s" in err and "(delay=7, seed " in err
         assert "line 5: `pipe delete 9` (20: there is no pipe of this number)" in err and "--allow refused" in err
     status, out, err = tool("sweep", *words, "--allow", "refused", DNLAB=program)
-    assert status == 0 and {row["delay"]: row["marks"] for row in rows_of(out)} == {"5": "", "7": "refused"}
+    assert status == 0 and {row["delay"]: row["warnings"] for row in rows_of(out)} == {"5": "", "7": "refused"}
     with pytest.raises(dnlab.Faulty, match="refused"):
         dnlab.sweep(file, delay=7, of="all", stat="lost", dnlab=program).table()
     assert dnlab.sweep(file, delay=7, of="all", stat="lost", dnlab=program, allow=["refused"]).table()["n"].tolist() == [1]

@@ -76,7 +76,7 @@ def table(rows: Sequence[Row], percentiles: Sequence[Percentile] = PERCENTILES, 
 
 
 # Columns of times in ns, and what `grouped` makes of them.
-_TIME = re.compile(r"^(p[0-9.]+|least|median|greatest|mean|jitter|time|first|last|begin|end|completion|ended_at)( mean| half)?$")
+_TIME = re.compile(r"^(p[0-9.]+|min|max|mean|jitter|time|first|last|begin|end|fct|ended_at)( mean| ci95)?$")
 
 
 def _shown(name: str, value: object, exact: bool) -> str:

@@ -5,6 +5,7 @@ import json
 import sys
 from typing import Sequence, TextIO
 
+from dnlab.analysis.columns import TOLD, now, older, rows_now
 from dnlab.analysis.spans import Span
 from dnlab.analysis.summing import grouped, summed, tell, tell_empty
 from dnlab.analysis.tables import Row, columns_of, times_of
@@ -34,7 +35,8 @@ instance (two rows where packets of both directions came through it), both direc
   marks      what may be silently wrong: refused, spent, no-way-back, denied, budget, unsent, reconfigured, outage,
              half-duplex, window-limited, units (docs/reference/tools.md says what each means)
 What can't be told is `-` (nothing in --csv, null in --json, where times are nanoseconds): without the scenario
-sizes and the moments at which packets were made, unless all of the report was made under `trace 1`. --csv and
+sizes and the moments at which packets were made, unless all of the report was made under `trace 1`. --csv, --json
+and --by have names for programs: sender, in_flight, min, p50, max, retransmissions, fct, params, warnings. --csv and
 --json have besides the mean and the jitter (RFC 3550) of the time under way, utilisation (of a pipe: what it served
 by what its rate could have carried), refused (how many commands were) and their codes, seed, budgets and settings of
 each row's experiment, and `varied`, what of its pipes isn't the same in all experiments.
@@ -57,10 +59,10 @@ def words(given: Sequence[str]) -> argparse.Namespace:
     kind.add_argument("--every", type=time_of, metavar="TIME",
                       help="what came in each window of time, as 100ms, 20us or 1s, in place of the summary")
     kind.add_argument("--losses", action="store_true", help="drops by sender, cause and pipe, in place of the summary")
-    kind.add_argument("--by", type=lambda text: text.split(","), metavar="COLUMN,..",
-                      help="group rows by `of` and these columns (varied, settings, experiment, seed ..): mean and half"
-                      " width of the 95 %% interval")
-    parser.add_argument("--columns", type=lambda text: text.split(","), metavar="COLUMN,..",
+    kind.add_argument("--by", type=lambda text: text.split(","), default=[], metavar="COLUMN,..",
+                      help="group rows by `sender` and these columns (varied, params, experiment, seed ..): mean and half"
+                      " width of the 95 %% interval (ci95)")
+    parser.add_argument("--columns", type=lambda text: text.split(","), default=[], metavar="COLUMN,..",
                         help="with --by: of what the means are [the times under way and goodput]")
     add_span(parser)
     parser.add_argument("--exact", action="store_true", help="print all digits of times and fractions [three behind the point]")
@@ -70,15 +72,24 @@ def words(given: Sequence[str]) -> argparse.Namespace:
     form.add_argument("--csv", action="store_true", help="print lines with commas, a heading first")
     form.add_argument("--json", action="store_true", help="print a list of objects")
     found = taken(parser, list(given))
+    for asked in found.by, found.columns:
+        asked[:] = [column_of(name) for name in asked]
     known = columns_of(found.percentiles)
     if span_in(parser, found) != Span() and (found.every or found.losses):
         parser.error("--from and --to go with the rows of the summary; --every has each time by itself")
     if found.columns and not found.by:
         parser.error("--columns goes with --by")
-    for name in [*(found.by or []), *(found.columns or [])]:
+    for name in [*found.by, *found.columns]:
         if name not in known:
-            parser.error(f"no column {name}: {', '.join(known)}")
+            parser.error(f"no column {name}: {', '.join(map(now, known))}")
     return found
+
+
+def column_of(name: str) -> str:
+    """A column that is asked for, by the name that rows have; an older name is warned of."""
+    if now(name) != name:
+        print(f"summary: {TOLD.format(old=name, new=now(name))}", file=sys.stderr)
+    return older(name)
 
 
 def print_csv(rows: Sequence[Row], names: Sequence[str], out: TextIO) -> None:
@@ -109,18 +120,18 @@ def main(words_given: Sequence[str]) -> int:
     except Faulty as faulty:
         print(f"summary: {faulty}", file=sys.stderr)
         return status_of(faulty)
-    names: Sequence[str] = columns_of(given.percentiles, span) if kind == "summary" else list(rows[0]) if rows else []
     if given.by:
         rows = grouped(rows, given.by, given.columns or [*times_of(given.percentiles), "goodput"])
-        names = list(rows[0]) if rows else []
+    told = rows_now(rows)
+    names = list(map(now, columns_of(given.percentiles, span))) if kind == "summary" and not given.by else list(told[0]) if told else []
     if given.csv:
-        print_csv(rows, names, sys.stdout)
+        print_csv(told, names, sys.stdout)
     elif given.json:
-        print_json(rows, sys.stdout)
+        print_json(told, sys.stdout)
     elif kind == "summary" and not given.by:
         sys.stdout.write(table(rows, given.percentiles, given.exact))
     elif rows:
-        sys.stdout.write(bare_table(rows, given.exact))
+        sys.stdout.write(bare_table(told, given.exact))
     tell("summary", notes, total)
     tell_empty("summary", Given(given.report), total)
     return 0

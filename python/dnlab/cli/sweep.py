@@ -73,11 +73,11 @@ def write_all(made: Sweep, table: pd.DataFrame, given: argparse.Namespace) -> No
         sys.stdout.flush()
     for form in "csv", "json", "parquet":
         if getattr(given, form) is not None:
-            write(table, getattr(given, form), form)
+            write(made.with_names(table), getattr(given, form), form)
     if given.each is not None:
-        write(made.raw_rows(), given.each, given.each.rsplit(".", 1)[-1])
+        write(made.rows(), given.each, given.each.rsplit(".", 1)[-1])
     if given.long is not None:
-        write(made.raw_long(), given.long, given.long.rsplit(".", 1)[-1])
+        write(made.long(), given.long, given.long.rsplit(".", 1)[-1])
     if given.plot is not None:
         from dnlab.plot import pictures
         from dnlab.plot import curves

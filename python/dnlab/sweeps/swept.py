@@ -13,8 +13,8 @@ from dnlab.sweeps.templates import shown
 
 
 class Swept:
-    """What a sweep tells once it was run: the `raw_` tables by the names that the tools write, the others by those that
-    users of pandas expect."""
+    """What a sweep tells once it was run: the `raw_` tables by the names that rows have within the package, the others by
+    those that users of pandas expect."""
     cases: list[Case]
     asks: Sequence[Ask]
     settings: list[str]
@@ -27,13 +27,14 @@ class Swept:
     def rows(self) -> pd.DataFrame:
         """A row for each experiment and each of whom was asked: its settings, seed, experiment, sender, a column for each
         stat (times in ns, rates in bit/s, sizes in bytes; <NA> where it can't be told or wasn't asked), warnings."""
-        return self._with_names(self.raw_rows())
+        return self.with_names(self.raw_rows())
 
-    def _with_names(self, frame: pd.DataFrame) -> pd.DataFrame:
+    def with_names(self, frame: pd.DataFrame) -> pd.DataFrame:
+        """A table by the names in use now; settings and stats stay as they are called."""
         return names.named(frame, keep=[*self.settings, *self.stats()])
 
     def raw_rows(self) -> pd.DataFrame:
-        """The same by the names that the tools write."""
+        """The same by the names of rows within the package."""
         self.run()
         stats = self.stats()
         is_text = {name: not all(isinstance(case.settings[name], (int, float)) for case in self.cases)
@@ -61,19 +62,19 @@ class Swept:
 
     def long(self) -> pd.DataFrame:
         """The same in long form: a row for each experiment, sender and stat, with its `unit` and `value`."""
-        return self._with_names(self.raw_long())
+        return self.with_names(self.raw_long())
 
     def raw_long(self) -> pd.DataFrame:
-        """The same by the names that the tools write."""
+        """The same by the names of rows within the package."""
         rows = self.raw_rows()
         return over_seeds.long_of(rows, self.settings, self.stats())
 
     def compare(self, along: str, base: Any = None, level: float = 95, interval: Kind = "t") -> pd.DataFrame:
         """The values of a setting beside one of them, seed by seed (see `dnlab.analysis.seeds.compared`)."""
-        return self._with_names(self.raw_compare(along, base, level, interval))
+        return self.with_names(self.raw_compare(along, base, level, interval))
 
     def raw_compare(self, along: str, base: Any = None, level: float = 95, interval: Kind = "t") -> pd.DataFrame:
-        """The same by the names that the tools write."""
+        """The same by the names of rows within the package."""
         rows = self.raw_rows()
         return over_seeds.compared(rows, self.settings, self.stats(), along, base, level, interval)
 
@@ -82,10 +83,10 @@ class Swept:
         its interval, Student's t or the bootstrap), min and max, in `unit`; the interval's level and method; and the warnings
         of its experiments (see `view.Note`). With `within`, a share of the mean as 0.05, `needed` is how many seeds have an
         interval of at most so much to both sides (see `dnlab.analysis.seeds.needed`)."""
-        return self._with_names(self.raw_table(level, interval, within))
+        return self.with_names(self.raw_table(level, interval, within))
 
     def raw_table(self, level: float = 95, interval: Kind = "t", within: Optional[float] = None) -> pd.DataFrame:
-        """The same by the names that the tools write."""
+        """The same by the names of rows within the package."""
         rows = self.raw_rows()
         found: list[dict[str, Any]] = []
         by = [*self.settings, "of"]
