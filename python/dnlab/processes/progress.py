@@ -1,4 +1,5 @@
 """How far long work is, on standard error: a bar of tqdm on a terminal, elsewhere whole lines that a log can keep."""
+import shutil
 import sys
 import time
 from typing import Any, Optional
@@ -28,7 +29,8 @@ class Progress:
         self._bar: Any = None
         if tqdm is not None and sys.stderr.isatty():
             self._bar = _Bar(total=total, initial=done, desc=tool, unit=unit, file=sys.stderr, leave=False, miniters=1,
-                             mininterval=_SEEN, delay=_SEEN, dynamic_ncols=True, bar_format=_form(total, "{bar:20} "))
+                             mininterval=_SEEN, delay=_SEEN, ncols=shutil.get_terminal_size().columns - 1,
+                             bar_format=_form(total, "{bar:20} "))
 
     def __enter__(self) -> "Progress":
         ending.add(self.close)
