@@ -16,9 +16,8 @@ PACKAGE = ROOT / "python" / "dnlab"
 BELOW = {"processes": "", "io": "processes", "analysis": "processes io", "plot": "processes io analysis", "library": "io",
          "sweeps": "processes io analysis plot library", "session": "processes io", "senders": "session analysis",
          "cli": "processes io analysis plot sweeps session"}
-# The engines take the words of `spread`, so that a sweep on other machines and `spread` refuse the same; an experiment has
-# its figure as a method, as frames of pandas have.
-ASIDE = {("sweeps/elsewhere.py", "cli"), ("analysis/results.py", "plot")}
+# An experiment has its figure as a method, as frames of pandas have.
+ASIDE = {("analysis/results.py", "plot")}
 FILES = sorted(PACKAGE.rglob("*.py"))
 
 

@@ -31,6 +31,7 @@ from dnlab.analysis.estimates import estimate  # noqa: E402
 from dnlab.chance import Chance  # noqa: E402
 from dnlab.processes.progress import Progress  # noqa: E402
 from dnlab.sweeps.grids import cases_of, name_of, seeds_of, setting_of  # noqa: E402
+from dnlab.sweeps.jobs import How  # noqa: E402
 from dnlab.sweeps.templates import Template, value_of  # noqa: E402
 
 BOTTLENECK = ROOT / "python" / "examples" / "bottleneck.tmpl"
@@ -477,6 +478,17 @@ def test_other_machines_by_a_stand_in(tmp_path: Path, counting: Path) -> None:
                           capture_output=True, text=True, check=False,
                           env={**os.environ, "PATH": path, "DNLAB": str(counting)})
     assert done.returncode == 0 and done.stdout == here[1] and calls(tmp_path) == ["delay7-s2"]
+
+
+def test_an_engine_that_is_not_there(tmp_path: Path, program: str, monkeypatch: pytest.MonkeyPatch) -> None:
+    """Whoever sweeps in Python gets the reason as `Faulty`, as for any other input that can't be used."""
+    text = template(tmp_path).read_text()
+    monkeypatch.setenv("PATH", str(tmp_path))
+    for on, said in ("4/alpha", "parallel isn't there (Debian: parallel)"), ("slurm", "sbatch isn't there (Debian: slurm-client)"):
+        with pytest.raises(dnlab.Faulty, match=re.escape(f"--on {on}: {said}")):
+            dnlab.sweep(text, delay=5, of="train 1", stat="delay.p95", on=on, dnlab=program).run()
+    assert How(ssh="4/alpha", program="/opt/{a}").fault() == "--program /opt/{a}: parallel would fill in its braces"
+    assert How().fault() is None
 
 
 def test_ended_from_outside(tmp_path: Path, program: str) -> None:

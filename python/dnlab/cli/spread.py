@@ -19,7 +19,7 @@ from dnlab.processes.progress import Progress
 from dnlab.processes.rooms import Room
 from dnlab.programs import program as program_of
 from dnlab.sweeps.engines import failure, going, put_together
-from dnlab.sweeps.jobs import Job, Stop
+from dnlab.sweeps.jobs import How, Job, Stop
 
 
 EXAMPLE = """The scenarios are split at their experiments into N parts, each with about as many commands; each part is run by
@@ -77,12 +77,15 @@ def words(given: Sequence[str]) -> argparse.Namespace:
         parser.error(f"--out {args.out}: it is no regular file")
     if args.out is not None and not os.path.isdir(os.path.dirname(args.out) or "."):
         parser.error(f"--out {args.out}: its folder isn't there")
-    if args.ssh and set(args.program or "") & set("{}"):
-        parser.error(f"--program {args.program}: parallel would fill in its braces")
-    engine = "sbatch" if args.slurm else "parallel"
-    if (args.slurm or args.ssh) and shutil.which(engine) is None:
-        parser.error(f"{engine} isn't there (Debian: {'slurm-client' if args.slurm else 'parallel'})")
+    fault = how_of(args).fault()
+    if fault is not None:
+        parser.error(fault)
     return args
+
+
+def how_of(args: argparse.Namespace) -> How:
+    """How the words have it run."""
+    return How(args.parts, args.jobs, args.ssh, args.slurm, args.program, args.work, args.resume)
 
 
 def text_of(name: str) -> bytes:
@@ -185,12 +188,12 @@ def judged_part(whole: str, text: str) -> Optional[str]:
     return None
 
 
-def check(args: argparse.Namespace, jobs: Sequence[Job], folder: Path) -> None:
+def check(how: How, jobs: Sequence[Job], folder: Path) -> None:
     """Reads all parts' reports as every other tool does; one that can't be its text's is a part that failed."""
     from dnlab.analysis.work import cores
 
     wrong: dict[int, str] = {}
-    with Crew[int](min(args.jobs or cores(), len(jobs) or 1)) as crew:
+    with Crew[int](min(how.jobs or cores(), len(jobs) or 1)) as crew:
         for job in jobs:
             crew.give(job.number, judged_part, str(job.file("whole")), str(job.file("txt")))
         while len(crew):
@@ -202,7 +205,7 @@ def check(args: argparse.Namespace, jobs: Sequence[Job], folder: Path) -> None:
             job.file("whole").unlink()
             job.wrong = f"its report isn't its text's: {wrong[job.number]}"
     if wrong:
-        raise failure(args, jobs, [job for job in jobs if job.number in wrong], folder)
+        raise failure(how, jobs, [job for job in jobs if job.number in wrong], folder)
 
 
 class Plans(Mapping[str, Plan]):
@@ -227,13 +230,13 @@ def origin(args: argparse.Namespace, program: str, parts: Sequence[Part]) -> Ori
     return made._replace(program="", version="") if args.ssh or args.slurm else made
 
 
-def run_all(args: argparse.Namespace, program: str, jobs: Sequence[Job], folder: Path) -> None:
+def run_all(how: How, program: str, jobs: Sequence[Job], folder: Path) -> None:
     """Runs the parts that aren't done, and says how far it is."""
     progress: Optional[Progress] = None
-    if args.work is not None:
+    if how.work is not None:
         ending.tells(lambda: f"{progress.done if progress else 0} of {len(jobs)} parts are kept in {folder}; the same words"
                              " with --resume run the others")
-    groups = going(args, program, jobs, folder)
+    groups = going(how, program, jobs, folder)
     # The first group was done before, so it has no part in how long the rest takes.
     with Progress("spread", len(jobs), len(next(groups)), "parts") as progress:
         for finished in groups:
@@ -246,13 +249,13 @@ def spread(args: argparse.Namespace, named: Optional[str] = None) -> None:
         program = named or program_of()
     except Failed as failed:
         raise Stop(failed.status, f"spread: {failed.said}\n") from failed
-    everything = experiments_of(args, program)
+    how, everything = how_of(args), experiments_of(args, program)
     with Room() as passing:
         folder = Path(args.work or passing.path).absolute()
         jobs = [Job(folder, number, [part.name for part in share], b"".join(part.text for part in share))
                 for number, share in enumerate(shares(everything, args.parts), 1)]
-        run_all(args, program, jobs, folder)
-        check(args, jobs, folder)
+        run_all(how, program, jobs, folder)
+        check(how, jobs, folder)
         made = origin(args, program, everything) if args.out is not None else None
         with ending.held():
             put_together(args.out, jobs)

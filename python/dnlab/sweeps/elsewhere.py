@@ -12,7 +12,7 @@ from dnlab.processes.children import Killed
 from dnlab.processes.crew import Crew
 from dnlab.processes.rooms import Room
 from dnlab.sweeps import engines
-from dnlab.sweeps.jobs import Job, Stop
+from dnlab.sweeps.jobs import How, Job, Stop
 from dnlab.sweeps.measuring import answers as read_answers, measured, measured_by_turns
 
 if TYPE_CHECKING:
@@ -94,8 +94,10 @@ def read_part(report: str, texts: Sequence[str], asks: Sequence["Ask"], span: Sp
 
 def by_spread(sweep: "Sweep", waiting: Sequence["Waiting"], program: str, count: int) -> Iterator["Answered"]:
     """By the engines of `spread`; each part is read here as soon as it is done."""
-    from dnlab.cli import spread
-
+    how = How(count, ssh=None if sweep.on == "slurm" else str(sweep.on), slurm=sweep.on == "slurm", program=sweep.there)
+    fault = how.fault()
+    if fault is not None:
+        raise Faulty(f"--on {sweep.on}: {fault}")
     with ExitStack() as stack:
         # Nodes of Slurm see the folder of the call, and not this machine's own for temporary files.
         room = stack.enter_context(Room("." if sweep.on == "slurm" else None))
@@ -109,12 +111,8 @@ def by_spread(sweep: "Sweep", waiting: Sequence["Waiting"], program: str, count:
             named = [[part.name for part in share] for share in shares(found, count)]
         jobs = [Job(room.path, number, names, "".join(texts[name] for name in names).encode())
                 for number, names in enumerate(named, 1)]
-        words = ["-", "--work", str(room.path), "--parts", str(count)]
-        words += ["--slurm"] if sweep.on == "slurm" else ["--ssh", str(sweep.on)]
-        args = spread.words(words + (["--program", sweep.there] if sweep.there else []))
-        args.work = None  # The folder is there by now, and nobody goes on in it.
         stop: Optional[Stop] = None
-        going = engines.going(args, program, jobs, room.path)
+        going = engines.going(how, program, jobs, room.path)
         is_going = True
         while is_going or len(crew):
             try:

@@ -1,5 +1,4 @@
 """The engines of `spread`: processes of this machine, GNU parallel by ssh, and Slurm; and how parts become a report."""
-import argparse
 import getpass
 import os
 import re
@@ -19,7 +18,7 @@ from dnlab.processes import children, ending
 from dnlab.processes.children import Killed
 from dnlab.processes.crew import Crew
 from dnlab.processes.rooms import CANCEL, cancel
-from dnlab.sweeps.jobs import Job, Stop
+from dnlab.sweeps.jobs import How, Job, Stop
 
 # What each task of the Slurm array does: the parts of its line of `tasks`, one after another. It writes under a name of
 # its own and renames, so that a part has a whole report or none, even where an array that was given up still runs
@@ -50,10 +49,10 @@ def version_of(program: str) -> bytes:
         return b""
 
 
-def laid_down(args: argparse.Namespace, program: str, parts: Sequence[Job], folder: Path) -> None:
+def laid_down(how: How, program: str, parts: Sequence[Job], folder: Path) -> None:
     """Writes the parts' texts, or finds those of the run before; another scenario's are refused."""
     mark = version_of(program) + f"{len(parts)} parts\n".encode()
-    if args.resume:
+    if how.resume:
         try:
             same = (folder / "mark").read_bytes() == mark and all(
                 part.file("txt").read_bytes() == part.text for part in parts)
@@ -64,7 +63,7 @@ def laid_down(args: argparse.Namespace, program: str, parts: Sequence[Job], fold
         cancel(folder)
         _leave(folder)
         return
-    if args.work is not None:
+    if how.work is not None:
         try:
             folder.mkdir()
         except FileExistsError as error:
@@ -96,11 +95,11 @@ def _alone(program: str, job: Job) -> None:
     job.file("status").write_text(f"{status}\n")
 
 
-def here(args: argparse.Namespace, program: str, waiting: Sequence[Job], folder: Path) -> Iterator[None]:
+def here(how: How, program: str, waiting: Sequence[Job], folder: Path) -> Iterator[None]:
     """Runs parts by processes of this machine, so many at once."""
     from dnlab.analysis.work import cores
 
-    with Crew[int](args.jobs or cores()) as crew:
+    with Crew[int](how.jobs or cores()) as crew:
         for part in waiting:
             # Another process needs neither the text nor the names.
             crew.give(part.number, _alone, program, Job(folder, part.number, [], b""))
@@ -132,12 +131,13 @@ def _end_parallel(engine: "subprocess.Popen[bytes]") -> None:
     children.end(engine)
 
 
-def by_parallel(args: argparse.Namespace, program: str, waiting: Sequence[Job], folder: Path) -> Iterator[None]:
+def by_parallel(how: How, program: str, waiting: Sequence[Job], folder: Path) -> Iterator[None]:
+    assert how.ssh is not None
     command = ["parallel", "--plain", "--will-cite", "--joblog", "joblog", "--results", "out.{}"]
-    if args.jobs:
-        command += ["--jobs", str(args.jobs)]
-    command += ["--sshlogin", args.ssh, "--workdir", "...", "--transferfile", "{}.txt", "--cleanup"]
-    command += [f"{shlex.quote(args.program or program)} alone <{{}}.txt", ":::"]
+    if how.jobs:
+        command += ["--jobs", str(how.jobs)]
+    command += ["--sshlogin", how.ssh, "--workdir", "...", "--transferfile", "{}.txt", "--cleanup"]
+    command += [f"{shlex.quote(how.program or program)} alone <{{}}.txt", ":::"]
     (folder / "order").write_text("".join(f"{part.number}\n" for part in waiting))
     (folder / "joblog").unlink(missing_ok=True)
     with open(folder / "engine.err", "wb") as errors:
@@ -174,13 +174,13 @@ def most_tasks() -> int:
     return max(int(found[1]) if found else _MAX_ARRAY_SIZE, 2) - 1
 
 
-def by_slurm(args: argparse.Namespace, program: str, waiting: Sequence[Job], folder: Path) -> Iterator[None]:
+def by_slurm(how: How, program: str, waiting: Sequence[Job], folder: Path) -> Iterator[None]:
     """Runs parts as one array, of as many tasks as Slurm takes; where this run is ended the array is cancelled."""
-    ends = groups([max(len(part.text), 1) for part in waiting], min(args.parts, most_tasks()))
+    ends = groups([max(len(part.text), 1) for part in waiting], min(how.parts, most_tasks()))
     tasks = [waiting[begin:end] for begin, end in zip([0, *ends], ends)]
-    (folder / "task").write_text(TASK.format(program=shlex.quote(args.program or program)))
+    (folder / "task").write_text(TASK.format(program=shlex.quote(how.program or program)))
     (folder / "tasks").write_text("".join(" ".join(str(part.number) for part in task) + "\n" for task in tasks))
-    array = f"1-{len(tasks)}" + (f"%{args.jobs}" if args.jobs else "")
+    array = f"1-{len(tasks)}" + (f"%{how.jobs}" if how.jobs else "")
     name = f"dnlab-{secrets.token_hex(8)}"
     (folder / CANCEL).write_text(f"scancel\n--user={getpass.getuser()}\n--name={name}")
     chore = partial(cancel, folder)
@@ -197,10 +197,10 @@ def by_slurm(args: argparse.Namespace, program: str, waiting: Sequence[Job], fol
         ending.remove(chore)
 
 
-def going(args: argparse.Namespace, program: str, parts: Sequence[Job], folder: Path) -> Iterator[list[Job]]:
+def going(how: How, program: str, parts: Sequence[Job], folder: Path) -> Iterator[list[Job]]:
     """Runs the parts that aren't done; gives again and again those that are done now. Where some have failed they are
     named by `Stop`, after the others."""
-    laid_down(args, program, parts, folder)
+    laid_down(how, program, parts, folder)
     gathered(folder)
     waiting = {part.number: part for part in parts if not part.is_done()}
     yield [part for part in parts if part.number not in waiting]
@@ -211,8 +211,8 @@ def going(args: argparse.Namespace, program: str, parts: Sequence[Job], folder: 
     ending.add(chore)
     try:
         if waiting:
-            engine = by_slurm if args.slurm else by_parallel if args.ssh else here
-            for _ in engine(args, program, list(waiting.values()), folder):
+            engine = by_slurm if how.slurm else by_parallel if how.ssh else here
+            for _ in engine(how, program, list(waiting.values()), folder):
                 gathered(folder)
                 done = [part for part in waiting.values() if part.is_done()]
                 for part in done:
@@ -223,16 +223,16 @@ def going(args: argparse.Namespace, program: str, parts: Sequence[Job], folder: 
         _leave(folder)
         ending.remove(chore)
     if waiting:
-        raise failure(args, parts, list(waiting.values()), folder)
+        raise failure(how, parts, list(waiting.values()), folder)
 
 
-def failure(args: argparse.Namespace, parts: Sequence[Job], failed: Sequence[Job], folder: Path) -> Stop:
+def failure(how: How, parts: Sequence[Job], failed: Sequence[Job], folder: Path) -> Stop:
     """What is said of parts that have failed."""
     said = [f"spread: part {part.number} of {len(parts)} failed (experiments {part.names[0]} to "
             f"{part.names[-1]}): {part.why()}" for part in failed]
     log = folder / "engine.err"
     said += ["spread: " + line for line in log.read_text(errors="replace").splitlines()[-3:]] if log.is_file() else []
-    if args.work is not None:
+    if how.work is not None:
         said.append(f"spread: {len(parts) - len(failed)} parts are kept in {folder}; "
                     "the same words with --resume run the others")
     return Stop(3, "\n".join(said) + "\n")

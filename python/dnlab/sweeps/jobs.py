@@ -1,5 +1,7 @@
-"""A part of a run in its folder: its text, its report, and what went wrong."""
+"""A run in parts: how it goes, and each part in its folder: its text, its report, and what went wrong."""
 import re
+import shutil
+from dataclasses import dataclass
 from pathlib import Path
 from typing import Optional
 
@@ -12,6 +14,29 @@ class Stop(Exception):
     def __init__(self, status: int, said: str) -> None:
         super().__init__(said)
         self.status = status
+
+
+@dataclass(frozen=True)
+class How:
+    """How a run goes: in so many `parts` at most, `jobs` of them at once; here, by `ssh` on machines as parallel's
+    --sshlogin has them, or as an array of `slurm`; `program` is where dnlab is on these. `work` is the folder of the parts if
+    somebody may go on in it, and `resume` whether somebody does."""
+    parts: int = 16
+    jobs: Optional[int] = None
+    ssh: Optional[str] = None
+    slurm: bool = False
+    program: Optional[str] = None
+    work: Optional[str] = None
+    resume: bool = False
+
+    def fault(self) -> Optional[str]:
+        """Why it can't go so on this machine; None if it can."""
+        if self.ssh and set(self.program or "") & set("{}"):
+            return f"--program {self.program}: parallel would fill in its braces"
+        engine, package = ("sbatch", "slurm-client") if self.slurm else ("parallel", "parallel")
+        if (self.slurm or self.ssh) and shutil.which(engine) is None:
+            return f"{engine} isn't there (Debian: {package})"
+        return None
 
 
 class Job:
