@@ -50,11 +50,11 @@ def view(alone: Alone, text: str, joined: bool = True) -> View:
 def test_metrics_and_ratio(two: list[Path]) -> None:
     a, plan, b, other = two
     status, out, err = tool("compare", a, b, plan, other, "--json", "--percentiles", "50,95")
-    found = {(one["of"], one["metric"]): (one["a"], one["b"], one["ratio"], one["judged"])
+    found = {(one["sender"], one["metric"]): (one["a"], one["b"], one["ratio"], one["judged"])
              for one in json.loads(out)["metrics"]}
     assert status == 1 and not err
     # At 4 Mbit/s a packet takes 2 ms, so they come after 12, 14, 16, 18 and 20 ms.
-    assert found["train 9", "delay.median"] == (13 * 10**6, 16 * 10**6, 16 / 13, "differs")
+    assert found["train 9", "delay.p50"] == (13 * 10**6, 16 * 10**6, 16 / 13, "differs")
     assert found["train 9", "delay.p95"] == (15 * 10**6, 20 * 10**6, 20 / 15, "differs")
     assert found["train 9", "goodput"] == (5000 * 8 * 10**9 // (15 * 10**6), 2 * 10**6, 2 * 10**6 / 2666666, "differs")
     assert found["train 9", "packets"] == (5, 5, 1.0, "same")
@@ -88,7 +88,7 @@ def test_exact_goes_with_the_table(two: list[Path], tmp_path: Path) -> None:
     seven = tmp_path / "seven.txt"
     seven.write_text(TRAIN.replace("8Mbit/s", "7Mbit/s"))
     rows = [line.split() for words in ((), ("--exact",))
-            for line in tool("compare", report, other, plan, seven, "--of", "train 9", *words)[1].splitlines() if " delay.greatest " in line]
+            for line in tool("compare", report, other, plan, seven, "--of", "train 9", *words)[1].splitlines() if " delay.max " in line]
     assert [row[-4:-1] for row in rows] == [["15ms", "15.714ms", "1.048"], ["15ms", "15.714286ms", "1.04761907"]]
 
 

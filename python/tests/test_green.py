@@ -303,7 +303,7 @@ def test_as_json(files: Callable[..., list[Path]]) -> None:
     told = json.loads(out)
     assert status == 1 and told["holds"] is False and [one["holds"] for one in told["bounds"]] == [False, True, True]
     assert told["bounds"][0] | {"said": ""} == {
-        "bound": "train 9: delay.p95 < 12ms", "where": "bound 1", "holds": False, "experiment": "a", "of": "train 9",
+        "bound": "train 9: delay.p95 < 12ms", "where": "bound 1", "holds": False, "experiment": "a", "sender": "train 9",
         "metric": "delay.p95", "measured": 15 * 10**6, "asked": 12 * 10**6, "said": ""}
     assert told["bounds"][2]["measured"] == "end" and [one["mark"] for one in told["failing"]] == ["refused"]
 

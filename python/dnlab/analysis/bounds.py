@@ -13,7 +13,7 @@ from fractions import Fraction
 from pathlib import Path
 from typing import Any, Callable, Iterable, Iterator, NamedTuple, Optional, Sequence, Union
 
-from dnlab.analysis.metrics import Metric, is_named, metric_of, percentiles_in
+from dnlab.analysis.metrics import Metric, is_named, metric_of, percentiles_in, word_now
 from dnlab.analysis.notes import Note
 from dnlab.analysis.tables import Row
 from dnlab.errors import Faulty
@@ -78,7 +78,7 @@ class Judged(NamedTuple):
         """The same for other programs; amounts in ns, bytes, bit/s, or as a share of 1."""
         metric = self.bound.metric
         return {"bound": self.bound.text, "where": self.bound.where, "holds": self.holds,
-                "experiment": self.row["experiment"], "of": self.row["of"], "metric": metric.word,
+                "experiment": self.row["experiment"], "sender": self.row["of"], "metric": word_now(metric.word),
                 "measured": plain_amount(metric, self.measured), "asked": plain_amount(metric, self.bound.value),
                 "said": self.said}
 

@@ -143,6 +143,7 @@ def is_named(of: str, pattern: str) -> bool:
 # Names that users of pandas expect, beside those that tables of the tools have.
 ALSO = {"fct": "completion", "retransmissions": "again", "in_flight": "held", "delay.min": "delay.least",
         "delay.max": "delay.greatest", "delay.p50": "delay.median"}
+_NOW = {older: now for now, older in ALSO.items()}
 
 
 def plain_word(word: str) -> str:
@@ -152,6 +153,15 @@ def plain_word(word: str) -> str:
     ('completion', 'goodput')
     """
     return ALSO.get(word, word)
+
+
+def word_now(word: str) -> str:
+    """The name in use now of a metric, as what is written for others has it.
+
+    >>> word_now("completion"), word_now("delay.median"), word_now("goodput")
+    ('fct', 'delay.p50', 'goodput')
+    """
+    return _NOW.get(word, word)
 
 
 def metric_of(word: str) -> Metric:

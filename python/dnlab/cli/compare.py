@@ -7,7 +7,7 @@ from typing import Any, Iterator, NamedTuple, Optional, Sequence
 
 from dnlab.analysis.beside import Pair, Tolerance, pairs, tolerance_of
 from dnlab.analysis.bounds import plain_amount
-from dnlab.analysis.metrics import is_named, metrics, percentiles_in
+from dnlab.analysis.metrics import is_named, metrics, percentiles_in, word_now
 from dnlab.analysis.parting import Parting, parting
 from dnlab.analysis.stored import stored_rows
 from dnlab.analysis.summing import lacking
@@ -197,15 +197,15 @@ def told(name: str, found: Optional[Parting], differs: Sequence[str], lines: int
 def table(found: Sequence[Pair], everything: bool, exact: bool) -> str:
     """The metrics that differ, or all, as a table; with how many are the same. What isn't to be exact is rounded to three digits."""
     kept = [pair for pair in found if everything or not pair.is_same() or pair.is_bad() or pair.judged.startswith("within")]
-    cells = [["experiment", "of", "metric", "A", "B", "B/A", "judged"]]
-    cells += [[pair.experiment, pair.of, pair.metric.word, *pair.shown(exact), pair.judged or "-"] for pair in kept]
+    cells = [["experiment", "sender", "metric", "A", "B", "B/A", "judged"]]
+    cells += [[pair.experiment, pair.of, word_now(pair.metric.word), *pair.shown(exact), pair.judged or "-"] for pair in kept]
     same = sum(pair.is_same() and not pair.is_bad() for pair in found)
     return (lines_of(cells, (0, 1, 2, 6)) if kept else "") + f"{same} of {len(found)} metrics are the same\n"
 
 
 def as_json(parts: Sequence[Part], missing: Sequence[str]) -> str:
     return json.dumps({
-        "metrics": [{"experiment": pair.experiment, "of": pair.of, "metric": pair.metric.word,
+        "metrics": [{"experiment": pair.experiment, "sender": pair.of, "metric": word_now(pair.metric.word),
                      "a": plain_amount(pair.metric, pair.first), "b": plain_amount(pair.metric, pair.second), "ratio": pair.ratio(),
                      "judged": pair.judged} for part in parts for pair in part.pairs],
         "partings": [part.parted for part in parts if part.parted],
