@@ -70,8 +70,8 @@ def said_of(command: str, module: str) -> str:
 
 
 def module_of(command: str) -> ModuleType:
-    """The module of a command: that of from-ipfw is `dnlab.commands.from_ipfw`."""
-    return importlib.import_module(f"dnlab.commands.{command.replace('-', '_')}")
+    """The module of a command: that of from-ipfw is `dnlab.cli.from_ipfw`."""
+    return importlib.import_module(f"dnlab.cli.{command.replace('-', '_')}")
 
 
 def help_alone(words: Sequence[str]) -> None:
@@ -95,7 +95,7 @@ def main(words: Optional[Sequence[str]] = None) -> int:
     if list(words[1:]) == ["--version"]:
         print(f"dnlab-{words[0]} {__version__}")
         return 0
-    from dnlab import ending
+    from dnlab.processes import ending
 
     ending.watch(words[0])
     lacking = missing(NEEDS[words[0]])

@@ -2,8 +2,8 @@
 import heapq
 from typing import Callable, Generator, Iterable, Union
 
-from dnlab.session_events import LATEST, Address, Event
-from dnlab.session_links import Link
+from dnlab.session.events import LATEST, Address, Event
+from dnlab.session.links import Link
 
 # A program that yields the moment (ns) until which it waits, and is sent the events since.
 Waiting = Generator[int, list[Event], None]

@@ -22,9 +22,9 @@ import time
 from contextlib import contextmanager
 from typing import Any, Callable, Coroutine, Iterator, Mapping, NoReturn, Optional, TypeVar
 
-from dnlab.session_events import LATEST, Address, Event
-from dnlab.session_links import Link
-from dnlab.sim_datagrams import Network, fault_of, here, host
+from dnlab.session.datagrams import Network, fault_of, here, host
+from dnlab.session.events import LATEST, Address, Event
+from dnlab.session.links import Link
 
 __all__ = ["Deadlock", "Loop", "host", "run"]
 _Result = TypeVar("_Result")

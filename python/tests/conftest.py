@@ -13,9 +13,9 @@ sys.path.insert(0, str(ROOT / "python"))
 # The tools are started by the Python that the tests have.
 os.environ["PATH"] = os.pathsep.join([os.path.dirname(sys.executable), os.environ["PATH"]])
 
-from dnlab import report, scenario  # noqa: E402
+from dnlab.analysis.view import View  # noqa: E402
+from dnlab.io import report, scenario  # noqa: E402
 from dnlab.programs import program as program_of  # noqa: E402
-from dnlab.view import View  # noqa: E402
 
 
 # Whether what is drawn, and what is tried of each scenario, is tried in part: `check_python --quick` says so.

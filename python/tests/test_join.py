@@ -5,13 +5,12 @@ import random
 import pytest
 from conftest import QUICK, text_of, view_of
 
-from dnlab import report, scenario
+from dnlab.analysis.makings import makings_of
+from dnlab.analysis.packets import FATES, nowhere as lost_in
+from dnlab.analysis.view import View
 from dnlab.errors import Refused
-from dnlab.lines import INSTANCE, LISTINGS, pipe_code, pipe_name
-from dnlab.makings import DATA, makings_of
-from dnlab.packets import FATES
-from dnlab.packets import nowhere as lost_in
-from dnlab.view import View
+from dnlab.io import report, scenario
+from dnlab.io.lines import DATA, INSTANCE, LISTINGS, pipe_code, pipe_name
 
 # What is changed in the scenario or the report of reno_four_segments: the text, by what, which, line and cause.
 JOINS = [

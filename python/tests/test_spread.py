@@ -18,7 +18,7 @@ from conftest import ROOT, in_part
 from hypothesis import given
 from hypothesis import strategies as some
 
-from dnlab.splitting import experiments_in, groups, shares, texts_of
+from dnlab.io.splitting import experiments_in, groups, shares, texts_of
 
 SPREAD = str(ROOT / "tools" / "spread")
 PARTS = 1, 2, 3, 300

@@ -22,12 +22,12 @@ HERE = pathlib.Path(__file__).resolve().parent
 sys.path.insert(0, str(HERE.parents[1] / "python"))
 
 import dnlab  # noqa: E402  (the path is set first)
-from dnlab import ending  # noqa: E402
+from dnlab.processes import ending  # noqa: E402
 from dnlab.errors import status_of  # noqa: E402
 from dnlab.hosts import Loop  # noqa: E402
 from dnlab.senders import Timeout  # noqa: E402
 from dnlab.senders.cubic import Cubic  # noqa: E402
-from dnlab.session_events import Address, Event  # noqa: E402
+from dnlab.session.events import Address, Event  # noqa: E402
 
 MS, S = 10**6, 10**9
 SENDER, RECEIVER = ("10.0.0.9", 1000), ("10.0.1.9", 80)

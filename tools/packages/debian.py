@@ -12,7 +12,8 @@ Priority: optional
 Architecture: amd64
 Maintainer: The authors of dnlab <dnlab@invalid.example>
 Depends: {depends}python3 (>= 3.11), python3-numpy
-Recommends: python3-pandas, python3-matplotlib, python3-scipy, python3-jinja2, python3-plotly, python3-dpkt
+Recommends: python3-pandas, python3-matplotlib, python3-scipy, python3-jinja2, python3-plotly, python3-dpkt,
+ python3-tqdm
 Suggests: parallel
 Installed-Size: {size}
 Description: link emulator in simulated time, proved

@@ -8,8 +8,8 @@ import sys
 from pathlib import Path
 from typing import Any, Callable, Optional
 
+from dnlab.analysis.view import View
 from dnlab.errors import Faulty
-from dnlab.view import View
 
 _WORD = re.compile(r"(.+\.py):([A-Za-z_][A-Za-z0-9_]*)")
 
@@ -34,7 +34,7 @@ class Own(str):
 
     def of(self, view: View, of: str) -> Optional[float]:
         """What it is of a row's name; `Faulty` if the function raises, or gives no number."""
-        from dnlab.results import Experiment
+        from dnlab.analysis.results import Experiment
 
         # A function of one argument is asked of the whole run.
         takes = [one for one in inspect.signature(self.call).parameters.values() if one.default is one.empty

@@ -4,10 +4,10 @@ from typing import Any, Optional, Sequence
 
 import pandas as pd
 
-from dnlab import frames
-from dnlab.asking import unit_of
+from dnlab.analysis import frames
+from dnlab.analysis.asking import unit_of
+from dnlab.analysis.estimates import Kind, estimate, student
 from dnlab.errors import Faulty
-from dnlab.estimates import Kind, estimate, student
 
 # More seeds than this aren't counted.
 _MOST = 10**6
