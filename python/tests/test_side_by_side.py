@@ -24,8 +24,9 @@ sys.exit(tool.run_all([tool.Piece(*it) for it in {some!r}], {program!r}, {cores!
 """
 
 
-def piece(name: str, script: str, seconds: int = 1, needs: str = "", after: tuple[str, ...] = (), cores: int = 1) -> tuple[Any, ...]:
-    return name, f"about {name}", ("sh", "-c", script), seconds, needs, after, cores
+def piece(name: str, script: str, seconds: int = 1, needs: str = "", after: tuple[str, ...] = (), cores: int = 1,
+          is_alone: bool = False) -> tuple[Any, ...]:
+    return name, f"about {name}", ("sh", "-c", script), seconds, needs, after, cores, is_alone
 
 
 def begun(*some: tuple[Any, ...], program: str = "/bin/true", cores: int = 2) -> "subprocess.Popen[str]":
@@ -94,6 +95,19 @@ def test_what_takes_longest_begins_first(tmp_path: Path) -> None:
     some = [piece(name, f"echo {name} >>{tmp_path}/order; echo 1 passed, 0 failed", seconds) for name, seconds in (("a", 1), ("b", 5), ("c", 3))]
     assert ran(*some, cores=1)[0] == 0
     assert (tmp_path / "order").read_text().split() == ["b", "c", "a"]
+
+
+def test_nothing_runs_beside_what_runs_alone(tmp_path: Path) -> None:
+    """Two of four run alone, and before the others, though these take longer; at its begin and its end each counts those that run."""
+    script = f"cd {tmp_path}; touch in.$$; sleep 0.2; echo $0 >>order; ls in.* | wc -l >>counts.$0; sleep 0.3; ls in.* | wc -l >>counts.$0; rm in.$$; " \
+        "echo 1 passed, 0 failed"
+    some = [piece(name, script.replace("$0", name), seconds, is_alone=is_alone)
+            for name, seconds, is_alone in (("a", 9, False), ("b", 1, True), ("c", 2, True), ("d", 8, False))]
+    status, said = ran(*some, cores=4)
+    assert status == 0 and said[-1] == "4 passed, 0 failed"
+    assert [(tmp_path / f"counts.{name}").read_text().split() for name in "bc"] == [["1", "1"]] * 2
+    order = (tmp_path / "order").read_text().split()
+    assert order[:2] == ["c", "b"] and sorted(order[2:]) == ["a", "d"]
 
 
 def test_ctrl_c_ends_what_runs(tmp_path: Path) -> None:

@@ -24,15 +24,18 @@ class Piece(NamedTuple):
     after: tuple[str, ...] = ()
     # How many cores it takes.
     cores: int = 1
+    # Whether nothing may run beside it, since it takes much memory or looks at the clock.
+    is_alone: bool = False
 
 
-def tried(name: str, about: str, seconds: int, *words: str, needs: str = "", after: tuple[str, ...] = (), cores: int = 1) -> Piece:
+def tried(name: str, about: str, seconds: int, *words: str, needs: str = "", after: tuple[str, ...] = (), cores: int = 1, is_alone: bool = False) -> Piece:
     """A piece that is run by the program."""
-    return Piece(name, about, (name, *words), seconds, needs, (CHECKED, *after), cores)
+    return Piece(name, about, (name, *words), seconds, needs, (CHECKED, *after), cores, is_alone)
 
 
+# ./test calls it first of all, and ends if it fails: rt ci would refuse what it finds too, but only after all proofs.
+LAID_OUT = Piece("tools/gate/laid_out", "each crate is laid out", ("tools/gate/laid_out",), 16)
 SEEN = (
-    Piece("tools/gate/laid_out", "each crate is laid out", ("tools/gate/laid_out",), 16),
     Piece("tools/gate/map", "the map of docs/explanation/architecture.md has the libraries of crates.txt", ("tools/gate/map",), 1),
     Piece("tools/gate/docs", "links, paths, lines and figures of README.md, CHANGELOG.md, docs/ and the crates' pages", ("tools/gate/docs",), 2),
     Piece("tools/gate/sentences", "how long their sentences are", ("tools/gate/sentences",), 1),
@@ -83,6 +86,7 @@ def of_python(seconds: int, *words: str) -> Piece:
 LISTS = {
     "seen": SEEN,
     "quick": (
+        LAID_OUT,
         *SEEN,
         SCRIPT,
         *MADE,
@@ -97,8 +101,8 @@ LISTS = {
         Piece("examples/check", WORKED, ("env", "-u", "DNLAB", "examples/check", "./dnlab", *WAYS), 40),
         SCRIPT,
         Piece("tools/gate/check_gate", "tools/gate/plants, tools/gate/times and how a module is cut, beside such a kit", ("tools/gate/check_gate",), 9, "command -v git"),
-        tried("tools/attack/refusals", "allocations refused in turn, and those of worlds in part", 60, "--quick", needs="command -v cc"),
-        tried("tools/attack/sessions", "sessions beside alone", 10),
+        tried("tools/attack/refusals", "allocations refused in turn, and those of worlds in part", 60, "--quick", needs="command -v cc", is_alone=True),
+        tried("tools/attack/sessions", "sessions beside alone", 10, is_alone=True),
         drawn(2),
         *BY_PROGRAM,
         RELEASE,
