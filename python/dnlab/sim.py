@@ -117,7 +117,7 @@ class Loop(asyncio.BaseEventLoop):
         return future
 
     def address_of(self, name: Any) -> str:
-        """The IPv4 address of a name or address; that of the host where it says none. `OSError` where there is none."""
+        """The IPv4 address of a name or address; that of the host if it names none. `OSError` if there is none."""
         said = str(name or "0.0.0.0")
         said = self._names.get(said, said)
         try:
@@ -190,7 +190,7 @@ def run(main: Coroutine[Any, Any, _Result], *, link: Link, hold: int = 1, names:
     names       the addresses of names: {"server": "10.0.1.1"}
     has_clocks  whether the clocks of the module `time` say the link's time meanwhile
 
-    `Deadlock` where all that is left waits for ever, `Over` where the experiment's steps are spent.
+    `Deadlock` if all that is left waits for ever, `Over` if the experiment's steps are spent.
     """
     with asyncio.Runner(loop_factory=lambda: Loop(link, hold, names)) as runner:
         if not has_clocks:

@@ -26,8 +26,8 @@ from dnlab.errors import Faulty
 
 def expecting(report: Report, *bounds: Union[str, Path], allow: Union[str, Sequence[str]] = (), begin: int = 0,
               end: Optional[int] = None) -> None:
-    """Fails where a bound doesn't hold, where commands were refused and where steps were spent, with all bounds that were
-    looked at; `dnlab.Faulty` for what is no bound, and where there is nothing to judge.
+    """Fails if a bound doesn't hold, if commands were refused and if steps were spent, with all bounds that were
+    looked at; `dnlab.Faulty` for what is no bound, and if there is nothing to judge.
 
     bounds  each one in words, or a file of them (`dnlab.analysis.bounds` has the form)
     allow   `refused`, `spent`, or both: what doesn't fail
@@ -51,5 +51,5 @@ def expecting(report: Report, *bounds: Union[str, Path], allow: Union[str, Seque
 
 @pytest.fixture
 def expect() -> Callable[..., None]:
-    """`expect(report, bound, .., allow="refused")`: fails where a bound doesn't hold or something wasn't done."""
+    """`expect(report, bound, .., allow="refused")`: fails if a bound doesn't hold or something wasn't done."""
     return expecting

@@ -1,1 +1,1 @@
-"""What a report tells: it is joined with its scenario, summed up, judged and compared."""
+"""A report: it is joined with its scenario, summed up, judged and compared."""

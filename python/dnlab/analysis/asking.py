@@ -145,7 +145,7 @@ def answer(view: View, asks: Sequence[Ask], span: Span = Span()) -> Found:
 
 
 def figure(row: Row, stat: str) -> Any:
-    """A stat of a row; None where it can't be told."""
+    """A stat of a row; None if it isn't known."""
     stat = plain_word(stat)
     if stat == "lost":
         drops = [row.get(cause) for cause in CAUSES]

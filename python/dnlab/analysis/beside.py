@@ -43,7 +43,7 @@ def tolerance_of(text: str) -> Tolerance:
 
 
 class Pair(NamedTuple):
-    """A metric of a row in both runs, None where it can't be told there; `judged` is '' where nothing is asked of it,
+    """A metric of a row in both runs, None if it isn't known there; `judged` is '' where nothing is asked of it,
     `same`, `within` and a tolerance, `differs`, `beyond` and the tolerance, or `can't be told` and why."""
     experiment: str
     of: str

@@ -1,4 +1,4 @@
-"""Bounds on what a report tells, as `train 9: delay.p95 < 50ms`: read from words or a file, and judged by a summary's rows.
+"""Bounds on what a report has, as `train 9: delay.p95 < 50ms`: read from words or a file, and judged by a summary's rows.
 
 A bound is `[EXPERIMENT/]WHO: METRIC SIGN VALUE`. EXPERIMENT and WHO are names or patterns of rows (`flow *`), METRIC a
 word of `dnlab.analysis.metrics`, SIGN one of `<`, `<=`, `>`, `>=`, `==`, `!=`, VALUE an amount with its unit. It must hold in each
@@ -64,7 +64,7 @@ class Bound:
 
 class Judged(NamedTuple):
     """A bound that was looked at: whether it holds, and what was measured where, in words; `row` is the row that decides,
-    `measured` its value in base units (None where it can't be told)."""
+    `measured` its value in base units (None if it isn't known)."""
     bound: Bound
     holds: bool
     said: str

@@ -29,7 +29,7 @@ def percentile_name(percentile: Percentile) -> str:
 
 
 def jain(values: Sequence[float]) -> Optional[float]:
-    """Jain's index of fairness, 1 where all have the same and 1/n where one has all; None where nobody has any.
+    """Jain's index of fairness, 1 if all have the same and 1/n if one has all; None if nobody has any.
 
     >>> jain([1, 1, 1, 1]), jain([1, 0, 0, 0])
     (1.0, 0.25)

@@ -30,13 +30,13 @@ _NOT_THIS = ": the report isn't this scenario's"
 
 @dataclass
 class _Fault:
-    """The first row that tells otherwise, and the cause."""
+    """The first row that differs, and the cause."""
     row: int
     cause: str
 
 
 class Links:
-    """Compares an experiment with its plan; `check` raises `Refused` at the first line that tells otherwise."""
+    """Compares an experiment with its plan; `check` raises `Refused` at the first line that differs."""
 
     def __init__(self, experiment: Recorded, plan: Plan, makings: Makings, packets: Packets, visits: Visits) -> None:
         self.experiment = experiment
@@ -263,5 +263,5 @@ def _service(served: Ints, rate: Ints) -> Ints:
 
 
 def compare_links(experiment: Recorded, plan: Plan, makings: Makings, packets: Packets, visits: Visits) -> None:
-    """Refuses the first line that tells of finishes, exits or queues otherwise than the scenario has them."""
+    """Refuses the first line that has finishes, exits or queues otherwise than the scenario."""
     Links(experiment, plan, makings, packets, visits).check()

@@ -54,7 +54,7 @@ def _sums(at: Ints, values: Ints, count: int) -> Ints:
 
 
 def losses(view: View) -> list[Row]:
-    """Drops by who sent, cause and pipe (None where no line tells it): experiment, of, cause, pipe, packets."""
+    """Drops by who sent, cause and pipe (None if no line has it): experiment, of, cause, pipe, packets."""
     table, visits = view.packets, view.visits
     last = np.full(len(table), -1, dtype=np.int64)
     last[visits.packet] = np.arange(len(visits))
@@ -72,7 +72,7 @@ def losses(view: View) -> list[Row]:
 
 
 def dropping_pipes(view: View, packets: Ints, last: Ints) -> Ints:
-    """The pipes that dropped packets, by their last visits: those where they waited; -1 where no line tells it."""
+    """The pipes that dropped packets, by their last visits: those where they waited; -1 if no line has it."""
     visits = view.visits
     if not len(visits):
         return np.full(len(packets), -1, dtype=np.int64)

@@ -33,7 +33,7 @@ class Metric(NamedTuple):
     column: str
 
     def of(self, row: Row) -> Optional[Fraction]:
-        """Its value in a row, in base units (ns, bytes, bit/s, shares of 1, counts); None where it can't be told.
+        """Its value in a row, in base units (ns, bytes, bit/s, shares of 1, counts); None if it isn't known.
 
         Each metric, by the experiments of `dnlab.analysis.by_hand`. Of the train's four packets two came, after 11 and 12 ms:
 

@@ -16,7 +16,7 @@ _WORD = re.compile(r"(.+\.py):([A-Za-z_][A-Za-z0-9_]*)")
 
 class Own(str):
     """A statistic by the name of its function. `call(run)` or `call(run, of)` is given the `dnlab.Experiment` and of whom it
-    is asked (the name of a row), and gives a number, or None if it can't be told; `unit` is `ns`, `bit/s` or any other.
+    is asked (the name of a row), and gives a number, or None if it isn't known; `unit` is `ns`, `bit/s` or any other.
 
     >>> Own("late", lambda run: 0.5), Own("late", lambda run: 0.5).unit
     ('late', '')

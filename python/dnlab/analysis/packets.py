@@ -127,7 +127,7 @@ def packets_of(experiment: Recorded, makings: Optional[Makings] = None) -> Packe
 
 
 def _by_lines(experiment: Recorded, ended: Ints, fate: NDArray[np.int8]) -> Packets:
-    """Packets as far as the report's own lines tell of them."""
+    """Packets as far as the report's own lines have them."""
     columns = experiment.columns
     count = len(ended)
     made, size, number = (np.full(count, -1, dtype=np.int64) for _ in range(3))
@@ -158,7 +158,7 @@ def _name(key: int, headers: list[str]) -> str:
 
 
 def visits_of(experiment: Recorded, packets: Packets) -> Visits:
-    """The visits of all packets to pipes, as far as lines tell of them: `arrive` and `finish` lines, and CoDel's drops,
+    """The visits of all packets to pipes, as far as lines have them: `arrive` and `finish` lines, and CoDel's drops,
     which are of the pipe of the finish before them."""
     columns = experiment.columns
     word = columns.word

@@ -145,7 +145,7 @@ class Parting:
 
     def queues(self) -> list[tuple[str, list[str]]]:
         """Of each instance how many packets were there in both runs: before the moment and behind it, as `waiting +
-        in the delay line`; `-` where the report doesn't tell how many wait."""
+        in the delay line`; `-` if the report doesn't have how many wait."""
         names: dict[int, list[str]] = {}
         for place, told in enumerate(self.told):
             for pipe, own in told.view.visits.pipes():

@@ -80,7 +80,7 @@ class Experiment:
 
     @property
     def notes(self) -> list[Note]:
-        """What couldn't be told of it, and what may be silently wrong in it."""
+        """What isn't known of it, and what may be silently wrong in it."""
         return self.view.notes
 
     def packets(self) -> pd.DataFrame:
@@ -103,7 +103,7 @@ class Experiment:
         return names.named(frames.queues(self.view))
 
     def drops(self) -> pd.DataFrame:
-        """A row for each drop: moment (ns), packet, sender, cause, queue where a line tells it, bytes."""
+        """A row for each drop: moment (ns), packet, sender, cause, queue if a line has it, bytes."""
         return names.named(frames.drops(self.view))
 
     def commands(self) -> pd.DataFrame:
@@ -130,7 +130,7 @@ class Experiment:
         return names.named(frames.of_rows(rows, list(rows[0]) if rows else ["experiment", "of", "begin", "end"]))
 
     def losses(self) -> pd.DataFrame:
-        """Drops by sender, cause and queue (<NA> where no line tells it): sender, cause, queue, packets."""
+        """Drops by sender, cause and queue (<NA> if no line has it): sender, cause, queue, packets."""
         return names.named(frames.of_rows(losses(self.view), ["experiment", "of", "cause", "pipe", "packets"]))
 
     def plot(self, what: Sequence[str] = ("window", "queue", "sojourn", "rate", "drops")) -> Any:
@@ -216,7 +216,7 @@ class Report(Mapping[str, Experiment]):
     def summary(self, percentiles: Sequence[Percentile] = PERCENTILES, of: Sequence[str] = (),
                 experiments: Sequence[str] = (), workers: Optional[int] = None, begin: int = 0,
                 end: Optional[int] = None) -> pd.DataFrame:
-        """The rows of all experiments (or of some, by name), by several processes where the report is long; `of` keeps
+        """The rows of all experiments (or of some, by name), by several processes if the report is long; `of` keeps
         the rows of some names, as "train *", and `begin` and `end` are as in `Experiment.summary`. docs/reference/tools.md has
         the columns."""
         patterns = [of] if isinstance(of, str) else of
@@ -227,7 +227,7 @@ class Report(Mapping[str, Experiment]):
 
 
 def read(report: Union[str, Path], scenario: Names = ()) -> Report:
-    """Opens a report, with its scenario where there is one (or the several that it was run from).
+    """Opens a report, with its scenario if there is one (or the several that it was run from).
 
     A scenario given for another's report is refused with the line at which they part, when the experiment is read."""
     return Report(report, scenario)

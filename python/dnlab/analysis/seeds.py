@@ -1,4 +1,4 @@
-"""What seeds tell: settings compared under the same seeds, and how many seeds a mean takes."""
+"""What seeds show: settings compared under the same seeds, and how many seeds a mean takes."""
 import math
 from typing import Any, Optional, Sequence
 
@@ -40,7 +40,7 @@ def compared(rows: pd.DataFrame, settings: Sequence[str], stats: Sequence[str], 
              level: float = 95, interval: Kind = "t") -> pd.DataFrame:
     """Each value of a setting beside a `base` (else the first), the other settings being the same, seed by seed.
 
-    A row for each of the others, of, stat and value: how many seeds tell both (`n`), the mean of the differences (value
+    A row for each of the others, of, stat and value: how many seeds have both (`n`), the mean of the differences (value
     less base), the ends of its interval, and whether the interval leaves out 0 (`differs`; <NA> of fewer than two seeds).
     Since both had the same chance the interval is mostly narrower than those of the two means. `Faulty` for a setting that
     isn't there or has one value."""

@@ -126,7 +126,7 @@ class View:
 
     @cached_property
     def notes(self) -> list[Note]:
-        """What couldn't be told, and what may be silently wrong, in the order of the most to the least grave."""
+        """What isn't known, and what may be silently wrong, in the order of the most to the least grave."""
         found = marks_of(self)
         if not self.is_told:
             found.append(NO_SCENARIO)

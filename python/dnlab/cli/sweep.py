@@ -1,4 +1,4 @@
-"""Runs a template of a scenario with each setting and each seed, and tells means with their intervals."""
+"""Runs a template of a scenario with each setting and each seed, and prints means with their intervals."""
 import argparse
 import importlib.util
 import io

@@ -1,4 +1,4 @@
-"""What made a report, kept beside it: `report.txt.json` tells of `report.txt` the checksums of its own bytes and of its
+"""What made a report, kept beside it: `report.txt.json` has of `report.txt` the checksums of its own bytes and of its
 scenario, the program's version and the command. Tools that run the program write it (`write_beside`); tools that take a
 report with a scenario read it (`check_beside`) and refuse what doesn't match.
 
@@ -75,7 +75,7 @@ def origin_of(plans: Mapping[str, Plan], program: str, command: Sequence[str], s
 
 
 def beside(report: Union[str, Path]) -> Path:
-    """The file that tells what made a stored report.
+    """The file that has what made a stored report.
 
     >>> str(beside("runs/report.txt"))
     'runs/report.txt.json'
@@ -91,7 +91,7 @@ def write_beside(report: Union[str, Path], origin: Origin) -> None:
 
 
 def read_beside(report: Union[str, Path]) -> Optional[Origin]:
-    """What made a stored report; None where no file tells it, or one of that name is something else."""
+    """What made a stored report; None if no file has it, or one of that name is something else."""
     path = beside(report)
     try:
         told: Any = json.loads(path.read_text(encoding="utf-8"))

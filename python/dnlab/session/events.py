@@ -43,7 +43,7 @@ class Over(Exception):
 @dataclass(slots=True, eq=False)
 class Packet:
     """A packet that was sent: `size` in bytes, `sent` in ns; `payload` is the program's own and stays in it. `number` is
-    the serial number in the report, -1 until the program has said it."""
+    the serial number in the report, -1 until the program has answered it."""
     source: Address
     target: Address
     size: int
@@ -56,7 +56,7 @@ class Packet:
 class Event(NamedTuple):
     """A packet was delivered at a moment (ns; `cause` is ''), or dropped for a cause of docs/reference/report.md.
 
-    `packet` is None of what `until_any` tells of packets that the link's own flows and trains sent; `number` is the
+    `packet` is None of what `until_any` gives of packets that the link's own flows and trains sent; `number` is the
     packet's serial number and `load` what it carries, in the words of a report."""
     moment: int
     packet: Optional[Packet]

@@ -55,7 +55,7 @@ class Link:
     def send(self, source: Address, target: Address, size: int, payload: Any = None, protocol: str = "udp",
              at: Optional[int] = None) -> Packet:
         """A packet of 40 to 1500 bytes, headers included, comes to the link, now or at a later moment (ns). `ValueError`
-        where that can't be. It goes out with the next call that asks something, so many cost one round trip."""
+        if that can't be. It goes out with the next call that asks something, so many cost one round trip."""
         if not LEAST_SIZE <= size <= MOST_SIZE:
             raise ValueError(f"a packet has {LEAST_SIZE} to {MOST_SIZE} bytes, not {size}")
         header = header_of(protocol, source, target)
@@ -69,9 +69,9 @@ class Link:
         return self._pass(f"#> until @{self._later(moment)}")
 
     def until_mine(self, moment: int = LATEST, hold: int = 1) -> list[Event]:
-        """Time goes to `moment` (ns), but no further than `hold` ns behind the first delivery or drop of a packet that the
+        """Time goes to `moment` (ns), but no further than `hold` ns after the first delivery or drop of a packet that the
         program sent: so that is where it can react. The events since the last call. For a packet that is dropped as it
-        is sent time doesn't stop; that is told with the next events."""
+        is sent time doesn't stop; it comes with the next events."""
         self._later(moment)
         if self._events:
             # They were told by a command at a later moment: time stands still until the program knows.
@@ -80,7 +80,7 @@ class Link:
         return self._pass(f"#> until @{moment} first{'' if hold == 1 else f' {hold}'}")
 
     def until_any(self, moment: int = LATEST, hold: int = 1) -> list[Event]:
-        """The same for the first delivery or drop of any packet; events of others are told too (but not by show='mine')."""
+        """The same for the first delivery or drop of any packet; events of others come too (but not by show='mine')."""
         self._later(moment)
         self._session.exchange()
         if self._events:
@@ -92,7 +92,7 @@ class Link:
             self._wants_all = False
 
     def next_due(self) -> Optional[int]:
-        """When the next event of the link is due (ns); None where nothing is."""
+        """When the next event of the link is due (ns); None if nothing is."""
         self._check()
         self._session.post(self, "#> next")
         self._session.exchange()
@@ -115,7 +115,7 @@ class Link:
         return _kept(self._transcript, "transcript").decode()
 
     def report(self) -> bytes:
-        """What was told so far; once the experiment has ended its report."""
+        """The report so far; once the experiment has ended the whole."""
         if self._show == "mine":
             raise ValueError("only what concerns the program's own packets was told (show='mine'): "
                              "`dnlab alone` writes the report of transcript()")
@@ -123,7 +123,7 @@ class Link:
         return _kept(self._report, "report")
 
     def save(self, scenario: Union[str, Path], report: Union[str, Path, None] = None) -> None:
-        """Writes the transcript, and the report where it has a name: what tools/summary, tools/view and the others read."""
+        """Writes the transcript, and the report if it has a name: what tools/summary, tools/view and the others read."""
         with whole_file(scenario) as file:
             file.write(self.transcript().encode())
         if report is not None:

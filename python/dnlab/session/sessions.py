@@ -54,8 +54,8 @@ class Session:
         seed        of its chances, 0 to 2^64 - 1
         budget      how many packets there can be at once, 1 to 65535
         steps       after how many steps it is over, 1 to 10^7
-        show        whether all of its report is told, or only what concerns packets that are sent (which is quicker)
-        transcript  a file for the transcript, and one for the report, where they aren't to be kept in memory
+        show        whether all of its report comes, or only what concerns packets that are sent (which is quicker)
+        transcript  a file for the transcript, and one for the report, if they aren't to be kept in memory
 
         `NotTaken` says what is wrong with it.
         """
@@ -78,7 +78,7 @@ class Session:
         return "".join(link.transcript() for link in self._links)
 
     def report(self) -> bytes:
-        """What was told of all experiments; once all have ended what `dnlab alone` writes of the transcript."""
+        """The report so far of all experiments; once all have ended what `dnlab alone` writes of the transcript."""
         return b"".join(link.report() for link in self._links)
 
     def post(self, link: Link, line: str, packet: Optional[Packet] = None) -> None:
@@ -155,7 +155,7 @@ class Session:
 
 
 def live(dnlab: Optional[str] = None) -> Session:
-    """Begins a session; `dnlab` names the program, else see `dnlab.programs.program`. `Failed` where there is none.
+    """Begins a session; `dnlab` names the program, else see `dnlab.programs.program`. `Failed` if there is none.
 
     To be used as a block: `with dnlab.live() as session: link = session.experiment("mine", seed=1)`.
     """

@@ -40,13 +40,13 @@ class Sweep(Swept):
     seeds     each setting is run with each of them
     asks      of whom and which figures; without any those of flows and trains
     kept      the file in which answers are kept, by the checksums of text and program; else they last as long as this
-    workers   how many processes; all cores where it isn't given
+    workers   how many processes; all cores if it isn't given
     on        other machines: `slurm`, `dask:ADDRESS` of a scheduler, or as `dnlab-spread --ssh` has them; `there` is the
               program's path on them, `parts` in how many parts they are given, else each takes about a minute
     dnlab     the program; else see `dnlab.programs.program`
     anew      whether all are run, whatever is kept
     allow     which of `refused` and `spent` don't stop it: an experiment with a command that was refused, or whose steps
-              were spent before its end, raises `Faulty` where it isn't allowed
+              were spent before its end, raises `Faulty` if it isn't allowed
     span      the part of each experiment's time that is summed up, as without a warm-up
     """
 
@@ -91,7 +91,7 @@ class Sweep(Swept):
         return Faulty(f"{self.template.name}: {case.told()}: a fault in the text that was made ({seen} shows it)\n{said}")
 
     def check_texts(self, cases: Sequence[tuple[Case, str]], program: str) -> None:
-        """Has the program judge some texts, of one experiment each; the first fault is told as `--explain` has it."""
+        """Has the program judge some texts, of one experiment each; the first fault is raised as `--explain` has it."""
         joined = "".join(text for _, text in cases).encode()
         if len(joined) <= MOST_BYTES and judged(program, joined) is None:
             return
@@ -189,8 +189,8 @@ class Sweep(Swept):
                 raise Faulty(f"{self.template.name}: {case.told()}: {note.text} (--allow {note.mark} goes on)")
 
     def here(self, waiting: Sequence[Waiting], program: str) -> Iterator[Answered]:
-        """Runs and reads by processes of this machine; what is done first comes first. Where some fail the others are run,
-        and the first failure is told at the end; one that a signal ended ends all."""
+        """Runs and reads by processes of this machine; what is done first comes first. If some fail the others are run,
+        and the first failure is raised at the end; one that a signal ended ends all."""
         failures: list[Failed] = []
         with Crew[tuple[Waiting, ...]](min(self.workers, max(len(waiting), 1))) as crew:
             def begin(batch: Sequence[Waiting]) -> None:
@@ -219,7 +219,7 @@ class Sweep(Swept):
                 begin([one])
 
     def changeless(self) -> Optional[str]:
-        """What is to be said where the seeds change nothing, so that intervals would have no width."""
+        """The warning if the seeds change nothing, so that intervals would have no width."""
         by_setting: dict[tuple[str, ...], list[Case]] = {}
         for case in self.cases:
             by_setting.setdefault(tuple(map(str, case.settings.values())), []).append(case)
