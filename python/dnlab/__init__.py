@@ -7,39 +7,41 @@
     r["q50-s1"].windows(), .queues(), .drops(), .commands(), .counters, .ended
     r.summary(percentiles=(50, 95, 99))       # a row for each sender, pipe and experiment, with seed and settings
     dnlab.sweep("link.tmpl", queue=[10, 50], seed=range(30)).table()   # a template's means, with their intervals
-    with dnlab.live() as session:             # a program of one's own on a link (dnlab.sessions, dnlab.sim, dnlab.senders)
+    with dnlab.live() as session:             # a program of one's own on a link (dnlab.session.sessions, dnlab.sim, dnlab.senders)
         link = session.experiment("mine", seed=1)
 
 Moments and times are whole nanoseconds (int64), sizes bytes, rates bits per second; nothing is rounded on the way.
 `read` and `run` need numpy and pandas, `sweep` scipy and jinja2 too, pictures matplotlib (Debian: apt-get install
-python3-numpy python3-pandas python3-scipy python3-jinja2 python3-matplotlib). `live`, `dnlab.scenario` and
-`dnlab.splitting` need Python alone.
+python3-numpy python3-pandas python3-scipy python3-jinja2 python3-matplotlib). `live`, `dnlab.io.scenario` and
+`dnlab.io.splitting` need Python alone.
 """
 import importlib
 from typing import TYPE_CHECKING, Any
 
+from dnlab import moved
 from dnlab.errors import Failed, Faulty, Refused
 
 if TYPE_CHECKING:
-    from dnlab.figures import interval, jain
-    from dnlab.results import Experiment, Report, intervals, read
-    from dnlab.runs import run
-    from dnlab.session_events import CommandRefused, Event, NotTaken, Over, Packet
-    from dnlab.session_links import Link
-    from dnlab.sessions import Session, live
-    from dnlab.sweeps import Sweep, sweep
+    from dnlab.analysis.figures import interval, jain
+    from dnlab.analysis.results import Experiment, Report, intervals, read
+    from dnlab.sweeps.runs import run
+    from dnlab.session.events import CommandRefused, Event, NotTaken, Over, Packet
+    from dnlab.session.links import Link
+    from dnlab.session.sessions import Session, live
+    from dnlab.sweeps.sweeping import Sweep, sweep
 
 __version__ = "0.2.0"
 __all__ = ["CommandRefused", "Event", "Experiment", "Failed", "Faulty", "Link", "NotTaken", "Over", "Packet", "Refused",
            "Report", "Session", "Sweep", "interval", "intervals", "jain", "live", "read", "run", "sweep"]
-_PLACES = {"Experiment": "results", "Report": "results", "intervals": "results", "read": "results", "run": "runs",
-           "interval": "figures", "jain": "figures", "Sweep": "sweeps", "sweep": "sweeps",
-           "CommandRefused": "session_events", "Event": "session_events", "NotTaken": "session_events",
-           "Over": "session_events", "Packet": "session_events", "Link": "session_links", "Session": "sessions",
-           "live": "sessions"}
+_PLACES = {"Experiment": "analysis.results", "Report": "analysis.results", "intervals": "analysis.results",
+           "read": "analysis.results", "run": "sweeps.runs", "interval": "analysis.figures", "jain": "analysis.figures",
+           "Sweep": "sweeps.sweeping", "sweep": "sweeps.sweeping", "CommandRefused": "session.events",
+           "Event": "session.events", "NotTaken": "session.events", "Over": "session.events", "Packet": "session.events",
+           "Link": "session.links", "Session": "session.sessions", "live": "session.sessions"}
 _MODULES = ("hosts", "sim")
-_NEEDS = {"figures": (), "results": ("numpy", "pandas"), "runs": ("numpy", "pandas"),
-          "sweeps": ("numpy", "pandas", "scipy", "jinja2"), "session_events": (), "session_links": (), "sessions": ()}
+_NEEDS: dict[str, tuple[str, ...]] = {"analysis.results": ("numpy", "pandas"), "sweeps.runs": ("numpy", "pandas"),
+                                      "sweeps.sweeping": ("numpy", "pandas", "scipy", "jinja2")}
+moved.watch()
 
 
 def __getattr__(name: str) -> Any:
@@ -49,7 +51,7 @@ def __getattr__(name: str) -> Any:
     if name not in _PLACES:
         raise AttributeError(f"module 'dnlab' has no attribute {name!r}")
     place = _PLACES[name]
-    for needed in _NEEDS[place]:
+    for needed in _NEEDS.get(place, ()):
         try:
             importlib.import_module(needed)
         except ModuleNotFoundError:

@@ -24,25 +24,32 @@ NEEDS = {"summary": ("numpy",), "plot": ("numpy", "matplotlib"), "spread": ("num
          "rate-trace": ()}
 HELP = """Tools for reports of dnlab, in Python.
 
-  python3 -m dnlab summary REPORT [SCENARIO ..]   prints a table, or rows for other programs
-  python3 -m dnlab plot REPORT [SCENARIO ..]      draws windows, queues, times under way, bytes and drops
-  python3 -m dnlab spread SCENARIO ..             runs scenarios in parts, here, by ssh or by Slurm
-  python3 -m dnlab sweep TEMPLATE --set ..        runs a template with each setting and seed; means with intervals
-  python3 -m dnlab compare A B [SCENARIO ..]      says where two reports part, and their metrics side by side
-  python3 -m dnlab expect REPORT [SCENARIO ..] BOUND ..   says whether a report keeps to bounds
-  python3 -m dnlab view REPORT [SCENARIO ..]      makes a page to look at runs in a browser, packet by packet
-  python3 -m dnlab pcap REPORT [SCENARIO ..]      writes packets as Wireshark and tcptrace read them
-  python3 -m dnlab from-ipfw FILE                 makes a scenario of a configuration of ipfw(8)
-  python3 -m dnlab to-ipfw SCENARIO               writes its pipes and rules as a script for ipfw(8)
-  python3 -m dnlab to-tc SCENARIO --dev ETH1      writes its pipes and rules as a script for tc(8)
-  python3 -m dnlab replay FILE .. --link WORDS    sends the packets of a capture through a link
-  python3 -m dnlab rate-trace FILE                makes a pipe's rate follow a trace
+    python3 -m dnlab COMMAND ..
+
+  summary REPORT [SCENARIO ..]   prints a table, or rows for other programs
+  plot REPORT [SCENARIO ..]      draws windows, queues, one-way delays and drops
+  spread SCENARIO ..             runs scenarios in parts, by ssh or by Slurm too
+  sweep TEMPLATE --set ..        runs a template with each setting and seed
+  compare A B [SCENARIO ..]      says where two reports part, with their metrics
+  expect REPORT [SCENARIO ..] BOUND ..
+                                 says whether a report keeps to bounds
+  view REPORT [SCENARIO ..]      makes a page to look at runs in a browser
+  pcap REPORT [SCENARIO ..]      writes packets as Wireshark reads them
+  from-ipfw FILE                 makes a scenario of a configuration of ipfw(8)
+  to-ipfw SCENARIO               writes its pipes and rules for ipfw(8)
+  to-tc SCENARIO --dev ETH1      writes its pipes and rules for tc(8)
+  replay FILE .. --link WORDS    sends the packets of a capture through a link
+  rate-trace FILE                makes a pipe's rate follow a trace
 
 Each has --help and --version. In Python: import dnlab; help(dnlab).
 
-Example: python3 -m dnlab summary report.txt scenario.txt
-Exit status: that of the command; 1 a bound that fails or runs that differ, and nothing else; 2 wrong usage or a faulty
-input; 3 what this machine lacks (a package, room to write), or ended from outside.
+Example:
+  python3 -m dnlab summary report.txt scenario.txt
+  python3 -m dnlab plot report.txt scenario.txt --out picture.svg
+
+Exit status: that of the command; 1 a bound that fails or runs that differ, and
+nothing else; 2 wrong usage or a faulty input; 3 what this machine lacks (a
+package, room to write), or ended from outside.
 """
 
 
@@ -63,8 +70,8 @@ def said_of(command: str, module: str) -> str:
 
 
 def module_of(command: str) -> ModuleType:
-    """The module of a command: that of from-ipfw is `dnlab.commands.from_ipfw`."""
-    return importlib.import_module(f"dnlab.commands.{command.replace('-', '_')}")
+    """The module of a command: that of from-ipfw is `dnlab.cli.from_ipfw`."""
+    return importlib.import_module(f"dnlab.cli.{command.replace('-', '_')}")
 
 
 def help_alone(words: Sequence[str]) -> None:
@@ -88,7 +95,7 @@ def main(words: Optional[Sequence[str]] = None) -> int:
     if list(words[1:]) == ["--version"]:
         print(f"dnlab-{words[0]} {__version__}")
         return 0
-    from dnlab import ending
+    from dnlab.processes import ending
 
     ending.watch(words[0])
     lacking = missing(NEEDS[words[0]])

@@ -19,7 +19,7 @@ class Refused(Exception):
 
 
 class Faulty(Exception):
-    """An input that can't be used: the file, where there is one the line, and the cause."""
+    """An input that can't be used: the file, the line if there is one, and the cause."""
 
 
 class Lacking(Faulty):
@@ -40,7 +40,7 @@ def status_of(fault: Exception) -> int:
 
 
 class Failed(Exception):
-    """The program `dnlab` ended with a status that isn't 0: `status` and what it said."""
+    """The program `dnlab` ended with a status that isn't 0: `status` and its standard error."""
 
     def __init__(self, status: int, said: str) -> None:
         super().__init__(f"dnlab ended with status {status}: {said}")

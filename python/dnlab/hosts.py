@@ -2,8 +2,8 @@
 import heapq
 from typing import Callable, Generator, Iterable, Union
 
-from dnlab.session_events import LATEST, Address, Event
-from dnlab.session_links import Link
+from dnlab.session.events import LATEST, Address, Event
+from dnlab.session.links import Link
 
 # A program that yields the moment (ns) until which it waits, and is sent the events since.
 Waiting = Generator[int, list[Event], None]
@@ -29,13 +29,13 @@ class Loop:
         self._hosts[address] = receive
 
     def at(self, moment: int, call: Callable[[], None]) -> None:
-        """The call is made at a moment (ns), now where that is past."""
+        """The call is made at a moment (ns), now if that is past."""
         self._count += 1
         heapq.heappush(self._timers, (moment, self._count, call))
 
     def run(self, until: int = LATEST, hold: int = 1) -> None:
-        """Time goes to `until` (ns); hosts and timers are called on the way. It ends earlier where the experiment is over,
-        and where no timer is left and nothing is due on the link. `hold` is that of `Link.until_mine`."""
+        """Time goes to `until` (ns); hosts and timers are called on the way. It ends earlier if the experiment is over,
+        or if no timer is left and nothing is due on the link. `hold` is that of `Link.until_mine`."""
         while not self.link.is_over and self.now < until:
             while self._timers and self._timers[0][0] <= self.now:
                 heapq.heappop(self._timers)[2]()

@@ -22,9 +22,9 @@ import time
 from contextlib import contextmanager
 from typing import Any, Callable, Coroutine, Iterator, Mapping, NoReturn, Optional, TypeVar
 
-from dnlab.session_events import LATEST, Address, Event
-from dnlab.session_links import Link
-from dnlab.sim_datagrams import Network, fault_of, here, host
+from dnlab.session.datagrams import Network, fault_of, here, host
+from dnlab.session.events import LATEST, Address, Event
+from dnlab.session.links import Link
 
 __all__ = ["Deadlock", "Loop", "host", "run"]
 _Result = TypeVar("_Result")
@@ -117,7 +117,7 @@ class Loop(asyncio.BaseEventLoop):
         return future
 
     def address_of(self, name: Any) -> str:
-        """The IPv4 address of a name or address; that of the host where it says none. `OSError` where there is none."""
+        """The IPv4 address of a name or address; that of the host if it names none. `OSError` if there is none."""
         said = str(name or "0.0.0.0")
         said = self._names.get(said, said)
         try:
@@ -190,7 +190,7 @@ def run(main: Coroutine[Any, Any, _Result], *, link: Link, hold: int = 1, names:
     names       the addresses of names: {"server": "10.0.1.1"}
     has_clocks  whether the clocks of the module `time` say the link's time meanwhile
 
-    `Deadlock` where all that is left waits for ever, `Over` where the experiment's steps are spent.
+    `Deadlock` if all that is left waits for ever, `Over` if the experiment's steps are spent.
     """
     with asyncio.Runner(loop_factory=lambda: Loop(link, hold, names)) as runner:
         if not has_clocks:

@@ -17,19 +17,19 @@ from typing import Callable, Optional, Sequence, Union
 
 import pytest
 
+from dnlab.analysis.bounds import allowed_of, bound_of, bounds_in, failing, judge, percentiles_for
+from dnlab.analysis.results import Report
 from dnlab.analysis.spans import span_of
-from dnlab.bounds import allowed_of, bound_of, bounds_in, failing, judge, percentiles_for
+from dnlab.analysis.summing import summed
 from dnlab.errors import Faulty
-from dnlab.results import Report
-from dnlab.summing import summed
 
 
 def expecting(report: Report, *bounds: Union[str, Path], allow: Union[str, Sequence[str]] = (), begin: int = 0,
               end: Optional[int] = None) -> None:
-    """Fails where a bound doesn't hold, where commands were refused and where steps were spent, with all bounds that were
-    looked at; `dnlab.Faulty` for what is no bound, and where there is nothing to judge.
+    """Fails if a bound doesn't hold, if commands were refused and if steps were spent, with all bounds that were
+    looked at; `dnlab.Faulty` for what is no bound, and if there is nothing to judge.
 
-    bounds  each one in words, or a file of them (`dnlab.bounds` has the form)
+    bounds  each one in words, or a file of them (`dnlab.analysis.bounds` has the form)
     allow   `refused`, `spent`, or both: what doesn't fail
     begin, end  only what happened from the moment `begin` on and before `end`, ns
     """
@@ -51,5 +51,5 @@ def expecting(report: Report, *bounds: Union[str, Path], allow: Union[str, Seque
 
 @pytest.fixture
 def expect() -> Callable[..., None]:
-    """`expect(report, bound, .., allow="refused")`: fails where a bound doesn't hold or something wasn't done."""
+    """`expect(report, bound, .., allow="refused")`: fails if a bound doesn't hold or something wasn't done."""
     return expecting

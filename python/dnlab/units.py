@@ -18,6 +18,8 @@ UNITS: dict[str, dict[str, Fraction]] = {
     "index": {"": Fraction(1)},
     "ending": {"": Fraction(1)},
 }
+# How units of a table are shown to people: the name, and how many of the unit are one of it.
+FOR_PEOPLE = {"ns": ("ms", 10**6), "bit/s": ("Mbit/s", 10**6)}
 # How an experiment may end; as an amount the place in this.
 ENDINGS = ("end", "spent")
 _AMOUNT = re.compile(r"([0-9]+(?:\.[0-9]+)?) ?([^0-9 .]*)")
@@ -58,16 +60,16 @@ def example(kind: str) -> str:
             "ending": "end"}[kind]
 
 
-def shown(amount: Fraction, kind: str, unit: str = "") -> str:
-    """An amount in a unit, with up to nine digits behind the point: a time in whole nanoseconds is exact.
+def shown(amount: Fraction, kind: str, unit: str = "", digits: int = 9) -> str:
+    """An amount in a unit, with up to so many digits behind the point: with nine a time in whole nanoseconds is exact.
 
-    >>> shown(Fraction(1234567), "time", "ms"), shown(Fraction(1, 3), "share", "%")
-    ('1.234567ms', '33.333333333%')
+    >>> shown(Fraction(1234567), "time", "ms"), shown(Fraction(1, 3), "share", "%"), shown(Fraction(1234567), "time", "ms", 3)
+    ('1.234567ms', '33.333333333%', '1.235ms')
     """
     if kind == "ending":
         return ENDINGS[int(amount)]
     value = amount / UNITS[kind][unit]
-    text = f"{Decimal(value.numerator) / value.denominator:.9f}".rstrip("0").rstrip(".")
+    text = f"{Decimal(value.numerator) / value.denominator:.{digits}f}".rstrip("0").rstrip(".")
     return text + (f" {unit}" if unit in ("bytes", "packets") else unit)
 
 

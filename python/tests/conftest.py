@@ -3,7 +3,7 @@ import os
 import subprocess
 import sys
 from pathlib import Path
-from typing import Callable, Iterator
+from typing import Callable, Iterator, Sequence, TypeVar
 
 import pytest
 from hypothesis import settings
@@ -13,9 +13,26 @@ sys.path.insert(0, str(ROOT / "python"))
 # The tools are started by the Python that the tests have.
 os.environ["PATH"] = os.pathsep.join([os.path.dirname(sys.executable), os.environ["PATH"]])
 
-from dnlab import report, scenario  # noqa: E402
+from dnlab.analysis.view import View  # noqa: E402
+from dnlab.io import report, scenario  # noqa: E402
 from dnlab.programs import program as program_of  # noqa: E402
-from dnlab.view import View  # noqa: E402
+
+
+# Whether what is drawn, and what is tried of each scenario, is tried in part: `check_python --quick` says so.
+QUICK = bool(os.environ.get("DNLAB_QUICK"))
+# The files that take longest, which begin first, so that no core waits for one of them at the end.
+LONGEST = ("test_spread", "test_sweep", "test_view", "test_endings", "test_green", "test_commands", "test_seeds", "test_docs", "test_pages")
+Case = TypeVar("Case")
+
+
+def in_part(cases: Sequence[Case], each: int) -> Sequence[Case]:
+    """All cases, or each so-manieth of them where they are tried in part."""
+    return cases[::each] if QUICK else cases
+
+
+def pytest_collection_modifyitems(items: list[pytest.Item]) -> None:
+    places = {name: place for place, name in enumerate(LONGEST)}
+    items.sort(key=lambda item: places.get(item.path.stem, len(LONGEST)))
 
 
 class Examples:

@@ -1,4 +1,4 @@
-"""What is worked out by hand in `dnlab.by_hand` is what the program writes, and each metric has an example there."""
+"""What is worked out by hand in `dnlab.analysis.by_hand` is what the program writes, and each metric has an example there."""
 import inspect
 from typing import Callable
 
@@ -6,8 +6,8 @@ import pytest
 
 pytest.importorskip("numpy", reason="numpy is missing (Debian: python3-numpy)")
 
-from dnlab.by_hand import FLOWS, TRAIN, Run  # noqa: E402
-from dnlab.metrics import WORDS, Metric  # noqa: E402
+from dnlab.analysis.by_hand import FLOWS, TRAIN, Run  # noqa: E402
+from dnlab.analysis.metrics import WORDS, Metric  # noqa: E402
 
 
 @pytest.mark.parametrize("run", [TRAIN, FLOWS], ids=["train", "flows"])

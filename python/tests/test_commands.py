@@ -43,7 +43,7 @@ def test_wrong_usage(words: tuple[object, ...]) -> None:
 
 def test_summary_forms() -> None:
     status, out, err = tool("summary", "-", SCENARIO, "--json", text=REPORT.read_bytes())
-    assert status == 0 and json.loads(out)[0]["median"] == 120000001 and not err
+    assert status == 0 and json.loads(out)[0]["p50"] == 120000001 and not err
     status, out, err = tool("summary", REPORT, "--csv")
     assert status == 0 and out.split("\n")[1].startswith("codel-one-drop,plain,30,29,0,,,") and "scenario" in err
     status, out, _ = tool("summary", REPORT, SCENARIO)
@@ -53,26 +53,36 @@ def test_summary_forms() -> None:
 def test_summary_percentiles_and_rows() -> None:
     status, out, err = tool("summary", REPORT, "--percentiles", "50,95,99", "--csv", SCENARIO, "--of", "train *")
     rows = list(csv.DictReader(io.StringIO(out)))
-    assert status == 0 and not err and [row["of"] for row in rows] == ["train 1"]
-    assert (rows[0]["median"], rows[0]["p95"], rows[0]["p99"]) == ("120000001", "224000001", "232000001")
+    assert status == 0 and not err and [row["sender"] for row in rows] == ["train 1"]
+    assert (rows[0]["p50"], rows[0]["p95"], rows[0]["p99"]) == ("120000001", "224000001", "232000001")
     assert (rows[0]["seed"], rows[0]["ended"]) == ("0", "end")
 
 
 def test_other_tables() -> None:
     status, out, _ = tool("summary", REPORT, SCENARIO, "--every", "100ms", "--csv")
-    assert status == 0 and out.startswith("experiment,of,begin,end,packets,bytes,rate,useful,goodput,seed,varied,ended\n")
+    assert status == 0 and out.startswith("experiment,sender,begin,end,packets,bytes,rate,useful,goodput,seed,varied,ended\n")
     # Packet k is delivered at 8 ms * k + 1 ns: twelve before 100 ms.
     assert out.split("\n")[1] == "codel-one-drop,train 1,0,100000000,12,12000,960000,12000,960000,0,,end"
     status, out, _ = tool("summary", REPORT, SCENARIO, "--losses")
     assert status == 0 and out.split("\n")[1].split() == ["codel-one-drop", "train", "1", "codel", "1.0", "1", "0", "end"]
-    status, out, _ = tool("summary", REPORT, SCENARIO, "--by", "varied", "--columns", "median", "--of", "train*", "--json")
-    assert status == 0 and json.loads(out) == [{"varied": "", "of": "train 1", "rows": 1, "median n": 1,
-                                                "median mean": 120000001.0, "median half": None}]
+    status, out, _ = tool("summary", REPORT, SCENARIO, "--by", "varied", "--columns", "p50", "--of", "train*", "--json")
+    assert status == 0 and json.loads(out) == [{"varied": "", "sender": "train 1", "rows": 1, "p50 n": 1,
+                                                "p50 mean": 120000001.0, "p50 ci95": None}]
+
+
+@pytest.mark.parametrize("older, now", [("median", "p50"), ("least", "min"), ("greatest", "max"), ("completion", "fct"),
+                                        ("again", "retransmissions"), ("held", "in_flight")])
+def test_older_names_of_columns_are_taken_with_a_warning(older: str, now: str) -> None:
+    words = ("summary", REPORT, SCENARIO, "--by", "of", "--of", "train*", "--json", "--columns")
+    status, out, err = tool(*words, older)
+    assert (status, out) == tool(*words, now)[:2] and f'"{now} mean"' in out
+    assert f"summary: {older} is {now} since version 0.2; the older name goes with version 0.3\n" in err
+    assert "summary: of is sender since version 0.2" in err
 
 
 def test_times_for_people_are_ms() -> None:
-    out = tool("summary", REPORT, SCENARIO, "--by", "varied", "--columns", "median", "--of", "train*")[1].split("\n")
-    assert out[0].split() == ["varied", "of", "rows", "median", "n", "median", "ms", "mean", "median", "ms", "half"]
+    out = tool("summary", REPORT, SCENARIO, "--by", "varied", "--columns", "p50", "--of", "train*")[1].split("\n")
+    assert out[0].split() == ["varied", "sender", "rows", "p50", "n", "p50", "ms", "mean", "p50", "ms", "ci95"]
     assert out[1].split() == ["train", "1", "1", "1", "120.000", "-"]
     out = tool("summary", REPORT, SCENARIO, "--every", "100ms")[1].split("\n")
     assert out[0].split()[2:6] == ["begin", "ms", "end", "ms"] and out[1].split()[3:5] == ["0.000", "100.000"]

@@ -5,20 +5,20 @@ import subprocess
 import sys
 from fractions import Fraction
 from pathlib import Path
-from typing import Callable
+from typing import Callable, Optional
 
 import pytest
 from conftest import ROOT, tool
 
-from dnlab import scenario
-from dnlab.beside import tolerance_of
-from dnlab.bounds import bound_of, bounds_in
+from dnlab.analysis.beside import Pair, tolerance_of
+from dnlab.analysis.bounds import bound_of, bounds_in
+from dnlab.analysis.metrics import metric_of
+from dnlab.analysis.parting import parting
+from dnlab.analysis.view import View
 from dnlab.errors import Faulty
-from dnlab.metrics import metric_of
-from dnlab.parting import parting
-from dnlab.report import read
+from dnlab.io import scenario
+from dnlab.io.report import read
 from dnlab.units import amount_of, shown
-from dnlab.view import View
 
 Alone = Callable[[bytes], bytes]
 # Five packets of 1000 bytes at once: at 8 Mbit/s each is served in 1 ms, and delivered 10 ms later: 11 .. 15 ms.
@@ -50,17 +50,46 @@ def view(alone: Alone, text: str, joined: bool = True) -> View:
 def test_metrics_and_ratio(two: list[Path]) -> None:
     a, plan, b, other = two
     status, out, err = tool("compare", a, b, plan, other, "--json", "--percentiles", "50,95")
-    found = {(one["of"], one["metric"]): (one["a"], one["b"], one["ratio"], one["judged"])
+    found = {(one["sender"], one["metric"]): (one["a"], one["b"], one["ratio"], one["judged"])
              for one in json.loads(out)["metrics"]}
     assert status == 1 and not err
     # At 4 Mbit/s a packet takes 2 ms, so they come after 12, 14, 16, 18 and 20 ms.
-    assert found["train 9", "delay.median"] == (13 * 10**6, 16 * 10**6, 16 / 13, "differs")
+    assert found["train 9", "delay.p50"] == (13 * 10**6, 16 * 10**6, 16 / 13, "differs")
     assert found["train 9", "delay.p95"] == (15 * 10**6, 20 * 10**6, 20 / 15, "differs")
     assert found["train 9", "goodput"] == (5000 * 8 * 10**9 // (15 * 10**6), 2 * 10**6, 2 * 10**6 / 2666666, "differs")
     assert found["train 9", "packets"] == (5, 5, 1.0, "same")
     status, out, _ = tool("compare", a, b, plan, other, "--percentiles", "95", "--of", "train *")
     row = [line.split() for line in out.split("\n") if "delay.p95" in line]
-    assert row == [["a", "train", "9", "delay.p95", "15ms", "20ms", "1.33333", "differs"]]
+    assert row == [["a", "train", "9", "delay.p95", "15ms", "20ms", "1.333", "differs"]]
+
+
+def pair(first: Optional[Fraction], second: Optional[Fraction], word: str = "delay.max") -> Pair:
+    return Pair("x", "train 1", metric_of(word), first, second, "")
+
+
+def test_three_digits_unless_exact() -> None:
+    """1234567 ns are 1.235 ms by three digits; what differs never looks the same, nor like nothing."""
+    apart = pair(Fraction(1234567), Fraction(2469134))
+    assert apart.shown(exact=False) == ["1.235ms", "2.469ms", "2.000"]
+    assert apart.shown(exact=True) == ["1.234567ms", "2.469134ms", "2"]
+    near = pair(Fraction(1234567), Fraction(1234568))
+    assert near.shown(exact=False) == ["1.234567ms", "1.234568ms", "1.00000081"]
+    assert pair(Fraction(1, 5000), Fraction(1), "loss").shown(exact=False) == ["0.02%", "100%", "5000.000"]
+    assert pair(None, Fraction(1, 500000), "loss").shown(exact=False) == ["-", "0.0002%", "-"]
+    assert pair(Fraction(0), Fraction(0)).shown(exact=False) == ["0ns", "0ns", "-"]
+
+
+def test_exact_goes_with_the_table(two: list[Path], tmp_path: Path) -> None:
+    """The last of five packets of 1000 bytes at 7 Mbit/s and 8 takes 5714286 ns (40000 bits, rounded up once) and 5000000."""
+    report, plan = two[:2]
+    other = tmp_path / "seven"
+    other.write_bytes(subprocess.run([os.environ["DNLAB"], "alone"], input=TRAIN.replace("8Mbit/s", "7Mbit/s").encode(),
+                                     capture_output=True, check=True).stdout)
+    seven = tmp_path / "seven.txt"
+    seven.write_text(TRAIN.replace("8Mbit/s", "7Mbit/s"))
+    rows = [line.split() for words in ((), ("--exact",))
+            for line in tool("compare", report, other, plan, seven, "--of", "train 9", *words)[1].splitlines() if " delay.max " in line]
+    assert [row[-4:-1] for row in rows] == [["15ms", "15.714ms", "1.048"], ["15ms", "15.714286ms", "1.04761907"]]
 
 
 def test_where_they_part(two: list[Path]) -> None:

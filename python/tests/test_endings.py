@@ -20,9 +20,9 @@ import pytest
 pytest.importorskip("jinja2", reason="jinja2 is missing (Debian: python3-jinja2)")
 pytest.importorskip("scipy", reason="scipy is missing (Debian: python3-scipy)")
 
-from conftest import ROOT  # noqa: E402
+from conftest import QUICK, ROOT  # noqa: E402
 
-MOMENTS = int(os.environ.get("DNLAB_MOMENTS", "24"))
+MOMENTS = int(os.environ.get("DNLAB_MOMENTS", "9" if QUICK else "24"))
 # Texts of some 30 KB, so that those of a few experiments are more than a pipe holds.
 LINK = """experiment {{ name }} seed {{ seed }} budget 1000
 @0 pipe 1 config bw 10Mbit/s delay 20 queue {{ queue }}

@@ -11,9 +11,10 @@ from typing import Callable, Iterator
 import pytest
 from conftest import tool
 
-from dnlab.ipfw_import import Became, Import
-from dnlab.ipfw_script import Line, lines_of
-from dnlab.ipfw_words import APPROXIMATED, DROPPED, REFUSED, REWRITTEN, SAME, Cannot, rate
+from dnlab.io.ipfw_became import Became
+from dnlab.io.ipfw_import import Import
+from dnlab.io.ipfw_script import Line, lines_of
+from dnlab.io.ipfw_words import APPROXIMATED, DROPPED, REFUSED, REWRITTEN, SAME, Cannot, rate
 
 FOLDER = Path(__file__).parent / "ipfw"
 INTERFACES = ("--if", "em1=10.0.1.0/24", "--if", "dc0=any", "--if", "igb0=any", "--if", "igb1=any", "--me", "203.0.113.10")
@@ -237,7 +238,7 @@ def test_a_script_can_do_nothing_else(open_folder: Path) -> None:
 
 
 def test_a_script_ends_in_time(tmp_path: Path, monkeypatch: pytest.MonkeyPatch) -> None:
-    from dnlab import ipfw_script
+    from dnlab.io import ipfw_script
     from dnlab.errors import Faulty
     monkeypatch.setattr(ipfw_script, "SECONDS", 1)
     with pytest.raises(Faulty, match="didn't end within 1 s"):

@@ -8,12 +8,12 @@ from pathlib import Path
 from typing import Callable
 
 import pytest
-from conftest import ROOT, tool
+from conftest import ROOT, in_part, tool
 
 from dnlab.__main__ import COMMANDS
-from dnlab.figures import percentile_name
-from dnlab.metrics import metric_of
-from dnlab.tables import jitter
+from dnlab.analysis.figures import percentile_name
+from dnlab.analysis.metrics import metric_of
+from dnlab.analysis.tables import jitter
 
 np = pytest.importorskip("numpy", reason="numpy is missing (Debian: python3-numpy)")
 Alone = Callable[[bytes], bytes]
@@ -203,7 +203,7 @@ def test_status_1_is_a_bound_alone(files: Callable[..., list[Path]], tmp_path: P
     more = {"expect": ["all: drops == 0"], "compare": [], "plot": ["--out", tmp_path / "p.png"],
             "view": ["--out", tmp_path / "p.html"], "summary": [], "pcap": []}
     for name, words in more.items():
-        for texts in ([cut, plan], [report, bad], [tmp_path / "none", plan], [report, tmp_path], [plan, plan], [tmp_path, plan]):
+        for texts in in_part([[cut, plan], [report, bad], [tmp_path / "none", plan], [report, tmp_path], [plan, plan], [tmp_path, plan]], 3):
             files_given = [texts[0], *texts] if name == "compare" else texts
             status, out, err = tool(name, *files_given, *words)
             assert status == 2 and not out and "Traceback" not in err and len(err.splitlines()) == 1, (name, texts, err)
@@ -267,7 +267,7 @@ def test_figures_by_hand(files: Callable[..., list[Path]]) -> None:
     """Train 9: 11, 12, 13, 14, 15 ms. Train 1 is made at 1, 21 and 41 ms; its first packet waits for the five, to 5 ms, and
     takes 0.1 ms: 14.1, 10.1, 10.1 ms. The pipe serves 5300 bytes from 0 to 41.1 ms: 42400 bit of 328800."""
     texts = files(CALL)
-    rows = {row["of"]: row for row in json.loads(tool("summary", *texts, "--json")[1])}
+    rows = {row["sender"]: row for row in json.loads(tool("summary", *texts, "--json")[1])}
     assert rows["train 9"]["mean"] == 13 * 10**6 and rows["train 1"]["mean"] == 34.3 * 10**6 / 3
     # Four differences of 1 ms: 1 - (15/16)^4 of it. Then 4 ms and 0: 4/16 * 15/16.
     assert rows["train 9"]["jitter"] == pytest.approx(10**6 * (1 - (15 / 16) ** 4), rel=1e-12)
@@ -292,7 +292,7 @@ def test_jitter_as_the_page_has_it() -> None:
 def test_utilisation_of_a_link_that_changes(files: Callable[..., list[Path]]) -> None:
     """8 Mbit/s to 2 ms, then 4: two packets by 2 ms, the three others by 2 ms each, to 8 ms: 40000 bit of 16000 + 24000."""
     text = CALL.replace("@1000000 train", "@2000000 pipe 1 config bw 4Mbit/s delay 10\n@2000000 train").replace("2 100 count 3", "2 100 count 1")
-    rows = {row["of"]: row for row in json.loads(tool("summary", *files(text), "--json")[1])}
+    rows = {row["sender"]: row for row in json.loads(tool("summary", *files(text), "--json")[1])}
     # The rate changes while the third packet is in service (from 2 ms on), since the command comes before that finish: the
     # packet that finishes at 2 ms ends the period. The small one takes 0.2 ms: to 8.2 ms, 40800 bit of 16000 + 24800.
     assert rows["pipe 1.0"]["last"] == 8_200_000 and rows["pipe 1.0"]["utilisation"] == 1
@@ -303,7 +303,7 @@ def test_as_json(files: Callable[..., list[Path]]) -> None:
     told = json.loads(out)
     assert status == 1 and told["holds"] is False and [one["holds"] for one in told["bounds"]] == [False, True, True]
     assert told["bounds"][0] | {"said": ""} == {
-        "bound": "train 9: delay.p95 < 12ms", "where": "bound 1", "holds": False, "experiment": "a", "of": "train 9",
+        "bound": "train 9: delay.p95 < 12ms", "where": "bound 1", "holds": False, "experiment": "a", "sender": "train 9",
         "metric": "delay.p95", "measured": 15 * 10**6, "asked": 12 * 10**6, "said": ""}
     assert told["bounds"][2]["measured"] == "end" and [one["mark"] for one in told["failing"]] == ["refused"]
 
@@ -338,6 +338,13 @@ def test_stored_summaries(files: Callable[..., list[Path]], tmp_path: Path) -> N
         assert tool("compare", base, second, other, "--tolerance", f"delay.p95={share}", "--of", "train 9")[0] == status
     got = tool("compare", base, second, other, "--tolerance", "delay.p99=5%")
     assert got[0] == 2 and "base.json was made without it" in got[2]
+    older = base.read_text()
+    for now, before in (("sender", "of"), ("in_flight", "held"), ("min", "least"), ("p50", "median"), ("max", "greatest"),
+                        ("retransmissions", "again"), ("fct", "completion"), ("params", "settings"), ("warnings", "marks")):
+        assert f'"{now}": ' in older
+        older = older.replace(f'"{now}": ', f'"{before}": ')
+    (tmp_path / "older.json").write_text(older)
+    assert tool("compare", tmp_path / "older.json", first, plan)[:2] == same[:2]
     (tmp_path / "packed.gz").write_bytes(gzip.compress(base.read_bytes()))
     assert tool("compare", tmp_path / "packed.gz", first, plan)[0] == 0
     for text in ("[1]", "[{}]", base.read_text()[:-9], '[{"experiment": "a", "of": "b"}]',

@@ -3,15 +3,14 @@ import os
 import random
 
 import pytest
-from conftest import text_of, view_of
+from conftest import QUICK, text_of, view_of
 
-from dnlab import report, scenario
+from dnlab.analysis.makings import makings_of
+from dnlab.analysis.packets import FATES, nowhere as lost_in
+from dnlab.analysis.view import View
 from dnlab.errors import Refused
-from dnlab.lines import INSTANCE, LISTINGS, pipe_code, pipe_name
-from dnlab.makings import DATA, makings_of
-from dnlab.packets import FATES
-from dnlab.packets import nowhere as lost_in
-from dnlab.view import View
+from dnlab.io import report, scenario
+from dnlab.io.lines import DATA, INSTANCE, LISTINGS, pipe_code, pipe_name
 
 # What is changed in the scenario or the report of reno_four_segments: the text, by what, which, line and cause.
 JOINS = [
@@ -186,7 +185,7 @@ def compare_listings(view: View) -> int:
     return compared
 
 
-@pytest.mark.parametrize("tens", range(int(os.environ.get("DNLAB_JOINS", "100")) // 10))
+@pytest.mark.parametrize("tens", range(int(os.environ.get("DNLAB_JOINS", "20" if QUICK else "100")) // 10))
 def test_random_scenarios(tens: int, alone) -> None:
     """Ten at a time: the join agrees with each line, with the counters and with each listing, and a traced report tells
     the same without its scenario. DNLAB_JOINS=1000 tries more."""

@@ -11,10 +11,11 @@ pytest.importorskip("plotly", reason="plotly is missing (Debian: python3-plotly)
 
 from test_view import COOKBOOK, browsing, near, page_of, read_back  # noqa: E402
 
-from dnlab import pictures, report, scenario  # noqa: E402
-from dnlab.series import link_rates, panel_of, windows  # noqa: E402
-from dnlab.tables import Tables  # noqa: E402
-from dnlab.view import View  # noqa: E402
+from dnlab.analysis.series import link_rates, panel_of, windows  # noqa: E402
+from dnlab.analysis.tables import Tables  # noqa: E402
+from dnlab.analysis.view import View  # noqa: E402
+from dnlab.io import report, scenario  # noqa: E402
+from dnlab.plot import pictures
 
 MS = 10**6
 Alone = Callable[[bytes], bytes]

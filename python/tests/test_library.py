@@ -10,7 +10,7 @@ import pytest
 import dnlab
 from conftest import EXAMPLES, ROOT
 from dnlab import library
-from dnlab.origin import read_beside
+from dnlab.io.origin import read_beside
 
 NAMED = os.environ.get("LIBDNLAB", "")
 there = pytest.mark.skipif(not NAMED, reason="no library is named by LIBDNLAB (tools/library makes one)")

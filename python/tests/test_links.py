@@ -3,10 +3,10 @@ from typing import Callable
 
 import pytest
 
-from dnlab import scenario
+from dnlab.analysis.view import View
 from dnlab.errors import Refused
-from dnlab.report import read
-from dnlab.view import View
+from dnlab.io import scenario
+from dnlab.io.report import read
 
 Alone = Callable[[bytes], bytes]
 # Five packets of 1000 bytes at once, 8 Mbit/s: each is served in 1 ms. They finish at 1 .. 5 ms, in lines 5 to 9 of the
@@ -113,7 +113,7 @@ def test_rounding_of_a_busy_period(alone: Alone) -> None:
 
 def test_more_bytes_than_fit_in_a_number(alone: Alone) -> None:
     """A busy period of more than 2^63 / (8 * 10^9) bytes is reckoned in whole numbers too."""
-    from dnlab.links import _service
+    from dnlab.analysis.links import _service
     import numpy as np
 
     served = np.array([1500, 2 * 10**9], dtype=np.int64)

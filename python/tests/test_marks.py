@@ -6,10 +6,10 @@ from typing import Callable
 import pytest
 from conftest import tool
 
-from dnlab import scenario
-from dnlab.marks import MEANS, codes_of
-from dnlab.report import read
-from dnlab.view import View
+from dnlab.analysis.marks import MEANS, codes_of
+from dnlab.analysis.view import View
+from dnlab.io import scenario
+from dnlab.io.report import read
 
 Alone = Callable[[bytes], bytes]
 LINK = "@0 pipe 1 config bw 10Mbit/s delay 20 queue 50\n"
@@ -129,8 +129,8 @@ def test_columns_of_the_summary(alone: Alone, tmp_path: Path) -> None:
     (tmp_path / "s").write_text(good + bad)
     (tmp_path / "r").write_bytes(alone((good + bad).encode()))
     status, out, err = tool("summary", tmp_path / "r", tmp_path / "s", "--json")
-    rows = {(row["experiment"], row["of"]): row for row in json.loads(out)}
-    assert status == 0 and [(rows[name, "train 9"]["refused"], rows[name, "train 9"]["codes"], rows[name, "train 9"]["marks"])
+    rows = {(row["experiment"], row["sender"]): row for row in json.loads(out)}
+    assert status == 0 and [(rows[name, "train 9"]["refused"], rows[name, "train 9"]["codes"], rows[name, "train 9"]["warnings"])
                             for name in "ab"] == [(0, "", ""), (1, "22:1", "refused")]
     assert "experiment b: 1 of 7 commands was refused and did nothing: line 14: `train 9" in err
     status, out, _ = tool("summary", tmp_path / "r", tmp_path / "s")

@@ -8,7 +8,7 @@ import pandas as pd
 import pytest
 
 import dnlab
-from dnlab.by_hand import FLOWS, TRAIN, Run
+from dnlab.analysis.by_hand import FLOWS, TRAIN, Run
 
 
 @pytest.fixture(params=[TRAIN], ids=["train"])

@@ -6,8 +6,8 @@ import pytest
 from conftest import tool
 
 import dnlab
-from dnlab.origin import beside, check_beside, file_checksum, read_beside, scenario_checksum
-from dnlab.scenario import read
+from dnlab.io.origin import beside, check_beside, file_checksum, read_beside, scenario_checksum
+from dnlab.io.scenario import read
 
 # Nothing that a line of the report shows tells 100 bytes from 200: the pipe has no rate.
 TEXT = """experiment a seed 0 budget 100

@@ -58,7 +58,7 @@ def test_spread_says_what_made_its_report(tmp_path: Path, program: str) -> None:
 
 
 def test_spread_keeps_the_scenario_that_run_keeps(tmp_path: Path, program: str) -> None:
-    results = pytest.importorskip("dnlab.runs", reason="pandas is missing (Debian: python3-pandas)")
+    results = pytest.importorskip("dnlab.sweeps.runs", reason="pandas is missing (Debian: python3-pandas)")
     text = ROOT / "cookbook" / "bufferbloat" / "scenario.txt"
     assert tool("spread", text, "--parts", 2, "--out", tmp_path / "a.txt")[0] == 0
     results.run(text, out=tmp_path / "b.txt", dnlab=program)

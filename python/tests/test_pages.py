@@ -107,6 +107,6 @@ def test_the_answer_without_a_way_back(folder: Path) -> None:
 
 def test_the_answer_of_another_target(folder: Path, program: str) -> None:
     (folder / "codel.txt").write_text(text_of("codel.txt").replace("queue 50 codel", "queue 50 codel target 20"))
-    said = run(["bash", "-c", "./dnlab alone < codel.txt | tools/summary - codel.txt --of 'train 9' --by experiment --columns median"],
+    said = run(["bash", "-c", "./dnlab alone < codel.txt | tools/summary - codel.txt --of 'train 9' --by experiment --columns p50"],
                folder, program)
     assert [line.split()[4:6] for line in said.splitlines()[1:]] == [["1", "104.800"], ["1", "28.800"]]

@@ -10,10 +10,10 @@ from typing import Any, Callable
 import pytest
 from conftest import tool
 
-from dnlab import scenario
-from dnlab.report import read
-from dnlab.tables import Tables
-from dnlab.view import View
+from dnlab.analysis.tables import Tables
+from dnlab.analysis.view import View
+from dnlab.io import scenario
+from dnlab.io.report import read
 
 dpkt: Any = pytest.importorskip("dpkt", reason="dpkt is missing (Debian: python3-dpkt)")
 Alone = Callable[[bytes], bytes]

@@ -5,9 +5,9 @@ from conftest import view_of
 from hypothesis import given, settings
 from hypothesis import strategies as some
 
-from dnlab.series import Series, thinned
+from dnlab.analysis.series import Series, thinned
 
-pictures = pytest.importorskip("dnlab.pictures", reason="matplotlib is missing (Debian: python3-matplotlib)")
+pictures = pytest.importorskip("dnlab.plot.pictures", reason="matplotlib is missing (Debian: python3-matplotlib)")
 
 
 def lines_on(axes) -> dict[str, list[tuple[float, float]]]:

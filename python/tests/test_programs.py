@@ -14,7 +14,7 @@ import dnlab
 from conftest import ROOT
 from dnlab import programs
 from dnlab.__main__ import COMMANDS, NEEDS
-from dnlab.commands.words import renamed
+from dnlab.cli.words import renamed
 
 # A package that stands alone, as pip installs it: a copy without its repository.
 ALONE = "import sys; sys.path.insert(0, {place!r}); from dnlab.{module} import {name}; print({name}())"

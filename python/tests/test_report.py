@@ -8,11 +8,12 @@ from conftest import EXAMPLES, ROOT, text_of
 from hypothesis import given, settings
 from hypothesis import strategies as some
 
-from dnlab import report, scenario
-from dnlab.digits import Text
+from dnlab.analysis.makings import makings_of
 from dnlab.errors import Refused
-from dnlab.lines import CAUSES, CODES, LISTINGS, WORDS, Reader, pipe_code
-from dnlab.makings import makings_of
+from dnlab.io import pieces, report, scenario
+from dnlab.io.digits import Text
+from dnlab.io.line_reader import Reader
+from dnlab.io.lines import CAUSES, CODES, LISTINGS, WORDS, pipe_code
 
 # Counted by hand in the reports: lines by word, then what the counters must be.
 COUNTED = {
@@ -201,8 +202,8 @@ def test_blocks_of_any_size(size: int, monkeypatch: pytest.MonkeyPatch) -> None:
     """A report is the same in whatever blocks it is read, from a file and from a stream."""
     path = EXAMPLES / "four_experiments" / "expected.txt"
     whole = [(one.name, one.line, one.columns.moment.tolist()) for one in report.read(path.read_bytes())]
-    monkeypatch.setattr(report, "_LOOK", size)
-    monkeypatch.setattr(report, "_BLOCK", size)
+    monkeypatch.setattr(pieces, "_LOOK", size)
+    monkeypatch.setattr(pieces, "_BLOCK", size)
     assert whole == [(one.name, one.line, one.columns.moment.tolist()) for one in report.read(path)]
     assert whole == [(one.name, one.line, one.columns.moment.tolist()) for one in report.read(io.BytesIO(path.read_bytes()))]
 

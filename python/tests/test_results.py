@@ -9,7 +9,7 @@ import pytest
 from conftest import EXAMPLES, ROOT, view_of
 
 import dnlab
-from dnlab.results import Experiment
+from dnlab.analysis.results import Experiment
 
 pd = pytest.importorskip("pandas", reason="pandas is missing (Debian: python3-pandas)")
 
@@ -113,7 +113,7 @@ def test_intervals() -> None:
 def test_without_numpy(tmp_path: Path) -> None:
     """What it takes is named, and what needs nothing works."""
     (tmp_path / "numpy.py").write_text("raise ModuleNotFoundError('no numpy', name='numpy')\n")
-    words = ("import dnlab, dnlab.scenario, dnlab.splitting\ntry:\n    dnlab.read\nexcept ModuleNotFoundError as fault:\n"
+    words = ("import dnlab, dnlab.io.scenario, dnlab.io.splitting\ntry:\n    dnlab.read\nexcept ModuleNotFoundError as fault:\n"
              "    print(fault)")
     done = subprocess.run([sys.executable, "-B", "-c", words], capture_output=True, text=True, check=False,
                           env={**os.environ, "PYTHONPATH": f"{tmp_path}:{ROOT / 'python'}"})

@@ -7,9 +7,10 @@ import pytest
 from conftest import EXAMPLES
 
 import dnlab
-from dnlab import scenario
 from dnlab.errors import Refused
-from dnlab.scenario import Judged, Sends
+from dnlab.io import scenario
+from dnlab.io.scenario import Judged
+from dnlab.io.scenario_parts import Sends
 
 TEXT = b"""experiment a seed 18446744073709551615 budget 7
 # a comment
@@ -66,6 +67,6 @@ def test_all_examples(program: str) -> None:
 @pytest.mark.parametrize("name", [name for _, name, _ in pkgutil.walk_packages(dnlab.__path__, "dnlab.")
                                   if not name.endswith("__main__")])
 def test_examples_in_the_documentation(name: str) -> None:
-    if name == "dnlab.pictures":
+    if name == "dnlab.plot.pictures":
         pytest.importorskip("matplotlib")
     assert doctest.testmod(importlib.import_module(name)).failed == 0

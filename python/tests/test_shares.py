@@ -11,9 +11,9 @@ from conftest import EXAMPLES, tool, view_of
 from hypothesis import given
 from hypothesis import strategies as some
 
+from dnlab.analysis.series import MORE, Panel, Series, Span, fewest, panel_of, within
+from dnlab.analysis.shares import overlaid
 from dnlab.errors import Faulty
-from dnlab.series import MORE, Panel, Series, Span, fewest, panel_of, within
-from dnlab.shares import overlaid
 
 MS = 10**6
 
@@ -111,7 +111,7 @@ def test_overlaid() -> None:
 
 
 def test_axes() -> None:
-    pictures = pytest.importorskip("dnlab.pictures", reason="matplotlib is missing (Debian: python3-matplotlib)")
+    pictures = pytest.importorskip("dnlab.plot.pictures", reason="matplotlib is missing (Debian: python3-matplotlib)")
     view, span = view_of("reno_four_segments"), Span(10 * MS, 30 * MS)
     panels = [panel_of(view, what, span, 10 * MS) for what in ("cdf:sojourn", "box:sojourn", "throughput", "window")]
     shares, boxes, throughput, window = pictures.figure_of_panels(["x"], [panels], span).axes

@@ -234,7 +234,7 @@ def test_queries_of_dnspython(program: str, alone: Alone) -> None:
 def test_connections_of_aioice(program: str, alone: Alone, monkeypatch: pytest.MonkeyPatch) -> None:
     """Two agents of ICE (RFC 8445) find a pair of candidates, though the link loses, and send each other 50 datagrams."""
     aioice = pytest.importorskip("aioice", reason="aioice is missing (Debian: python3-aioice)")
-    from dnlab.sim_datagrams import here
+    from dnlab.session.datagrams import here
 
     # Which addresses a host has is asked of the machine otherwise.
     monkeypatch.setattr("aioice.ice.get_host_addresses", lambda use_ipv4, use_ipv6: [here()])

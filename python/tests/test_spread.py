@@ -14,11 +14,11 @@ import time
 from pathlib import Path
 
 import pytest
-from conftest import ROOT
+from conftest import ROOT, in_part
 from hypothesis import given
 from hypothesis import strategies as some
 
-from dnlab.splitting import experiments_in, groups, shares, texts_of
+from dnlab.io.splitting import experiments_in, groups, shares, texts_of
 
 SPREAD = str(ROOT / "tools" / "spread")
 PARTS = 1, 2, 3, 300
@@ -90,7 +90,7 @@ def ways(turn: int, text: bytes) -> tuple[int, ...]:
     return all_ways if starts > 1 else (PARTS[turn % 4],)
 
 
-@pytest.mark.parametrize("turn", range(len(FILES)), ids=[file.parent.name for file in FILES])
+@pytest.mark.parametrize("turn", in_part(range(len(FILES)), 5), ids=in_part([file.parent.name for file in FILES], 5))
 def test_each_scenario(turn: int, program: str) -> None:
     text = FILES[turn].read_bytes()
     want = ended([program, "alone"], text)

@@ -1,5 +1,5 @@
 """What a study needs of a summary and a sweep: a part of the time, statistics of one's own, and settings as columns.
-Values are worked out by hand from the experiments of `dnlab.by_hand`."""
+Values are worked out by hand from the experiments of `dnlab.analysis.by_hand`."""
 import csv
 import io
 import json
@@ -14,12 +14,12 @@ pytest.importorskip("scipy", reason="scipy is missing (Debian: python3-scipy)")
 from conftest import tool  # noqa: E402
 
 import dnlab  # noqa: E402
-from dnlab import report, scenario  # noqa: E402
+from dnlab.analysis.by_hand import FLOWS, TRAIN, Run  # noqa: E402
 from dnlab.analysis.spans import Span  # noqa: E402
-from dnlab.by_hand import FLOWS, TRAIN, Run  # noqa: E402
-from dnlab.commands.sweep import far  # noqa: E402
-from dnlab.tables import Row, Tables  # noqa: E402
-from dnlab.view import View  # noqa: E402
+from dnlab.analysis.tables import Row, Tables  # noqa: E402
+from dnlab.analysis.view import View  # noqa: E402
+from dnlab.cli.sweep import far  # noqa: E402
+from dnlab.io import report, scenario  # noqa: E402
 
 MS = 10**6
 # TRAIN with a queue that is open.

@@ -13,6 +13,8 @@ import re
 import signal
 import sqlite3
 import subprocess
+import sys
+import time
 from decimal import Context, Decimal
 from pathlib import Path
 from typing import Callable
@@ -25,11 +27,12 @@ pytest.importorskip("scipy", reason="scipy is missing (Debian: python3-scipy)")
 from conftest import ROOT, tool  # noqa: E402
 
 import dnlab  # noqa: E402
+from dnlab.analysis.estimates import estimate  # noqa: E402
 from dnlab.chance import Chance  # noqa: E402
-from dnlab.estimates import estimate  # noqa: E402
-from dnlab.grids import cases_of, name_of, seeds_of, setting_of  # noqa: E402
-from dnlab.templates import Template, value_of  # noqa: E402
-from dnlab.work import Progress  # noqa: E402
+from dnlab.processes.progress import Progress  # noqa: E402
+from dnlab.sweeps.grids import cases_of, name_of, seeds_of, setting_of  # noqa: E402
+from dnlab.sweeps.jobs import How  # noqa: E402
+from dnlab.sweeps.templates import Template, value_of  # noqa: E402
 
 BOTTLENECK = ROOT / "python" / "examples" / "bottleneck.tmpl"
 # One packet of a size that the seed draws, by a link of 1 Mbit/s: 8000 ns a byte, and the delay.
@@ -271,7 +274,7 @@ def test_counts_by_grep(tmp_path: Path, program: str, alone: Callable[[bytes], b
     assert tool("sweep", BOTTLENECK, *words, *stats, DNLAB=program)[0] == 0
     rows = rows_of(each.read_text())
     made = dnlab.sweep(BOTTLENECK, length=2, queue=[10, "200 codel"], seed=3)
-    assert [row["of"] for row in rows] == ["flows", "train 9"] * 2 and rows[0]["experiment"] == "length2-queue10-s3"
+    assert [row["sender"] for row in rows] == ["flows", "train 9"] * 2 and rows[0]["experiment"] == "length2-queue10-s3"
     for case, flows, call in zip(made.cases, rows[::2], rows[1::2]):
         report = alone(made.text(case).encode()).decode()
 
@@ -329,8 +332,8 @@ def test_marks_and_what_is_said(tmp_path: Path, program: str) -> None:
     assert status == 2 and not out and "(delay=5, steps=3, seed " in err and "its steps were spent" in err
     words += ["--allow", "spent"]
     status, out, err = tool("sweep", template(tmp_path, text), *words, DNLAB=program)
-    assert status == 0 and {row["marks"] for row in rows_of(out) if row["steps"] == "3"} == {"spent"}
-    assert {row["marks"] for row in rows_of(out) if row["steps"] == "100"} == {""}
+    assert status == 0 and {row["warnings"] for row in rows_of(out) if row["steps"] == "3"} == {"spent"}
+    assert {row["warnings"] for row in rows_of(out) if row["steps"] == "100"} == {""}
     assert "2 of 4 experiments: their steps were spent" in err and "the seeds change nothing" in err
     assert "rate of pipe 1.0, delay=5, steps=3: 0 of 2 experiments tell it (and 2 more like it)" in err
     assert "seeds change nothing" not in tool("sweep", template(tmp_path), "--set", "delay=5", "--seeds", "1-2",
@@ -477,6 +480,17 @@ def test_other_machines_by_a_stand_in(tmp_path: Path, counting: Path) -> None:
     assert done.returncode == 0 and done.stdout == here[1] and calls(tmp_path) == ["delay7-s2"]
 
 
+def test_an_engine_that_is_not_there(tmp_path: Path, program: str, monkeypatch: pytest.MonkeyPatch) -> None:
+    """Whoever sweeps in Python gets the reason as `Faulty`, as for any other input that can't be used."""
+    text = template(tmp_path).read_text()
+    monkeypatch.setenv("PATH", str(tmp_path))
+    for on, said in ("4/alpha", "parallel isn't there (Debian: parallel)"), ("slurm", "sbatch isn't there (Debian: slurm-client)"):
+        with pytest.raises(dnlab.Faulty, match=re.escape(f"--on {on}: {said}")):
+            dnlab.sweep(text, delay=5, of="train 1", stat="delay.p95", on=on, dnlab=program).run()
+    assert How(ssh="4/alpha", program="/opt/{a}").fault() == "--program /opt/{a}: parallel would fill in its braces"
+    assert How().fault() is None
+
+
 def test_ended_from_outside(tmp_path: Path, program: str) -> None:
     """A signal ends it and all that it began; what was done is kept."""
     slow = tmp_path / "slow"
@@ -554,7 +568,7 @@ def test_a_refused_command_ends_a_sweep(tmp_path: Path, program: str) -> None:
         assert status == 2 and not out and "experiment delay7-s" in err and "(delay=7, seed " in err
         assert "line 5: `pipe delete 9` (20: there is no pipe of this number)" in err and "--allow refused" in err
     status, out, err = tool("sweep", *words, "--allow", "refused", DNLAB=program)
-    assert status == 0 and {row["delay"]: row["marks"] for row in rows_of(out)} == {"5": "", "7": "refused"}
+    assert status == 0 and {row["delay"]: row["warnings"] for row in rows_of(out)} == {"5": "", "7": "refused"}
     with pytest.raises(dnlab.Faulty, match="refused"):
         dnlab.sweep(file, delay=7, of="all", stat="lost", dnlab=program).table()
     assert dnlab.sweep(file, delay=7, of="all", stat="lost", dnlab=program, allow=["refused"]).table()["n"].tolist() == [1]
@@ -582,7 +596,7 @@ def test_limits_of_a_template(text: str, cause: str, tmp_path: Path, program: st
 
 def test_a_template_without_end(monkeypatch: pytest.MonkeyPatch) -> None:
     """Its process is ended after some time; the sweep goes on to say so."""
-    monkeypatch.setattr("dnlab.making.MOST_SECONDS", 1.0)
+    monkeypatch.setattr("dnlab.sweeps.making.MOST_SECONDS", 1.0)
     text = "{% for i in range(10**6) %}{% for j in range(10**6) %}{% endfor %}{% endfor %}\n" + ONE
     made = dnlab.sweep(text, delay=5)
     with pytest.raises(dnlab.Faulty, match=r"experiment delay5-s1 \(delay=5, seed 1\): its text takes more than 1 s"):
@@ -620,20 +634,44 @@ def test_by_dask(tmp_path: Path, program: str, monkeypatch: pytest.MonkeyPatch) 
     assert status == 2 and not out and "there is no scheduler" in err
 
 
+@pytest.mark.skipif(importlib.util.find_spec("tqdm") is None, reason="tqdm is missing (Debian: python3-tqdm)")
 def test_how_far_it_is(capsys: pytest.CaptureFixture[str]) -> None:
     """After 100 s 30 of 120 are done besides 20 that were kept, so the 70 others take 233 s."""
     progress = Progress("sweep", 120, 20)
     progress.step(30)
-    assert progress.told(progress.begin + 100) == "sweep: 50 of 120 experiments, ETA 00:03:53"
-    progress.is_seen = True
-    assert progress.told(progress.begin + 100) == "sweep: ████████░░░░░░░░░░░░ 50 of 120 experiments, ETA 00:03:53"
-    progress.last -= 1
-    progress.step()
-    progress.close()
-    assert capsys.readouterr().err.startswith("\rsweep: ████████░░░░░░░░░░░░ 51 of 120")
+    assert progress.told(progress.begin + 100) == "sweep: 50 of 120 experiments, ETA 03:53"
     progress = Progress("sweep", 9)
     progress.step()
     assert not capsys.readouterr().err
     progress.last -= 31
     progress.step()
-    assert capsys.readouterr().err.startswith("sweep: 2 of 9 experiments, ETA")
+    progress.close()
+    assert re.fullmatch("sweep: 2 of 9 experiments, ETA [0-9:]+\n", capsys.readouterr().err)
+
+
+@pytest.mark.skipif(importlib.util.find_spec("tqdm") is None, reason="tqdm is missing (Debian: python3-tqdm)")
+def test_how_far_it_is_on_a_terminal(monkeypatch: pytest.MonkeyPatch) -> None:
+    """A line with a bar is written anew in its place, and at the end nothing of it is left."""
+    class Terminal(io.StringIO):
+        def isatty(self) -> bool:
+            return True
+
+    shown = Terminal()
+    monkeypatch.setattr(sys, "stderr", shown)
+    with Progress("spread", 4, 1, "parts") as progress:
+        progress.step()
+        assert not shown.getvalue()
+        time.sleep(0.6)
+        progress.step()
+    lines = shown.getvalue().split("\r")
+    assert re.fullmatch("spread: #{15} +3 of 4 parts, ETA [0-9:]+ *", lines[1]) and "\n" not in shown.getvalue()
+    assert not lines[-1] and not lines[-2].strip()
+
+
+def test_without_tqdm_nothing_is_said_of_how_far_it_is(tmp_path: Path, program: str) -> None:
+    """A Python that finds no tqdm: the table is there, and the line of what was run."""
+    code = ("import sys; sys.modules['tqdm'] = None; from dnlab.__main__ import main; sys.exit(main(sys.argv[1:]))")
+    done = subprocess.run([sys.executable, "-B", "-c", code, "sweep", str(template(tmp_path)), "--set", "delay=5,7", "--of", "train 1",
+                           "--stat", "delay.p95"], capture_output=True, text=True, check=False,
+                          env={**os.environ, "DNLAB": program, "PYTHONPATH": str(ROOT / "python")})
+    assert done.returncode == 0 and done.stdout.startswith("delay  train 1 delay.p95 ms\n"), done.stderr

@@ -6,15 +6,16 @@ from conftest import EXAMPLES, text_of, view_of
 from hypothesis import given
 from hypothesis import strategies as some
 
-from dnlab import report, scenario
-from dnlab.errors import Faulty
-from dnlab.estimates import half_of
-from dnlab.figures import Interval, interval, jain, percentile_name, place
-from dnlab.layout import milliseconds, table
+from dnlab.analysis.estimates import half_of
+from dnlab.analysis.figures import Interval, interval, jain, percentile_name, place
+from dnlab.analysis.losses import losses, windows
 from dnlab.analysis.options import varied
-from dnlab.summing import grouped
-from dnlab.tables import Tables, losses, times_of, windows
-from dnlab.view import View
+from dnlab.analysis.summing import grouped
+from dnlab.analysis.tables import Tables, times_of
+from dnlab.analysis.view import View
+from dnlab.cli.layout import milliseconds, table
+from dnlab.errors import Faulty
+from dnlab.io import report, scenario
 
 
 def rows_of(view: View, percentiles=(50, 99)):

@@ -10,9 +10,9 @@ pytest.importorskip("jinja2", reason="jinja2 is missing (Debian: python3-jinja2)
 
 from dnlab.chance import Chance  # noqa: E402  (what is wanted is asked for first)
 from dnlab.errors import Faulty  # noqa: E402
-from dnlab.scenario import read  # noqa: E402
-from dnlab.templates import Template  # noqa: E402
-from dnlab.traffic import Traffic  # noqa: E402
+from dnlab.io.scenario import read  # noqa: E402
+from dnlab.sweeps.templates import Template  # noqa: E402
+from dnlab.sweeps.traffic import Traffic  # noqa: E402
 
 SECOND = 10**9
 TEMPLATE = """experiment {{ name }} seed {{ seed }} budget 1000

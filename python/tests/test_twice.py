@@ -3,9 +3,9 @@ import re
 
 from conftest import text_of
 
-from dnlab import report, scenario
-from dnlab.tables import Tables
-from dnlab.view import View
+from dnlab.analysis.tables import Tables
+from dnlab.analysis.view import View
+from dnlab.io import report, scenario
 
 
 def test_bytes_that_come_twice_count_once() -> None:

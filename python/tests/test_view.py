@@ -15,7 +15,7 @@ import pytest
 from conftest import EXAMPLES, ROOT, tool, view_of
 
 pytest.importorskip("plotly", reason="plotly is missing (Debian: python3-plotly)")
-from dnlab.page import Blocks, drawn  # noqa: E402  (plotly is asked for first)
+from dnlab.plot.page import Blocks, drawn  # noqa: E402  (plotly is asked for first)
 
 Alone = Callable[[bytes], bytes]
 COOKBOOK = ROOT / "cookbook"
@@ -142,7 +142,7 @@ def test_losses_and_rates(tmp_path: Path) -> None:
     assert every
     rows = list(csv.DictReader(io.StringIO(tool("summary", folder / "report.txt", folder / "scenario.txt", "--every", f"{every[1]}ms", "--csv")[1])))
     for name in ("flow 1", "flow 2", "flow 1 acks"):
-        wanted = [int(row["rate"]) / 1e6 for row in rows if row["of"] == name]
+        wanted = [int(row["rate"]) / 1e6 for row in rows if row["sender"] == name]
         line = found["panels"]["rate"][name]["line"]
         for k, rate in enumerate(wanted):
             middle = (k + 0.5) * int(every[1])

@@ -1,12 +1,17 @@
 #!/usr/bin/env python3
 """A sender of one's own, with CUBIC's window (RFC 9438), over a link of dnlab.
 
-    own_sender.py SCENARIO REPORT [--mbytes 10] [--bw 10Mbit/s] [--delay 20] [--queue '100 codel'] [--plr 0] [--seed 1] [--reno]
-                  [--trace]
+    own_sender.py SCENARIO REPORT [--mbytes 10] [--bw 10Mbit/s] [--delay 20]
+                  [--queue '100 codel'] [--plr 0] [--seed 1] [--reno] [--trace]
 
-SCENARIO gets the transcript, which `dnlab alone` runs to REPORT. Each packet has a number and is acknowledged by itself; one is
-held for lost once a packet sent three later is acknowledged, or at a timeout of RFC 6298. The program is the one that DNLAB
-names, else the one that ./dnlab starts.
+SCENARIO gets the transcript, which `dnlab alone` runs to REPORT. Each packet
+has a number and is acknowledged by itself; one is held for lost once a packet
+sent three later is acknowledged, or at a timeout of RFC 6298. The program is
+the one that DNLAB names, else the one that ./dnlab starts.
+
+Example:
+  stacks/own_sender/own_sender.py scenario.txt report.txt
+  stacks/own_sender/own_sender.py scenario.txt report.txt --plr 0.01 --reno
 """
 import argparse
 import pathlib
@@ -17,12 +22,12 @@ HERE = pathlib.Path(__file__).resolve().parent
 sys.path.insert(0, str(HERE.parents[1] / "python"))
 
 import dnlab  # noqa: E402  (the path is set first)
-from dnlab import ending  # noqa: E402
+from dnlab.processes import ending  # noqa: E402
 from dnlab.errors import status_of  # noqa: E402
 from dnlab.hosts import Loop  # noqa: E402
 from dnlab.senders import Timeout  # noqa: E402
 from dnlab.senders.cubic import Cubic  # noqa: E402
-from dnlab.session_events import Address, Event  # noqa: E402
+from dnlab.session.events import Address, Event  # noqa: E402
 
 MS, S = 10**6, 10**9
 SENDER, RECEIVER = ("10.0.0.9", 1000), ("10.0.1.9", 80)

@@ -1,4 +1,4 @@
-"""Which texts are scenarios, by the package's reader (python/dnlab/scenario.py), and whether a report is whole.
+"""Which texts are scenarios, by the package's reader (python/dnlab/io/scenario.py), and whether a report is whole.
 
 tools/attack/hostile, tools/attack/limits and tools/second/differ have here a second word on which fault stands where,
 written from docs/reference/scenario.md, faults.md and report.md alone. It has no simulation: which finishes and drops a report
@@ -11,7 +11,8 @@ from collections.abc import Iterable
 
 sys.path.insert(0, str(pathlib.Path(__file__).resolve().parents[2] / "python"))
 
-from dnlab.scenario import MOST_BYTES, MOST_LINE, SCALES, TIMES, Judged  # noqa: E402  (the path is set first)
+from dnlab.io.scenario import Judged  # noqa: E402  (the path is set first)
+from dnlab.io.scenario_parts import MOST_BYTES, MOST_LINE, SCALES, TIMES  # noqa: E402  (the path is set first)
 
 __all__ = ["MOST_BYTES", "MOST_LINE", "SCALES", "TIMES", "Judged", "trouble"]
 

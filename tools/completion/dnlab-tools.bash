@@ -27,15 +27,15 @@ _dnlab_tools() {
       words="--experiment --of --percentiles --every --losses --by --columns --from --to --exact --workers --csv --json --help"
       ;;
     dnlab-plot:*) words="--experiment --only --of --what --from --to --bin --overlay --out --workers --help" ;;
-    dnlab-compare:*) words="--experiment --of --tolerance --percentiles --lines --all --json --help" ;;
+    dnlab-compare:*) words="--experiment --of --tolerance --percentiles --lines --all --exact --json --help" ;;
     dnlab-expect:*) words="--experiment --bounds --first --all --allow --json --from --to --workers --help" ;;
     dnlab-view:*) words="--experiment --out --single --workers --help" ;;
     dnlab-pcap:*) words="--experiment --of --at --out --help" ;;
     dnlab-spread:*) words="--parts --jobs --ssh --slurm --program --out --work --resume --help" ;;
     dnlab-sweep:*)
-      words="--set --seeds --of --stat --from --to --ci --interval --csv --json --parquet --each --long --pairs --within"
+      words="--set --seeds --of --stat --from --to --ci --interval --exact --csv --json --parquet --each --long --pairs --within"
       words+=" --plot --along --rows --columns --log --label --dry-run --kept --anew"
-      words+=" --workers --on --program --help"
+      words+=" --workers --on --parts --allow --program --help"
       ;;
     dnlab-from-ipfw:*) words="--if --me --flatten --drop-unmatchable --lenient --all --traffic --moment --end --name --seed --budget --trust --out --help" ;;
     dnlab-to-ipfw:*) words="--experiment --if --host --timed --iperf --out --help" ;;

@@ -4,7 +4,7 @@ import path from "node:path";
 import vm from "node:vm";
 
 const [module, root] = process.argv.slice(2);
-const files = ["python/dnlab/page.shared.js", ...["engine", "scenario", "report"].map((name) => `playground/${name}.js`)];
+const files = ["python/dnlab/plot/page.shared.js", ...["engine", "scenario", "report"].map((name) => `playground/${name}.js`)];
 const names = "{Engine, firstLine, slidersOf, filled, moved, tracing, readReport, panelsOf, NO_MEMORY}";
 const page = new vm.Script(files.map((file) => fs.readFileSync(path.join(root, file), "utf8")).join("\n") + `\n;(${names})`).runInThisContext();
 const asked = JSON.parse(fs.readFileSync(0, "utf8")), compiled = await WebAssembly.compile(fs.readFileSync(module));

@@ -2,6 +2,7 @@
 import email.utils
 import pathlib
 import shutil
+from typing import NamedTuple
 
 import archives
 
@@ -11,8 +12,10 @@ Section: net
 Priority: optional
 Architecture: amd64
 Maintainer: The authors of dnlab <dnlab@invalid.example>
+Homepage: {homepage}
 Depends: {depends}python3 (>= 3.11), python3-numpy
-Recommends: python3-pandas, python3-matplotlib, python3-scipy, python3-jinja2, python3-plotly, python3-dpkt
+Recommends: python3-pandas, python3-matplotlib, python3-scipy, python3-jinja2, python3-plotly, python3-dpkt,
+ python3-tqdm
 Suggests: parallel
 Installed-Size: {size}
 Description: link emulator in simulated time, proved
@@ -44,6 +47,13 @@ dnlab: initial-upload-closes-no-bugs
 """
 
 
+class Named(NamedTuple):
+    """What a package says of itself: its version, its address on the web, and the moment of its commit (s)."""
+    number: str
+    homepage: str
+    date: int
+
+
 def _folded(text: str) -> str:
     """A text as a field of several lines has it."""
     return "\n".join(f" {line}" if line.strip() else " ." for line in text.strip().splitlines())
@@ -60,7 +70,7 @@ def _papers(docs: pathlib.Path, number: str, date: int) -> None:
         (docs / name).unlink()
 
 
-def package(installed: pathlib.Path, room: pathlib.Path, to: pathlib.Path, number: str, date: int, needs: str) -> None:
+def package(installed: pathlib.Path, room: pathlib.Path, to: pathlib.Path, named: Named, needs: str) -> None:
     """Makes the package of what stands below a prefix; `needs` is what the program needs, `nothing` or `glibc 2.34`."""
     usr = room / "usr"
     shutil.copytree(installed, usr)
@@ -71,7 +81,7 @@ def package(installed: pathlib.Path, room: pathlib.Path, to: pathlib.Path, numbe
     if site.is_dir():
         # Debian's zsh looks there.
         site.rename(usr / "share" / "zsh" / "vendor-completions")
-    _papers(usr / "share" / "doc" / "dnlab", number, date)
+    _papers(usr / "share" / "doc" / "dnlab", named.number, named.date)
     overrides = usr / "share" / "lintian" / "overrides"
     overrides.mkdir(parents=True)
     (overrides / "dnlab").write_text(OVERRIDES, encoding="utf-8")
@@ -85,5 +95,6 @@ def package(installed: pathlib.Path, room: pathlib.Path, to: pathlib.Path, numbe
     (room / "DEBIAN").mkdir()
     if (usr / "lib" / "libdnlab.so.1").exists():
         (room / "DEBIAN" / "triggers").write_text("activate-noawait ldconfig\n", encoding="utf-8")
-    (room / "DEBIAN" / "control").write_text(CONTROL.format(version=number, depends=depends, size=size), encoding="utf-8")
-    archives.deb(room, to, date)
+    control = CONTROL.format(version=named.number, homepage=named.homepage, depends=depends, size=size)
+    (room / "DEBIAN" / "control").write_text(control, encoding="utf-8")
+    archives.deb(room, to, named.date)

@@ -1,1 +1,1 @@
-"""What is worked out of runs: spans of time, settings, statistics of one's own, and comparisons over seeds."""
+"""A report: it is joined with its scenario, summed up, judged and compared."""

@@ -7,18 +7,11 @@ from typing import Any, Iterable, Optional
 
 import pandas as pd
 
-# Of each older name those in use now; a table has one of them.
-NOW: dict[str, tuple[str, ...]] = {
-    "of": ("sender",), "size": ("bytes",), "pipe": ("queue",), "fate": ("outcome",), "held": ("in_flight",),
-    "flying": ("in_flight",), "least": ("min",), "median": ("p50",), "greatest": ("max",),
-    "again": ("retransmissions", "retransmission"), "completion": ("fct",), "settings": ("params",), "marks": ("warnings",),
-    "half": ("ci95",)}
-_TOLD = "{old} is {new} since version 0.2; the older name goes with version 0.3"
-
+from dnlab.analysis.columns import NOW, TOLD
 
 def warn(old: str, new: str, level: int = 3) -> None:
     """Says that a name has another one now."""
-    warnings.warn(_TOLD.format(old=old, new=new), DeprecationWarning, stacklevel=level + 1)
+    warnings.warn(TOLD.format(old=old, new=new), DeprecationWarning, stacklevel=level + 1)
 
 
 class Line(pd.Series):  # type: ignore[misc]  # pandas has no types here

@@ -3,8 +3,8 @@ import hashlib
 from collections import Counter
 from typing import Any, Iterable, Sequence
 
-from dnlab.scenario import SCALES, Plan
-from dnlab.settings import Config, config_of
+from dnlab.io.scenario_parts import SCALES, Plan
+from dnlab.io.settings import Config, config_of
 
 # So many successive values of an option are shown; of more the first, and a checksum.
 _MOST_SHOWN = 4

@@ -8,15 +8,15 @@ import sys
 from pathlib import Path
 from typing import Any, Callable, Optional
 
+from dnlab.analysis.view import View
 from dnlab.errors import Faulty
-from dnlab.view import View
 
 _WORD = re.compile(r"(.+\.py):([A-Za-z_][A-Za-z0-9_]*)")
 
 
 class Own(str):
     """A statistic by the name of its function. `call(run)` or `call(run, of)` is given the `dnlab.Experiment` and of whom it
-    is asked (the name of a row), and gives a number, or None if it can't be told; `unit` is `ns`, `bit/s` or any other.
+    is asked (the name of a row), and gives a number, or None if it isn't known; `unit` is `ns`, `bit/s` or any other.
 
     >>> Own("late", lambda run: 0.5), Own("late", lambda run: 0.5).unit
     ('late', '')
@@ -34,7 +34,7 @@ class Own(str):
 
     def of(self, view: View, of: str) -> Optional[float]:
         """What it is of a row's name; `Faulty` if the function raises, or gives no number."""
-        from dnlab.results import Experiment
+        from dnlab.analysis.results import Experiment
 
         # A function of one argument is asked of the whole run.
         takes = [one for one in inspect.signature(self.call).parameters.values() if one.default is one.empty

@@ -1,14 +1,13 @@
-"""What seeds tell: settings compared under the same seeds, and how many seeds a mean takes."""
+"""What seeds show: settings compared under the same seeds, and how many seeds a mean takes."""
 import math
 from typing import Any, Optional, Sequence
 
 import pandas as pd
-from scipy import stats as distributions
 
-from dnlab import frames
-from dnlab.asking import unit_of
+from dnlab.analysis import frames
+from dnlab.analysis.asking import unit_of
+from dnlab.analysis.estimates import Kind, estimate, student
 from dnlab.errors import Faulty
-from dnlab.estimates import Kind, estimate
 
 # More seeds than this aren't counted.
 _MOST = 10**6
@@ -41,7 +40,7 @@ def compared(rows: pd.DataFrame, settings: Sequence[str], stats: Sequence[str], 
              level: float = 95, interval: Kind = "t") -> pd.DataFrame:
     """Each value of a setting beside a `base` (else the first), the other settings being the same, seed by seed.
 
-    A row for each of the others, of, stat and value: how many seeds tell both (`n`), the mean of the differences (value
+    A row for each of the others, of, stat and value: how many seeds have both (`n`), the mean of the differences (value
     less base), the ends of its interval, and whether the interval leaves out 0 (`differs`; <NA> of fewer than two seeds).
     Since both had the same chance the interval is mostly narrower than those of the two means. `Faulty` for a setting that
     isn't there or has one value."""
@@ -86,7 +85,7 @@ def needed(values: Sequence[float], share: float, level: float = 95) -> Optional
     wanted = abs(mean) * share
 
     def is_enough(count: int) -> bool:
-        return float(distributions.t.ppf(0.5 + level / 200, count - 1)) * spread / math.sqrt(count) <= wanted
+        return student(level, count - 1) * spread / math.sqrt(count) <= wanted
 
     low, high = 2, 4
     while not is_enough(high):

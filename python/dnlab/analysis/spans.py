@@ -3,11 +3,11 @@ from typing import TYPE_CHECKING, NamedTuple, Optional
 
 import numpy as np
 
-from dnlab.digits import Flags, Ints
 from dnlab.errors import Faulty
+from dnlab.io.digits import Flags, Ints
 
 if TYPE_CHECKING:
-    from dnlab.view import View
+    from dnlab.analysis.view import View
 
 
 class Span(NamedTuple):

@@ -4,8 +4,8 @@ from functools import lru_cache
 from typing import Any, Callable, Union
 
 from dnlab.errors import Failed
+from dnlab.io.scenario_parts import CAUSES
 from dnlab.library.places import library
-from dnlab.scenario import CAUSES
 
 _DONE, _FAULT, _ROOM = 0, 1, 5
 # The first room, in bytes: most reports of short scenarios fit.

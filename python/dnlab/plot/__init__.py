@@ -1,1 +1,1 @@
-"""Pictures for papers and lectures, drawn with matplotlib."""
+"""Pictures and pages."""

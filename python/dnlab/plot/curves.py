@@ -8,11 +8,11 @@ from matplotlib.figure import Figure
 from matplotlib.ticker import FuncFormatter, LogLocator, NullLocator
 from pandas.api.types import is_numeric_dtype
 
+from dnlab.analysis.series import MOST
 from dnlab.errors import Faulty
-from dnlab.layout import UNITS
-from dnlab.pictures import COLOURS, LINES, MARKERS, STYLE, subplots
 from dnlab.plot import names
-from dnlab.series import MOST
+from dnlab.plot.pictures import COLOURS, LINES, MARKERS, STYLE, subplots
+from dnlab.units import FOR_PEOPLE
 
 # More panels than this are no picture.
 _MOST_PANELS = 24
@@ -178,7 +178,7 @@ def _panel(axes: Any, rows: pd.DataFrame, along: str, others: Sequence[str], loo
 
 def _line(axes: Any, known: pd.DataFrame, at: Sequence[float], number: int, label: str, is_number: bool) -> None:
     """One line with its intervals; points whose experiments have marks are hollow."""
-    _, scale = UNITS.get(known["unit"].iloc[0] if len(known) else "", ("", 1))
+    _, scale = FOR_PEOPLE.get(known["unit"].iloc[0] if len(known) else "", ("", 1))
     mean = known["mean"].astype(float) / scale
     bars = [(mean - known["low"].astype(float) / scale).fillna(0).clip(lower=0),
             (known["high"].astype(float) / scale - mean).fillna(0).clip(lower=0)]

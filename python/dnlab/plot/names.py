@@ -1,9 +1,9 @@
 """What stands beside axes: figures and settings in words, with their units, and never by the names of variables."""
 from typing import Any, Mapping
 
-from dnlab.asking import percentile_of
-from dnlab.layout import UNITS
-from dnlab.metrics import plain_word
+from dnlab.analysis.asking import percentile_of
+from dnlab.analysis.metrics import plain_word
+from dnlab.units import FOR_PEOPLE
 
 _STATS = {"packets": "Packets made", "delivered": "Packets delivered", "held": "Packets under way", "again": "Segments sent again",
           "lost": "Packets dropped", "bytes": "Bytes delivered", "useful": "New bytes delivered", "rate": "Throughput",
@@ -44,7 +44,7 @@ def of_stat(stat: str, unit: str, labels: Labels = {}) -> str:
     """
     if stat in labels:
         return labels[stat]
-    shown = UNITS.get(unit, (unit, 1))[0]
+    shown = FOR_PEOPLE.get(unit, (unit, 1))[0]
     percentile = percentile_of(stat)
     if plain_word(stat) in _STATS:
         words = _STATS[plain_word(stat)]

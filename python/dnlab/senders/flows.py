@@ -7,7 +7,7 @@ from typing import Any, Callable, NamedTuple, Optional, Protocol
 
 from dnlab.senders.timeouts import Timeout
 from dnlab.senders.windows import Window
-from dnlab.session_events import Address
+from dnlab.session.events import Address
 
 HEADER = 40
 # Section 3.2 of RFC 5681: so many duplicates mean a loss.

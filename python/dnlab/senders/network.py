@@ -7,8 +7,8 @@ from dnlab.errors import Faulty
 from dnlab.senders.flows import Ack, Flow, Segment
 from dnlab.senders.timeouts import Timeout
 from dnlab.senders.windows import Reno, Window
-from dnlab.session_events import LATEST, Address, Event
-from dnlab.session_links import Link
+from dnlab.session.events import LATEST, Address, Event
+from dnlab.session.links import Link
 
 if TYPE_CHECKING:
     import pandas as pd
@@ -122,7 +122,7 @@ class Network:
 
     def table(self) -> "pd.DataFrame":
         """The same as a DataFrame; whole numbers stay whole, <NA> is what hasn't come."""
-        from dnlab import frames
+        from dnlab.analysis import frames
 
         return frames.of_rows(self.rows(), list(_COLUMNS))
 

@@ -1,0 +1,189 @@
+"""What a sweep asks of an experiment: of whom (`of`), and which figures (`stat`)."""
+import re
+from fractions import Fraction
+from typing import Any, Iterable, Iterator, NamedTuple, Optional, Sequence
+
+import numpy as np
+
+from dnlab.analysis.figures import percentile_name
+from dnlab.analysis.metrics import is_named, plain_word
+from dnlab.analysis.own import Own, own_in, own_of
+from dnlab.analysis.spans import Span
+from dnlab.analysis.tables import WHOLE, Row, Tables
+from dnlab.analysis.view import Note, View
+from dnlab.errors import Faulty
+from dnlab.io.digits import Ints
+from dnlab.io.lines import CAUSES, pipe_name
+from dnlab.io.scenario_parts import Plan
+
+# All flows' segments taken together, and the packets of all trains.
+GROUPS = ("flows", "trains")
+USUAL = ("goodput", "delay.median", "delay.p95", "lost")
+_UNITS = {"packets": "packets", "delivered": "packets", "held": "packets", "again": "packets", "lost": "packets",
+          "bytes": "bytes", "useful": "bytes", "rate": "bit/s", "goodput": "bit/s", "time": "ns", "first": "ns",
+          "last": "ns", "completion": "ns", "jain": "", "utilisation": "", "jitter": "ns",
+          **{f"drops.{cause}": "packets" for cause in CAUSES}}
+_DELAYS = ("least", "mean", "median", "greatest")
+STATS = (*_UNITS, *(f"delay.{name}" for name in _DELAYS), "delay.pN")
+# Of each pattern of `of` and each `stat`: of whom, and the figure (None where it can't be told).
+Values = dict[str, dict[str, dict[str, Any]]]
+
+
+class Ask(NamedTuple):
+    """Of whom, a name of rows or a pattern as `train *`, and which figures."""
+    of: str
+    stats: tuple[str, ...]
+
+
+class Found(NamedTuple):
+    """What one experiment answers, and what may be silently wrong in it."""
+    values: Values
+    notes: list[Note]
+
+
+def percentile_of(stat: str) -> Optional[str]:
+    """The percentile that a stat names, None where it names none.
+
+    >>> percentile_of("delay.p99.9"), percentile_of("delay.mean")
+    ('99.9', None)
+    """
+    stat = plain_word(stat)
+    if stat == "delay.median":
+        return "50"
+    found = re.fullmatch(r"delay\.p([0-9]{1,3}(?:\.[0-9]{1,6})?)", stat)
+    return found[1] if found and 0 < Fraction(found[1]) <= 100 else None
+
+
+def stats_of(text: str) -> tuple[str, ...]:
+    """The words of `--stat`; one that there isn't is refused with those that there are."""
+    found = tuple(own_in(word.strip()) or word.strip() for word in text.split(","))
+    for word in found:
+        if not isinstance(word, Own):
+            _known(word)
+    return found
+
+
+def _known(word: str) -> None:
+    if plain_word(word) not in STATS[:-1] and percentile_of(word) is None:
+        raise ValueError(f"no stat {word!r}: {', '.join(STATS)} (N above 0 and up to 100, as delay.p95), or a function of"
+                         " one's own, FILE.py:NAME")
+
+
+def stats_given(stats: Any) -> tuple[str, ...]:
+    """The stats of a call in Python: words with commas between, functions of one's own, or several of both."""
+    several = stats if isinstance(stats, (list, tuple)) else [stats]
+    found: list[str] = []
+    for one in several:
+        found += [own_of(one)] if callable(one) else stats_of(one)
+    return tuple(found)
+
+
+def unit_of(stat: str) -> str:
+    """The unit of a stat's figures.
+
+    >>> unit_of("delay.p95"), unit_of("goodput")
+    ('ns', 'bit/s')
+    """
+    return stat.unit if isinstance(stat, Own) else _UNITS.get(plain_word(stat), "ns")
+
+
+def merged(asks: Iterable[Ask]) -> list[Ask]:
+    """Each `of` once, with all its stats, each once."""
+    found: dict[str, dict[str, None]] = {}
+    for ask in asks:
+        found.setdefault(ask.of, {}).update(dict.fromkeys(ask.stats))
+    return [Ask(of, tuple(stats)) for of, stats in found.items()]
+
+
+def names_in(plans: Iterable[Plan]) -> list[str]:
+    """Of whom can be asked, by the commands of some experiments; of a pipe its first instance."""
+    flows: dict[int, None] = {}
+    trains: dict[int, None] = {}
+    pipes: dict[int, None] = {}
+    is_injected = False
+    for command in (command for plan in plans for command in plan.commands):
+        if command.pipe is not None:
+            pipes[command.pipe] = None
+        elif command.sends is not None and command.sends.number is not None:
+            (flows if command.sends.word == "flow" else trains)[command.sends.number] = None
+        elif command.sends is not None:
+            is_injected = True
+    found = [name for flow in flows for name in (f"flow {flow}", f"flow {flow} acks")]
+    found += [f"train {train}" for train in trains]
+    found = (["flows"] if flows else []) + (["trains"] if trains else []) + found
+    found += (["injected"] if is_injected else []) + [f"pipe {pipe}.0" for pipe in pipes]
+    return [*found, *WHOLE]
+
+
+def usual(names: Sequence[str]) -> list[Ask]:
+    """What is asked where nobody says: of all flows together, of each train and of single packets."""
+    found = [Ask(of, USUAL) for of, name in (("flows", "flows"), ("train *", "trains"), ("injected", "injected"))
+             if name in names]
+    return found or [Ask("all", ("delivered", "lost"))]
+
+
+def check(asks: Sequence[Ask], names: Sequence[str]) -> None:
+    """Refuses an `of` that names nobody, with the names that there are."""
+    for ask in asks:
+        # Which instances of a pipe there will be is told by the packets that come.
+        pipe = re.match(r"(pipe [0-9]+)\.", ask.of)
+        if not any(is_named(name, ask.of) for name in names) and not (pipe and f"{pipe[1]}.0" in names):
+            raise Faulty(f"--of {ask.of!r}: the template has {', '.join(names)}")
+
+
+def answer(view: View, asks: Sequence[Ask], span: Span = Span()) -> Found:
+    """What an experiment answers, of a part of its time; statistics of one's own are given all of it."""
+    stats = [stat for ask in asks for stat in ask.stats if not isinstance(stat, Own)]
+    percentiles = sorted({found for found in map(percentile_of, stats) if found}, key=Fraction)
+    tables = Tables(view, percentiles, with_mean="delay.mean" in stats, span=span)
+    rows = list(_rows(tables, [ask.of for ask in asks]))
+    values: Values = {
+        ask.of: {str(stat): {row["of"]: stat.of(view, row["of"]) if isinstance(stat, Own) else figure(row, stat)
+                             for row in rows if is_named(row["of"], ask.of)}
+                 for stat in ask.stats} for ask in asks}
+    return Found(values, [note for note in view.notes if note.mark])
+
+
+def figure(row: Row, stat: str) -> Any:
+    """A stat of a row; None if it isn't known."""
+    stat = plain_word(stat)
+    if stat == "lost":
+        drops = [row.get(cause) for cause in CAUSES]
+        return None if None in drops else sum(count for count in drops if count)
+    percentile = percentile_of(stat)
+    return row.get(percentile_name(percentile) if percentile else stat.rpartition(".")[2])
+
+
+def _rows(tables: Tables, patterns: Sequence[str]) -> Iterator[Row]:
+    """Those rows of an experiment that are asked for, and those of groups."""
+    def is_asked(name: str) -> bool:
+        return any(is_named(name, pattern) for pattern in patterns)
+
+    view = tables.view
+    for name, packets in view.senders:
+        if is_asked(name):
+            yield tables.sender(name, packets)
+    flows = [(name, packets) for name, packets in view.senders if re.fullmatch("flow [0-9]+", name)]
+    trains = [(name, packets) for name, packets in view.senders if name.startswith("train ")]
+    if flows and is_asked("flows"):
+        yield _flows(tables, flows)
+    if trains and is_asked("trains"):
+        together = np.sort(np.concatenate([packets for _, packets in trains]))
+        yield {**tables.packets("trains", together), **tables.useful(together)}
+    for pipe, visits in view.visits.pipes():
+        name = f"pipe {pipe_name(pipe)}"
+        if is_asked(name) or is_asked(f"{name} back"):
+            yield from tables.pipe(pipe, visits)
+    if any(is_asked(name) for name in WHOLE):
+        yield from tables.whole()
+
+
+def _flows(tables: Tables, flows: Sequence[tuple[str, Ints]]) -> Row:
+    """All flows' segments as one sender's; `completion` is that of the flow that took longest."""
+    together = np.sort(np.concatenate([packets for _, packets in flows]))
+    own = [tables.progress(name, packets) for name, packets in flows]
+    again = [one.get("again") for one in own]
+    times = [one.get("completion") for one in own]
+    return {**tables.packets("flows", together), **tables.useful(together), "jain": tables.fairness(),
+            "again": None if None in again else sum(count for count in again if count),
+            "completion": None if None in times else max(time for time in times if time is not None)}

@@ -1,0 +1,201 @@
+"""Bounds on what a report has, as `train 9: delay.p95 < 50ms`: read from words or a file, and judged by a summary's rows.
+
+A bound is `[EXPERIMENT/]WHO: METRIC SIGN VALUE`. EXPERIMENT and WHO are names or patterns of rows (`flow *`), METRIC a
+word of `dnlab.analysis.metrics`, SIGN one of `<`, `<=`, `>`, `>=`, `==`, `!=`, VALUE an amount with its unit. It must hold in each
+row that it names, and is refused where it names none. A run in which commands were refused, or that was cut short, fails
+whatever the bounds say, unless that is allowed.
+"""
+import operator
+import re
+from dataclasses import dataclass
+from fnmatch import fnmatchcase
+from fractions import Fraction
+from pathlib import Path
+from typing import Any, Callable, Iterable, Iterator, NamedTuple, Optional, Sequence, Union
+
+from dnlab.analysis.metrics import Metric, is_named, metric_of, percentiles_in, word_now
+from dnlab.analysis.notes import Note
+from dnlab.analysis.tables import Row
+from dnlab.errors import Faulty
+from dnlab.io.lines import CAUSES
+from dnlab.units import amount_of, shown
+
+SIGNS: dict[str, Callable[[Any, Any], bool]] = {"<=": operator.le, ">=": operator.ge, "==": operator.eq,
+                                                "!=": operator.ne, "<": operator.lt, ">": operator.gt, "=": operator.eq}
+FORM = "WHO: METRIC SIGN VALUE, as 'train 9: delay.p95 < 50ms'"
+# Marks with which a run fails, whatever the bounds say, unless they are allowed.
+FAILING = ("refused", "spent")
+_SIGN = re.compile(r"[<>=!]+")
+# So many names stand in a message at most.
+_MOST_NAMES = 40
+
+
+@dataclass(frozen=True)
+class Bound:
+    """A bound, `where` it was said (`bounds.txt: line 2`, `bound 1`) and its `text`; `value` is in the metric's base unit."""
+    where: str
+    text: str
+    experiment: str
+    of: str
+    metric: Metric
+    sign: str
+    value: Fraction
+    unit: str
+
+    def rows(self, rows: Sequence[Row]) -> list[Row]:
+        """The rows that it names; `Faulty` with the names that there are, where it names none."""
+        own = [row for row in rows if fnmatchcase(row["experiment"], self.experiment)]
+        found = [row for row in own if is_named(row["of"], self.of)]
+        if found:
+            return found
+        kind, names = ("row", own) if own else ("experiment", list(rows))
+        known = list(dict.fromkeys(row["of" if own else "experiment"] for row in names))
+        more = f" and {len(known) - _MOST_NAMES} more" if len(known) > _MOST_NAMES else ""
+        raise Faulty(f"{self.where}: no {kind} {self.of if own else self.experiment!r}: there are"
+                     f" {', '.join(known[:_MOST_NAMES])}{more}")
+
+    def holds(self, measured: Fraction) -> bool:
+        return SIGNS[self.sign](measured, self.value)
+
+    def show(self, amount: Fraction) -> str:
+        """An amount in the unit in which the bound was said."""
+        return shown(amount, self.metric.kind, self.unit)
+
+
+class Judged(NamedTuple):
+    """A bound that was looked at: whether it holds, and what was measured where, in words; `row` is the row that decides,
+    `measured` its value in base units (None if it isn't known)."""
+    bound: Bound
+    holds: bool
+    said: str
+    row: Row
+    measured: Optional[Fraction]
+
+    def line(self) -> str:
+        return f"{'holds' if self.holds else 'FAILS'}  {self.bound.where}: {self.bound.text}  ({self.said})"
+
+    def record(self) -> dict[str, Any]:
+        """The same for other programs; amounts in ns, bytes, bit/s, or as a share of 1."""
+        metric = self.bound.metric
+        return {"bound": self.bound.text, "where": self.bound.where, "holds": self.holds,
+                "experiment": self.row["experiment"], "sender": self.row["of"], "metric": word_now(metric.word),
+                "measured": plain_amount(metric, self.measured), "asked": plain_amount(metric, self.bound.value),
+                "said": self.said}
+
+
+class Failing(NamedTuple):
+    """A run that fails whatever the bounds say: the experiment, the mark and what there is to say."""
+    experiment: str
+    mark: str
+    said: str
+
+    def line(self) -> str:
+        return f"FAILS  {self.mark}: experiment {self.experiment}: {self.said} (--allow {self.mark} takes it so)"
+
+    def record(self) -> dict[str, Any]:
+        return self._asdict()
+
+
+def plain_amount(metric: Metric, value: Optional[Fraction]) -> Union[int, float, str, None]:
+    """An amount for JSON, in base units: whole where it is; of an ending its word."""
+    if value is not None and metric.kind == "ending":
+        return shown(value, metric.kind)
+    return None if value is None else int(value) if value.denominator == 1 else float(value)
+
+
+def failing(notes: Iterable[tuple[str, Note]], allowed: Sequence[str] = ()) -> list[Failing]:
+    """The experiments of whose notes one fails them, but for what is allowed."""
+    return [Failing(name, note.mark, note.text) for name, note in notes
+            if note.mark in FAILING and note.mark not in allowed]
+
+
+def allowed_of(text: str) -> list[str]:
+    """The words of `--allow`, with commas between; `ValueError` with those that there are."""
+    found = [word.strip() for word in text.split(",")]
+    for word in found:
+        if word not in FAILING:
+            raise ValueError(f"{word!r} can't be allowed: {', '.join(FAILING)}")
+    return found
+
+
+def bound_of(text: str, where: str) -> Bound:
+    """Reads a bound; what is none is refused with where it was said and the cause."""
+    try:
+        return _read(text.strip(), where)
+    except ValueError as fault:
+        raise Faulty(f"{where}: {fault}") from None
+
+
+def _read(text: str, where: str) -> Bound:
+    who, colon, rest = text.partition(":")
+    sign = _SIGN.search(rest)
+    if not colon or sign is None or not who.strip():
+        lacking = "the colon behind WHO" if not colon else "WHO before the colon" if sign else "a sign as < or >="
+        raise ValueError(f"{text!r} has not {lacking}: a bound is {FORM}")
+    if sign[0] not in SIGNS:
+        raise ValueError(f"{sign[0]!r} is no sign: {', '.join(one for one in SIGNS if one != '=')}")
+    metric = metric_of(rest[:sign.start()].strip())
+    value, unit = amount_of(rest[sign.end():].strip(), metric.kind)
+    if metric.kind == "ending" and sign[0] not in ("==", "=", "!="):
+        raise ValueError(f"{text!r}: an ending is == or !=, as 'all: ended == end'")
+    experiment, slash, of = who.rpartition("/")
+    return Bound(where, text, experiment.strip() if slash else "*", " ".join(of.split()), metric, sign[0], value, unit)
+
+
+def bounds_in(path: Union[str, Path], text: str) -> list[Bound]:
+    """The bounds of a file's text, one a line; lines without words and those that begin with `#` are skipped."""
+    found = [bound_of(line, f"{path}: line {number}") for number, line in enumerate(text.split("\n"), 1)
+             if line.strip() and not line.strip().startswith("#")]
+    if not found:
+        raise Faulty(f"{path}: it has no bound")
+    return found
+
+
+def percentiles_for(bounds: Sequence[Bound]) -> list[str]:
+    """The percentiles that the rows must have."""
+    return percentiles_in(bound.metric for bound in bounds)
+
+
+def judge(bounds: Sequence[Bound], rows: Sequence[Row], first: bool = False) -> Iterator[Judged]:
+    """Looks at all bounds, in order, or up to the first that fails; `Faulty` where one names no row, before any is looked
+    at."""
+    found = [(bound, bound.rows(rows)) for bound in bounds]
+    losses = [row for bound, named in found if bound.metric.word in ("loss", "drops") for row in named]
+    bounded = {(row["experiment"], row["of"]) for row in losses}
+    for bound, named in found:
+        judged = _judge(bound, named, bounded)
+        yield judged
+        if first and not judged.holds:
+            return
+
+
+def _judge(bound: Bound, rows: Sequence[Row], bounded: set[tuple[str, str]]) -> Judged:
+    nearest: Optional[tuple[Fraction, Row]] = None
+    for row in rows:
+        measured = bound.metric.of(row)
+        if measured is None:
+            return Judged(bound, False, f"it can't be told of {_place(row)}: {bound.metric.why(row)}", row, None)
+        if not bound.holds(measured):
+            return Judged(bound, False, f"measured {bound.show(measured)} of {_place(row)}", row, measured)
+        if nearest is None or abs(measured - bound.value) < abs(nearest[0] - bound.value):
+            nearest = measured, row
+    assert nearest is not None
+    of = f"; the nearest of {len(rows)} rows" if len(rows) > 1 else ""
+    easy = _easy(bound, rows, bounded)
+    return Judged(bound, True, f"measured {bound.show(nearest[0])} of {_place(nearest[1])}{of}{easy}", nearest[1], nearest[0])
+
+
+def _easy(bound: Bound, rows: Sequence[Row], bounded: set[tuple[str, str]]) -> str:
+    """What is said of a bound on delay that losses make easy to keep, where no bound is on these."""
+    if not bound.metric.is_delay() or bound.sign not in ("<", "<=") or bound.metric.word == "delay.least":
+        return ""
+    for row in rows:
+        lost = sum(row.get(cause) or 0 for cause in CAUSES)
+        if lost and (row["experiment"], row["of"]) not in bounded:
+            return (f"; {lost} of the {row['packets']} packets of {_place(row)} were dropped, which have no delay: add a"
+                    f" bound as '{row['of']}: loss < 1%'")
+    return ""
+
+
+def _place(row: Row) -> str:
+    return f"{row['experiment']}/{row['of']}"

@@ -1,0 +1,129 @@
+"""Packets of a traced experiment as a capture file, which Wireshark, tshark and tcptrace read (Debian: python3-dpkt).
+
+A capture is taken at one side: `sender`, where packets are made and acknowledgements arrive, or `receiver`. What no
+report has is made up: Ethernet, lives, the receiver's window (the flow's `window`), and payloads, of which nothing is
+kept but their length. The first byte of a flow has the sequence number 1, as behind a SYN that isn't there; a packet's
+serial number modulo 65536 is its IP identification; moment 0 is 1970.
+"""
+import socket
+from typing import BinaryIO, Iterator, NamedTuple
+
+import dpkt
+import numpy as np
+
+from dnlab.analysis.view import View
+from dnlab.errors import Faulty
+from dnlab.io.digits import Flags, Ints
+from dnlab.io.lines import ACKNOWLEDGES, DATA, DELIVER, MAKE
+from dnlab.io.scenario_parts import HEADER, WINDOW
+
+SIDES = ("sender", "receiver")
+LACKING = ("experiment {}: {} of its {} packets were made without `trace 1`, and no line has their addresses: make"
+           " `@0 trace 1` the first command behind its `experiment` line, leave it on, and run it again")
+_ETHERNET = 14
+_MOST = 2**32
+
+
+class Header(NamedTuple):
+    """Whom a packet goes from and to: `tcp` or `udp`, two addresses of four bytes, and their ports."""
+    protocol: str
+    source: bytes
+    source_port: int
+    target: bytes
+    target_port: int
+
+    def ethernet(self) -> bytes:
+        """A made-up Ethernet header: each address has a machine of its own."""
+        return bytes(dpkt.ethernet.Ethernet(src=b"\2\0" + self.source, dst=b"\2\0" + self.target,
+                                            type=dpkt.ethernet.ETH_TYPE_IP))
+
+
+def header_of(text: str) -> Header:
+    """The header of a `make` line, as `tcp 10.0.0.1 1000 10.0.1.1 80`."""
+    protocol, source, source_port, target, target_port = text.split()
+    return Header(protocol, socket.inet_aton(source), int(source_port), socket.inet_aton(target), int(target_port))
+
+
+class Frame(NamedTuple):
+    """A packet of a capture: its moment in ns, its kept bytes, and how many it had on the wire."""
+    moment: int
+    kept: bytes
+    length: int
+
+
+def judge(view: View) -> None:
+    """`Faulty`, with what to do, where the report hasn't the addresses of all packets."""
+    if not view.counters.made:
+        raise Faulty(f"experiment {view.name}: it made no packet")
+    if not view.is_traced:
+        makes = len(view.experiment.rows(MAKE))
+        raise Faulty(LACKING.format(view.name, view.counters.made - makes, view.counters.made))
+
+
+def rows_of(view: View, side: str, wanted: Flags) -> Ints:
+    """The rows of the report at which packets pass a side, in order: segments and plain packets are made at the sender
+    and delivered at the receiver, acknowledgements the other way round. `wanted` says which packets, shape (packets,)."""
+    columns = view.experiment.columns
+    acknowledges = columns.kind == ACKNOWLEDGES
+    word = np.where(acknowledges == (side == "sender"), DELIVER, MAKE)
+    rows: Ints = np.flatnonzero(columns.word == word)
+    kept: Ints = rows[wanted[columns.packet[rows]]]
+    return kept
+
+
+def sequences(view: View) -> Ints:
+    """Of each packet its sequence number: a segment's is its first byte + 1; plain packets of one sender and header
+    follow each other, as if each were new. Shape (packets,), int64, below 2^32."""
+    table = view.packets
+    found = np.where(table.kind == DATA, table.number + 1, 1)
+    for _, packets in view.senders:
+        if int(table.kind[packets[0]]) not in (DATA, ACKNOWLEDGES):
+            sizes = table.size[packets] - HEADER
+            found[packets] = 1 + np.cumsum(sizes) - sizes
+    return found % _MOST
+
+
+def frames_of(view: View, side: str, wanted: Flags) -> Iterator[Frame]:
+    """The packets that pass a side, in the order of the report."""
+    experiment, table = view.experiment, view.packets
+    makes = experiment.rows(MAKE)
+    place = np.full(len(table), -1, dtype=np.int64)
+    place[experiment.columns.packet[makes]] = experiment.columns.header[makes]
+    headers = [header_of(text) for text in experiment.headers]
+    ethernets = [header.ethernet() for header in headers]
+    windows = {sends.number: sends.window for _, sends in view.sends.values()}
+    sequence = sequences(view)
+    rows = rows_of(view, side, wanted)
+    for moment, packet in zip(experiment.columns.moment[rows].tolist(), experiment.columns.packet[rows].tolist()):
+        header, size = headers[place[packet]], int(table.size[packet])
+        if header.protocol == "udp":
+            inner = dpkt.udp.UDP(sport=header.source_port, dport=header.target_port, ulen=size - 20)
+        else:
+            upto = int(table.number[packet]) + 1 if table.kind[packet] == ACKNOWLEDGES else 1
+            inner = dpkt.tcp.TCP(sport=header.source_port, dport=header.target_port, seq=int(sequence[packet]),
+                                 ack=upto % _MOST, flags=dpkt.tcp.TH_ACK,
+                                 win=windows.get(int(table.flow[packet]), WINDOW))
+        yield Frame(moment, ethernets[place[packet]] + packed(header, inner, packet, size), _ETHERNET + size)
+
+
+def packed(header: Header, inner: "dpkt.Packet", packet: int, size: int) -> bytes:
+    """The IP header and the one within, with their checksums over a payload of zeros, which add nothing."""
+    number = dpkt.ip.IP_PROTO_TCP if header.protocol == "tcp" else dpkt.ip.IP_PROTO_UDP
+    outer = dpkt.ip.IP(src=header.source, dst=header.target, p=number, id=packet % 65536, len=size, ttl=64)
+    outer.sum = dpkt.in_cksum(outer.pack_hdr())
+    pseudo = header.source + header.target + bytes((0, number)) + (size - 20).to_bytes(2, "big")
+    # A sum of 0 means none in UDP, where 65535 stands for it.
+    inner.sum = dpkt.in_cksum(pseudo + inner.pack_hdr()) or 65535
+    return bytes(outer.pack_hdr()) + bytes(inner.pack_hdr())
+
+
+def write(view: View, side: str, wanted: Flags, out: BinaryIO) -> int:
+    """Writes a capture of nanoseconds; gives how many packets it has."""
+    judge(view)
+    out.write(bytes(dpkt.pcap.LEFileHdr(magic=dpkt.pcap.TCPDUMP_MAGIC_NANO, linktype=dpkt.pcap.DLT_EN10MB)))
+    count = 0
+    for count, frame in enumerate(frames_of(view, side, wanted), 1):
+        second, rest = divmod(frame.moment, 10**9)
+        out.write(bytes(dpkt.pcap.LEPktHdr(tv_sec=second, tv_usec=rest, caplen=len(frame.kept), len=frame.length)))
+        out.write(frame.kept)
+    return count

@@ -1,0 +1,81 @@
+"""What each sender's packets brought in each window of time, and what was lost where."""
+import numpy as np
+
+from dnlab.analysis.packets import DELIVERED, DROPPED
+from dnlab.analysis.tables import Row
+from dnlab.analysis.view import View
+from dnlab.errors import Faulty
+from dnlab.io.digits import Ints
+from dnlab.io.lines import CAUSES, PLAIN, pipe_name
+from dnlab.io.scenario_parts import HEADER
+
+# No table of windows of time has more rows of one experiment.
+_MOST_WINDOWS = 10**6
+
+
+def windows(view: View, every: int) -> list[Row]:
+    """What each sender's packets brought in each window of so many ns, from 0 on; the last ends with the experiment.
+
+    Columns: experiment, of, begin, end (ns), packets and bytes delivered, rate (bit/s), useful bytes (each once) and
+    goodput (bit/s).
+    """
+    table = view.packets
+    until = max(view.ended.moment, 1)
+    count = -(-until // every)
+    if count * len(view.senders) > _MOST_WINDOWS:
+        raise Faulty(f"experiment {view.name}: {count} windows of {every} ns for each of {len(view.senders)} senders are"
+                     f" more than {_MOST_WINDOWS} rows: take a longer time")
+    begins = np.arange(count, dtype=np.int64) * every
+    ends = np.minimum(begins + every, until)
+    rows: list[Row] = []
+    for name, packets in view.senders:
+        delivered = packets[table.fate[packets] == DELIVERED]
+        at = np.minimum(table.ended[delivered] // every, count - 1)
+        packets_in = np.bincount(at, minlength=count)
+        told = not len(delivered) or int(table.size[delivered].min()) >= 0
+        bytes_in = _sums(at, table.size[delivered], count)
+        useful_in = bytes_in
+        if told and int(table.kind[packets[0]]) != PLAIN:
+            once = delivered[table.is_new[delivered]]
+            useful_in = _sums(np.minimum(table.ended[once] // every, count - 1), table.size[once] - HEADER, count)
+        for k in range(count):
+            time = int(ends[k] - begins[k])
+            rows.append({"experiment": view.name, "of": name, "begin": int(begins[k]), "end": int(ends[k]),
+                         "packets": int(packets_in[k]), "bytes": int(bytes_in[k]) if told else None,
+                         "rate": int(bytes_in[k]) * 8 * 10**9 // time if told else None,
+                         "useful": int(useful_in[k]) if told else None,
+                         "goodput": int(useful_in[k]) * 8 * 10**9 // time if told else None})
+    return rows
+
+
+def _sums(at: Ints, values: Ints, count: int) -> Ints:
+    """Sums of values by their places; they stay below 2^53, so that the sums of floats are exact."""
+    return np.bincount(at, weights=values, minlength=count).astype(np.int64)
+
+
+def losses(view: View) -> list[Row]:
+    """Drops by who sent, cause and pipe (None if no line has it): experiment, of, cause, pipe, packets."""
+    table, visits = view.packets, view.visits
+    last = np.full(len(table), -1, dtype=np.int64)
+    last[visits.packet] = np.arange(len(visits))
+    rows: list[Row] = []
+    for name, packets in view.senders:
+        dropped = packets[table.fate[packets] >= DROPPED]
+        visit = last[dropped]
+        pipe = dropping_pipes(view, dropped, visit)
+        for cause, code in enumerate(range(DROPPED, DROPPED + len(CAUSES))):
+            own = pipe[table.fate[dropped] == code]
+            for value, count in zip(*np.unique(own, return_counts=True)):
+                rows.append({"experiment": view.name, "of": name, "cause": CAUSES[cause],
+                             "pipe": pipe_name(int(value)) if value >= 0 else None, "packets": int(count)})
+    return rows
+
+
+def dropping_pipes(view: View, packets: Ints, last: Ints) -> Ints:
+    """The pipes that dropped packets, by their last visits: those where they waited; -1 if no line has it."""
+    visits = view.visits
+    if not len(visits):
+        return np.full(len(packets), -1, dtype=np.int64)
+    at = np.maximum(last, 0)
+    there = (last >= 0) & (visits.finish[at] < 0) & (visits.exit[at] == view.packets.ended[packets])
+    return np.where(there, visits.pipe[at].astype(np.int64), -1)

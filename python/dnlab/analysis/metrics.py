@@ -1,0 +1,201 @@
+"""The metrics of a summary's rows by their words, as `delay.p95`: what `compare` and `expect` measure by."""
+import re
+from fnmatch import fnmatchcase
+from fractions import Fraction
+from typing import Iterable, NamedTuple, Optional
+
+from dnlab.analysis.figures import percentile_name
+from dnlab.analysis.tables import PERCENTILES, WHOLE, Row, times_of
+from dnlab.io.lines import CAUSES
+from dnlab.units import ENDINGS, shown
+
+_PERCENTILE = re.compile(r"delay\.p([0-9]{1,3}(?:\.[0-9]{1,6})?)")
+# Columns of a summary by what they are counted in.
+_PLAIN = {"packets": "count", "delivered": "count", "held": "count", "bytes": "size", "useful": "size",
+          "first": "time", "last": "time", "time": "time", "rate": "rate", "goodput": "rate", "utilisation": "share",
+          "again": "count", "completion": "time", "jitter": "time", "jain": "index", "refused": "count", "ended": "ending"}
+_DELAYS = ("least", "median", "mean", "greatest")
+WORDS = (*_PLAIN, "loss", "drops", *(f"drops.{cause}" for cause in CAUSES), *(f"delay.{one}" for one in _DELAYS),
+         "delay.pN")
+# Rows of a kind alone have these; in words for who asks it of another.
+_OF_KIND = {"completion": (("flow",), "only a flow has a completion"), "again": (("flow",), "only a flow sends again"),
+            "jain": (("whole",), "only all flows together have an index of fairness"),
+            "utilisation": (("pipe",), "only a pipe has a utilisation")}
+_NOT_OF = {"useful": ("acks", "pipe"), "goodput": ("acks", "pipe")}
+
+
+class Metric(NamedTuple):
+    """A metric: its word, the kind of its amounts (a key of `dnlab.units.UNITS`), and the column of a summary that has it.
+
+    `loss` (drops of what was made) and `drops` (their sum) are of several columns, and have none of their own."""
+    word: str
+    kind: str
+    column: str
+
+    def of(self, row: Row) -> Optional[Fraction]:
+        """Its value in a row, in base units (ns, bytes, bit/s, shares of 1, counts); None if it isn't known.
+
+        Each metric, by the experiments of `dnlab.analysis.by_hand`. Of the train's four packets two came, after 11 and 12 ms:
+
+        >>> from dnlab.analysis.by_hand import FLOWS, TRAIN, rows_of
+        >>> train, pipe = (rows_of(TRAIN)[name] for name in ("train 1", "pipe 1.0"))
+        >>> def told(row, *words): return [str(metric_of(word).of(row)) for word in words]
+        >>> told(train, "packets", "delivered", "held", "drops", "drops.full", "drops.lost", "loss")
+        ['4', '2', '1', '1', '1', '0', '1/4']
+        >>> told(train, "bytes", "useful", "first", "last", "time")
+        ['2000', '2000', '0', '12000000', '12000000']
+        >>> told(train, "delay.least", "delay.median", "delay.mean", "delay.p95", "delay.greatest")
+        ['11000000', '11000000', '11500000', '12000000', '12000000']
+
+        16000 bits in 12 ms are 1333333 bit/s. The one difference of 1 ms counts a sixteenth (RFC 3550):
+
+        >>> told(train, "rate", "goodput", "jitter", "refused", "ended")
+        ['1333333', '1333333', '62500', '0', '0']
+
+        The pipe served 32000 bits up to 6 ms, and could have served 48000. `ended` is 0 for `end`, 1 for `spent`.
+
+        >>> round(metric_of("utilisation").of(pipe), 6) == round(Fraction(32000, 48000), 6)
+        True
+        >>> first, second, there = (rows_of(FLOWS)[name] for name in ("flow 1", "flow 2", "there"))
+
+        Flow 1 brings 1920 bytes without headers in 12 ms; flow 2 is sent again after 1 s. With rates of 1280000 and 7679
+        bit/s Jain's index is 1287679^2 / (2 * (1280000^2 + 7679^2)):
+
+        >>> told(first, "bytes", "useful", "goodput", "again", "completion", "refused")
+        ['2000', '1920', '1280000', '0', '12000000', '1']
+        >>> told(second, "packets", "drops.denied", "loss", "goodput", "again", "completion")
+        ['2', '1', '1/2', '7679', '1', '1000000001']
+        >>> abs(metric_of("jain").of(there) - Fraction(1287679**2, 2 * (1280000**2 + 7679**2))) < Fraction(1, 10**9)
+        True
+        """
+        if self.column:
+            value = row.get(self.column)
+            if self.kind == "ending" and value is not None:
+                value = ENDINGS.index(value)
+            return None if value is None else Fraction(value)
+        counts = [row.get(cause) for cause in CAUSES]
+        if any(count is None for count in counts):
+            return None
+        dropped = sum(count for count in counts if count is not None)
+        if self.word == "drops":
+            return Fraction(dropped)
+        return Fraction(dropped, row["packets"]) if row["packets"] else None
+
+    def applies(self, row: Row) -> bool:
+        """Whether rows of this kind can have it at all."""
+        kind = kind_of(row["of"])
+        only, _ = _OF_KIND.get(self.word, ((kind,), ""))
+        # Where packets go both ways, `all` has counts alone, and what is new is that of `there`.
+        both = row["of"] == "all" and row.get("bytes") is None and row.get("seed") is not None and row["packets"] > 0
+        return (kind in only and kind not in _NOT_OF.get(self.word, ())
+                and not (both and self.kind in ("time", "rate", "size"))
+                and not (row["of"] == "back" and self.word in (*_NOT_OF, "jain")))
+
+    def is_delay(self) -> bool:
+        """Whether it is of the packets that were delivered alone."""
+        return self.word.startswith("delay.") or self.word == "jitter"
+
+    def only(self) -> str:
+        """Which rows have it, in words."""
+        return _OF_KIND[self.word][1] if self.word in _OF_KIND else f"no row here has {self.word}"
+
+    def why(self, row: Row) -> str:
+        """Why a row hasn't a value, as far as it is known."""
+        if row["of"] == "all" and not self.applies(row) and self.word not in _OF_KIND:
+            return "`all` has both directions: name `there` or `back`"
+        if not self.applies(row):
+            return self.only() if self.word in _OF_KIND else f"rows of this kind have no {self.word}"
+        if row.get("seed") is None:
+            return "give the scenario, or run it under `trace 1`"
+        if self.word == "completion":
+            return f"it hadn't ended when the experiment did, at {shown(Fraction(row['ended_at']), 'time', 's')}"
+        if self.word == "utilisation":
+            return "the pipe has no rate (`bw 0`, or none), or it served nothing"
+        if row.get("delivered") == 0 and (self.kind in ("time", "rate")):
+            return "nothing was delivered"
+        if self.word == "jitter" and row.get("delivered") == 1:
+            return "one packet alone has no jitter"
+        if self.word.startswith("drops") or self.word == "loss":
+            return "no line says which pipe dropped a packet, but under `trace 1`; name `all`, or who sends"
+        return "no line tells it"
+
+
+def kind_of(of: str) -> str:
+    """What a row of a summary is of.
+
+    >>> kind_of("flow 1"), kind_of("flow 1 acks"), kind_of("pipe 1.0 back"), kind_of("all")
+    ('flow', 'acks', 'pipe', 'whole')
+    """
+    if of in WHOLE:
+        return "whole"
+    return "acks" if of.endswith(" acks") else of.partition(" ")[0]
+
+
+def is_named(of: str, pattern: str) -> bool:
+    """Whether a pattern names a row: `flow *` names flows, and not their acknowledgements, which `flow * acks` names.
+
+    >>> is_named("flow 1", "flow *"), is_named("flow 1 acks", "flow *"), is_named("flow 1 acks", "flow * acks")
+    (True, False, True)
+    """
+    return fnmatchcase(of, pattern) and not (kind_of(of) == "acks" and pattern.startswith("flow") and "ack" not in pattern)
+
+
+# Names that users of pandas expect, beside those that tables of the tools have.
+ALSO = {"fct": "completion", "retransmissions": "again", "in_flight": "held", "delay.min": "delay.least",
+        "delay.max": "delay.greatest", "delay.p50": "delay.median"}
+_NOW = {older: now for now, older in ALSO.items()}
+
+
+def plain_word(word: str) -> str:
+    """The word of a metric by which tables have it.
+
+    >>> plain_word("fct"), plain_word("goodput")
+    ('completion', 'goodput')
+    """
+    return ALSO.get(word, word)
+
+
+def word_now(word: str) -> str:
+    """The name in use now of a metric, as what is written for others has it.
+
+    >>> word_now("completion"), word_now("delay.median"), word_now("goodput")
+    ('fct', 'delay.p50', 'goodput')
+    """
+    return _NOW.get(word, word)
+
+
+def metric_of(word: str) -> Metric:
+    """The metric of a word, or of another name of it; `ValueError` with the words that there are.
+
+    >>> metric_of("delay.p95")
+    Metric(word='delay.p95', kind='time', column='p95')
+    """
+    word = plain_word(word)
+    if word in _PLAIN:
+        return Metric(word, _PLAIN[word], word)
+    if word == "loss":
+        return Metric(word, "share", "")
+    if word == "drops":
+        return Metric(word, "count", "")
+    if word.startswith("drops.") and word[6:] in CAUSES:
+        return Metric(word, "count", word[6:])
+    if word.startswith("delay.") and word[6:] in _DELAYS:
+        return Metric(word, "time", word[6:])
+    found = _PERCENTILE.fullmatch(word)
+    if found and 0 < Fraction(found[1]) <= 100:
+        return Metric(word, "time", percentile_name(found[1]))
+    raise ValueError(f"there is no metric {word!r}: {', '.join(WORDS)}")
+
+
+def metrics(percentiles: Iterable[str] = tuple(map(str, PERCENTILES))) -> list[Metric]:
+    """All metrics, with these percentiles of the delay."""
+    words = [word for word in WORDS if not word.startswith("delay.")]
+    return [metric_of(word) for word in words] + [Metric(f"delay.{name}", "time", name)
+                                                  for name in (*times_of(list(percentiles)), "mean")]
+
+
+def percentiles_in(found: Iterable[Metric]) -> list[str]:
+    """The percentiles that a summary must have for some metrics."""
+    names = dict.fromkeys("50" if one.column == "median" else one.column[1:] for one in found
+                          if one.word.startswith("delay.") and one.column not in ("least", "mean", "greatest"))
+    return list(names)

@@ -1,0 +1,134 @@
+"""Panels of how values are shared out: throughput over time, its CDF, that of times under way, and boxes of both; and
+panels of several experiments laid over one another."""
+from typing import Optional, Sequence
+
+import numpy as np
+
+from dnlab.analysis.figures import place
+from dnlab.analysis.packets import DELIVERED
+from dnlab.analysis.series import MOST, Panel, Series, fewest, link_rates, most, too_many
+from dnlab.analysis.spans import Span
+from dnlab.analysis.view import Note, View
+from dnlab.errors import Faulty
+from dnlab.io.digits import Ints
+
+# Throughput is taken over times of which there are so many or more, where nobody says which.
+_BINS = 50
+_MOST_BINS = 10**6
+_BOXES = 60
+_PERCENTILES = (5, 25, 50, 75, 95)
+_NAMES = {"sojourn": ("Times from being made to delivery", "ms"), "throughput": ("Throughput", "Mbit/s")}
+# What is missing, where a panel needs it.
+_NEEDS = {"sojourn": "When packets were made can't be told\nwithout the scenario.",
+          "throughput": "Sizes can't be told\nwithout the scenario."}
+Samples = list[tuple[str, Ints]]
+
+
+def bin_of(time: int) -> int:
+    """A 1, 2 or 5 with zeros, ns, of which a time has 50 or more.
+
+    >>> bin_of(10**10), bin_of(3 * 10**9)
+    (200000000, 50000000)
+    """
+    wanted = max(time // _BINS, 1)
+    scale: int = 10 ** (len(str(wanted)) - 1)
+    return next(scale * step for step in (5, 2, 1) if scale * step <= wanted)
+
+
+def shown_time(time: int) -> str:
+    """A time with its greatest unit.
+
+    >>> shown_time(200000000), shown_time(1500)
+    ('200 ms', '1500 ns')
+    """
+    return next(f"{time // unit} {name}" for unit, name in ((10**9, "s"), (10**6, "ms"), (10**3, "us"), (1, "ns"))
+                if time % unit == 0)
+
+
+def panel_of(view: View, what: str, span: Span, every: Optional[int]) -> Panel:
+    """A panel by its name in `series.MORE`."""
+    kind, _, of = what.rpartition(":")
+    title, unit = _NAMES[of]
+    until = view.last if span.end is None else min(span.end, view.last)
+    every = every or bin_of(max(until - span.begin, 1))
+    if of == "throughput":
+        title += f" in each {shown_time(every)}"
+    if kind:
+        title += ", CDF" if kind == "cdf" else ": quartiles, 5 to 95 %, least and greatest"
+    across = {"cdf": unit, "box": "sender"}.get(kind, "")
+    # Of a report without sizes, or without the moments at which packets were made, nothing is said for 0.
+    if not view.is_told:
+        return Panel(title, unit, [], _NEEDS[of], across=across)
+    if not kind:
+        series = [_stairs(label, moments, values, every) for label, moments, values in throughputs(view, every)]
+        return Panel(title, unit, most(view, what, series) + link_rates(view), "" if series else "nothing was delivered")
+    samples = _times(view, span) if of == "sojourn" else [
+        (label, np.sort(values[(moments >= span.begin) & (moments + every <= until)]))
+        for label, moments, values in throughputs(view, every)]
+    samples = [(label, values) for label, values in samples if len(values)]
+    words = "" if samples else "nothing was delivered in this time"
+    if kind == "box":
+        return Panel(title, unit, [_box(label, values) for label, values in samples], words, across=across)
+    series = [Series(label, "share", values, np.arange(1, len(values) + 1) / len(values)) for label, values in samples]
+    return Panel(title, "share", most(view, what, series), words, 1.0, across)
+
+
+def throughputs(view: View, every: int) -> list[tuple[str, Ints, Ints]]:
+    """Of each sender the begins of windows of so many ns, to the last that brought something to anybody, and what was
+    delivered in each, bit/s with headers."""
+    table = view.packets
+    count = view.last // every + 1
+    if count > _MOST_BINS:
+        raise Faulty(f"experiment {view.name}: {count} times of {every} ns are more than {_MOST_BINS}: take a longer --bin")
+    found = []
+    for who, packets in view.senders:
+        delivered = packets[table.fate[packets] == DELIVERED]
+        # Sums of sizes stay below 2^53, so those of floats are exact.
+        sizes = np.bincount(table.ended[delivered] // every, weights=table.size[delivered], minlength=count)
+        found.append((who, np.arange(count, dtype=np.int64) * every, sizes.astype(np.int64) * 8 * 10**9 // every))
+    return found
+
+
+def _stairs(label: str, moments: Ints, values: Ints, every: int) -> Series:
+    """A rate over time, Mbit/s; it holds until the next window, the last to its own end."""
+    return Series(label, "steps", np.append(moments, moments[-1] + every), np.append(values, values[-1]) / 10**6)
+
+
+def _times(view: View, span: Span) -> Samples:
+    """Of each sender the times under way of what was delivered in a span, ns, sorted."""
+    table, found = view.packets, []
+    for who, packets in view.senders:
+        ended = table.ended[packets]
+        is_in = (table.fate[packets] == DELIVERED) & (ended >= span.begin)
+        if span.end is not None:
+            is_in &= ended <= span.end
+        found.append((who, np.sort(table.delay[packets[is_in]])))
+    return found
+
+
+def _box(label: str, values: Ints) -> Series:
+    """Least, percentiles by nearest rank, and greatest."""
+    marks = [0, *(place(len(values), percentile) for percentile in _PERCENTILES), len(values) - 1]
+    return Series(label, "box", values[marks], values[marks])
+
+
+def overlaid(names: Sequence[str], columns: Sequence[Sequence[Panel]]) -> tuple[list[Panel], list[tuple[str, Note]]]:
+    """The panels of several experiments laid over one another, a series' label with its experiment's name; and what is
+    left out. More boxes than 60 are refused by `Faulty`."""
+    panels, notes = [], []
+    for same in zip(*columns):
+        series = [one._replace(label=f"{name}: {one.label}") for name, panel in zip(names, same) for one in panel.series]
+        lines = [one for one in series if one.form != "marks"]
+        first = same[0]
+        if lines and lines[0].form == "box":
+            if len(lines) > _BOXES:
+                raise Faulty(f"{len(lines)} boxes in a panel can't be told apart, where {_BOXES} can be drawn: name some"
+                             " experiments by --only")
+        elif len(lines) > MOST:
+            notes.append((names[0], too_many(first.title, len(lines))))
+            lines = fewest(lines)
+        tops = [panel.top for panel in same if panel.top is not None]
+        words = next((panel.words for panel in same if panel.words), "")
+        panels.append(Panel(first.title, first.unit, [*lines, *(one for one in series if one.form == "marks")],
+                            words, max(tops) if len(tops) == len(same) else None, first.across))
+    return panels, notes

@@ -1,0 +1,262 @@
+"""The rows of a summary: one for each who sends, each pipe, each direction and each experiment as a whole.
+
+What can't be told is None. Times are nanoseconds, rates bits per second, rounded down.
+"""
+from dataclasses import dataclass
+from typing import Any, Optional, Sequence
+
+import numpy as np
+
+from dnlab.analysis.figures import Percentile, jain, percentile_name, place
+from dnlab.analysis.marks import codes_of
+from dnlab.analysis.packets import DELIVERED, DROPPED, HELD
+from dnlab.analysis.spans import Span
+from dnlab.analysis.view import View, flows_of
+from dnlab.io.digits import Ints
+from dnlab.io.lines import CAUSES, DATA, PLAIN, pipe_name
+from dnlab.io.scenario_parts import HEADER
+
+Row = dict[str, Any]
+# Rows of all senders, or of those of one direction; they carry all marks.
+WHOLE = ("there", "back", "all")
+PERCENTILES: tuple[Percentile, ...] = (50, 99)
+_COUNTS = ("packets", "delivered", "held", "bytes", "first", "last", "time", "rate")
+_MORE = ("mean", "jitter", "useful", "goodput", "utilisation", "again", "completion", "jain", "seed", "budget_packets",
+         "budget_steps", "settings", "varied", "refused", "codes", "ended", "ended_at", "end", "marks")
+
+
+def times_of(percentiles: Sequence[Percentile]) -> tuple[str, ...]:
+    """The columns of times under way."""
+    return "least", *(percentile_name(one) for one in percentiles), "greatest"
+
+
+def columns_of(percentiles: Sequence[Percentile] = PERCENTILES, span: Span = Span()) -> tuple[str, ...]:
+    """All columns of a summary, in order; one of a part of the time has `from` and `to` at the end."""
+    return ("experiment", "of", *_COUNTS, *CAUSES, *times_of(percentiles), *_MORE,
+            *(() if span.is_whole() else ("from", "to")))
+
+
+def spread(times: Optional[Ints], percentiles: Sequence[Percentile], with_mean: bool = False) -> Row:
+    """Least, percentiles by nearest rank, and greatest, where it is asked for the mean too; None where there is no time
+    or one isn't known. Of three times the 50th percentile is the second, the 99th the third:
+
+    >>> spread(np.array([30, 10, 26], dtype=np.int64), (50, 99), with_mean=True)
+    {'least': 10, 'median': 26, 'p99': 30, 'greatest': 30, 'mean': 22.0}
+    """
+    names = times_of(percentiles)
+    if times is None or not len(times) or int(times.min()) < 0:
+        return dict.fromkeys((*names, "mean") if with_mean else names)
+    places = [0, *(place(len(times), one) for one in percentiles), len(times) - 1]
+    ordered = np.partition(times, sorted(set(places)))
+    found: Row = {name: int(ordered[at]) for name, at in zip(names, places)}
+    if with_mean:
+        # In two halves, so that no sum passes 64 bits.
+        found["mean"] = ((int((times >> 20).sum()) << 20) + int((times & 0xFFFFF).sum())) / len(times)
+    return found
+
+
+# The share of the newest difference in the jitter of RFC 3550; those before the last so many weigh less than 2^-180.
+_NEWEST = 1 / 16
+_HEARD = 2000
+
+
+def jitter(times: Ints) -> Optional[float]:
+    """The interarrival jitter of RFC 3550, section 6.4.1, behind the last packet, ns: J + (|D| - J) / 16 with each
+    difference D of two times under way, which stand in the order of arrival. None of fewer than two, or where one isn't
+    known. Shape (n,).
+
+    >>> jitter(np.array([10, 26, 26], dtype=np.int64))
+    0.9375
+    """
+    if len(times) < 2 or int(times.min()) < 0:
+        return None
+    steps = np.abs(np.diff(times))[-_HEARD:].astype(np.float64)
+    return float(np.dot(steps[::-1], (1 - _NEWEST) ** np.arange(len(steps))) * _NEWEST)
+
+
+def span(firsts: Ints, lasts: Ints, size: Optional[int]) -> Row:
+    """First and last moment, the time between, and bits per second over it, rounded down. 16000 bits in 12 ms:
+
+    >>> span(np.array([0, 5_000_000]), np.array([12_000_000, 11_000_000]), 2000)
+    {'first': 0, 'last': 12000000, 'time': 12000000, 'rate': 1333333}
+    """
+    known = len(firsts) > 0 and len(lasts) > 0 and int(firsts.min()) >= 0
+    first = int(firsts.min()) if known else None
+    last = int(lasts.max()) if len(lasts) else None
+    time = last - first if first is not None and last is not None else None
+    rate = size * 8 * 10**9 // time if time and size is not None else None
+    return {"first": first, "last": last, "time": time, "rate": rate}
+
+
+def sum_of(sizes: Ints) -> Optional[int]:
+    """The sum of sizes, None where one isn't known (-1).
+
+    >>> sum_of(np.array([40, 1500])), sum_of(np.array([40, -1]))
+    (1540, None)
+    """
+    return None if len(sizes) and int(sizes.min()) < 0 else int(sizes.sum())
+
+
+@dataclass
+class Tables:
+    """Makes the rows of an experiment; `varied` is what of its settings isn't the same in all experiments, and
+    `with_mean` gives the rows of packets and pipes the `mean` time under way.
+
+    Of a `span` that isn't whole the rows have what happened in it: packets made, delivered and dropped in it, those under
+    way at its end, and rates over its whole length."""
+    view: View
+    percentiles: Sequence[Percentile] = PERCENTILES
+    varied: Optional[str] = None
+    with_mean: bool = True
+    span: Span = Span()
+
+    def __post_init__(self) -> None:
+        self.span.check(self.view)
+
+    def rows(self) -> list[Row]:
+        """All rows of the experiment, its whole last."""
+        view = self.view
+        rows = [self.sender(name, packets) for name, packets in view.senders]
+        rows += [row for pipe, visits in view.visits.pipes() for row in self.pipe(pipe, visits)]
+        rows += self.whole()
+        own = self.own()
+        return [{**dict.fromkeys(columns_of(self.percentiles, self.span)), **row, **own,
+                 "marks": view.marks("" if row["of"] in WHOLE else row["of"])} for row in rows]
+
+    def own(self) -> Row:
+        """What all rows of the experiment carry."""
+        plan, ended = self.view.plan, self.view.ended
+        return {"experiment": self.view.name,
+                "seed": plan.seed if plan else None, "budget_packets": plan.budget if plan else None,
+                "budget_steps": plan.steps if plan else None, "settings": plan.settings() if plan else None,
+                "varied": self.varied, "refused": len(self.view.refused), "codes": codes_of(self.view.refused),
+                "ended": ended.how, "ended_at": ended.moment, "end": ended.end,
+                **({} if self.span.is_whole() else {"from": self.span.begin, "to": self.until()})}
+
+    def until(self) -> int:
+        """The end of the span, ns, or of the experiment if that comes before."""
+        last = self.view.ended.moment
+        return last if self.span.end is None else min(self.span.end, last)
+
+    def over(self, firsts: Ints, lasts: Ints, size: Optional[int]) -> Row:
+        """As `span`, but of a part of the time the rate is over its whole length."""
+        found = span(firsts, lasts, size)
+        if self.span.is_whole():
+            return found
+        time = self.until() - self.span.begin
+        return {**found, "time": time, "rate": None if size is None else size * 8 * 10**9 // time}
+
+    def arrived(self, packets: Ints) -> Ints:
+        """Those of some packets that were delivered, in the span."""
+        table = self.view.packets
+        delivered: Ints = packets[(table.fate[packets] == DELIVERED) & self.span.has(table.ended[packets])]
+        return delivered
+
+    def packets(self, of: str, packets: Ints) -> Row:
+        """A row of packets: bytes, last and rate are of what was delivered, first is the first packet's making."""
+        table = self.view.packets
+        fate, ended = table.fate[packets], table.ended[packets]
+        delivered, made = self.arrived(packets), packets[self.span.has(table.made[packets])]
+        size = sum_of(table.size[delivered])
+        lost = fate[(fate >= DROPPED) & self.span.has(ended)].astype(np.int64) - DROPPED
+        causes = np.bincount(lost, minlength=len(CAUSES))
+        held = ((fate == HELD) | self.span.is_over(ended)) & ~self.span.is_over(table.made[packets])
+        return {"of": of, "packets": len(made), "delivered": len(delivered),
+                "held": int(np.count_nonzero(held)), "bytes": size,
+                **self.over(table.made[made], table.ended[delivered], size),
+                **dict(zip(CAUSES, causes.tolist())),
+                **spread(table.delay[delivered], self.percentiles, self.with_mean),
+                "jitter": jitter(table.delay[delivered[np.argsort(table.ended[delivered], kind="stable")]])}
+
+    def sender(self, of: str, packets: Ints) -> Row:
+        return {**self.packets(of, packets), **self.useful(packets), **self.progress(of, packets)}
+
+    def useful(self, packets: Ints) -> Row:
+        """Bytes that came, each once, and their rate: a flow's without headers, all of a train's packets."""
+        table = self.view.packets
+        kinds = table.kind[packets]
+        packets = packets[(kinds == DATA) | (kinds == PLAIN)]
+        delivered = self.arrived(packets)
+        if not len(packets) or (len(delivered) and int(table.size[delivered].min()) < 0):
+            return {}
+        once = delivered[table.is_new[delivered]]
+        size = int(table.size[once].sum()) - HEADER * int(np.count_nonzero(table.kind[once] == DATA))
+        return {"useful": size, "goodput": self.over(table.made[packets], table.ended[once], size)["rate"]}
+
+    def progress(self, of: str, packets: Ints) -> Row:
+        """Of a flow how many segments were sent again, and the time from its command to its last missing byte."""
+        table = self.view.packets
+        if int(table.kind[packets[0]]) != DATA or not self.view.is_told:
+            return {}
+        again = int(np.count_nonzero(table.again[packets] & self.span.has(table.made[packets])))
+        moment, sends = self.view.sends.get(of, (0, None))
+        ended = np.sort(table.ended[packets[table.is_new[packets]]])
+        whole = sends is not None and len(ended) == sends.count and bool(self.span.has(ended[-1:]).all())
+        return {"again": again, "completion": int(ended[-1]) - moment if whole else None}
+
+    def pipe(self, pipe: int, visits: Ints) -> list[Row]:
+        """The rows of an instance: one, or one for each direction where packets of both came through it."""
+        back = self.view.is_back[self.view.visits.packet[visits]]
+        name = f"pipe {pipe_name(pipe)}"
+        if back.all() or not back.any():
+            return [self.visits(name, visits)]
+        return [self.visits(name, visits[~back]), self.visits(f"{name} back", visits[back])]
+
+    def visits(self, of: str, visits: Ints) -> Row:
+        """A row of an instance: packets that it served, of which `delivered` have left it.
+
+        Which pipe dropped a packet is told by its arrival there, under `trace 1`; else only of CoDel's drops, by the
+        finish before them."""
+        table, packets = self.view.visits, self.view.packets
+        finish, left, packet = table.finish[visits], table.exit[visits], table.packet[visits]
+        is_served, now = finish >= 0, self.span
+        served, gone = visits[is_served & now.has(finish)], visits[is_served & (left >= 0) & now.has(left)]
+        size = sum_of(packets.size[table.packet[served]])
+        held = is_served & ~now.is_over(finish) & (((left < 0) & (packets.fate[packet] == HELD)) | now.is_over(left))
+        arrival = table.arrival[gone]
+        times = np.where(arrival < 0, -1, table.exit[gone] - arrival)
+        lost = packets.fate[packet[~is_served & (left >= 0) & now.has(left)]].astype(np.int64) - DROPPED
+        causes = np.bincount(lost[lost >= 0], minlength=len(CAUSES)).tolist()
+        known = CAUSES if self.view.is_traced else ("codel",)
+        known_span = self.over(table.arrival[served], table.finish[served], size)
+        return {"of": of, "packets": len(served), "delivered": len(gone), "held": int(np.count_nonzero(held)),
+                "bytes": size, **known_span, "utilisation": self.utilisation(of, known_span, size),
+                **{cause: count if cause in known else None for cause, count in zip(CAUSES, causes)},
+                **spread(times, self.percentiles, self.with_mean)}
+
+    def utilisation(self, of: str, known: Row, size: Optional[int]) -> Optional[float]:
+        """What an instance served by what its rate could have carried from the first arrival to the last finish; None
+        without a rate, or where that isn't known."""
+        if size is None or not known["time"]:
+            return None
+        could, begin, end = 0, known["first"], known["last"]
+        if not self.span.is_whole():
+            begin, end = self.span.begin, self.until()
+        changes = [change for change in self.view.changes.get(int(of.split()[1].split(".")[0]), []) if change.config]
+        for change, following in zip(changes, [*changes[1:], None]):
+            assert change.config is not None
+            until = end if following is None else min(following.moment, end)
+            time = until - max(change.moment, begin)
+            if time > 0 and not change.config.bw:
+                return None
+            could += max(time, 0) * change.config.bw
+        return size * 8 * 10**9 / could if could else None
+
+    def whole(self) -> list[Row]:
+        """The row of all packets; bytes, rates and times stand in the rows of both directions where there are two."""
+        packets = np.arange(len(self.view.packets))
+        back = self.view.is_back
+        fair = {"jain": self.fairness()}
+        if back.all() or not back.any():
+            return [{**self.packets("all", packets), **(self.useful(packets) if len(packets) else {}), **fair}]
+        there = {**self.packets("there", packets[~back]), **self.useful(packets[~back]), **fair}
+        behind = self.packets("back", packets[back])
+        sums = {column: there[column] + behind[column] for column in ("packets", "delivered", "held", *CAUSES)}
+        return [there, behind, {"of": "all", **sums, **fair}]
+
+    def fairness(self) -> Optional[float]:
+        """Jain's index over the flows' goodputs; None where there is no flow or sizes aren't known."""
+        flows = [self.useful(packets) for _, packets in flows_of(self.view)]
+        if not flows or not all("goodput" in flow for flow in flows):
+            return None
+        return jain([flow["goodput"] or 0 for flow in flows])

@@ -1,0 +1,160 @@
+"""One experiment of a report, joined with its scenario where there is one, and what may be silently wrong in it."""
+from dataclasses import dataclass, field
+from functools import cached_property
+from typing import NamedTuple, Optional
+
+import numpy as np
+from numpy.typing import NDArray
+
+from dnlab.analysis.links import compare_links
+from dnlab.analysis.makings import is_spent, makings_of
+from dnlab.analysis.marks import Refusal, marks_of, refused_of
+from dnlab.analysis.notes import KINDS, NO_SCENARIO, Note
+from dnlab.analysis.packets import Packets, Visits, never_seen, packets_of, visits_of
+from dnlab.errors import Faulty, Refused
+from dnlab.io.digits import Flags, Ints
+from dnlab.io.lines import ACKNOWLEDGES, DATA, MAKE, OK, REFUSED, RULE
+from dnlab.io.pieces import Piece
+from dnlab.io.report import Counters, Recorded, read_piece
+from dnlab.io.scenario_parts import Command, Plan, Sends
+from dnlab.io.settings import Change, changes_of
+
+__all__ = ["KINDS", "NO_SCENARIO", "Ended", "Note", "View", "flows_of", "view_of"]
+
+
+class Ended(NamedTuple):
+    """How an experiment ended: `end` or `spent`, at which moment, and the moment of the scenario's `end` (ns, None where
+    the scenario isn't known)."""
+    how: str
+    moment: int
+    end: Optional[int]
+
+    def is_short(self) -> bool:
+        """Whether it was cut short: its steps were spent before its end."""
+        return self.how == "spent"
+
+
+@dataclass
+class View:
+    """An experiment of a report, joined with its plan where that is known."""
+    experiment: Recorded
+    plan: Optional[Plan] = None
+    more_notes: list[Note] = field(default_factory=list)
+
+    def __post_init__(self) -> None:
+        makings = makings_of(self.experiment, self.plan) if self.plan is not None else None
+        self.packets: Packets = packets_of(self.experiment, makings)
+        if self.plan is not None and makings is not None:
+            compare_links(self.experiment, self.plan, makings, self.packets, self.visits)
+        # Whether it is known of each packet when it was made, how long it is and who sent it.
+        self.is_told = self.plan is not None or bool((self.packets.made >= 0).all())
+        makes = int(np.count_nonzero(self.experiment.columns.word == MAKE))
+        self.is_traced = makes == self.counters.made > 0
+
+    @property
+    def name(self) -> str:
+        return self.experiment.name
+
+    @property
+    def counters(self) -> Counters:
+        return self.experiment.counters
+
+    @cached_property
+    def visits(self) -> Visits:
+        """The visits of all packets to pipes."""
+        return visits_of(self.experiment, self.packets)
+
+    @cached_property
+    def ended(self) -> Ended:
+        columns = self.experiment.columns
+        timed = np.flatnonzero(columns.word < RULE)
+        moment = int(columns.moment[timed[-1]]) if len(timed) else 0
+        return Ended("spent" if is_spent(self.experiment) else "end", moment, self.plan.end() if self.plan else None)
+
+    @cached_property
+    def last(self) -> int:
+        """The moment of the last line but that of `end`, which may stand long after all else; ns."""
+        columns = self.experiment.columns
+        rows = np.flatnonzero((columns.word != OK) & (columns.word < RULE))
+        return int(columns.moment[rows[-1]]) if len(rows) else 0
+
+    @cached_property
+    def senders(self) -> list[tuple[str, Ints]]:
+        """Who sends, in the order of the first packet, with the packets of each."""
+        return self.packets.senders()
+
+    @cached_property
+    def sends(self) -> dict[str, tuple[int, Sends]]:
+        """The flows and trains of the scenario that were begun, by name, with their moments."""
+        if self.plan is None:
+            return {}
+        columns = self.experiment.columns
+        done = set(columns.number[columns.word == OK].tolist())
+        return {command.sends.name(): (command.moment, command.sends) for number, command in enumerate(self.plan.commands)
+                if command.sends is not None and command.sends.number is not None and number in done}
+
+    @cached_property
+    def done(self) -> list[tuple[int, Command]]:
+        """The commands of the scenario that were done, each with its row."""
+        columns = self.experiment.columns
+        rows = np.flatnonzero((columns.word == OK) | (columns.word == REFUSED)).tolist()
+        commands = self.plan.commands if self.plan else []
+        return [(row, command) for row, command in zip(rows, commands) if columns.word[row] == OK]
+
+    @cached_property
+    def changes(self) -> dict[int, list[Change]]:
+        """Of each pipe of the scenario its configurations and deletions that were done, in order."""
+        return changes_of(self.done)
+
+    @cached_property
+    def is_back(self) -> Flags:
+        """Of each packet whether it goes back: acknowledgements, and what is sent from flows' receivers to their
+        senders. Shape (packets,)."""
+        back: NDArray[np.bool_] = self.packets.kind == ACKNOWLEDGES
+        flows = [sends for _, sends in self.sends.values() if sends.word == "flow"]
+        sources, targets = {one.source for one in flows}, {one.target for one in flows}
+        for name, packets in self.senders:
+            _, sends = self.sends.get(name, (0, None))
+            if sends and sends.word == "train" and sends.source in targets - sources and sends.target in sources:
+                back[packets] = True
+        return back
+
+    @cached_property
+    def refused(self) -> list[Refusal]:
+        """The commands that were refused, in order."""
+        return refused_of(self)
+
+    @cached_property
+    def notes(self) -> list[Note]:
+        """What isn't known, and what may be silently wrong, in the order of the most to the least grave."""
+        found = marks_of(self)
+        if not self.is_told:
+            found.append(NO_SCENARIO)
+        return found
+
+    @cached_property
+    def never_seen(self) -> Ints:
+        """The packets in a pipe that no line names, so that no pipe's queue counts them. Shape (n,)."""
+        return never_seen(self.packets, self.visits)
+
+    def marks(self, of: str = "") -> str:
+        """The words that a row carries, with spaces between: those of the experiment, and those of a sender."""
+        words = [note.mark for note in self.notes if note.mark and (not note.of or not of or of == note.of)]
+        return " ".join(dict.fromkeys(words))
+
+
+def view_of(piece: Piece, plans: Optional[dict[str, Plan]], report: str, scenario: str) -> View:
+    """Reads an experiment and joins it; what is refused is told with the file's name."""
+    if plans is not None and piece.name not in plans:
+        raise Faulty(f"{scenario}: it has no experiment {piece.name}")
+    try:
+        return View(read_piece(piece), plans[piece.name] if plans is not None else None)
+    except Refused as refused:
+        raise Faulty(f"{report}: {refused}") from None
+
+
+def flows_of(view: View) -> list[tuple[int, Ints]]:
+    """The flows whose segments the experiment made, by number, with these packets."""
+    rows = np.flatnonzero(view.packets.kind == DATA)
+    flows = view.packets.flow[rows]
+    return [(int(flow), rows[flows == flow]) for flow in np.unique(flows)]

@@ -1,0 +1,141 @@
+"""Goes over the experiments of a report, one at a time or by several processes, and says how far it is."""
+import os
+import sys
+from pathlib import Path
+from typing import BinaryIO, Callable, Iterable, Iterator, NamedTuple, Optional, Sequence, TypeVar, Union
+
+from dnlab.analysis.view import View, view_of
+from dnlab.errors import Faulty, Refused
+from dnlab.io.packed import unpacked
+from dnlab.io.pieces import Piece, pieces
+from dnlab.io.scenario import read
+from dnlab.io.scenario_parts import Plan
+from dnlab.processes.crew import Crew
+from dnlab.processes.progress import Progress
+
+T = TypeVar("T")
+# Below so many bytes of report a second process costs more than it saves.
+_WORTH = 20_000_000
+
+
+class Given(NamedTuple):
+    """A report and its scenarios, as they are named on a command line; `-` is standard input."""
+    report: str
+    scenarios: tuple[str, ...] = ()
+
+    def scenario(self) -> str:
+        """The scenarios' names, for a message."""
+        return ", ".join(self.scenarios)
+
+
+def cores() -> int:
+    """How many cores this process may use."""
+    return len(os.sched_getaffinity(0)) if hasattr(os, "sched_getaffinity") else os.cpu_count() or 1
+
+
+def bytes_of(name: str) -> bytes:
+    """The bytes of a file, or of standard input (`-`), unpacked where they are packed by gzip; `Faulty` where they can't be
+    read."""
+    try:
+        return unpacked(sys.stdin.buffer.read() if name == "-" else Path(name).read_bytes())
+    except OSError as fault:
+        raise Faulty(f"{name}: {fault.strerror}") from None
+    except Refused as refused:
+        raise Faulty(f"{name}: {refused}") from None
+
+
+def plans_of(names: Sequence[str]) -> Optional[dict[str, Plan]]:
+    """The experiments of some scenario texts, by name; None where no text is named."""
+    plans: dict[str, Plan] = {}
+    for name in names:
+        try:
+            found = read(bytes_of(name))
+        except Refused as refused:
+            raise Faulty(f"{name}: {refused}") from None
+        for plan in found.values():
+            if plan.name in plans:
+                raise Faulty(f"{name}: line {plan.line}: a second experiment {plan.name}")
+            plans[plan.name] = plan
+    return plans if names else None
+
+
+def pieces_of(report: str, wanted: Sequence[str] = ()) -> Iterator[Piece]:
+    """The experiments of a report's file, or of standard input; what is refused is told with the file's name."""
+    source: Union[str, BinaryIO] = sys.stdin.buffer if report == "-" else report
+    missing = set(wanted)
+    try:
+        for piece in pieces(source, wanted):
+            missing.discard(piece.name)
+            yield piece
+    except OSError as fault:
+        raise Faulty(f"{report}: {fault.strerror}") from None
+    except Refused as refused:
+        raise Faulty(f"{report}: {refused}") from None
+    for name in wanted:
+        if name in missing:
+            raise Faulty(f"{report}: it has no experiment {name}")
+
+
+class TooMany(Faulty):
+    """A report has more experiments than can be taken: `count` of them, where `most` can be."""
+
+    def __init__(self, count: str, most: int) -> None:
+        super().__init__(f"{count} experiments are too many, where {most} can be taken")
+        self.count = count
+        self.most = most
+
+
+def _task(function: Callable[[View], T], piece: Piece, plans: Optional[dict[str, Plan]], given: Given) -> T:
+    return function(view_of(piece, plans, given.report, given.scenario()))
+
+
+def over(given: Given, function: Callable[[View], T], plans: Optional[dict[str, Plan]], wanted: Sequence[str] = (),
+         workers: Optional[int] = None, tool: str = "dnlab", most: Optional[int] = None) -> Iterator[T]:
+    """What a function makes of each experiment, in the report's order, by so many processes (all cores where it isn't
+    given and the report is long). The function must be one that another process finds by its name. Where
+    a file has more than `most` experiments it is refused before one is read."""
+    found: Iterable[Piece] = pieces_of(given.report, wanted)
+    total = None
+    if given.report != "-":
+        found = list(found)
+        total = len(found)
+        if workers is None:
+            workers = cores() if sum(map(len, found)) >= _WORTH else 1
+        workers = max(1, min(workers, total))
+        if most is not None and total > most:
+            raise TooMany(str(total), most)
+    with Progress(tool, total) as progress:
+        if (workers or 1) == 1:
+            for piece in found:
+                yield _task(function, piece, plans, given)
+                progress.step()
+        else:
+            for made in _by_processes(given, function, plans, found, workers or 1):
+                yield made
+                progress.step()
+
+
+def _by_processes(given: Given, function: Callable[[View], T], plans: Optional[dict[str, Plan]],
+                  found: Iterable[Piece], workers: int) -> Iterator[T]:
+    """What comes out of order waits for what is before it; a few are given ahead, so that no more texts are kept than
+    are worked on."""
+    done: dict[int, T] = {}
+    head = 0
+    with Crew[int](workers) as crew:
+        for number, piece in enumerate(found):
+            own = None if plans is None else {piece.name: plans[piece.name]} if piece.name in plans else {}
+            crew.give(number, _task, function, piece, own, given)
+            while number - head > workers + 1:
+                yield from _in_order(crew, done, head)
+                head += 1
+        while len(crew) or head in done:
+            yield from _in_order(crew, done, head)
+            head += 1
+
+
+def _in_order(crew: Crew[int], done: dict[int, T], head: int) -> Iterator[T]:
+    """The result of the first that hasn't been given yet."""
+    while head not in done:
+        outcome = crew.next()
+        done[outcome.token] = outcome.get()
+    yield done.pop(head)

@@ -1,0 +1,125 @@
+"""Says whether a report of dnlab keeps to bounds, as 'train 9: delay.p95 < 50ms'."""
+import argparse
+import json
+import re
+import sys
+from typing import Sequence
+
+from dnlab.analysis.bounds import FORM, Bound, Failing, Judged, allowed_of, bound_of, bounds_in, failing, judge, percentiles_for
+from dnlab.analysis.metrics import WORDS
+from dnlab.analysis.spans import Span
+from dnlab.analysis.summing import summed, tell
+from dnlab.analysis.work import Given, bytes_of, plans_of
+from dnlab.cli.words import add_span, add_texts, count_of, listed, parser_of, span_in, taken
+from dnlab.errors import DIFFERS, Faulty, status_of
+from dnlab.units import UNITS, named
+
+EXAMPLE = f"""A bound is {FORM}.
+  WHO     a row of dnlab-summary, 'flow 1', 'train 9', 'pipe 1.0', 'all', or a
+          pattern, 'flow *'; 'codel/train 9' only of this experiment. A bound
+          must hold in every row that it names; 'flow *' names flows, and not
+          their acknowledgements (these are 'flow * acks')
+  METRIC  {listed(WORDS)}
+          (N up to 100). loss is drops of what was made, jitter that of RFC
+          3550. utilisation of a pipe is what it served by what its rate could
+          have carried; refused is how many commands were, ended `end` or
+          `spent`
+  SIGN    < <= > >= == !=
+  VALUE   a number with its unit:
+          {listed((named(kind) for kind in UNITS if kind not in ('count', 'index', 'ending')), '; ')};
+          counts of packets, jain and endings have none
+A file has a bound in each line; what begins with # is skipped. It prints each
+bound with what was measured: the value nearest to the bound if it names several
+rows. A value that can't be computed fails. A run in which commands were
+refused, or whose steps were spent before its end, fails whatever the bounds
+say, unless --allow names that.
+
+Example:
+  tools/expect report.txt scenario.txt --bounds bounds.txt --json
+  ./dnlab alone < scenario.txt | tools/expect - scenario.txt \\
+    'train 9: delay.p95 < 50ms' 'all: drops.budget == 0'
+
+Exit status: 0 all hold, 1 one doesn't, 2 wrong usage, what is no bound of this
+report, or a faulty input, 3 what this machine lacks (a package, room to write)."""
+
+
+def words(given: Sequence[str]) -> argparse.Namespace:
+    parser = parser_of("expect", __doc__ or "", EXAMPLE)
+    add_texts(parser)
+    parser.add_argument("--bounds", action="append", default=[], metavar="FILE",
+                        help="a file of bounds; may be said again. Bounds stand also among the words, each in quotes")
+    parser.add_argument("--first", action="store_true", help="look at none after the first that fails")
+    parser.add_argument("--all", action="store_true", help="look at all bounds, as it does anyhow")
+    parser.add_argument("--allow", action="append", default=[], type=allowed, metavar="MARK,..",
+                        help="don't fail for `refused` commands, or for steps that were `spent`")
+    parser.add_argument("--json", action="store_true", help="print an object, amounts in ns, bytes, bit/s, or as shares of 1")
+    add_span(parser)
+    parser.add_argument("--workers", type=count_of, metavar="N",
+                        help="how many processes [all cores if the report is long]")
+    said = [word for word in given if is_bound(word)]
+    found = taken(parser, [word for word in given if not is_bound(word)])
+    found.said = said
+    found.allow = [word for words in found.allow for word in words]
+    if found.all and found.first:
+        parser.error("--all and --first can't be both")
+    span_in(parser, found)
+    if not said and not found.bounds:
+        parser.error(f"no bound: {FORM}")
+    if [found.report, *found.scenarios, *found.bounds].count("-") > 1:
+        parser.error("standard input can't be two texts")
+    return found
+
+
+def allowed(text: str) -> list[str]:
+    try:
+        return allowed_of(text)
+    except ValueError as fault:
+        raise argparse.ArgumentTypeError(str(fault)) from None
+
+
+def is_bound(word: str) -> bool:
+    """Whether a word is meant as a bound, right or wrong, and not as a file.
+
+    >>> is_bound("all: drops < 3"), is_bound("all: drops 3"), is_bound("runs/report.txt"), is_bound("--bounds=a")
+    (True, True, False, False)
+    """
+    return not word.startswith("-") and re.search(r"[<>=]|: ", word) is not None
+
+
+def bounds_of(given: argparse.Namespace) -> list[Bound]:
+    """The bounds of the words, then those of the files."""
+    found = [bound_of(text, f"bound {number}") for number, text in enumerate(given.said, 1)]
+    for name in given.bounds:
+        found += bounds_in(name, bytes_of(name).decode("utf-8", "replace"))
+    return found
+
+
+def show(judged: Sequence[Judged], failed: Sequence[Failing], as_json: bool) -> None:
+    """Prints what was judged."""
+    if as_json:
+        holds = not failed and all(one.holds for one in judged)
+        print(json.dumps({"holds": holds, "bounds": [one.record() for one in judged],
+                          "failing": [one.record() for one in failed]}, indent=1))
+        return
+    for line in [*(one.line() for one in judged), *(one.line() for one in failed)]:
+        print(line)
+
+
+def main(words_given: Sequence[str]) -> int:
+    given = words(words_given)
+    try:
+        bounds = bounds_of(given)
+        plans = plans_of(given.scenarios)
+        found = list(summed(Given(given.report, tuple(given.scenarios)), plans, given.experiment,
+                            percentiles_for(bounds), workers=given.workers, span=Span(given.begin, given.end)))
+        if not found:
+            raise Faulty(f"{given.report}: it has no experiment, so no bound can hold")
+        judged = list(judge(bounds, [row for one in found for row in one.rows], given.first))
+    except Faulty as faulty:
+        print(f"expect: {faulty}", file=sys.stderr)
+        return status_of(faulty)
+    notes = [(one.name, note) for one in found for note in one.notes]
+    failed = failing(notes, given.allow)
+    show(judged, failed, given.json)
+    tell("expect", [(name, note) for name, note in notes if not any(note.text == one.said for one in failed)], len(found))
+    return DIFFERS if failed or not all(one.holds for one in judged) else 0

@@ -1,0 +1,138 @@
+"""Rows as a text with columns under each other."""
+import math
+import re
+from typing import Optional, Sequence
+
+from dnlab.analysis.figures import Percentile
+from dnlab.analysis.tables import PERCENTILES, Row, times_of
+from dnlab.io.lines import CAUSES
+from dnlab.units import FOR_PEOPLE
+
+
+def milliseconds(value: Optional[int], exact: bool = True) -> str:
+    """Nanoseconds as milliseconds, with all digits or with three behind the point (halves upwards).
+
+    >>> milliseconds(1234567), milliseconds(1234567, exact=False), milliseconds(999500, exact=False)
+    ('1.234567', '1.235', '1.000')
+    """
+    if value is None:
+        return "-"
+    if exact:
+        return f"{value // 10**6}.{value % 10**6:06}"
+    micro = (value + 500) // 1000
+    return f"{micro // 1000}.{micro % 1000:03}"
+
+
+def plain(value: object, exact: bool = True) -> str:
+    """A value as it stands in a table; a fraction with three digits behind the point unless it is to be exact.
+
+    >>> plain(None), plain(0.123456789), plain(7), plain(0.123456789, exact=False)
+    ('-', '0.123457', '7', '0.123')
+    """
+    if isinstance(value, float):
+        return f"{value:.6g}" if exact else f"{value:.3f}"
+    return "-" if value is None else str(value)
+
+
+def loss_of(row: Row) -> str:
+    """The drops by cause, in words; of a pipe only CoDel's may be known."""
+    parts = [f"{cause}:{row[cause]}" for cause in CAUSES if row[cause] or (cause == "codel" and row["full"] is None)]
+    return " ".join(parts) or "none"
+
+
+def ended_of(row: Row, exact: bool) -> str:
+    """How the experiment ended, with both moments where it was cut short."""
+    if row["ended"] == "end":
+        return "end"
+    of = "" if row["end"] is None else f" of {milliseconds(row['end'], exact)}"
+    return f"spent {milliseconds(row['ended_at'], exact)}{of} ms"
+
+
+def lines_of(cells: Sequence[Sequence[str]], left: Sequence[int]) -> str:
+    """Cells as lines, the first the heading; the columns in `left` are flush left, the others right."""
+    widths = [max(len(line[place]) for line in cells) for place in range(len(cells[0]))]
+    lines = []
+    for line in cells:
+        shown = [cell.ljust(width) if place in left else cell.rjust(width)
+                 for place, (cell, width) in enumerate(zip(line, widths))]
+        lines.append("  ".join(shown).rstrip())
+    return "\n".join(lines) + "\n"
+
+
+def table(rows: Sequence[Row], percentiles: Sequence[Percentile] = PERCENTILES, exact: bool = False) -> str:
+    """The rows of a summary; times in ms, and fractions, with three digits behind the point unless they are to be exact."""
+    times = times_of(percentiles)
+    cells = [["experiment", "of", "packets", "delivered", "held", "bytes", "time ms", "bit/s", "drops",
+              *(f"{name} ms" for name in times), "goodput", "again", "done ms", "jain", "ended", "marks"]]
+    for row in rows:
+        cells.append([row["experiment"], row["of"],
+                      *(plain(row[name]) for name in ("packets", "delivered", "held", "bytes")),
+                      milliseconds(row["time"], exact), plain(row["rate"]), loss_of(row),
+                      *(milliseconds(row[name], exact) for name in times), plain(row["goodput"]), plain(row["again"]),
+                      milliseconds(row["completion"], exact), plain(row["jain"], exact), ended_of(row, exact),
+                      row["marks"] or "-"])
+    width = len(cells[0])
+    return lines_of(cells, (0, 1, 8, width - 2, width - 1))
+
+
+# Columns of times in ns, and what `grouped` makes of them.
+_TIME = re.compile(r"^(p[0-9.]+|min|max|mean|jitter|time|first|last|begin|end|fct|ended_at)( mean| ci95)?$")
+
+
+def _shown(name: str, value: object, exact: bool) -> str:
+    """A value of a column as it is printed."""
+    if value is None or not _TIME.match(name):
+        return plain(value, exact)
+    return milliseconds(value, exact) if isinstance(value, int) else plain(float(str(value)) / 10**6, exact)
+
+
+def bare_table(rows: Sequence[Row], exact: bool = False) -> str:
+    """Any rows, with their own names of columns; times, and means of times, in ms; rounded as in `table`."""
+    names = list(rows[0])
+    heading = [_TIME.sub(r"\1 ms\2", name) for name in names]
+    cells = [heading, *([_shown(name, row[name], exact) for name in names] for row in rows)]
+    texts = [place for place, name in enumerate(names) if all(isinstance(row[name], str) for row in rows)]
+    return lines_of(cells, texts)
+
+
+def estimated(row: Row, exact: bool = False) -> str:
+    """A mean with its interval, in the units for people, to two digits of the interval's half width, or to nine behind the
+    point; that of the bootstrap by its ends, since they aren't as far from the mean.
+
+    >>> row = {"unit": "ns", "mean": 31270001.0, "low": 31190001.0, "high": 31350001.0, "method": "t"}
+    >>> estimated(row), estimated(row, exact=True)
+    ('31.270 ± 0.080', '31.270001000 ± 0.080000000')
+    """
+    if row["mean"] is None:
+        return "-"
+    _, scale = FOR_PEOPLE.get(row["unit"], ("", 1))
+    mean = row["mean"] / scale
+    if row["low"] is None:
+        return f"{mean:.9f}" if exact else f"{mean:.6g}"
+    low, high = row["low"] / scale, row["high"] / scale
+    half = (high - low) / 2
+    if half <= 0:
+        return f"{mean:.9f} ± 0" if exact else f"{mean:.6g} ± 0"
+    digits = 9 if exact else min(9, max(0, 1 - math.floor(math.log10(half))))
+    if row["method"] == "t":
+        return f"{mean:.{digits}f} ± {half:.{digits}f}"
+    return f"{mean:.{digits}f} [{low:.{digits}f}, {high:.{digits}f}]"
+
+
+def sweep_table(rows: Sequence[Row], settings: Sequence[str], exact: bool = False) -> str:
+    """The rows of a sweep's table, a line for each setting, a column for each of and stat; times in ms. Marks, if there
+    are any, stand at the end of their line."""
+    columns = {(row["of"], row["stat"]): FOR_PEOPLE.get(row["unit"], (row["unit"], 1))[0] for row in rows}
+    lines: dict[tuple[str, ...], dict[tuple[str, str], str]] = {}
+    marks: dict[tuple[str, ...], dict[str, None]] = {}
+    for row in rows:
+        key = tuple(plain(row[name]) for name in settings)
+        lines.setdefault(key, {})[row["of"], row["stat"]] = estimated(row, exact)
+        marks.setdefault(key, {}).update(dict.fromkeys((row["marks"] or "").split()))
+    heading = [*settings, *(" ".join(filter(None, (*column, unit))) for column, unit in columns.items())]
+    cells = [heading, *([*key, *(own.get(column, "-") for column in columns)] for key, own in lines.items())]
+    left = list(range(len(settings)))
+    if any(marks.values()):
+        left.append(len(heading))
+        cells = [line + [words] for line, words in zip(cells, ("marks", *(" ".join(own) or "-" for own in marks.values())))]
+    return lines_of(cells, left)

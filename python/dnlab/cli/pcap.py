@@ -1,0 +1,106 @@
+"""Writes the packets of a traced report as a capture, for Wireshark and tcptrace."""
+import argparse
+import sys
+from fnmatch import fnmatchcase
+from typing import Iterable, Sequence
+
+import numpy as np
+
+from dnlab.analysis.summing import tell, whole
+from dnlab.analysis.view import View, view_of
+from dnlab.analysis.work import Given, pieces_of, plans_of
+from dnlab.cli.words import add_texts, parser_of, taken
+from dnlab.errors import Faulty, Lacking, status_of
+from dnlab.io.outputs import whole_file
+from dnlab.io.pieces import Piece
+
+EXAMPLE = """The scenario must have `@0 trace 1` as the first command of the experiment, and
+leave it on: only then the report has every packet's addresses and size. What
+else a capture has is made up: Ethernet, no SYN and no FIN, sequence numbers
+from 1 (byte 0 of a flow), the receiver's window (the flow's `window`, if the
+scenario is given). Checksums are over payloads of zeros, of which only the
+headers are kept. A packet's serial number is its IP identification (modulo
+65536); moment 0 is 1970, times are nanoseconds.
+
+--at sender has what a capture beside the senders would: segments as they are
+made (also those that are dropped later), acknowledgements as they arrive. So
+counts are those of dnlab-summary: packets, again, and delivered of the
+acknowledgements. --at receiver has segments that arrive, and acknowledgements
+as they are made.
+
+It needs python3-dpkt (Debian).
+
+Example:
+  sed 's/^experiment .*/&\\n@0 trace 1/' scenario.txt > traced.txt
+  ./dnlab alone < traced.txt > report.txt
+  tools/pcap report.txt traced.txt --out run.pcap && tcptrace -l run.pcap
+  tools/pcap report.txt traced.txt --of 'flow 1' --at receiver --out flow1.pcap
+
+Exit status: 0 written, 2 wrong usage, a faulty input or one that isn't traced,
+3 a file that can't be written, or a package that is missing."""
+
+
+def words(given: Sequence[str]) -> argparse.Namespace:
+    parser = parser_of("pcap", __doc__ or "", EXAMPLE)
+    add_texts(parser)
+    parser.add_argument("--of", action="append", default=[], metavar="PATTERN",
+                        help="only what these send, as 'flow 1', 'flow 1 acks', 'train *'; may be said again [all]")
+    parser.add_argument("--at", choices=("sender", "receiver"), default="sender", help="where it is taken [sender]")
+    parser.add_argument("--out", metavar="FILE", help="what is written, - for standard output [NAME.pcap of each experiment]")
+    return taken(parser, list(given))
+
+
+def wanted(view: View, patterns: Sequence[str]) -> "np.ndarray[tuple[int, ...], np.dtype[np.bool_]]":
+    """Which packets are of senders of some names. Shape (packets,)."""
+    found = np.full(len(view.packets), not patterns, dtype=np.bool_)
+    known = []
+    for name, packets in view.senders:
+        known.append(name)
+        found[packets] |= any(fnmatchcase(name, pattern) for pattern in patterns)
+    if patterns and not found.any():
+        raise Faulty(f"experiment {view.name}: nothing is sent by {' or '.join(patterns)}: there are {', '.join(known)}")
+    return found
+
+
+def write_one(given: argparse.Namespace, view: View) -> None:
+    from dnlab.analysis import capture
+
+    capture.judge(view)
+    packets = wanted(view, given.of)
+    if given.out == "-":
+        capture.write(view, given.at, packets, sys.stdout.buffer)
+        return
+    name = given.out or f"{view.name}.pcap"
+    try:
+        with whole_file(name) as file:
+            count = capture.write(view, given.at, packets, file)
+    except OSError as fault:
+        raise Lacking(f"{name}: {fault.strerror}") from None
+    print(f"{name}: packets: {count}, at the {given.at}")
+
+
+def main(words_given: Sequence[str]) -> int:
+    given = words(words_given)
+    notes = []
+    total = 0
+    try:
+        plans = plans_of(given.scenarios)
+        pieces: Iterable[Piece] = pieces_of(given.report, given.experiment)
+        if given.out:
+            pieces = list(pieces)
+            if len(pieces) > 1:
+                raise Faulty(f"{given.report}: it has several experiments, and {given.out} takes one: name it by"
+                             " --experiment")
+        texts = Given(given.report, tuple(given.scenarios))
+        for piece in whole(texts, plans, given.experiment, pieces, lambda one: one.name):
+            total += 1
+            view = view_of(piece, plans, given.report, ", ".join(given.scenarios))
+            write_one(given, view)
+            notes += [(view.name, note) for note in view.notes]
+        if not total:
+            raise Faulty(f"{given.report}: it has no experiment, so there is nothing to write")
+    except Faulty as faulty:
+        print(f"pcap: {faulty}", file=sys.stderr)
+        return status_of(faulty)
+    tell("pcap", notes, total)
+    return 0

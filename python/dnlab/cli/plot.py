@@ -1,0 +1,163 @@
+"""Draws a report of dnlab over time: windows, queues, one-way delays, drops."""
+import argparse
+import sys
+from functools import partial
+from typing import NamedTuple, Optional, Sequence
+
+from dnlab.analysis.metrics import is_named
+from dnlab.analysis.series import MORE, WHAT, Panel, panel_of
+from dnlab.analysis.shares import overlaid
+from dnlab.analysis.spans import Span
+from dnlab.analysis.summing import tell, whole
+from dnlab.analysis.view import Note, View
+from dnlab.analysis.work import Given, TooMany, over, plans_of
+from dnlab.cli.words import add_texts, count_of, moment_of, parser_of, taken, time_of
+from dnlab.errors import Faulty, status_of
+
+EXAMPLE = """A column for each experiment, a panel for each of --what:
+  window   cwnd and ssthresh of each flow, 16 at most, in bytes and segments,
+           with its losses (x) and timeouts (triangle); and the effective
+           window, the lesser of cwnd and the flow's `window`, if they differ
+  queue    packets that wait or are in service, by pipe, and all under way
+  sojourn  the time from being made to delivery, at each delivery
+  rate     bytes delivered and bytes through each pipe, added up
+  drops    drops by cause, added up
+and on request:
+  throughput      what was delivered in each --bin of time, Mbit/s, and the
+                  rates of the pipes
+  cdf:sojourn, cdf:throughput
+                  which part of the values isn't above a value
+  box:sojourn, box:throughput
+                  quartiles and median, lines from the 5th to the 95th
+                  percentile, the least and the greatest
+With --overlay all experiments stand in one column, each line with its
+experiment's name.
+
+Sizes and the moments at which packets were made stand in no line of a report.
+They are worked out from the scenario, and compared with every line; without it
+the panels that need them say so.
+What has more points than a picture has dots is thinned: each of 1500 stretches
+of time keeps its first, least, greatest and last value.
+It needs matplotlib (Debian: apt-get install python3-matplotlib).
+
+Example:
+  ./dnlab alone < scenario.txt > report.txt
+  tools/plot report.txt scenario.txt --what window,queue --out windows.svg
+  tools/plot report.txt scenario.txt --only q50-s1,q200-s1 --overlay \\
+    --of 'train 9' --what sojourn,cdf:sojourn --from 1s
+
+Exit status: 0 drawn, 2 wrong usage or a faulty input, 3 a file that can't be
+written, or a package that is missing."""
+# More columns than this are wider than any picture that is looked at; more experiments have too many lines.
+_MOST = 20
+_MOST_OVER = 250
+
+
+class Drawn(NamedTuple):
+    """What one experiment gives to a picture."""
+    name: str
+    panels: list[Panel]
+    notes: list[Note]
+
+
+def chosen(text: str) -> list[str]:
+    names = text.split(",")
+    for name in names:
+        if name not in (*WHAT, *MORE):
+            raise argparse.ArgumentTypeError(f"{name!r} is none of {','.join((*WHAT, *MORE))}")
+    return names
+
+
+def picture(text: str) -> str:
+    if text.rsplit(".", 1)[-1] not in ("svg", "png", "pdf"):
+        raise argparse.ArgumentTypeError(f"{text!r} ends neither in .svg nor in .png nor in .pdf")
+    return text
+
+
+def words(given: Sequence[str]) -> argparse.Namespace:
+    parser = parser_of("plot", __doc__ or "", EXAMPLE)
+    add_texts(parser)
+    parser.add_argument("--only", action="append", default=[], type=lambda text: text.split(","),
+                        metavar="NAME,..", help="only these experiments, with commas between")
+    parser.add_argument("--what", type=chosen, default=list(WHAT),
+                        help=f"panels, with commas between [{','.join(WHAT)}]")
+    parser.add_argument("--of", action="append", default=[], metavar="PATTERN",
+                        help="only these senders, as 'flow 1' or 'train *' (not in queue, drops); may be said again")
+    parser.add_argument("--from", type=moment_of, default=0, dest="begin", metavar="TIME",
+                        help="the moment from which on is drawn, as 500ms [0s]")
+    parser.add_argument("--to", type=moment_of, dest="end", metavar="TIME", help="the moment up to which is drawn [the last]")
+    parser.add_argument("--bin", type=time_of, metavar="TIME",
+                        help="over which time throughput is taken [50 or more of 1, 2 or 5 with zeros]")
+    parser.add_argument("--overlay", action="store_true", help="all experiments in one column of panels")
+    parser.add_argument("--out", type=picture, default="plot.svg", metavar="FILE",
+                        help="what is written, .svg, .png or .pdf [plot.svg]")
+    parser.add_argument("--workers", type=count_of, metavar="N",
+                        help="how many processes [all cores if the report is long]")
+    found = taken(parser, list(given))
+    found.experiment += [name for names in found.only for name in names]
+    if found.end is not None and found.end <= found.begin:
+        parser.error("--to: it must be later than --from")
+    if found.bin is not None and not any("throughput" in what for what in found.what):
+        parser.error("--bin goes with --what throughput, cdf:throughput or box:throughput")
+    return found
+
+
+def draw_one(view: View, what: Sequence[str], span: Span, every: Optional[int], patterns: Sequence[str]) -> Drawn:
+    """The panels of one experiment, for another process."""
+    names = [name for name, _ in view.senders]
+    if patterns:
+        view.senders = [(name, packets) for name, packets in view.senders
+                        if any(is_named(name, pattern) for pattern in patterns)]
+        if not view.senders:
+            view.more_notes.append(Note("senders", f"--of {' '.join(map(repr, patterns))}: it has {', '.join(names)}"))
+    panels = [panel_of(view, one, span, every) for one in what]
+    return Drawn(view.name, panels, view.notes + view.more_notes)
+
+
+def draw(given: argparse.Namespace) -> list[Drawn]:
+    plans = plans_of(given.scenarios)
+    texts = Given(given.report, tuple(given.scenarios))
+    drawn = []
+    most = _MOST_OVER if given.overlay else _MOST
+    function = partial(draw_one, what=tuple(given.what), span=Span(given.begin, given.end), every=given.bin,
+                       patterns=tuple(given.of))
+    try:
+        made = over(texts, function, plans, given.experiment, given.workers, "plot", most)
+        for one in whole(texts, plans, given.experiment, made, lambda one: one.name):
+            drawn.append(one)
+            if len(drawn) > most:
+                raise TooMany(f"more than {most}", most)
+    except TooMany as many:
+        advice = "name some by --only a,b"
+        if not given.overlay:
+            advice += ", or lay them over one another by --overlay; tools/summary and tools/sweep compare more by numbers"
+        where = "in one panel" if given.overlay else "side by side"
+        raise Faulty(f"{given.report}: {many.count} experiments are too many {where} ({most} at most): {advice}") from None
+    if not drawn:
+        raise Faulty(f"{given.report}: it has no experiment, so there is nothing to draw")
+    return drawn
+
+
+def main(words_given: Sequence[str]) -> int:
+    from dnlab.plot import pictures
+
+    given = words(words_given)
+    try:
+        drawn = draw(given)
+        names, columns = [one.name for one in drawn], [one.panels for one in drawn]
+        notes = [(one.name, note) for one in drawn for note in one.notes]
+        if given.overlay:
+            panels, more = overlaid(names, columns)
+            names, columns = [", ".join(names) if len(names) < 4 else f"{len(names)} experiments"], [panels]
+            notes += more
+        figure = pictures.figure_of_panels(names, columns, Span(given.begin, given.end))
+        pictures.save(figure, given.out)
+    except Faulty as faulty:
+        print(f"plot: {faulty}", file=sys.stderr)
+        return status_of(faulty)
+    except OSError as fault:
+        print(f"plot: {given.out}: {fault.strerror}", file=sys.stderr)
+        return status_of(fault)
+    tell("plot", notes, len(drawn))
+    print(f"{given.out}: experiments: {len(drawn)}, panels of each: {len(given.what)}")
+    return 0

@@ -1,0 +1,131 @@
+"""Sends the packets of a capture through a link, and writes it as it leaves."""
+import argparse
+import itertools
+import sys
+from collections import Counter
+from contextlib import ExitStack
+from typing import BinaryIO, Callable, Iterator, Optional, Sequence
+
+from dnlab.cli.from_ipfw import traffic_of
+from dnlab.cli.words import moment_of, parser_of, time_of
+from dnlab.errors import Failed, Faulty, status_of
+from dnlab.io import arrivals
+from dnlab.io.arrivals import Arrival, Left
+from dnlab.io.outputs import whole_file
+from dnlab.io.scenario import Judged
+from dnlab.programs import program
+from dnlab.session import replaying
+from dnlab.session.replaying import Fate
+
+EXAMPLE = """FILE is a capture (pcap or pcapng; tcp and udp over IPv4) or a table of arrivals
+(CSV, whose first line names the columns: moment in ns or seconds, size, and if
+they are there protocol, source, source_port, target, target_port). Several are
+merged by their moments.
+
+--link is one pipe for all packets, in the words of `pipe config`. --scenario
+FILE has pipes and rules of your own, whose moments count from the first packet,
+and may have other senders. The ending of --out decides what comes out: a
+capture of nanoseconds, with each packet as it came but for its moment, or a
+table (.csv) with what became of each packet.
+
+Packets go through `dnlab live` one by one, so the limit is 10000000 steps, some
+3 million packets. --inject writes them as `inject` lines instead, for a
+scenario of at most 16777216 bytes.
+
+Example:
+  tools/replay call.pcap --link 'bw 2Mbit/s delay 30 queue 50 plr 0.01' \\
+    --out received.pcap
+  tools/replay call.pcap --scenario link.txt --out fates.csv
+
+Exit status: 0 written, 2 wrong usage or a faulty input, 3 what this machine or
+the program lacks."""
+
+
+def words(given: Sequence[str]) -> argparse.Namespace:
+    parser = parser_of("replay", __doc__ or "", EXAMPLE)
+    parser.add_argument("files", nargs="+", metavar="FILE", help="a capture, or a table of arrivals")
+    link = parser.add_mutually_exclusive_group(required=True)
+    link.add_argument("--link", metavar="WORDS", help="the pipe that all packets go through, as 'bw 10Mbit/s delay 20 queue 100 codel'")
+    link.add_argument("--scenario", metavar="FILE", help="pipes and rules, each with its moment, or a scenario that has them")
+    out = parser.add_mutually_exclusive_group(required=True)
+    out.add_argument("--out", metavar="FILE", help="what leaves the link: FILE.pcap or FILE.csv")
+    out.add_argument("--inject", metavar="FILE", help="a scenario with the packets as `inject` lines; nothing is run")
+    parser.add_argument("--large", choices=arrivals.LARGE, default="refuse", help="what becomes of packets above 1500 bytes [refuse]")
+    parser.add_argument("--align", action="store_true", help="each file begins at the same moment, whatever its clock says")
+    parser.add_argument("--tail", type=time_of, default=10 * 10**9, metavar="TIME", help="how long is waited for the last packets [10s]")
+    parser.add_argument("--begin", type=moment_of, default=0, metavar="TIME", help="the moment of the first packet on the link [0]")
+    parser.add_argument("--seed", type=int, default=1, help="of losses [1]")
+    parser.add_argument("--budget", type=int, default=65535, help="how many packets may be under way [65535]")
+    return parser.parse_args(list(given))
+
+
+def link_of(given: argparse.Namespace, head: str) -> list[tuple[int, str]]:
+    """The commands of the link, judged as the program would."""
+    if given.scenario is not None:
+        return traffic_of(given.scenario)
+    commands = [(0, f"pipe 1 config {given.link}"), (0, "add 100 pipe 1 ip from any to any")]
+    text = "".join([head + "\n", *(f"@{moment} {command}\n" for moment, command in commands), "@0 end\n"])
+    fault = Judged(text.encode("ascii", "replace")).fault
+    if fault:
+        raise Faulty("--link: " + ("a word is wrong" if fault[0] == 2 else "the experiment's seed or budget is wrong")
+                     + f" ({fault[1]}): it takes the words behind `pipe config`, as 'bw 10Mbit/s delay 20 queue 100'")
+    return commands
+
+
+def came(given: argparse.Namespace, left: Left) -> tuple[int, Iterator[Arrival]]:
+    """The moment of the first packet, and all of them, by their moments."""
+    files = [arrivals.of_file(name, left) for name in given.files]
+    found = arrivals.fitting(arrivals.merged(files, given.align), given.large, left)
+    first = next(found, None)
+    if first is None:
+        raise Faulty(f"{', '.join(given.files)}: no packet of tcp or udp over IPv4 in it" + (f" ({left.told()})" if left else ""))
+    return first.moment, itertools.chain([first], found)
+
+
+def run(given: argparse.Namespace, head: str, left: Left) -> str:
+    """Sends the packets through the link; what is said of them."""
+    link = link_of(given, head)
+    begin, packets = came(given, left)
+    counts: Counter[str] = Counter()
+    called = program()
+    with ExitStack() as stack:
+        file: BinaryIO = sys.stdout.buffer if given.out == "-" else stack.enter_context(whole_file(given.out))
+        take = _writer(given, file, begin, stack)
+
+        def tell(fate: Fate) -> None:
+            counts[fate.cause] += 1
+            take(fate._replace(moment=fate.moment - given.begin))
+
+        held = replaying.replay(called, head, link, packets, begin - given.begin, given.tail, tell)
+    return replaying.tally_of(counts, held)
+
+
+def _writer(given: argparse.Namespace, file: BinaryIO, begin: int, stack: ExitStack) -> Callable[[Fate], None]:
+    if given.out.endswith(".csv"):
+        table = replaying.Table(file, begin)
+        stack.callback(table.close)
+        return table.take
+    link = replaying.common_link(arrivals.link_of(name) for name in given.files)
+    return replaying.Capture(file, link, 0 if given.align else begin).take
+
+
+def main(words_given: Sequence[str]) -> int:
+    given = words(words_given)
+    left = Left()
+    said: Optional[str] = None
+    head = f"experiment replay seed {given.seed} budget {given.budget} steps 10000000"
+    try:
+        if given.inject is None:
+            said = run(given, head, left)
+        else:
+            begin, packets = came(given, left)
+            text = replaying.text_of(head, link_of(given, head), packets, begin - given.begin, given.tail)
+            with whole_file(given.inject) as file:
+                file.write(text.encode("ascii"))
+            said = f"{text.count(' inject ')} packets"
+    except (Faulty, Failed, OSError) as fault:
+        cause = f"{fault.filename}: {fault.strerror}" if isinstance(fault, OSError) else str(fault)
+        print(f"replay: {cause}", file=sys.stderr)
+        return 3 if isinstance(fault, Failed) else status_of(fault)
+    print(f"replay: {said}" + (f"; {left.told()}" if left else ""), file=sys.stderr)
+    return 0

@@ -1,0 +1,290 @@
+"""Runs scenarios in parts, here, on other machines by ssh or as a Slurm array."""
+import argparse
+import os
+import shutil
+import sys
+from pathlib import Path
+from typing import Iterator, Mapping, Optional, Sequence
+
+from dnlab.cli.words import parser_of
+from dnlab.errors import Failed, Refused
+from dnlab.io.origin import Origin, origin_of, write_beside
+from dnlab.io.packed import unpacked
+from dnlab.io.scenario import Judged, read
+from dnlab.io.scenario_parts import MOST_BYTES, MOST_EXPERIMENTS, Plan
+from dnlab.io.splitting import Fault, Part, experiments_in, heading_fault, lines_in, repeated, shares, texts_of
+from dnlab.processes import children, ending
+from dnlab.processes.crew import Crew
+from dnlab.processes.progress import Progress
+from dnlab.processes.rooms import Room
+from dnlab.programs import program as program_of
+from dnlab.sweeps.engines import failure, going, put_together
+from dnlab.sweeps.jobs import How, Job, Stop
+
+
+EXAMPLE = """The scenarios are split at their experiments into N parts, each with about as
+many commands. `dnlab alone` runs each part; its report is read and judged
+beside its text. The reports are put together in order: the bytes of
+`dnlab alone < SCENARIO`. Scenarios may be packed by gzip.
+
+A text may have more than 256 experiments and 16777216 bytes, which `dnlab`
+itself refuses: then there are as many parts as it takes. `dnlab check` reads
+the whole text first, so a fault has the line of the whole text; of several
+texts it has its text's name before it. The report is written when it is whole,
+or not at all. REPORT.json keeps beside it what made it, by which the other
+tools know its scenario again. The program is that of the environment variable
+DNLAB, else the proved one of the repository, else a checked build of its
+sources. By ssh the engine is GNU parallel (Debian: parallel, and rsync on both
+sides). SIGINT, SIGTERM and SIGHUP end it and all that it began; parts that are
+done are kept. docs/howto/many_machines.md says more.
+
+Example:
+  tools/spread scenario.txt --parts 8 --out report.txt
+  tools/spread scenario.txt --ssh 4/alpha,4/beta --program /usr/bin/dnlab \\
+    --out report.txt
+
+Exit status: 0 done; 1 a fault in the scenario (`line L: CAUSE`); 2 wrong usage;
+3 a part failed, a report isn't that of its text, memory was refused, or a read
+or write failed. Ended by a signal, that signal's."""
+
+
+def parser_of_words() -> argparse.ArgumentParser:
+    parser = parser_of("spread", __doc__ or "", EXAMPLE)
+    parser.allow_abbrev = False
+    parser.add_argument("scenarios", metavar="SCENARIO", nargs="+", help="a scenario, or - for standard input")
+    parser.add_argument("--parts", type=int, default=16, metavar="N",
+                        help="how many parts (16), at most as many as there are experiments")
+    parser.add_argument("--jobs", type=int, metavar="J",
+                        help="how many at once: on each machine (its cores), or of the array (as Slurm grants)")
+    engine = parser.add_mutually_exclusive_group()
+    engine.add_argument("--ssh", metavar="HOSTS", help="machines, as parallel's --sshlogin has them: 4/alpha,beta")
+    engine.add_argument("--slurm", action="store_true", help="as an array of Slurm; needs --out or --work")
+    parser.add_argument("--program", metavar="PATH", help="where dnlab is on the other machines (as here)")
+    parser.add_argument("--out", metavar="REPORT", help="the report's file; else standard output")
+    parser.add_argument("--work", metavar="FOLDER", help="where the parts are (REPORT.parts, else a temporary one)")
+    parser.add_argument("--resume", action="store_true", help="keep the parts of the folder that are done")
+    return parser
+
+
+def words(given: Sequence[str]) -> argparse.Namespace:
+    parser = parser_of_words()
+    args = parser.parse_intermixed_args(list(given))
+    args.given = list(given)
+    for name, number in ("--parts", args.parts), ("--jobs", args.jobs):
+        if number is not None and number < 1:
+            parser.error(f"{name} {number}: 1 or more are needed")
+    if args.scenarios.count("-") > 1:
+        parser.error("standard input can't be two scenarios")
+    if args.work is None and args.out is not None:
+        args.work = args.out + ".parts"
+    if args.work is None and (args.slurm or args.resume):
+        parser.error("--slurm and --resume need --out or --work")
+    if args.program is not None and not (args.slurm or args.ssh):
+        parser.error("--program goes with --ssh or --slurm (here DNLAB names the program)")
+    if args.out is not None and os.path.exists(args.out) and not os.path.isfile(args.out):
+        parser.error(f"--out {args.out}: it is no regular file")
+    if args.out is not None and not os.path.isdir(os.path.dirname(args.out) or "."):
+        parser.error(f"--out {args.out}: its folder isn't there")
+    fault = how_of(args).fault()
+    if fault is not None:
+        parser.error(fault)
+    return args
+
+
+def how_of(args: argparse.Namespace) -> How:
+    """How the words have it run."""
+    return How(args.parts, args.jobs, args.ssh, args.slurm, args.program, args.work, args.resume)
+
+
+def text_of(name: str) -> bytes:
+    try:
+        # Descriptor 0 itself, since Python has no standard input where it is closed.
+        with open(0 if name == "-" else name, "rb") as file:
+            return unpacked(file.read())
+    except OSError as error:
+        raise Stop(3, f"spread: {name}: {error.strerror}\n") from error
+    except Refused as refused:
+        raise Stop(2, f"spread: {name}: {refused}\n") from None
+
+
+def counted(program: str, text: bytes) -> "Fault | tuple[int, int]":
+    """How many experiments and commands the program finds, or the fault; what isn't either ends the run."""
+    done = children.run([program, "check"], text)
+    said = done.said()
+    number, _, cause = said[5:].partition(": ")
+    if done.status == 1 and said.startswith("line ") and number.isdigit():
+        return Fault(int(number), cause)
+    if done.status != 0:
+        raise Stop(done.status if done.status in (1, 3) else 3, said + "\n")
+    fields = done.out.split()
+    if len(fields) != 3 or fields[0] != b"ok" or not (fields[1] + fields[2]).isdigit():
+        raise Stop(3, f"spread: {program} check answered {done.out[:60]!r}\n")
+    return int(fields[1]), int(fields[2])
+
+
+def judged(program: str, text: bytes, parts: Sequence[Part], names: set[str]) -> "Fault | tuple[int, int]":
+    """The same of a text of any length: it is checked in as many texts as the program takes. A name that another text
+    has is a fault too."""
+    if len(text) <= MOST_BYTES and len(parts) <= MOST_EXPERIMENTS:
+        found = counted(program, text)
+        return first_of(found, repeated(parts, names))
+    head = Judged(text[:next(lines_in(text), (len(text), b"", 0))[0]], limited=False).fault
+    if head:
+        return Fault(*head)
+    experiments = commands = 0
+    pieces = texts_of(parts)
+    for place, piece in enumerate(pieces):
+        own = b"".join(part.text for part in piece)
+        if len(own) > MOST_BYTES:
+            return Fault(piece[0].line, "toobig")
+        found = counted(program, own)
+        if isinstance(found, Fault):
+            found = Fault(found.line + piece[0].line - 1, found.cause)
+            if found.cause == "noend" and place + 1 < len(pieces):
+                # The heading behind it: its own words are judged before that an `end` is missing.
+                found = Fault(found.line, heading_fault(pieces[place + 1][0].text) or "noend")
+        found = first_of(found, repeated(piece, names))
+        if isinstance(found, Fault):
+            return found
+        experiments, commands = experiments + found[0], commands + found[1]
+    return experiments, commands
+
+
+def first_of(found: "Fault | tuple[int, int]", again: Optional[Part]) -> "Fault | tuple[int, int]":
+    """The first of a fault that was found and a name that stood before."""
+    if again is None or (isinstance(found, Fault) and found.line <= again.line):
+        return found
+    return Fault(again.line, "samename")
+
+
+def experiments_of(args: argparse.Namespace, program: str) -> list[Part]:
+    """The experiments of all texts; a fault ends the run with its line, and its text's name where there are several."""
+    everything: list[Part] = []
+    names: set[str] = set()
+    for name in args.scenarios:
+        text = text_of(name)
+        parts = experiments_in([text])
+        found = judged(program, text, parts, names)
+        if isinstance(found, Fault):
+            said = f"line {found.line}: {found.cause}\n"
+            raise Stop(1, said if len(args.scenarios) == 1 else f"{name}: {said}")
+        own = len(parts), sum(part.commands for part in parts)
+        if own != found:
+            raise Stop(3, f"spread: {program} counts {found[0]} experiments and {found[1]} commands, spread others\n")
+        everything += parts
+    return everything
+
+
+def judged_part(whole: str, text: str) -> Optional[str]:
+    """What isn't right in the report of a part, for another process; it is read and joined with its text."""
+    from dnlab.io.pieces import pieces
+    from dnlab.io.report import read_piece
+    from dnlab.analysis.view import View
+
+    name = "its first experiment"
+    try:
+        plans = read(Path(text).read_bytes())
+        for piece in pieces(whole):
+            name = f"experiment {piece.name}"
+            try:
+                # pieces() counts the report's lines, and people look at one experiment.
+                View(read_piece(piece), plans[piece.name])
+            except Refused as refused:
+                return f"{name}: line {refused.line - piece.line + 1} of its report: {refused.cause}"
+    except Refused as refused:
+        return f"{name}: {refused}"
+    return None
+
+
+def check(how: How, jobs: Sequence[Job], folder: Path) -> None:
+    """Reads all parts' reports as every other tool does; one that can't be its text's is a part that failed."""
+    from dnlab.analysis.work import cores
+
+    wrong: dict[int, str] = {}
+    with Crew[int](min(how.jobs or cores(), len(jobs) or 1)) as crew:
+        for job in jobs:
+            crew.give(job.number, judged_part, str(job.file("whole")), str(job.file("txt")))
+        while len(crew):
+            outcome = crew.next()
+            if outcome.get():
+                wrong[outcome.token] = outcome.value
+    for job in jobs:
+        if job.number in wrong:
+            job.file("whole").unlink()
+            job.wrong = f"its report isn't its text's: {wrong[job.number]}"
+    if wrong:
+        raise failure(how, jobs, [job for job in jobs if job.number in wrong], folder)
+
+
+class Plans(Mapping[str, Plan]):
+    """The experiments of all texts by name, each read when it is asked for: of long texts all take much memory."""
+
+    def __init__(self, parts: Sequence[Part]) -> None:
+        self.texts = {part.name: part.text for part in parts}
+
+    def __getitem__(self, name: str) -> Plan:
+        return read(self.texts[name])[name]
+
+    def __iter__(self) -> Iterator[str]:
+        return iter(self.texts)
+
+    def __len__(self) -> int:
+        return len(self.texts)
+
+
+def origin(args: argparse.Namespace, program: str, parts: Sequence[Part]) -> Origin:
+    """What made the report. Of a program on other machines only the words are known."""
+    made = origin_of(Plans(parts), program, ["dnlab-spread", *args.given])
+    return made._replace(program="", version="") if args.ssh or args.slurm else made
+
+
+def run_all(how: How, program: str, jobs: Sequence[Job], folder: Path) -> None:
+    """Runs the parts that aren't done, and says how far it is."""
+    progress: Optional[Progress] = None
+    if how.work is not None:
+        ending.tells(lambda: f"{progress.done if progress else 0} of {len(jobs)} parts are kept in {folder}; the same words"
+                             " with --resume run the others")
+    groups = going(how, program, jobs, folder)
+    # The first group was done before, so it has no part in how long the rest takes.
+    with Progress("spread", len(jobs), len(next(groups)), "parts") as progress:
+        for finished in groups:
+            progress.step(len(finished))
+
+
+def spread(args: argparse.Namespace, named: Optional[str] = None) -> None:
+    """Runs the scenarios in parts, by the program that is named, else that of `dnlab.programs.program`; `Stop` says what went wrong."""
+    try:
+        program = named or program_of()
+    except Failed as failed:
+        raise Stop(failed.status, f"spread: {failed.said}\n") from failed
+    how, everything = how_of(args), experiments_of(args, program)
+    with Room() as passing:
+        folder = Path(args.work or passing.path).absolute()
+        jobs = [Job(folder, number, [part.name for part in share], b"".join(part.text for part in share))
+                for number, share in enumerate(shares(everything, args.parts), 1)]
+        run_all(how, program, jobs, folder)
+        check(how, jobs, folder)
+        made = origin(args, program, everything) if args.out is not None else None
+        with ending.held():
+            put_together(args.out, jobs)
+            if made is not None:
+                write_beside(args.out, made)
+            ending.tells(lambda: "the report is written")
+            if args.work is not None:
+                shutil.rmtree(folder)
+
+
+def main(words_given: Sequence[str]) -> int:
+    ending.watch("spread")
+    try:
+        spread(words(words_given))
+    except Stop as stop:
+        sys.stderr.write(str(stop))
+        return stop.status
+    except Failed as failed:
+        sys.stderr.write(f"spread: {failed.said}\n")
+        return failed.status
+    except OSError as error:
+        sys.stderr.write(f"spread: {error.filename}: {error.strerror}\n")
+        return 3
+    return 0

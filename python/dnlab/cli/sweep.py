@@ -1,0 +1,196 @@
+"""Runs a template of a scenario with each setting and each seed, and prints means with their intervals."""
+import argparse
+import importlib.util
+import io
+import sys
+from typing import Any, BinaryIO, Optional, Sequence
+
+import pandas as pd
+
+from dnlab.analysis.asking import USUAL, Ask
+from dnlab.analysis.own import Own
+from dnlab.analysis.seeds import compared
+from dnlab.analysis.spans import Span
+from dnlab.analysis.summing import tell
+from dnlab.cli.layout import plain, sweep_table
+from dnlab.cli.summary import print_csv, print_json
+from dnlab.cli.sweep_words import look_of, pair_in, words
+from dnlab.errors import Failed, Faulty
+from dnlab.io.outputs import whole_file
+from dnlab.processes import ending
+from dnlab.sweeps.sweeping import Sweep
+
+
+def lacking(given: argparse.Namespace) -> Optional[str]:
+    """What a file that is asked for would need and isn't there."""
+    is_parquet = given.parquet is not None or any(str(name).endswith(".parquet") for name in (given.each, given.long))
+    if is_parquet and importlib.util.find_spec("pyarrow") is None:
+        return "pyarrow is missing, so no Parquet can be written (pip install pyarrow); --csv and --json need nothing"
+    if given.plot is not None and importlib.util.find_spec("matplotlib") is None:
+        return "matplotlib is missing (Debian: apt-get install python3-matplotlib)"
+    return None
+
+
+def records_of(frame: pd.DataFrame) -> list[dict[str, Any]]:
+    """The rows of a frame, with None for what isn't known."""
+    return [{name: None if value is pd.NA or value != value else value for name, value in row.items()}
+            for row in frame.astype(object).to_dict("records")]
+
+
+def write(frame: pd.DataFrame, name: str, form: str) -> None:
+    """Writes a table under its name when it is whole; - is standard output."""
+    if name == "-":
+        (print_json(records_of(frame), sys.stdout) if form == "json"
+         else print_csv(records_of(frame), list(frame.columns), sys.stdout))
+        return
+    try:
+        with whole_file(name) as file:
+            write_form(frame, file, form)
+    except OSError as fault:
+        raise Failed(3, f"{name}: {fault.strerror}") from None
+
+
+def write_form(frame: pd.DataFrame, file: BinaryIO, form: str) -> None:
+    """Writes a table as CSV, JSON or Parquet."""
+    if form == "parquet":
+        frame.to_parquet(file, index=False)
+        return
+    text = io.TextIOWrapper(file, encoding="utf-8", newline="")
+    if form == "json":
+        print_json(records_of(frame), text)
+    else:
+        print_csv(records_of(frame), list(frame.columns), text)
+    text.flush()
+    text.detach()
+
+
+def write_all(made: Sweep, table: pd.DataFrame, given: argparse.Namespace) -> None:
+    """Writes what is asked for: the table first, then files, and the picture last."""
+    if "-" not in (given.csv, given.json):
+        sys.stdout.write(sweep_table(records_of(table), made.settings, given.exact))
+        if given.pairs is not None:
+            sys.stdout.write("\n" + pairs_of(made, given))
+        sys.stdout.flush()
+    for form in "csv", "json", "parquet":
+        if getattr(given, form) is not None:
+            write(made.with_names(table), getattr(given, form), form)
+    if given.each is not None:
+        write(made.rows(), given.each, given.each.rsplit(".", 1)[-1])
+    if given.long is not None:
+        write(made.long(), given.long, given.long.rsplit(".", 1)[-1])
+    if given.plot is not None:
+        from dnlab.plot import pictures
+        from dnlab.plot import curves
+
+        figure = curves.figure_of(table, made.settings, look_of(given))
+        try:
+            pictures.save(figure, given.plot)
+        except OSError as fault:
+            raise Failed(3, f"{given.plot}: {fault.strerror}") from None
+
+
+def pairs_of(made: Sweep, given: argparse.Namespace) -> str:
+    """How the values of a setting differ, as a table for people: a line for each of them, with the other settings."""
+    along, base = pair_in(given.pairs)
+    rows = records_of(made.raw_compare(along, base, given.ci, given.interval))
+    others = [name for name in made.settings if name != along]
+    return sweep_table([{**row, along: f"{plain(row[along])} less {plain(row['base'])}"} for row in rows], [*others, along],
+                       given.exact)
+
+
+def say_needed(made: Sweep, table: pd.DataFrame, within: float) -> None:
+    """Says how many seeds the intervals take that are wanted, and of whom the most."""
+    seeds = len({case.seed for case in made.cases})
+    known = table[table["needed"].notna()]
+    untold = len(table) - len(known)
+    short = known[known["needed"] > seeds]
+    if len(short):
+        worst = short.loc[short["needed"].astype(float).idxmax()]
+        of = ", ".join([str(worst["of"]), *(f"{name}={worst[name]}" for name in made.settings)])
+        print(f"sweep: --within {within:.3g}: {len(short)} of {len(table)} means need more than the {seeds} seeds here; the"
+              f" most, {worst['needed']}, {worst['stat']} of {of}", file=sys.stderr)
+    else:
+        print(f"sweep: --within {within:.3g}: {seeds} seeds are enough for {len(known)} of {len(table)} means", file=sys.stderr)
+    if untold:
+        print(f"sweep: --within {within:.3g}: of {untold} means it can't be told: fewer than two seeds tell them, they are 0,"
+              " or 10^6 seeds wouldn't do", file=sys.stderr)
+
+
+def say_all(made: Sweep, table: pd.DataFrame) -> None:
+    """Says what there is to say of the experiments and of what is kept."""
+    rows = records_of(table)
+    tell("sweep", made.notes(), len(made.cases))
+    seeds = len({case.seed for case in made.cases})
+    fewer = [row for row in rows if row["n"] < seeds]
+    if fewer:
+        more = f" (and {len(fewer) - 1} more like it)" if len(fewer) > 1 else ""
+        of = ", ".join([str(fewer[0]["of"]), *(f"{name}={fewer[0][name]}" for name in made.settings)])
+        print(f"sweep: {fewer[0]['stat']} of {of}: {fewer[0]['n']} of {seeds} experiments tell it{more}", file=sys.stderr)
+    said = made.changeless()
+    if said:
+        print(f"sweep: {said}", file=sys.stderr)
+    if made.kept.damaged:
+        print(f"sweep: {made.kept.damaged} answers in {made.kept.path} were damaged, and these experiments were run again",
+              file=sys.stderr)
+    kept = f"{len(made.cases) - made.ran} were kept" + (f" in {made.kept.path}" if made.kept.path else "")
+    print(f"sweep: {len(made.cases)} experiments: {made.ran} were run, {kept}", file=sys.stderr)
+
+
+def sweep(given: argparse.Namespace) -> int:
+    source: Any = given.template
+    kept = given.kept if given.kept is not None else f"{source}.kept"
+    if source == "-":
+        source, kept = sys.stdin.read() + "\n", given.kept
+    ending.tells(lambda: "no experiment was run")
+    made = Sweep(source, dict(given.set), given.seeds, [Ask(ask.of, ask.stats or USUAL) for ask in given.asks],
+                 None if given.dry_run else kept, given.workers, given.on, given.program, anew=given.anew,
+                 allow=given.allow, parts=given.parts, span=Span(given.begin, given.end))
+    if given.dry_run:
+        sys.stdout.write(made.text(made.cases[0]))
+        print(f"sweep: {len(made.cases)} experiments; this is the text of {made.cases[0].told()}", file=sys.stderr)
+        return 0
+    if given.plot is not None:
+        from dnlab.plot import curves
+
+        curves.judge(pd.DataFrame([case.settings for case in made.cases]), made.settings,
+                     [(ask.of, stat) for ask in made.asks for stat in ask.stats], look_of(given))
+    if given.pairs is not None:
+        along, base = pair_in(given.pairs)
+        compared(pd.DataFrame([{**case.settings, "of": "", "seed": case.seed, "marks": ""} for case in made.cases]),
+                 made.settings, [], along, base)
+    ending.tells(lambda: far(made, kept))
+    ending.add(made.kept.close)
+    try:
+        made.run()
+    except Failed as failed:
+        raise Failed(failed.status, f"{failed.said}; {far(made, kept)}") from None
+    table = made.raw_table(given.ci, given.interval, given.within)
+    write_all(made, table, given)
+    say_all(made, table)
+    if given.within is not None:
+        say_needed(made, table, given.within)
+    return 0
+
+
+def far(made: Sweep, kept: Optional[str]) -> str:
+    """How many experiments are done, and where."""
+    done = f"{len(made.found)} of {len(made.cases)} experiments"
+    if any(isinstance(stat, Own) for stat in made.stats()):
+        return f"{done} were done; what functions of one's own answer isn't kept, so the same words begin anew"
+    return f"{done} are kept in {kept}; the same words go on" if kept is not None else f"{done} were done, and none is kept"
+
+
+def main(words_given: Sequence[str]) -> int:
+    ending.watch("sweep")
+    given = words(words_given)
+    said = lacking(given)
+    try:
+        if said is not None:
+            raise Failed(3, said)
+        return sweep(given)
+    except Faulty as faulty:
+        print(f"sweep: {faulty}", file=sys.stderr)
+        return 2
+    except Failed as failed:
+        print(f"sweep: {failed.said}", file=sys.stderr)
+        return 3

@@ -1,0 +1,236 @@
+"""The words of `dnlab-sweep`, and what they mean."""
+import argparse
+import os
+from typing import Any, Callable, Optional, Sequence, TypeVar
+
+from dnlab.analysis.asking import STATS, USUAL, Ask, stats_of
+from dnlab.analysis.estimates import KINDS
+from dnlab.cli.plot import picture
+from dnlab.cli.words import add_span, count_of, listed, parser_of, span_in
+from dnlab.sweeps.elsewhere import DASK
+from dnlab.sweeps.grids import seeds_of, setting_of
+from dnlab.sweeps.sweeping import STOPPING
+from dnlab.sweeps.templates import value_of
+
+ABOUT = "Runs a template with each setting and seed, and prints means with intervals."
+T = TypeVar("T")
+EXAMPLE = f"""TEMPLATE is a scenario of one experiment in Jinja2 (Debian: python3-jinja2),
+which begins with
+  experiment {{{{ name }}}} seed {{{{ seed }}}} budget 1000
+It has each setting by its name, and besides
+  name, seed      the experiment's own; the name is made of settings and seed
+  rng             drawn from the seed alone, the same on every machine:
+                  rng.whole(a, b), rng.uniform(a, b), rng.exponential(mean),
+                  rng.arrivals(mean, end), rng.pareto(shape, least),
+                  rng.choice(list, weights), rng.sample(list, n),
+                  rng.shuffled(list), rng.random()
+  20 | ms         whole nanoseconds; also s and us
+A value of --set is a number if it can be read as one, else a word; a float is
+written without an exponent.
+
+--of     flows (all segments together), trains, 'flow 1', 'flow *' (each flow,
+         without its acknowledgements), 'flow 1 acks', 'flow * acks',
+         'train 9', 'train *', injected, 'pipe 1.0', there, back, all;
+         without any: flows, each train and the injected packets
+--stat   of the --of before it, with commas between:
+         {listed(STATS, indent=9)}
+         (N above 0 and up to 100)
+         without any: {",".join(USUAL)}
+         delay is the time from being made to delivery (of a pipe: in it), lost
+         all drops, drops.lost those by plr; or FILE.py:NAME, a function of
+         one's own, which is given the run (a dnlab.Experiment) and the name,
+         or the run alone, and gives a number
+
+What an experiment answered is kept in TEMPLATE.kept by the checksums of its
+text, of the program and of this package. So the same words go on where they
+were broken off, and a new setting, or a template that is changed for some of
+them, runs alone. An experiment with a command that was refused ends the sweep,
+which names it with the line and the reason; so does one whose steps were spent
+before its end. --allow refused, or --allow spent, goes on and marks its rows.
+
+--on 4/alpha,beta runs by ssh, --on slurm as an array, and
+--on dask tcp://HOST:8786 by a Dask scheduler's workers.
+
+Example:
+  tools/sweep python/examples/bottleneck.tmpl --set queue=10,25,50,100,200 \\
+    --seeds 1-30 --of 'train 9' --stat delay.median,delay.p95 \\
+    --of flows --stat goodput,lost --csv best.csv --plot best.svg
+  tools/sweep python/examples/bottleneck.tmpl --set queue=50 --dry-run
+
+Exit status: 0 done; 2 wrong usage, a fault in the template, in a text made of
+it or in what is asked, an experiment that wasn't run as it is written; 3 the
+program failed, or something is missing. SIGINT, SIGTERM and SIGHUP end it, and
+all that it began, by that signal's status; what was done is kept."""
+
+
+class Asked(argparse.Action):
+    """Keeps --of and --stat in the order in which they stand: a --stat is about the --of before it."""
+
+    def __call__(self, parser: argparse.ArgumentParser, given: argparse.Namespace, value: Any,
+                 option: Optional[str] = None) -> None:
+        if option == "--of":
+            given.asks = [*given.asks, Ask(value, ())]
+        elif not given.asks:
+            parser.error(f"--stat {','.join(value)}: the --of that it is about stands before it")
+        else:
+            *before, last = given.asks
+            given.asks = [*before, Ask(last.of, last.stats + value)]
+
+
+def kind_of(function: Callable[[str], T]) -> Callable[[str], T]:
+    """A reader of words whose refusals argparse tells as they are."""
+    def read(text: str) -> T:
+        try:
+            return function(text)
+        except ValueError as fault:
+            raise argparse.ArgumentTypeError(str(fault)) from None
+    return read
+
+
+def level_of(text: str) -> float:
+    try:
+        level = float(text)
+    except ValueError:
+        level = 0
+    if not 0 < level < 100:
+        raise argparse.ArgumentTypeError(f"{text!r} is no level between 0 and 100, as 95")
+    return int(level) if level.is_integer() else level
+
+
+def share_of(text: str) -> float:
+    """A share of 1, as `5%`.
+
+    >>> share_of("5%"), share_of("0.5")
+    (0.05, 0.005)
+    """
+    try:
+        share = float(text.removesuffix("%")) / 100
+    except ValueError:
+        share = 0
+    if not 0 < share < 1:
+        raise argparse.ArgumentTypeError(f"{text!r} is no share between 0% and 100%, as 5%")
+    return share
+
+
+def label_of(text: str) -> tuple[str, str]:
+    """The words of `--label`: a name and what stands in its place.
+
+    >>> label_of("rate=Link rate (Mbit/s)")
+    ('rate', 'Link rate (Mbit/s)')
+    """
+    name, equals, label = text.partition("=")
+    if not equals or not name or not label:
+        raise ValueError(f"{text!r}: NAME=TEXT is wanted, as 'rate=Link rate (Mbit/s)' or 'queue:codel=CoDel'")
+    return name, label
+
+
+def add_look(parser: argparse.ArgumentParser) -> None:
+    """The picture and how it is laid out."""
+    parser.add_argument("--plot", type=picture, metavar="FILE", help="a picture, .svg, .png or .pdf")
+    parser.add_argument("--along", metavar="NAME", help="the setting that the picture goes along [the first with several]")
+    parser.add_argument("--rows", metavar="NAME", help="a row of panels for each value of this setting [of each stat]")
+    parser.add_argument("--columns", metavar="NAME", help="a column of panels for each value of this setting")
+    parser.add_argument("--log", type=lambda text: text.split(","), default=[], metavar="x,y", help="logarithmic axes")
+    parser.add_argument("--label", action="append", default=[], type=kind_of(label_of), metavar="NAME=TEXT",
+                        help="what the picture says for a setting, a stat, a value (queue:codel=CoDel) or of whom; may be said"
+                        " again")
+
+
+def look_of(given: argparse.Namespace) -> Any:
+    """How the picture is laid out."""
+    from dnlab.plot.curves import Look
+
+    return Look(given.along, given.rows, given.columns, dict(given.label), given.log)
+
+
+def parser_of_words() -> argparse.ArgumentParser:
+    parser = parser_of("sweep", ABOUT, EXAMPLE)
+    parser.add_argument("template", metavar="TEMPLATE", help="the template's file, or - for standard input")
+    parser.add_argument("--set", action="append", default=[], type=kind_of(setting_of), metavar="NAME=VALUE,..",
+                        help="a setting and its values; may be said again, and each is run with each")
+    parser.add_argument("--seeds", type=kind_of(seeds_of), default=[1], metavar="A-B,C",
+                        help="each setting is run with each seed [1]")
+    parser.add_argument("--of", action=Asked, dest="asks", default=[], metavar="NAME", help="of whom; may be said again")
+    parser.add_argument("--stat", action=Asked, dest="asks", type=kind_of(stats_of), metavar="STAT,..",
+                        help="which figures of the --of before it")
+    add_span(parser)
+    parser.add_argument("--ci", type=level_of, default=95, metavar="LEVEL", help="of the intervals, in percent [95]")
+    parser.add_argument("--interval", choices=KINDS, default="t",
+                        help="Student's t, or the bootstrap if values are far from normal [t]")
+    parser.add_argument("--exact", action="store_true",
+                        help="print means and intervals with nine decimals [two digits of the interval's half width]")
+    for form, more in ("csv", ", or - for standard output"), ("json", ", or - too"), ("parquet", " (it needs pyarrow)"):
+        parser.add_argument(f"--{form}", metavar="FILE", help=f"the table, a row for each setting, of and stat{more}")
+    parser.add_argument("--each", metavar="FILE", help="a row for each experiment and of, as .csv, .json or .parquet")
+    parser.add_argument("--long", metavar="FILE", help="a row for each experiment, of and stat, in the same forms")
+    parser.add_argument("--pairs", metavar="NAME[=VALUE]", help="print how the values of this setting differ from VALUE [the"
+                        " first], seed by seed, with the interval of the differences; --csv and the others have the means")
+    parser.add_argument("--within", type=share_of, metavar="PERCENT",
+                        help="say how many seeds an interval of at most so much of the mean to both sides takes, as 5%%")
+    add_look(parser)
+    parser.add_argument("--dry-run", action="store_true", help="print the first experiment's text, and run nothing")
+    parser.add_argument("--kept", metavar="FILE", help="where answers are kept [TEMPLATE.kept]")
+    parser.add_argument("--anew", action="store_true", help="run all, whatever is kept")
+    parser.add_argument("--workers", type=count_of, metavar="N", help="how many processes [all cores]")
+    parser.add_argument("--on", metavar="HOSTS", help="run on other machines, as 4/alpha,beta (see tools/spread --ssh),"
+                        " as an array of `slurm`, or by `dask ADDRESS`")
+    parser.add_argument("--program", metavar="PATH", help="where dnlab is on the other machines")
+    parser.add_argument("--parts", type=count_of, metavar="N",
+                        help="with --on: in how many parts [each takes about a minute, by ssh 10 s]")
+    parser.add_argument("--allow", action="append", choices=STOPPING, default=[],
+                        help="go on if commands were refused, or steps were spent; may be said again")
+    return parser
+
+
+def joined(given: Sequence[str]) -> list[str]:
+    """The words with `--on dask ADDRESS` as one, since an option has one word.
+
+    >>> joined(["--on", "dask", "tcp://a:8786", "x"])
+    ['--on', 'dask:tcp://a:8786', 'x']
+    """
+    found = list(given)
+    for place in range(len(found) - 2):
+        if found[place:place + 2] == ["--on", "dask"]:
+            found[place + 1:place + 3] = [DASK + found[place + 2]]
+            break
+    return found
+
+
+def words(given: Sequence[str]) -> argparse.Namespace:
+    parser = parser_of_words()
+    found = parser.parse_args(joined(given))
+    names = [name for name, _ in found.set]
+    if len(set(names)) < len(names):
+        parser.error("--set: a name twice; its values stand in one, with commas between")
+    span_in(parser, found)
+    if (found.program or found.parts) and not found.on:
+        parser.error("--program and --parts go with --on (here DNLAB names the program)")
+    if found.on in ("dask", DASK):
+        parser.error("--on dask: the scheduler's address stands behind it, as tcp://alpha:8786")
+    if (found.csv, found.json).count("-") > 1:
+        parser.error("standard output can't be both --csv and --json")
+    for option in "csv", "json", "parquet", "each", "long", "plot", "kept":
+        name = getattr(found, option)
+        if name is None or name == "-":
+            continue
+        if not os.path.isdir(os.path.dirname(name) or "."):
+            parser.error(f"--{option} {name}: its folder isn't there")
+        if os.path.exists(name) and not os.path.isfile(name):
+            parser.error(f"--{option} {name}: it is no regular file")
+    for option in "each", "long":
+        name = getattr(found, option)
+        if name is not None and name.rsplit(".", 1)[-1] not in ("csv", "json", "parquet"):
+            parser.error(f"--{option} {name}: it ends neither in .csv nor in .json nor in .parquet")
+    if not found.plot and (found.along or found.rows or found.columns or found.log or found.label):
+        parser.error("--along, --rows, --columns, --log and --label go with --plot")
+    return found
+
+
+def pair_in(text: str) -> tuple[str, Any]:
+    """The words of `--pairs`: a setting, and the value that the others are compared with (None: the first).
+
+    >>> pair_in("queue=10"), pair_in("disc")
+    (('queue', 10), ('disc', None))
+    """
+    name, equals, value = text.partition("=")
+    return name, value_of(value) if equals else None

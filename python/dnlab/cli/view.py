@@ -1,0 +1,91 @@
+"""Makes a page of HTML to look at runs of dnlab in a browser, packet by packet."""
+import argparse
+import sys
+from typing import Iterator, Sequence, cast
+
+from dnlab.analysis.summing import tell, whole
+from dnlab.analysis.view import Note, View
+from dnlab.analysis.work import Given, TooMany, over, plans_of
+from dnlab.cli.words import add_texts, count_of, parser_of, taken
+from dnlab.errors import Faulty, status_of
+
+EXAMPLE = """The page has, over one axis of time: the bytes of a flow (sent, sent again,
+acknowledged, dropped), windows, the packets at each pipe, delays, and rates
+with those of the pipes. In the page you choose the experiment, a second one
+beside it, a flow, which changes every panel, and windows in bytes or segments.
+Zoom by dragging, by its buttons or by the keys + - left right 0; a double click
+shows all. Pointing at a packet shows its journey, a click keeps it; so does its
+serial number in the field `packet`. What has more points than the page has dots
+is thinned to what is in sight, so no peak is lost. page.html#NAME,FROM,TO (ns)
+opens at an experiment and a span, #NAME,FROM,TO,OTHER at two.
+
+plotly's script stands as dnlab-plotly.js beside the page, once for all pages of
+a folder; with --single it is within. Without the scenario (or `trace 1`) the
+page has what a report has by itself, and says what it lacks.
+It needs python3-plotly (Debian).
+
+Example:
+  ./dnlab alone < scenario.txt > report.txt
+  tools/view report.txt scenario.txt --out page.html && xdg-open page.html
+  tools/view report.txt scenario.txt --experiment codel --single
+
+Exit status: 0 written, 2 wrong usage or a faulty input, 3 a file that can't be
+written, or a package that is missing."""
+# A page holds all its experiments; with more packets than this a browser takes long to open it.
+_MOST_EXPERIMENTS = 256
+
+
+def words(given: Sequence[str]) -> argparse.Namespace:
+    parser = parser_of("view", __doc__ or "", EXAMPLE)
+    add_texts(parser)
+    parser.add_argument("--out", default="view.html", metavar="FILE", help="what is written [view.html]")
+    parser.add_argument("--single", action="store_true", help="with plotly's script (8 MB) within: one file to pass on")
+    parser.add_argument("--workers", type=count_of, metavar="N",
+                        help="how many processes [all cores if the report is long]")
+    return taken(parser, list(given))
+
+
+def draw_one(view: View) -> "tuple[object, list[Note]]":
+    """What a page has of one experiment, for another process."""
+    from dnlab.plot.page import drawn
+
+    found = drawn(view)
+    return found, view.notes + view.more_notes
+
+
+def main(words_given: Sequence[str]) -> int:
+    from plotly.offline import get_plotlyjs
+
+    from dnlab.plot.page import Drawn, write
+
+    given = words(words_given)
+    notes: list[tuple[str, Note]] = []
+    names: list[str] = []
+
+    def experiments() -> Iterator[Drawn]:
+        plans = plans_of(given.scenarios)
+        texts = Given(given.report, tuple(given.scenarios))
+        made = over(texts, draw_one, plans, given.experiment, given.workers, "view", _MOST_EXPERIMENTS)
+        for found, own in whole(texts, plans, given.experiment, made, lambda one: str(cast(Drawn, one[0]).head["name"])):
+            assert isinstance(found, Drawn)
+            names.append(found.head["name"])
+            notes.extend((names[-1], note) for note in own)
+            yield found
+        if not names:
+            raise Faulty(f"{given.report}: it has no experiment, so there is nothing to draw")
+
+    title = "standard input" if given.report == "-" else given.report
+    try:
+        written = write(given.out, f"dnlab: {title}", experiments(), get_plotlyjs(), given.single)
+    except TooMany as many:
+        print(f"view: {given.report}: {many}: name some by --experiment", file=sys.stderr)
+        return 2
+    except Faulty as faulty:
+        print(f"view: {faulty}", file=sys.stderr)
+        return status_of(faulty)
+    except OSError as fault:
+        print(f"view: {given.out}: {fault.strerror}", file=sys.stderr)
+        return status_of(fault)
+    tell("view", notes, len(names))
+    print(f"{', '.join(written)}: experiments: {len(names)}")
+    return 0

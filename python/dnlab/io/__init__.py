@@ -1,0 +1,1 @@
+"""Files: scenarios and reports, captures, traces of rates, configurations of ipfw and tc."""

@@ -1,0 +1,289 @@
+"""Lines of ipfw(8) as commands of a scenario, each with what became of it."""
+import re
+from collections import Counter
+from typing import Mapping, Optional, Sequence
+
+from dnlab.io import ipfw_rules, ipfw_words
+from dnlab.io.ipfw_became import Became
+from dnlab.io.ipfw_rules import Known
+from dnlab.io.ipfw_script import Line
+from dnlab.io.ipfw_words import APPROXIMATED, DROPPED, KINDS, REFUSED, REWRITTEN, SAME, Cannot, How
+
+_LAST = 65534
+_MOST_RULES, _MOST_PIPES = 256, 64
+_TICKS = "not modelled: a real machine rounds to ticks of 1/kern.hz, here time is whole nanoseconds"
+
+
+class Import:
+    """Takes lines one by one; `behind` are prefixes by interface, `me` the machine's address; `flatten` hands from queues to their
+    pipes; `drop_unmatchable` leaves rules out that match no packet that there is here."""
+
+    def __init__(self, behind: Mapping[str, str], me: Optional[str] = None, flatten: bool = False, drop_unmatchable: bool = False,
+                 moment: int = 0) -> None:
+        self.behind, self.me = dict(behind), me
+        self.flatten, self.drop_unmatchable = flatten, drop_unmatchable
+        self.moment = moment
+        self.became: list[Became] = []
+        self._tables: dict[str, dict[str, str]] = {}
+        # Of each pipe, scheduler and queue what it is.
+        self._pipes: dict[int, list[str]] = {}
+        self._schedulers: dict[int, int] = {}
+        self._queues: dict[int, int] = {}
+        # How many commands each number's rules have, and whether one of them goes around the others.
+        self._rules: Counter[int] = Counter()
+        self._around: set[int] = set()
+        self._step = 100
+        self._one_pass = True
+        self._off: set[str] = set()
+
+    def take_all(self, lines: Sequence[Line]) -> None:
+        """Takes all lines; sets that are disabled anywhere are known from the beginning."""
+        for line in lines:
+            words = _bare(line)
+            if words[:2] == ["set", "disable"]:
+                self._off |= set(words[2:words.index("enable") if "enable" in words else None])
+        for line in lines:
+            self.take(line)
+
+    def take(self, line: Line) -> None:
+        """Takes one line."""
+        words = _bare(line)
+        if line.words[0] == "sleep":
+            self._sleep(words)
+            return
+        if line.words[0] == "sysctl" and not re.match(r"net\.inet\.ip\.(fw|dummynet)\.|kern\.hz", " ".join(words)):
+            return
+        self._costs: list[str] = []
+        try:
+            commands = self._sysctl(words) if line.words[0] == "sysctl" else self._ipfw(words)
+        except Cannot as cannot:
+            self.became.append(Became(line.text(), REFUSED, self.moment, (), (str(cannot),)))
+            return
+        if commands is None:
+            kind, commands = DROPPED, []
+        elif self._costs:
+            kind = APPROXIMATED
+        else:
+            kind = SAME if commands == [" ".join(words)] else REWRITTEN
+        self.became.append(Became(line.text(), kind, self.moment, tuple(commands), tuple(self._costs)))
+
+    def tally(self) -> dict[str, int]:
+        """How many lines are of each kind."""
+        counts = Counter(one.kind for one in self.became)
+        return {kind: counts[kind] for kind in KINDS}
+
+    def _sleep(self, words: list[str]) -> None:
+        """What comes later in a script comes later in time."""
+        try:
+            self.moment += int(float(words[0]) * 10**9)
+        except (IndexError, ValueError):
+            pass
+
+    def _say(self, how: How) -> str:
+        if how.cost:
+            self._costs.append(how.cost)
+        return how.words
+
+    def _sysctl(self, words: list[str]) -> Optional[list[str]]:
+        name, _, value = words[-1].partition("=")
+        if name == "net.inet.ip.fw.one_pass" and value in ("0", "1"):
+            return self._one_pass_is(value)
+        if name == "net.inet.ip.fw.autoinc_step" and value.isdigit():
+            self._step = min(max(int(value), 1), 1000)
+            return None
+        self._costs.append(f"`{words[-1]}`: {_TICKS}")
+        return []
+
+    def _one_pass_is(self, value: str) -> list[str]:
+        self._one_pass = value == "1"
+        return [f"one_pass {value}"]
+
+    def _ipfw(self, words: list[str]) -> Optional[list[str]]:
+        if not words:
+            raise Cannot("no command stands behind `ipfw`")
+        first, *rest = words
+        if first == "add":
+            return self._add(rest)
+        if first in ("pipe", "queue", "sched"):
+            return self._shaper(first, rest)
+        if first == "table":
+            return self._table(rest)
+        if first == "flush":
+            self._judge_flush(bool(self._rules), "rules")
+            return None
+        if first in ("zero", "resetlog") or words[:2] in (["set", "disable"], ["set", "enable"]):
+            return None
+        if first in ("show", "list"):
+            return ["show"]
+        if first == "delete":
+            return self._delete(rest)
+        if first in ("enable", "disable") and rest == ["one_pass"]:
+            return self._one_pass_is("1" if first == "enable" else "0")
+        raise Cannot(f"`{first}` isn't here")
+
+    def _judge_flush(self, is_late: bool, what: str) -> None:
+        if is_late:
+            raise Cannot(f"`flush` behind {what}: a scenario begins empty: leave out what stands before")
+
+    def _delete(self, words: list[str]) -> list[str]:
+        numbers = [int(word) for word in words if word.isdigit()]
+        if len(numbers) != len(words) or not numbers:
+            raise Cannot("`delete`: rules' numbers stand behind it")
+        for number in numbers:
+            if number not in self._rules:
+                raise Cannot(f"`delete {number}`: no rule has this number")
+            del self._rules[number]
+            self._around.discard(number)
+        return [f"delete {number}" for number in numbers]
+
+    def _table(self, words: list[str]) -> Optional[list[str]]:
+        name, *rest = words if words else [""]
+        if rest[:1] == ["create"]:
+            if "type" in rest and rest[rest.index("type") + 1:][:1] != ["addr"]:
+                raise Cannot(f"`table {name}`: tables of addresses alone are here")
+            self._tables.setdefault(name, {})
+        elif rest[:1] == ["add"] and len(rest) in (2, 3):
+            entry = ipfw_words.address(rest[1])
+            self._tables.setdefault(name, {})[entry] = rest[2] if len(rest) == 3 else ""
+        elif rest[:1] == ["delete"] and len(rest) == 2:
+            self._tables.get(name, {}).pop(ipfw_words.address(rest[1]), None)
+        elif rest in (["flush"], ["destroy"]):
+            for one in list(self._tables) if name == "all" else [name]:
+                self._tables[one] = {}
+        elif rest[:1] in (["list"], ["info"]):
+            return None
+        else:
+            raise Cannot(f"`table {' '.join(words)}`: create, add, delete, flush and destroy are here")
+        return []
+
+    def _shaper(self, what: str, words: list[str]) -> Optional[list[str]]:
+        """`pipe`, `queue` or `sched`, in either order of its number and what is done."""
+        if words[:1] == ["flush"]:
+            self._judge_flush(bool(self._pipes), "pipes")
+            return None
+        if set(words[:2]) & {"show", "list"}:
+            return ["pipe show"] if what == "pipe" else None
+        number, does = next((word for word in words[:2] if word.isdigit()), ""), words[:2]
+        if len(words) < 2 or not number or not 1 <= int(number) <= 65535:
+            raise Cannot(f"`{what}`: a number from 1 to 65535 and `config` stand behind it")
+        if "delete" in does:
+            if what != "pipe" or self._pipes.pop(int(number), None) is None:
+                raise Cannot(f"`{what} {number} delete`: there is no such pipe")
+            return [f"pipe delete {number}"]
+        if "config" not in does:
+            raise Cannot(f"`{what} {' '.join(does)}`: config, delete and show are here")
+        if what != "pipe":
+            return self._scheduled(what, int(number), words[2:])
+        return self._pipe(int(number), words[2:])
+
+    def _pipe(self, number: int, words: list[str]) -> list[str]:
+        if number not in self._pipes and len(self._pipes) == _MOST_PIPES:
+            raise Cannot(f"there are {_MOST_PIPES} pipes already")
+        options: list[str] = []
+        while words:
+            name = words.pop(0)
+            if name == "mask":
+                options.append(self._say(ipfw_words.mask(words)))
+            elif name == "codel":
+                options.append(self._say(ipfw_words.codel(words)))
+            elif name == "droptail":
+                options.append(name)
+            elif name in ("noerror", "buckets"):
+                del words[:name == "buckets"]
+            elif name in ("bw", "bandwidth", "delay", "plr", "queue") and words:
+                reads = {"delay": ipfw_words.delay, "plr": ipfw_words.loss, "queue": ipfw_words.queue}.get(name, ipfw_words.rate)
+                options.append(("bw" if name == "bandwidth" else name) + " " + self._say(reads(words.pop(0))))
+            else:
+                raise Cannot(f"`{name}`: pipes here have bw, delay, queue, plr, mask, droptail and codel: leave it out")
+        self._pipes[number] = options
+        return [" ".join(["pipe", str(number), "config", *options])]
+
+    def _scheduled(self, what: str, number: int, words: list[str]) -> list[str]:
+        """A queue or a scheduler, which stands for its pipe where that is asked for."""
+        if not self.flatten:
+            raise Cannot(f"`{what} {number}`: weighted queues and schedulers (WF2Q+, FQ-CoDel) aren't here: --flatten hands to the"
+                         " pipe instead")
+        named = {name: int(value) for name, value in zip(words, words[1:]) if name in ("pipe", "sched") and value.isdigit()}
+        pipe = named.get("pipe", number if what == "sched" else self._schedulers.get(named.get("sched", -1), -1))
+        if pipe not in self._pipes:
+            raise Cannot(f"`{what} {number}`: its pipe isn't configured before it")
+        if what == "queue":
+            self._queues[number] = pipe
+            self._costs.append(f"`queue {number}` stands for pipe {pipe}: its own weight, queue, mask and red are lost")
+            return []
+        self._schedulers[number] = pipe
+        self._costs.append(f"`sched {number}` stands for pipe {pipe}: one queue for all, and no shares")
+        if not {"fq_codel", "codel"} & set(words):
+            return []
+        begin = next(place for place, word in enumerate(words) if word in ("fq_codel", "codel"))
+        times = [word for name, value in zip(words[begin:], words[begin + 1:]) if name in ("target", "interval") for word in (name, value)]
+        kept = [one for one in self._pipes[pipe] if not one.startswith(("codel", "droptail"))]
+        self._pipes[pipe] = [*kept, " ".join(["codel", *times])]
+        return [" ".join(["pipe", str(pipe), "config", *self._pipes[pipe]])]
+
+    def _number(self, words: list[str]) -> int:
+        """A rule's number, taken from the left; by itself it is the greatest so far and a step."""
+        if words and re.fullmatch(r"[0-9]+", words[0]):
+            number = int(words.pop(0))
+            if not 1 <= number <= _LAST:
+                raise Cannot(f"a rule's number is 1 to {_LAST}")
+            return number
+        last = max(self._rules, default=0)
+        return last + self._step if last + self._step <= _LAST else last
+
+    def _add(self, words: list[str]) -> Optional[list[str]]:
+        number = self._number(words)
+        known = Known(self.behind, self.me, self._tables, self._queues)
+        try:
+            rule = ipfw_rules.read(words, known)
+        except Cannot as cannot:
+            if self.drop_unmatchable and "--drop-unmatchable" in str(cannot):
+                self._rules[number] += 0
+                return None
+            raise
+        self._rules[number] += 0
+        if rule.is_void or rule.group in self._off:
+            return None
+        self._costs += rule.costs
+        before: list[str] = []
+        if rule.share:
+            before = self._by_chance(rule)
+        commands = ipfw_rules.commands_of(rule, number, known)
+        if number in self._around or (rule.excluded and self._rules[number]):
+            raise Cannot(f"rule {number}: `not` goes around all rules of this number: give one of them a number of its own")
+        if sum(self._rules.values()) + len(commands) > _MOST_RULES:
+            raise Cannot(f"with it there are more than {_MOST_RULES} rules, the most of an experiment")
+        self._judge(rule, number)
+        if rule.excluded:
+            self._around.add(number)
+        self._rules[number] += len(commands)
+        return [*before, *commands]
+
+    def _judge(self, rule: ipfw_rules.Rule, number: int) -> None:
+        """What a rule's action says besides."""
+        name, _, value = rule.action.partition(" ")
+        if name == "skipto" and int(value) <= number:
+            raise Cannot(f"`{rule.action}` goes backwards, which isn't here")
+        if name == "pipe" and not any("passes the rules once here" in one for one in rule.costs) and not rule.share:
+            self._costs.append("on a router this rule shapes a packet twice, coming in and going out; here once")
+
+    def _by_chance(self, rule: ipfw_rules.Rule) -> list[str]:
+        """A rule that denies by chance, as a pipe that loses."""
+        if rule.action != "deny":
+            raise Cannot(f"`prob {rule.share}`: only `deny` by chance is here, by a pipe that loses: route by addresses and ports instead")
+        if self._one_pass:
+            raise Cannot(f"`prob {rule.share} deny`: a pipe that loses says it, which ends the search: set one_pass 0 before it")
+        pipe = next(number for number in range(65535, 0, -1) if number not in self._pipes)
+        share = self._say(ipfw_words.loss(rule.share))
+        self._pipes[pipe] = [f"plr {share}", "queue 1000"]
+        rule.action = f"pipe {pipe}"
+        self._costs.append(f"`prob` by pipe {pipe}, which loses so many: it draws words of its own, and takes 1 ns")
+        return [f"pipe {pipe} config plr {share} queue 1000"]
+
+
+def _bare(line: Line) -> list[str]:
+    """The words behind the program's name and its options."""
+    words = list(line.words[1:])
+    while words and words[0].startswith("-"):
+        words.pop(0)
+    return words

@@ -1,0 +1,206 @@
+"""The words of ipfw(8) that say amounts, and what a scenario says for them: rates, queues, losses, masks, addresses, ports.
+
+Each function gives the scenario's words and `How` they came about; `Cannot` where there are none, with the way out.
+"""
+import ipaddress
+import re
+import socket
+from decimal import Decimal, InvalidOperation
+from typing import NamedTuple
+
+from dnlab.io.scenario_parts import MASKS, SCALES
+
+SAME, REWRITTEN, APPROXIMATED, DROPPED, REFUSED = "same", "rewritten", "approximated", "dropped", "refused"
+KINDS = (SAME, REWRITTEN, APPROXIMATED, DROPPED, REFUSED)
+_MOST_BITS = 10**10
+
+
+class Cannot(Exception):
+    """Words of ipfw that no scenario says: the word, and the way out."""
+
+
+class How(NamedTuple):
+    """What words became, and what of their meaning that costs ('' where nothing)."""
+    words: str
+    cost: str = ""
+
+
+def rate(word: str) -> How:
+    """A `bw`: behind K, M or G a B that isn't Bit, or `by`, means bytes, anything else bits.
+
+    >>> rate("10M").words, rate("1.5Mbits/s").words, rate("64Kb/s").words, rate("1500KByte/s").words
+    ('10Mbit/s', '1500Kbit/s', '64Kbit/s', '1500KByte/s')
+    """
+    found = re.fullmatch(r"([0-9]+(?:\.[0-9]+)?|\.[0-9]+)([KkMmGg]?)([A-Za-z/]*)", word)
+    if not found:
+        raise Cannot(f"`bw {word}`: a rate by an interface or a clock isn't here: write it as 10Mbit/s")
+    is_bytes = found[3].startswith("by") or (found[3].startswith("B") and not found[3].startswith("Bi"))
+    bits = Decimal(found[1]) * SCALES[found[2].upper()] * (8 if is_bytes else 1)
+    if bits > _MOST_BITS:
+        raise Cannot(f"`bw {word}`: 10Gbit/s is the most")
+    if re.fullmatch(r"(0|[1-9][0-9]*)([KMG]?(bit/s|Byte/s))?", word):
+        return How(word)
+    whole = int(bits)
+    scale = next((one for one in "GMK" if whole and whole % SCALES[one] == 0), "")
+    return How(f"{whole // SCALES[scale]}{scale}bit/s", "" if whole == bits else f"`bw {word}` is {whole} bit/s, rounded down")
+
+
+def delay(word: str) -> How:
+    """A `delay` in ms."""
+    found = re.fullmatch(r"0*([0-9]+)(ms)?", word)
+    if not found:
+        raise Cannot(f"`delay {word}`: delays are whole milliseconds: write 20ms")
+    if int(found[1]) > 60000:
+        raise Cannot(f"`delay {word}`: 60000 ms is the most")
+    return How(word if re.fullmatch(r"(0|[1-9][0-9]*)(ms)?", word) else found[1])
+
+
+def loss(word: str) -> How:
+    """A `plr`, to six digits.
+
+    >>> loss(".01").words, loss("5e-3").words, loss("0.0000015").words
+    ('0.01', '0.005', '0.000002')
+    """
+    if word.endswith("%"):
+        raise Cannot(f"`plr {word}`: ipfw reads {word[:-1]} here, a share: write 1% as 0.01")
+    try:
+        share = Decimal(word)
+        exact = min(max(share, Decimal(0)), Decimal(1))
+    except InvalidOperation:
+        raise Cannot(f"`plr {word}` is no share of 1, as 0.01") from None
+    short = exact.quantize(Decimal("0.000001"))
+    text = f"{short:f}".rstrip("0").rstrip(".")
+    if re.fullmatch(r"[01](\.[0-9]{1,6})?", word) and share == exact:
+        return How(word)
+    return How(text, "" if short == exact else f"`plr {word}` is {text}: losses have six digits")
+
+
+def queue(word: str) -> How:
+    """The limit of a queue: slots, or bytes, rounded down to 1024.
+
+    >>> queue("50").words, queue("30KBytes").words, queue("30000bytes").words
+    ('50', '30KBytes', '29KBytes')
+    """
+    found = re.fullmatch(r"0*([0-9]+)([A-Za-z]*)", word)
+    if not found:
+        raise Cannot(f"`queue {word}` is no limit, as 50 or 30KBytes")
+    number, unit = int(found[1]), found[2]
+    if unit[:1] in ("K", "k"):
+        kbytes, cost = number, ""
+        said = f"{number}KBytes" if unit not in ("KBytes", "Kbytes", "KB", "K") else word.lstrip("0")
+    elif unit[:1] == "B" or unit.startswith("by"):
+        kbytes = number // 1024
+        said, cost = f"{kbytes}KBytes", "" if number % 1024 == 0 else f"`queue {word}` is {kbytes * 1024} bytes, rounded down"
+    elif unit:
+        raise Cannot(f"`queue {word}`: its unit is none, KBytes or bytes")
+    elif not 1 <= number <= 1000:
+        raise Cannot(f"`queue {word}`: 1 to 1000 slots, or up to 1024KBytes")
+    else:
+        return How(str(number))
+    if not 1 <= kbytes <= 1024:
+        raise Cannot(f"`queue {word}`: 1 to 1024 KBytes")
+    return How(said, cost)
+
+
+def mask(words: list[str]) -> How:
+    """Takes the list behind `mask` from the left of the words."""
+    found: list[str] = []
+    costs = []
+    while words and words[0] in {*MASKS, "all", "src-ip6", "dst-ip6", "flow-id", "queue"}:
+        if words[0] == "queue" and len(words) > 1 and words[1][:1].isdigit():
+            break  # the pipe's own `queue`
+        name = words.pop(0)
+        if name == "all":
+            found = ["all"]
+        elif name == "queue":
+            costs.append("`mask queue` left out")
+        elif not words:
+            raise Cannot(f"`mask {name}`: the bits are missing, as 0xffffffff")
+        else:
+            bits = words.pop(0)
+            if name in MASKS:
+                found.append(f"{name} {_bits(name, bits)}")
+            else:
+                costs.append(f"`mask {name}` left out: packets here have none")
+    if not found:
+        raise Cannot("`mask`: of what it names packets here have nothing: take src-ip, dst-ip, src-port, dst-port or proto")
+    return How("mask " + " ".join(found), "; ".join(costs))
+
+
+def _bits(name: str, word: str) -> str:
+    """A mask in base 16; `/24` are the first 24 bits."""
+    width = MASKS[name] * 4
+    if re.fullmatch(rf"0x[0-9a-fA-F]{{1,{MASKS[name]}}}", word):
+        return word
+    found = re.fullmatch(r"/([0-9]{1,2})|(0x[0-9a-fA-F]+|[0-9]+)", word)
+    value = -1
+    if found:
+        value = (2**width - 2 ** (width - int(found[1]))) if found[1] and int(found[1]) <= width else \
+            int(found[2], 0) if found[2] and (found[2] == "0" or found[2][:2] == "0x" or found[2][0] != "0") else -1
+    if not 0 <= value < 2**width:
+        raise Cannot(f"`mask {name} {word}` isn't {width} bits: write them as 0x{'f' * MASKS[name]}")
+    return hex(int(value))
+
+
+def codel(words: list[str]) -> How:
+    """Takes what stands behind `codel` from the left of the words."""
+    found, cost = ["codel"], ""
+    while words and words[0] in ("target", "interval", "ecn", "noecn"):
+        name = words.pop(0)
+        if name == "ecn":
+            cost = "`ecn` left out: a packet is dropped where it would be marked"
+        elif name != "noecn":
+            if not words or not re.fullmatch(r"(0|[1-9][0-9]*)(s|ms|us)?", words[0]):
+                raise Cannot(f"`codel {name}`: a time stands behind it, as 5ms")
+            found.append(f"{name} {words.pop(0)}")
+    return How(" ".join(found), cost)
+
+
+def address(word: str) -> str:
+    """An address or prefix as a scenario has it: `A:M` becomes `A/len`.
+
+    >>> address("10.0.0.0:255.0.0.0"), address("10.1.2.3/32"), address("any")
+    ('10.0.0.0/8', '10.1.2.3/32', 'any')
+    """
+    if word == "any":
+        return word
+    if ":" in word and word.count(":") > 1:
+        raise Cannot(f"`{word}`: addresses of IPv6 aren't here")
+    try:
+        if ":" in word:
+            return str(ipaddress.IPv4Network(word.replace(":", "/"), strict=False))
+        ipaddress.IPv4Interface(word)
+    except ValueError:
+        raise Cannot(f"`{word}` is no address: names and sets aren't here: write numbers, as 10.0.0.1 or 10.0.0.0/24") from None
+    return word
+
+
+def network(word: str) -> ipaddress.IPv4Network:
+    """The prefix that an address of a scenario names."""
+    return ipaddress.IPv4Network("0.0.0.0/0" if word == "any" else word, strict=False)
+
+
+def narrowed(own: str, behind: str) -> tuple[str, bool]:
+    """The part of a rule's own addresses that are behind an interface; where there is none its own, and False."""
+    if network(own).subnet_of(network(behind)):
+        return own, True
+    return (behind, True) if network(behind).subnet_of(network(own)) else (own, False)
+
+
+def ports(word: str) -> list[str]:
+    """A list of ports, ranges and names of services, as a rule takes one each.
+
+    >>> ports("5060,5004-5010")
+    ['5060', '5004-5010']
+    """
+    found = []
+    for one in word.split(","):
+        numbers = re.fullmatch(r"0*([0-9]+)(?:-0*([0-9]+))?", one)
+        if numbers:
+            found.append(numbers[1] if numbers[2] is None else f"{numbers[1]}-{numbers[2]}")
+            continue
+        try:
+            found.append(str(socket.getservbyname(one)))
+        except OSError:
+            raise Cannot(f"`{one}` is no port, range of ports or known service") from None
+    return found

@@ -1,0 +1,68 @@
+"""Files that tools write: each has its name only once it is whole, and nothing is written through a link."""
+import errno
+import os
+import secrets
+import stat
+from contextlib import contextmanager, suppress
+from functools import partial
+from pathlib import Path
+from typing import IO, BinaryIO, Iterator, Union, cast
+
+from dnlab.processes import ending
+from dnlab.processes.rooms import lock
+
+_BEFORE, _BEHIND = ".dnlab-", ".part"
+
+
+def _remove_leftovers(folder: Path) -> None:
+    """Removes parts in a folder whose writer was killed."""
+    for path in folder.glob(f"{_BEFORE}*{_BEHIND}"):
+        with suppress(OSError):
+            if os.stat(path, follow_symlinks=False).st_uid == os.getuid():
+                held = lock(path, 0)
+                if held is not None:
+                    path.unlink()
+                    held.close()
+
+
+def _leave(path: Path) -> None:
+    path.unlink(missing_ok=True)
+
+
+def _part_in(folder: Path) -> tuple[Path, IO[bytes]]:
+    """A new file of a random name, which this process has locked."""
+    if not folder.is_dir():
+        raise OSError(errno.ENOENT, "its folder isn't there", str(folder))
+    while True:
+        path = folder / f"{_BEFORE}{secrets.token_hex(8)}{_BEHIND}"
+        held = lock(path, os.O_CREAT | os.O_EXCL)
+        if held is not None:
+            return path, held
+
+
+@contextmanager
+def whole_file(name: Union[str, Path]) -> Iterator[BinaryIO]:
+    """A file to write in, which takes its name when the block is done: of what ends by a fault nothing is left.
+
+    It is a new file of a random name in the same folder, made exclusively. So a link that has the name is replaced, and
+    what it points to stays as it is. `OSError` where it can't be written, and where the name is a device or a folder."""
+    target = Path(name)
+    with suppress(FileNotFoundError):
+        if not stat.S_ISREG(os.stat(target).st_mode):
+            raise OSError(errno.EINVAL, "it is no regular file", str(name))
+    _remove_leftovers(target.parent)
+    with ending.held():
+        path, held = _part_in(target.parent)
+        chore = partial(_leave, path)
+        ending.add(chore)
+    try:
+        with held, os.fdopen(os.dup(held.fileno()), "wb") as file:
+            yield cast(BinaryIO, file)
+            file.flush()
+            with ending.held():
+                os.replace(path, target)
+                ending.remove(chore)
+    finally:
+        with ending.held():
+            _leave(path)
+            ending.remove(chore)

@@ -1,0 +1,184 @@
+"""Where the experiments of a report stand: their headings are found, and the rest is passed over."""
+import gzip
+import io
+import os
+import re
+import shutil
+import tempfile
+from dataclasses import dataclass, field, replace
+from pathlib import Path
+from typing import IO, Any, BinaryIO, Iterable, Iterator, Optional, Union
+
+import numpy as np
+
+from dnlab.errors import Refused
+from dnlab.io.packed import GZIP, reading_gzip
+
+_HEADING = re.compile(rb"experiment ([a-z0-9_-]{1,32})")
+_MARK = b"experiment "
+# How much is looked through at once for headings, and how much is read in columns at once.
+_LOOK = 1 << 22
+_BLOCK = 1 << 18
+
+
+@dataclass(frozen=True)
+class Piece:
+    """Where an experiment stands: its heading's line, and the bytes behind it, in a file or here."""
+    name: str
+    line: int
+    path: Optional[str] = None
+    begin: int = 0
+    end: int = 0
+    text: Optional[bytes] = None
+    # What must live as long as this does: the unpacked bytes of a file that is packed.
+    keep: Any = field(default=None, compare=False, repr=False)
+
+    def __len__(self) -> int:
+        return self.end - self.begin
+
+    def blocks(self) -> Iterator[bytes]:
+        """Its bytes, in blocks of whole lines."""
+        if self.text is not None:
+            with io.BytesIO(self.text) as source:
+                yield from _blocks(source, _BLOCK, len(self))
+        else:
+            assert self.path is not None
+            with open(self.path, "rb") as source:
+                source.seek(self.begin)
+                yield from _blocks(source, _BLOCK, len(self))
+
+
+def _blocks(source: BinaryIO, size: int, most: Optional[int] = None) -> Iterator[bytes]:
+    """The bytes of a source, in blocks of whole lines; the last may lack its end."""
+    rest = b""
+    left = most
+    while True:
+        more = source.read(size if left is None else min(size, left))
+        if not more:
+            break
+        if left is not None:
+            left -= len(more)
+        end = more.rfind(b"\n") + 1
+        if not end:
+            rest += more
+            continue
+        yield rest + more[:end]
+        rest = more[end:]
+    if rest:
+        yield rest
+
+
+def pieces(source: Union[str, Path, BinaryIO], wanted: Iterable[str] = ()) -> Iterator[Piece]:
+    """The experiments of a report, in order; of those that are wanted, where any are named.
+
+    A file is only looked through; of a stream the text of one experiment at a time is kept. What is packed by gzip is
+    unpacked. Bytes between headings are not judged here.
+    """
+    if isinstance(source, (str, Path)):
+        with open(source, "rb") as file:
+            if file.read(len(GZIP)) != GZIP:
+                file.seek(0)
+                yield from _found(file, os.fspath(source), set(wanted))
+                return
+            file.seek(0)
+            unpacked = _Unpacked(file)
+        for piece in pieces(unpacked.path, wanted):
+            yield replace(piece, keep=unpacked)
+    else:
+        stream: Any = source if hasattr(source, "peek") else io.BufferedReader(source)  # type: ignore[arg-type]
+        if stream.peek(len(GZIP))[:len(GZIP)] != GZIP:
+            yield from _found(stream, None, set(wanted))
+            return
+        with gzip.open(stream) as plain, reading_gzip():
+            yield from _found(plain, None, set(wanted))  # type: ignore[arg-type]
+
+
+class _Unpacked:
+    """The bytes of a file that is packed by gzip, in a temporary file that has no name, or whose name goes with this."""
+
+    def __init__(self, packed: BinaryIO) -> None:
+        has_places = os.path.isdir(f"/proc/{os.getpid()}/fd")
+        self.file: IO[bytes] = tempfile.TemporaryFile() if has_places else tempfile.NamedTemporaryFile()
+        self.path = f"/proc/{os.getpid()}/fd/{self.file.fileno()}" if has_places else str(self.file.name)
+        with gzip.open(packed) as plain, reading_gzip():
+            shutil.copyfileobj(plain, self.file, _LOOK)
+        self.file.flush()
+
+    def __reduce__(self) -> tuple[Any, tuple[()]]:
+        """Another process needs the place alone; what keeps it stays here."""
+        return type(None), ()
+
+
+def _found(file: BinaryIO, path: Optional[str], wanted: set[str]) -> Iterator[Piece]:
+    finder = _Finder(path, wanted)
+    block = b""
+    for block in _blocks(file, _LOOK):
+        yield from finder.look(block)
+    if block and not block.endswith(b"\n"):
+        raise Refused(finder.line + 1, "the last line has no end of line")
+    yield from finder.close()
+
+
+class _Finder:
+    """Finds headings in blocks of whole lines, which come one after the other."""
+
+    def __init__(self, path: Optional[str], wanted: set[str]) -> None:
+        self.path = path
+        self.wanted = wanted
+        self.names: set[str] = set()
+        self.line = 0
+        self.place = 0
+        self.name: Optional[str] = None
+        self.heading = 0
+        self.begin = self.end = 0
+        self.kept: list[bytes] = []
+
+    def look(self, block: bytes) -> Iterator[Piece]:
+        at = 0
+        while at < len(block):
+            if block.startswith(_MARK, at) or self.name is None:
+                yield from self.close()
+                at = self.begun(block, at)
+            to = block.find(b"\n" + _MARK, max(at - 1, 0)) + 1 or len(block)
+            self.line += _lines(block, at, to)
+            self.end = self.place + to
+            if self.path is None and self.is_wanted():
+                self.kept.append(block[at:to])
+            at = to
+        self.place += len(block)
+
+    def begun(self, block: bytes, at: int) -> int:
+        """Takes the heading that must stand in a place; gives where it ends."""
+        end = block.find(b"\n", at)
+        line = block[at:end if end >= 0 else len(block)]
+        found = _HEADING.fullmatch(line)
+        self.line += end >= 0
+        if not found:
+            shown = line[:60].decode("ascii", "replace")
+            raise Refused(self.line + (end < 0), f"`experiment NAME` should stand here: {shown!r}")
+        self.name = found[1].decode("ascii")
+        if self.name in self.names:
+            raise Refused(self.line, f"a second experiment {self.name}")
+        self.names.add(self.name)
+        self.heading = self.line
+        end = end + 1 if end >= 0 else len(block)
+        self.begin = self.end = self.place + end
+        return end
+
+    def is_wanted(self) -> bool:
+        return not self.wanted or self.name in self.wanted
+
+    def close(self) -> Iterator[Piece]:
+        """The experiment that ends here."""
+        if self.name is not None and self.is_wanted():
+            if self.path is None:
+                text = b"".join(self.kept)
+                yield Piece(self.name, self.heading, None, 0, len(text), text)
+            else:
+                yield Piece(self.name, self.heading, self.path, self.begin, self.end)
+        self.kept = []
+        self.name = None
+
+
+def _lines(block: bytes, begin: int, end: int) -> int:
+    return int(np.count_nonzero(np.frombuffer(block, dtype=np.uint8)[begin:end] == 10))

@@ -1,0 +1,108 @@
+"""The one reader of scenario texts, written from docs/reference/scenario.md alone.
+
+`Judged` says which fault stands where, as `dnlab check` must; `read` gives the experiments with their commands. It
+needs nothing but Python itself, and has no simulation.
+"""
+import re
+from typing import Optional, Union
+
+from dnlab.errors import Refused
+from dnlab.io.scenario_parts import MOST_BYTES, MOST_EXPERIMENTS, MOST_LINE, Command, Plan, Sends
+from dnlab.io.scenario_words import BadWord, Told, Words, command, experiment
+
+__all__ = ["Command", "Judged", "MOST_BYTES", "MOST_EXPERIMENTS", "MOST_LINE", "Plan", "Sends", "read"]
+
+
+class Judged:
+    """What a text is: `fault` is None or (line, cause); `experiments` has name and number of commands of each.
+
+    `plans` has the experiments with their commands, where they are kept. Texts that are to be split may be longer than
+    a text of the program: then `limited` is False.
+    """
+
+    def __init__(self, text: bytes, keep: bool = False, limited: bool = True) -> None:
+        self.experiments: list[tuple[str, int]] = []
+        self.plans: dict[str, Plan] = {}
+        self.keep = keep
+        self.limited = limited
+        self.names: set[str] = set()
+        self.last = 0
+        self.is_open = False
+        self.fault: Optional[tuple[int, str]] = self.judge(text)
+
+    def judge(self, text: bytes) -> Optional[tuple[int, str]]:
+        if self.limited and len(text) > MOST_BYTES:
+            return 0, "toobig"
+        *lines, rest = text.split(b"\n")
+        for number, line in enumerate(lines, 1):
+            cause = self.cause(line, number)
+            if cause:
+                return number, cause
+        if rest:
+            return len(lines) + 1, "cut"
+        return (len(lines) + 1, "noend") if self.is_open else None
+
+    def cause(self, line: bytes, number: int) -> Optional[str]:
+        if len(line) > MOST_LINE:
+            return "toolong"
+        if re.search(rb"[^ -~]", line):
+            return "badbyte"
+        split = line.decode("ascii").split()
+        words = Words(split)
+        if not split or split[0].startswith("#"):
+            return None
+        is_experiment = split[0] == "experiment"
+        found: Union[tuple[str, int, int, int], tuple[int, str, Told]]
+        try:
+            found = experiment(words) if is_experiment else command(words)
+        except BadWord:
+            return "badword"
+        if words.left:
+            return "badword"
+        if not words.fits:
+            return "outofrange"
+        if len(found) == 4:
+            return self.begun(number, *found)
+        return self.told(number, split, *found)
+
+    def begun(self, line: int, name: str, seed: int, budget: int, steps: int) -> Optional[str]:
+        if self.is_open:
+            return "noend"
+        if self.limited and len(self.experiments) == MOST_EXPERIMENTS:
+            return "toomany"
+        if name in self.names:
+            return "samename"
+        self.names.add(name)
+        self.experiments.append((name, 0))
+        if self.keep:
+            self.plans[name] = Plan(name, line, seed, budget, steps, [])
+        self.last, self.is_open = 0, True
+        return None
+
+    def told(self, line: int, split: list[str], moment: int, word: str, told: Told) -> Optional[str]:
+        if not self.experiments:
+            return "noexperiment"
+        if not self.is_open:
+            return "afterend"
+        if moment < self.last:
+            return "backwards"
+        self.last, self.is_open = moment, word != "end"
+        name, count = self.experiments[-1]
+        self.experiments[-1] = name, count + 1
+        if self.keep:
+            self.plans[name].commands.append(Command(line, moment, word, " ".join(split[1:]), *told))
+        return None
+
+
+def read(text: bytes) -> dict[str, Plan]:
+    """The experiments of a scenario, by name; a text that is none is refused with its line and the cause.
+
+    It may have more experiments and bytes than the program reads at once, as `dnlab-spread` takes them.
+    """
+    judged = Judged(text, keep=True, limited=False)
+    if judged.fault:
+        line, cause = judged.fault
+        lines = text.split(b"\n")
+        shown = lines[line - 1][:60].decode("ascii", "replace") if line <= len(lines) else "the end of the text"
+        raise Refused(line, f"{cause}: no line of a scenario: {shown!r}")
+    return judged.plans

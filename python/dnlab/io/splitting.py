@@ -1,0 +1,113 @@
+"""Cuts scenario texts between their experiments, so that the program can take them."""
+from typing import Iterable, Iterator, NamedTuple, Optional, Sequence
+
+from dnlab.io.scenario import Judged
+from dnlab.io.scenario_parts import MOST_BYTES, MOST_EXPERIMENTS
+
+
+class Part(NamedTuple):
+    """An experiment of a text: its name, the line of its heading (from 1), how many commands it has, and its lines up to
+    the next heading."""
+    name: str
+    line: int
+    commands: int
+    text: bytes
+
+
+class Fault(NamedTuple):
+    """The first fault of a text: its line and the cause."""
+    line: int
+    cause: str
+
+
+def lines_in(text: bytes) -> Iterator[tuple[int, bytes, int]]:
+    """The lines of a text that begin an experiment: place, line (bytes) and number, from 1."""
+    place = number = 0
+    while True:
+        found = text.find(b"experiment", place)
+        if found < 0:
+            return
+        begin = text.rfind(b"\n", 0, found) + 1
+        end = text.find(b"\n", found)
+        end = len(text) if end < 0 else end
+        number += text.count(b"\n", place, begin)
+        if text[begin:end].split(None, 1)[0] == b"experiment":
+            yield begin, text[begin:end], number + 1
+        number += end < len(text)
+        place = min(end + 1, len(text))
+
+
+def experiments_in(texts: Iterable[bytes]) -> list[Part]:
+    """The experiments of some texts, one behind the other. What stands before a text's first is left out: comments."""
+    found = []
+    for text in texts:
+        headings = list(lines_in(text))
+        ends = [place for place, _, _ in headings[1:]] + [len(text)]
+        for (place, heading, number), end in zip(headings, ends):
+            words = heading.split()
+            own = text[place:end]
+            commands = own.count(b"\n@") + sum(line.lstrip(b" ").startswith(b"@") for line in own.split(b"\n")
+                                               if line.startswith(b" "))
+            found.append(Part(words[1].decode("ascii", "replace") if len(words) > 1 else "", number, commands, own))
+    return found
+
+
+def texts_of(parts: Sequence[Part]) -> list[list[Part]]:
+    """The experiments in as few texts as the program takes, in order: each at most 256 of them and 16777216 bytes."""
+    found: list[list[Part]] = []
+    size = 0
+    for part in parts:
+        if not found or len(found[-1]) == MOST_EXPERIMENTS or size + len(part.text) > MOST_BYTES:
+            found.append([])
+            size = 0
+        found[-1].append(part)
+        size += len(part.text)
+    return found
+
+
+def groups(costs: Sequence[int], parts: int) -> list[int]:
+    """Where each of so many groups ends: contiguous, none empty, each end as near as can be to its share of all costs.
+
+    >>> groups([9, 1, 1, 1], 2), groups([3, 3, 3, 3], 2)
+    ([1, 4], [2, 4])
+    """
+    parts = max(1, min(parts, len(costs)))
+    ends: list[int] = []
+    sums = [0]
+    for cost in costs:
+        sums.append(sums[-1] + cost)
+    for part in range(1, parts):
+        least, most = (ends[-1] if ends else 0) + 1, len(costs) - (parts - part)
+        wanted = part * sums[-1]
+        end = least
+        # The sums only grow, so the nearest is the first that the next isn't nearer than.
+        while end < most and abs(sums[end + 1] * parts - wanted) < abs(sums[end] * parts - wanted):
+            end += 1
+        ends.append(end)
+    return ends + [len(costs)]
+
+
+def shares(parts: Sequence[Part], count: int) -> list[list[Part]]:
+    """The experiments in so many groups with about as many commands each; more, where a group would be too long for the
+    program."""
+    found = []
+    begin = 0
+    for end in groups([part.commands for part in parts], count) if parts else []:
+        found += texts_of(parts[begin:end])
+        begin = end
+    return found
+
+
+def repeated(parts: Sequence[Part], before: set[str]) -> Optional[Part]:
+    """The first experiment whose name stood before; the names are added to those before."""
+    for part in parts:
+        if part.name in before:
+            return part
+        before.add(part.name)
+    return None
+
+
+def heading_fault(line: bytes) -> Optional[str]:
+    """What is wrong with the words of a heading by itself, if anything."""
+    fault = Judged(line.split(b"\n")[0] + b"\n").fault
+    return None if fault is None or fault[1] == "noend" else fault[1]

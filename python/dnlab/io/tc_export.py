@@ -1,0 +1,194 @@
+"""A setting of a scenario as a script for Linux' tc(8): rates and queues where packets leave, delays and losses where they come in.
+
+A delay that is the same for all packets of a pipe may stand before its queue or behind it: each packet leaves as late. netem under a
+class of a rate would count what flies in its limit; so it stands on an ifb at the other interface.
+"""
+import ipaddress
+from typing import Iterator, NamedTuple, Optional, Sequence
+
+from dnlab.errors import Faulty
+from dnlab.io.exports import Rule, Setting, number_behind, printable
+from dnlab.io.ipfw_words import network
+from dnlab.io.scenario_parts import TIMES
+from dnlab.io.settings import Config
+
+_FAST = "100000000000bit quantum 1514"
+_LEAST = 64
+_MOST_CLASSES = 4000
+
+
+class Place(NamedTuple):
+    """The interface where packets leave, the one where they come in (for delays and losses; None where there is none), and the hosts
+    that get a class each where a pipe has a mask."""
+    leave: str
+    enter: Optional[str]
+    hosts: tuple[str, ...] = ()
+
+
+class _Class(NamedTuple):
+    """A pipe's instance: its number in tc, its pipe, and the address that alone it takes ('' for all)."""
+    number: int
+    pipe: int
+    host: str
+    side: str
+
+
+def script_of(setting: Setting, place: Place, source: str) -> str:
+    """The script; `Faulty` where something can't be said there, with the way out."""
+    rules = setting.rules()
+    _judge(setting, rules, place)
+    classes = list(_classes(setting, place))
+    name = setting.plan.name
+    lines = ["#!/bin/sh", f"# dnlab-to-tc: {printable(source)}, experiment {name}; packets that leave {place.leave}", *_differs(setting, classes)]
+    lines += [f"tc qdisc del dev {place.leave} root 2>/dev/null",
+              f"tc qdisc add dev {place.leave} root handle 1: stab overhead -14 linklayer ethernet htb default 1",
+              f"tc class add dev {place.leave} parent 1: classid 1:1 htb rate {_FAST}"]
+    for one in classes:
+        lines += _served(place.leave, one, *setting.pipes()[one.pipe])
+    lines += _filters(place.leave, rules, classes, True)
+    late = [one for one in classes if _late(setting.pipes()[one.pipe][0])]
+    if late:
+        lines += _ifb(setting, place, late, rules)
+    lines.append(f"# {len(setting.sends)} commands that send were left out")
+    return "\n".join(lines) + "\n"
+
+
+def _judge(setting: Setting, rules: Sequence[Rule], place: Place) -> None:
+    for rule in rules:
+        if rule.action in ("count", "skipto"):
+            raise Faulty(f"rule {rule.text()}: tc has no `{rule.action}` among its filters: write rules that each decide")
+        if rule.action == "pipe" and rule.value not in setting.pipes():
+            raise Faulty(f"rule {rule.text()}: no command configures pipe {rule.value}")
+    if any(one.word == "delete" or one.text.startswith("pipe delete") for one in setting.sets):
+        raise Faulty("`delete`: leave out what is deleted at once")
+    if not setting.one_pass():
+        raise Faulty("`one_pass 0`: a chain of pipes takes an interface for each: write one pipe, or an experiment for each link")
+    late = [number for number, (config, _) in setting.pipes().items() if _late(config)]
+    if late and place.enter is None:
+        raise Faulty(f"pipe {late[0]} has a delay or losses: name the interface where its packets come in, as --in eth0")
+
+
+def _late(config: Config) -> bool:
+    return bool(config.delay or config.plr)
+
+
+def _differs(setting: Setting, classes: Sequence[_Class]) -> list[str]:
+    """What is otherwise on the real machine."""
+    said = ["# What no rule matches is dropped on this interface, as in the scenario, your own login too; ARP and IPv6 aren't touched.",
+            "# htb lets one packet through at once, and counts in ticks of the kernel's timers; sizes count without Ethernet (stab)."]
+    if any(config.codel for config, _ in setting.pipes().values()):
+        said.append("# Linux' CoDel goes on with a higher count of drops behind an idle time than RFC 8289's.")
+    if any(config.plr for config, _ in setting.pipes().values()):
+        said.append("# Losses by netem draw random numbers of their own: as many on average, of other packets.")
+    if any(one.host for one in classes):
+        said.append("# A mask: a class for each host that was named; others of the rule are dropped, as no rule matches them.")
+    return said
+
+
+def _classes(setting: Setting, place: Place) -> Iterator[_Class]:
+    number = 16
+    for pipe, (config, text) in setting.pipes().items():
+        if " mask " not in text:
+            yield _Class(number, pipe, "", "")
+            number += 1
+            continue
+        side = next((side for side in ("src", "dst") if text.endswith(f"mask {side}-ip 0xffffffff")
+                     or f"mask {side}-ip 0xffffffff codel" in text or f"mask {side}-ip 0xffffffff droptail" in text), None)
+        if side is None or not place.hosts:
+            raise Faulty(f"pipe {pipe} has a mask, and tc makes no class by itself: --hosts 10.0.0.1-10.0.0.9 writes a class for each,"
+                         " where the mask is src-ip or dst-ip 0xffffffff alone")
+        for host in place.hosts:
+            yield _Class(number, pipe, host, side)
+            number += 1
+
+
+def _served(device: str, one: _Class, config: Config, text: str) -> list[str]:
+    """A class with the rate, and the queue below it."""
+    rate = f"{config.bw}bit burst 1514b cburst 1514b quantum 1514" if config.bw else _FAST
+    made = [f"tc class add dev {device} parent 1: classid 1:{one.number:x} htb rate {rate}"]
+    begin = f"tc qdisc add dev {device} parent 1:{one.number:x} handle {one.number:x}:"
+    if config.codel:
+        # Linux' CoDel has a limit of packets alone.
+        limit = config.slots if config.slots is not None else max(1, (config.bytes or 0) // 1500)
+        made.append(f"{begin} codel limit {limit} target {_us(number_behind('target', text), 5000)}us"
+                    f" interval {_us(number_behind('interval', text), 100000)}us noecn")
+    elif config.slots is not None:
+        made.append(f"{begin} pfifo limit {config.slots}")
+    else:
+        made.append(f"{begin} bfifo limit {config.bytes}b")
+    return made
+
+
+def _us(word: Optional[str], default: int) -> int:
+    """A time of `codel` in microseconds.
+
+    >>> _us("5ms", 1), _us("50", 1), _us(None, 1)
+    (5000, 50000, 1)
+    """
+    if word is None:
+        return default
+    unit = word.lstrip("0123456789")
+    return int(word.removesuffix(unit)) * TIMES[unit] // 1000
+
+
+def _matches(rule: Rule, one: Optional[_Class]) -> Iterator[str]:
+    """The words of `flower` for a rule: tcp and udp apart where it has ports."""
+    source, target = rule.source, rule.target
+    if one is not None and one.host:
+        own = source if one.side == "src" else target
+        if not ipaddress.IPv4Address(one.host) in network(own):
+            return
+        source, target = (one.host, target) if one.side == "src" else (source, one.host)
+    has_ports = rule.source_ports or rule.target_ports
+    for protocol in ("tcp", "udp") if rule.protocol == "ip" and has_ports else (rule.protocol,):
+        words = [] if protocol == "ip" else [f"ip_proto {protocol}"]
+        words += [f"src_ip {source}"] if source != "any" else []
+        words += [f"dst_ip {target}"] if target != "any" else []
+        words += [f"src_port {rule.source_ports}"] if rule.source_ports else []
+        words += [f"dst_port {rule.target_ports}"] if rule.target_ports else []
+        yield " ".join(["flower", *words])
+
+
+def _filters(device: str, rules: Sequence[Rule], classes: Sequence[_Class], denies: bool) -> list[str]:
+    """A filter for each rule, in their order; what no rule matches is dropped where that is asked for."""
+    made: list[str] = []
+
+    def add(words: str) -> None:
+        made.append(f"tc filter add dev {device} parent 1: protocol ip prio {len(made) + 1} {words}")
+
+    for rule in rules:
+        wanted: list[Optional[_Class]] = [None]
+        if rule.action == "pipe":
+            wanted = [one for one in classes if one.pipe == rule.value]
+        for one in wanted:
+            for match in _matches(rule, one):
+                if one is not None:
+                    add(f"{match} classid 1:{one.number:x}")
+                elif rule.action == "allow" or denies:
+                    add(f"{match} classid 1:1" if rule.action == "allow" else f"{match} action drop")
+    if denies:
+        add("flower action drop")
+    if len(made) > _MOST_CLASSES:
+        raise Faulty(f"it takes {len(made)} filters: name fewer hosts")
+    return made
+
+
+def _ifb(setting: Setting, place: Place, late: Sequence[_Class], rules: Sequence[Rule]) -> list[str]:
+    """Delays and losses, on an ifb that takes what comes in at the other interface. Pipes without either pass it untouched."""
+    made = ["ip link add ifb0 type ifb 2>/dev/null", "ip link set ifb0 up",
+            f"tc qdisc del dev {place.enter} ingress 2>/dev/null", f"tc qdisc add dev {place.enter} handle ffff: ingress",
+            f"tc filter add dev {place.enter} parent ffff: protocol ip matchall action mirred egress redirect dev ifb0",
+            "tc qdisc del dev ifb0 root 2>/dev/null", "tc qdisc add dev ifb0 root handle 1: htb default 1",
+            f"tc class add dev ifb0 parent 1: classid 1:1 htb rate {_FAST}"]
+    for one in late:
+        config = setting.pipes()[one.pipe][0]
+        # As many of the smallest packets as fly at the pipe's rate, and a queue of them.
+        flying = (config.bw or 10**10) * config.delay // (8 * 10**9 * _LEAST) + 1000
+        loss = f" loss {config.plr / 10**4:g}%" if config.plr else ""
+        made += [f"tc class add dev ifb0 parent 1: classid 1:{one.number:x} htb rate {_FAST}",
+                 f"tc qdisc add dev ifb0 parent 1:{one.number:x} handle {one.number:x}: netem delay {config.delay // 1000}us{loss}"
+                 f" limit {flying}"]
+    # All rules in their order, so that each packet is where its first rule sends it.
+    known = {one.pipe for one in late}
+    told = [rule if rule.action != "pipe" or rule.value in known else rule._replace(action="allow", value=0) for rule in rules]
+    return made + _filters("ifb0", [rule if rule.action != "deny" else rule._replace(action="allow") for rule in told], late, False)

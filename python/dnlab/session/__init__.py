@@ -1,0 +1,1 @@
+"""Sessions: experiments that a program of its own drives."""

@@ -1,0 +1,212 @@
+"""One experiment of a session: packets go in at moments that a program chooses, and it is told what became of them."""
+import io
+from pathlib import Path
+from typing import IO, Any, Optional, Protocol, Union
+
+from dnlab.io.outputs import whole_file
+from dnlab.session.events import LATEST, LEAST_SIZE, MOST_SIZE, Address, Event, Over, Packet, header_of
+
+
+class Speaks(Protocol):
+    """What a link wants of its session."""
+
+    def post(self, link: "Link", line: str, packet: Optional[Packet] = None) -> None:
+        """A line goes out with the next exchange."""
+
+    def exchange(self) -> None:
+        """What was posted goes out, and is answered."""
+
+
+class Link:
+    """An experiment of a session. Time stands still but for `until`, `until_mine`, `until_any`, `end` and what is done at a
+    later moment.
+
+    now       the least moment (ns) at which something can be done
+    is_over   whether it has ended
+    counters  once it has: made, delivered, held, and the drops by cause
+    listings  the lines of `show` and `pipe show`
+    """
+
+    def __init__(self, session: Speaks, name: str, show: str, transcript: Optional[IO[bytes]],
+                 report: Optional[IO[bytes]]) -> None:
+        self._session, self.name, self._show = session, name, show
+        self.now = 0
+        self.is_over = False
+        self.counters: Optional[tuple[int, ...]] = None
+        self.listings: list[str] = []
+        self._transcript: IO[bytes] = transcript if transcript is not None else io.BytesIO()
+        self._report: IO[bytes] = report if report is not None else io.BytesIO()
+        self._events: list[Event] = []
+        self._flying: dict[int, Packet] = {}
+        # What was told of packets of which it isn't said yet whether they are the program's own.
+        self._early: dict[int, Event] = {}
+        self._wants_all = False
+        self._next: Optional[int] = None
+
+    # What is done.
+
+    def command(self, words: str, at: Optional[int] = None) -> None:
+        """A command in the words of a scenario, without its moment: now, or at a later moment (ns). `NotTaken` and
+        `CommandRefused` say what is wrong with it."""
+        self._move(at)
+        self._session.post(self, f"@{self.now} {words}")
+        self._session.exchange()
+
+    def send(self, source: Address, target: Address, size: int, payload: Any = None, protocol: str = "udp",
+             at: Optional[int] = None) -> Packet:
+        """A packet of 40 to 1500 bytes, headers included, comes to the link, now or at a later moment (ns). `ValueError`
+        if that can't be. It goes out with the next call that asks something, so many cost one round trip."""
+        if not LEAST_SIZE <= size <= MOST_SIZE:
+            raise ValueError(f"a packet has {LEAST_SIZE} to {MOST_SIZE} bytes, not {size}")
+        header = header_of(protocol, source, target)
+        self._move(at)
+        packet = Packet(source, target, size, self.now, payload, protocol)
+        self._session.post(self, f"@{self.now} inject {header} {size}", packet)
+        return packet
+
+    def until(self, moment: int) -> list[Event]:
+        """Time goes to `moment` (ns). The deliveries and drops of the program's own packets since the last call."""
+        return self._pass(f"#> until @{self._later(moment)}")
+
+    def until_mine(self, moment: int = LATEST, hold: int = 1) -> list[Event]:
+        """Time goes to `moment` (ns), but no further than `hold` ns after the first delivery or drop of a packet that the
+        program sent: so that is where it can react. The events since the last call. For a packet that is dropped as it
+        is sent time doesn't stop; it comes with the next events."""
+        self._later(moment)
+        if self._events:
+            # They were told by a command at a later moment: time stands still until the program knows.
+            return self._taken()
+        # (a packet takes 1 ns at least, so what was just sent and the request can go out together)
+        return self._pass(f"#> until @{moment} first{'' if hold == 1 else f' {hold}'}")
+
+    def until_any(self, moment: int = LATEST, hold: int = 1) -> list[Event]:
+        """The same for the first delivery or drop of any packet; events of others come too (but not by show='mine')."""
+        self._later(moment)
+        self._session.exchange()
+        if self._events:
+            return self._taken()
+        self._wants_all = True
+        try:
+            return self._pass(f"#> until @{moment} first any{'' if hold == 1 else f' {hold}'}")
+        finally:
+            self._wants_all = False
+
+    def next_due(self) -> Optional[int]:
+        """When the next event of the link is due (ns); None if nothing is."""
+        self._check()
+        self._session.post(self, "#> next")
+        self._session.exchange()
+        return self._next
+
+    def end(self, at: Optional[int] = None) -> list[Event]:
+        """The experiment ends, now or at a later moment (ns). One whose steps are spent needs its end too, as a scenario
+        has it. The events since the last call."""
+        if at is not None:
+            self.now = max(at, self.now) if self.is_over else self._later(at)
+        self._session.post(self, f"@{self.now} end")
+        self._session.exchange()
+        return self._taken()
+
+    # What is kept.
+
+    def transcript(self) -> str:
+        """The scenario of what was done: `dnlab alone` writes the same report of it, once it has its end."""
+        self._session.exchange()
+        return _kept(self._transcript, "transcript").decode()
+
+    def report(self) -> bytes:
+        """The report so far; once the experiment has ended the whole."""
+        if self._show == "mine":
+            raise ValueError("only what concerns the program's own packets was told (show='mine'): "
+                             "`dnlab alone` writes the report of transcript()")
+        self._session.exchange()
+        return _kept(self._report, "report")
+
+    def save(self, scenario: Union[str, Path], report: Union[str, Path, None] = None) -> None:
+        """Writes the transcript, and the report if it has a name: what tools/summary, tools/view and the others read."""
+        with whole_file(scenario) as file:
+            file.write(self.transcript().encode())
+        if report is not None:
+            told = self.report()
+            with whole_file(report) as file:
+                file.write(told)
+
+    # What is told: for the session alone.
+
+    def answered(self, line: str, words: list[bytes], packet: Optional[Packet]) -> None:
+        """A line was taken, and this was answered."""
+        kind = words[1]
+        if kind == b"now":
+            self.now = int(words[2])
+        elif kind == b"packet" and packet is not None:
+            packet.number = int(words[2])
+            self._name(packet)
+        elif kind == b"next":
+            self._next = None if words[2] == b"none" else int(words[2])
+        elif kind == b"over":
+            self.is_over, self.now = True, int(words[2])
+        self._early.clear()
+        if line[0] != "#":
+            self._transcript.write(line.encode() + b"\n")
+
+    def told(self, line: bytes) -> None:
+        """A line of the report."""
+        self._report.write(line + b"\n")
+        words = line.split(b" ")
+        if len(words) > 3 and words[1] in (b"deliver", b"drop"):
+            self._fate(words)
+        elif words[0] == b"counters":
+            self.counters = tuple(int(word) for word in words[1:])
+        elif words[0] in (b"rule", b"pipe", b"instance"):
+            self.listings.append(line.decode())
+
+    def _fate(self, words: list[bytes]) -> None:
+        number = int(words[2])
+        load, cause = words[3:], b""
+        if words[1] == b"drop":
+            load, cause = words[3:-1], words[-1]
+        packet = self._flying.pop(number, None)
+        event = Event(int(words[0]), packet, cause.decode(), number, b" ".join(load).decode())
+        if packet is not None or self._wants_all:
+            self._events.append(event)
+        elif load == [b"plain"]:
+            # Of a packet that was dropped or delivered as it came: its record stands before the answer that says its number.
+            self._early[number] = event
+
+    def _name(self, packet: Packet) -> None:
+        event = self._early.pop(packet.number, None)
+        if event is None:
+            self._flying[packet.number] = packet
+        else:
+            self._events.append(event._replace(packet=packet))
+
+    # Steps of what is done.
+
+    def _check(self) -> None:
+        if self.is_over:
+            raise Over(self.name, self.now)
+
+    def _later(self, moment: int) -> int:
+        self._check()
+        if not self.now <= moment <= LATEST:
+            raise ValueError(f"{moment} ns: the moments from here on are {self.now} to {LATEST} ns")
+        return moment
+
+    def _move(self, at: Optional[int]) -> None:
+        self.now = self._later(self.now if at is None else at)
+
+    def _pass(self, request: str) -> list[Event]:
+        self._check()
+        self._session.post(self, request)
+        self._session.exchange()
+        return self._taken()
+
+    def _taken(self) -> list[Event]:
+        events, self._events = self._events, []
+        return events
+
+
+def _kept(file: IO[bytes], what: str) -> bytes:
+    if not isinstance(file, io.BytesIO):
+        raise ValueError(f"the {what} goes to a file that was given, and isn't kept")
+    return file.getvalue()

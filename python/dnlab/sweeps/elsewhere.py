@@ -1,0 +1,171 @@
+"""Runs the experiments of a sweep on other machines: by ssh or as an array of Slurm, as `spread` does, or by Dask."""
+import time
+from contextlib import ExitStack
+from math import ceil
+from pathlib import Path
+from typing import TYPE_CHECKING, Any, Iterator, Optional, Sequence
+
+from dnlab.analysis.spans import Span
+from dnlab.errors import Failed, Faulty
+from dnlab.io.splitting import experiments_in, groups, shares
+from dnlab.processes.children import Killed
+from dnlab.processes.crew import Crew
+from dnlab.processes.rooms import Room
+from dnlab.sweeps import engines
+from dnlab.sweeps.jobs import How, Job, Stop
+from dnlab.sweeps.measuring import answers as read_answers, measured, measured_by_turns
+
+if TYPE_CHECKING:
+    from dnlab.analysis.asking import Ask, Found
+    from dnlab.sweeps.batches import Answered, Waiting
+    from dnlab.sweeps.sweeping import Sweep
+
+DASK = "dask:"
+# What a part should take on another machine, in seconds. By ssh it is one text, all of whose reports the program keeps
+# until its end; Slurm and Dask run several texts one after another.
+_PART = 60.0
+_PART_BY_SSH = 10.0
+# How long some experiments are tried here to know how many that are.
+_TRIAL = 5.0
+# Where there are fewer experiments, each is a part.
+_FEW = 16
+
+
+def answers(sweep: "Sweep", waiting: Sequence["Waiting"], program: str) -> Iterator["Answered"]:
+    """What experiments answer, as it comes. What was tried here to know how long it takes is an answer too."""
+    if not waiting:
+        return
+    parts, tried = sweep.parts or len(waiting), 0
+    if sweep.parts is None and len(waiting) >= _FEW:
+        begun = time.monotonic()
+        known: set[str] = set()
+        sample = waiting[::max(1, len(waiting) // _FEW)][:_FEW]
+        for batch, found in tried_here(sweep, sample, program):
+            yield batch, found
+            known |= {one.key for one in batch}
+        tried, took = len(known), time.monotonic() - begun
+        waiting = [one for one in waiting if one.key not in known]
+        is_ssh = sweep.on != "slurm" and not str(sweep.on).startswith(DASK)
+        parts = ceil(len(waiting) / group_of(tried, took, sweep.workers, _PART_BY_SSH if is_ssh else _PART))
+    if waiting:
+        way = by_dask if str(sweep.on).startswith(DASK) else by_spread
+        yield from way(sweep, waiting, program, max(1, min(parts, len(waiting))))
+
+
+def group_of(tried: int, took: float, workers: int, wanted: float = _PART) -> int:
+    """How many experiments take as long as is wanted (s), where so many took so many seconds by so many processes.
+
+    >>> group_of(16, 0.4, 4), group_of(2, 5.0, 4), group_of(0, 5.0, 4)
+    (600, 12, 1)
+    """
+    return max(1, round(wanted * tried / (took * min(workers, tried)))) if tried else 1
+
+
+def batches_of(waiting: Sequence["Waiting"], count: int) -> list[list[list["Waiting"]]]:
+    """Experiments in so many parts, each of several texts."""
+    from dnlab.sweeps.batches import together
+
+    batches = list(together(waiting, ceil(count / 4)))
+    ends = groups([len(batch) for batch in batches], count)
+    return [batches[begin:end] for begin, end in zip([0, *ends], ends)]
+
+
+def tried_here(sweep: "Sweep", sample: Sequence["Waiting"], program: str) -> Iterator["Answered"]:
+    """Runs experiments here, one by one, for some seconds; those that fail are left to the others."""
+    begun = time.monotonic()
+    with Crew["Waiting"](sweep.workers) as crew:
+        for one in sample:
+            crew.give(one, measured, [sweep.text(one.case)], sweep.asks, program, sweep.span)
+        while len(crew) and time.monotonic() - begun < _TRIAL:
+            try:
+                outcome = crew.next(max(0.0, _TRIAL - (time.monotonic() - begun)))
+            except TimeoutError:
+                return
+            if isinstance(outcome.fault, Killed):
+                raise Killed(3, f"{outcome.token.case.told()}: {outcome.fault.said}")
+            if outcome.fault is None:
+                yield [outcome.token], outcome.value
+
+
+def read_part(report: str, texts: Sequence[str], asks: Sequence["Ask"], span: Span) -> list["Found"]:
+    """What the experiments of a part answer, for another process."""
+    return read_answers(Path(report).read_bytes(), texts, asks, span)
+
+
+def by_spread(sweep: "Sweep", waiting: Sequence["Waiting"], program: str, count: int) -> Iterator["Answered"]:
+    """By the engines of `spread`; each part is read here as soon as it is done."""
+    how = How(count, ssh=None if sweep.on == "slurm" else str(sweep.on), slurm=sweep.on == "slurm", program=sweep.there)
+    fault = how.fault()
+    if fault is not None:
+        raise Faulty(f"--on {sweep.on}: {fault}")
+    with ExitStack() as stack:
+        # Nodes of Slurm see the folder of the call, and not this machine's own for temporary files.
+        room = stack.enter_context(Room("." if sweep.on == "slurm" else None))
+        crew = stack.enter_context(Crew[int](sweep.workers))
+        by_name = {one.case.name: one for one in waiting}
+        texts = {one.case.name: sweep.text(one.case) for one in waiting}
+        if sweep.on == "slurm":
+            named = [[one.case.name for one in batch] for part in batches_of(waiting, count) for batch in part]
+        else:
+            found = experiments_in([text.encode() for text in texts.values()])
+            named = [[part.name for part in share] for share in shares(found, count)]
+        jobs = [Job(room.path, number, names, "".join(texts[name] for name in names).encode())
+                for number, names in enumerate(named, 1)]
+        stop: Optional[Stop] = None
+        going = engines.going(how, program, jobs, room.path)
+        is_going = True
+        while is_going or len(crew):
+            try:
+                for job in next(going) if is_going else ():
+                    crew.give(job.number, read_part, str(job.file("whole")), [texts[name] for name in job.names], sweep.asks,
+                              sweep.span)
+            except StopIteration:
+                is_going = False
+            except Stop as stopped:
+                is_going, stop = False, stopped
+            yield from _read(crew, jobs, by_name, None if not is_going else 0.0)
+        if stop is not None:
+            raise Failed(stop.status, str(stop).strip())
+
+
+def _read(crew: Crew[int], jobs: Sequence[Job], by_name: dict[str, "Waiting"],
+          seconds: Optional[float]) -> Iterator["Answered"]:
+    """What the parts answer that have been read by now; without a time all that are there."""
+    while len(crew):
+        try:
+            outcome = crew.next(seconds)
+        except TimeoutError:
+            return
+        names = jobs[outcome.token - 1].names
+        if isinstance(outcome.fault, Failed):
+            raise type(outcome.fault)(outcome.fault.status, f"{by_name[names[0]].case.told()} or one behind it:"
+                                                            f" {outcome.fault.said}")
+        yield [by_name[name] for name in names], outcome.get()
+
+
+def by_dask(sweep: "Sweep", waiting: Sequence["Waiting"], program: str, count: int) -> Iterator["Answered"]:
+    """By the workers of a Dask scheduler, which have this package and the program; they run and read."""
+    try:
+        import distributed
+    except ModuleNotFoundError:
+        raise Failed(3, "distributed is missing (Debian: apt-get install python3-distributed)") from None
+    dask: Any = distributed
+    address = str(sweep.on).removeprefix(DASK)
+    try:
+        client = dask.Client(address, timeout=10)
+    except (OSError, ValueError) as fault:
+        raise Faulty(f"--on dask {address}: there is no scheduler: {str(fault) or type(fault).__name__}") from None
+    with client:
+        futures = {}
+        for part in batches_of(waiting, count):
+            texts = [[sweep.text(one.case) for one in batch] for batch in part]
+            future = client.submit(measured_by_turns, texts, sweep.asks, sweep.there or program, sweep.span, pure=False)
+            futures[future] = [one for batch in part for one in batch]
+        for future in dask.as_completed(list(futures)):
+            batch = futures.pop(future)
+            if future.status != "finished":
+                raised = future.exception()
+                said = raised.said if isinstance(raised, Failed) else f"{type(raised).__name__}: {raised}"
+                more = f" or one of {len(batch) - 1} behind it" if len(batch) > 1 else ""
+                raise Failed(3, f"{batch[0].case.told()}{more}: {said}")
+            yield batch, future.result()

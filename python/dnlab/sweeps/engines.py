@@ -1,0 +1,258 @@
+"""The engines of `spread`: processes of this machine, GNU parallel by ssh, and Slurm; and how parts become a report."""
+import getpass
+import os
+import re
+import secrets
+import shlex
+import shutil
+import signal
+import subprocess
+from functools import partial
+from pathlib import Path
+from typing import IO, Iterable, Iterator, Optional, Sequence
+
+from dnlab.errors import Failed
+from dnlab.io.outputs import whole_file
+from dnlab.io.splitting import groups
+from dnlab.processes import children, ending
+from dnlab.processes.children import Killed
+from dnlab.processes.crew import Crew
+from dnlab.processes.rooms import CANCEL, cancel
+from dnlab.sweeps.jobs import How, Job, Stop
+
+# What each task of the Slurm array does: the parts of its line of `tasks`, one after another. It writes under a name of
+# its own and renames, so that a part has a whole report or none, even where an array that was given up still runs
+# beside a later one.
+TASK = """#!/bin/sh
+worst=0
+for part in $(sed -n "${{SLURM_ARRAY_TASK_ID}}p" tasks); do
+  {program} alone <$part.txt >$part.out.$SLURM_JOB_ID 2>$part.err
+  status=$?
+  [ $status -ne 0 ] || mv $part.out.$SLURM_JOB_ID $part.whole
+  rm -f $part.out.$SLURM_JOB_ID
+  echo $status >$part.status
+  [ $status -eq 0 ] || worst=$status
+done
+exit $worst
+"""
+# What Slurm has where nobody configures it: an array's numbers are below.
+_MAX_ARRAY_SIZE = 1001
+# How long this machine waits before it looks again what others have done, in seconds.
+_LOOK = 0.5
+
+
+def version_of(program: str) -> bytes:
+    """What a program answers to --version; empty where it has no answer."""
+    try:
+        return children.run([program, "--version"]).out
+    except Killed:
+        return b""
+
+
+def laid_down(how: How, program: str, parts: Sequence[Job], folder: Path) -> None:
+    """Writes the parts' texts, or finds those of the run before; another scenario's are refused."""
+    mark = version_of(program) + f"{len(parts)} parts\n".encode()
+    if how.resume:
+        try:
+            same = (folder / "mark").read_bytes() == mark and all(
+                part.file("txt").read_bytes() == part.text for part in parts)
+        except OSError as error:
+            raise Stop(2, f"spread: --resume: {error.filename}: {error.strerror}\n") from error
+        if not same:
+            raise Stop(2, f"spread: --resume: {folder} is of another scenario, number of parts or program\n")
+        cancel(folder)
+        _leave(folder)
+        return
+    if how.work is not None:
+        try:
+            folder.mkdir()
+        except FileExistsError as error:
+            raise Stop(2, f"spread: {folder} is there: --resume goes on with it, or remove it\n") from error
+    for part in parts:
+        part.file("txt").write_bytes(part.text)
+    # last, so that a folder with a mark has all texts
+    (folder / "mark").write_bytes(mark)
+
+
+def _leave(folder: Path) -> None:
+    """Removes what a run that was ended has half written."""
+    for path in [*folder.glob("*.half"), *folder.glob("*.out.*"), *folder.glob("out.*")]:
+        path.unlink(missing_ok=True)
+
+
+def _alone(program: str, job: Job) -> None:
+    """Runs a part, for another process."""
+    with open(job.file("half"), "wb") as out:
+        try:
+            done = children.run([program, "alone"], job.file("txt").read_bytes(), out)
+            status, errors = done.status, done.errors
+        except Killed as killed:
+            status, errors = -int(signal.Signals[killed.said.split("ended by ")[-1].split()[0]]), b""
+    job.file("err").write_bytes(errors)
+    if status == 0:
+        os.replace(job.file("half"), job.file("whole"))
+    job.file("half").unlink(missing_ok=True)
+    job.file("status").write_text(f"{status}\n")
+
+
+def here(how: How, program: str, waiting: Sequence[Job], folder: Path) -> Iterator[None]:
+    """Runs parts by processes of this machine, so many at once."""
+    from dnlab.analysis.work import cores
+
+    with Crew[int](how.jobs or cores()) as crew:
+        for part in waiting:
+            # Another process needs neither the text nor the names.
+            crew.give(part.number, _alone, program, Job(folder, part.number, [], b""))
+        while len(crew):
+            crew.next().get()
+            yield
+
+
+def _waited(engine: "subprocess.Popen[bytes]") -> Iterator[None]:
+    """Looks again and again until an engine has ended."""
+    while True:
+        try:
+            engine.wait(_LOOK)
+            yield
+            return
+        except subprocess.TimeoutExpired:
+            yield
+
+
+def _end_parallel(engine: "subprocess.Popen[bytes]") -> None:
+    """parallel lets its jobs end at the first signal and ends them at the second."""
+    for _ in range(2):
+        if engine.returncode is None:
+            engine.send_signal(signal.SIGTERM)
+            try:
+                engine.wait(0.5)
+            except subprocess.TimeoutExpired:
+                continue
+    children.end(engine)
+
+
+def by_parallel(how: How, program: str, waiting: Sequence[Job], folder: Path) -> Iterator[None]:
+    assert how.ssh is not None
+    command = ["parallel", "--plain", "--will-cite", "--joblog", "joblog", "--results", "out.{}"]
+    if how.jobs:
+        command += ["--jobs", str(how.jobs)]
+    command += ["--sshlogin", how.ssh, "--workdir", "...", "--transferfile", "{}.txt", "--cleanup"]
+    command += [f"{shlex.quote(how.program or program)} alone <{{}}.txt", ":::"]
+    (folder / "order").write_text("".join(f"{part.number}\n" for part in waiting))
+    (folder / "joblog").unlink(missing_ok=True)
+    with open(folder / "engine.err", "wb") as errors:
+        with children.child([*command, *(str(part.number) for part in waiting)], _end_parallel, death=signal.SIGTERM,
+                            cwd=folder, stdin=subprocess.DEVNULL, stdout=subprocess.DEVNULL, stderr=errors,
+                            env={**os.environ, "PARALLEL_SHELL": "/bin/sh"}) as engine:
+            yield from _waited(engine)
+
+
+def gathered(folder: Path) -> None:
+    """Takes what parallel's log says: a part is done only where its job ended with status 0 and no signal."""
+    log, order = folder / "joblog", folder / "order"
+    if not log.is_file() or not order.is_file():
+        return
+    numbers = order.read_text().split()
+    for line in log.read_text().splitlines()[1:]:
+        fields = line.split("\t")
+        if len(fields) < 9:
+            continue
+        number, status, ended_by = numbers[int(fields[0]) - 1], fields[6], fields[7]
+        (folder / f"{number}.status").write_text(status if ended_by == "0" else f"-{ended_by}")
+        for kind, name in ("whole", f"out.{number}"), ("err", f"out.{number}.err"):
+            if (folder / name).is_file() and (kind == "err" or (status, ended_by) == ("0", "0")):
+                os.replace(folder / name, folder / f"{number}.{kind}")
+
+
+def most_tasks() -> int:
+    """How many tasks an array of Slurm may have here, with numbers from 1."""
+    try:
+        said = children.run(["scontrol", "show", "config"]).out.decode(errors="replace")
+    except Failed:
+        said = ""
+    found = re.search(r"^MaxArraySize\s*=\s*([0-9]+)", said, re.MULTILINE)
+    return max(int(found[1]) if found else _MAX_ARRAY_SIZE, 2) - 1
+
+
+def by_slurm(how: How, program: str, waiting: Sequence[Job], folder: Path) -> Iterator[None]:
+    """Runs parts as one array, of as many tasks as Slurm takes; where this run is ended the array is cancelled."""
+    ends = groups([max(len(part.text), 1) for part in waiting], min(how.parts, most_tasks()))
+    tasks = [waiting[begin:end] for begin, end in zip([0, *ends], ends)]
+    (folder / "task").write_text(TASK.format(program=shlex.quote(how.program or program)))
+    (folder / "tasks").write_text("".join(" ".join(str(part.number) for part in task) + "\n" for task in tasks))
+    array = f"1-{len(tasks)}" + (f"%{how.jobs}" if how.jobs else "")
+    name = f"dnlab-{secrets.token_hex(8)}"
+    (folder / CANCEL).write_text(f"scancel\n--user={getpass.getuser()}\n--name={name}")
+    chore = partial(cancel, folder)
+    ending.add(chore)
+    try:
+        with open(folder / "engine.err", "wb") as errors:
+            with children.child(["sbatch", "--wait", f"--job-name={name}", "--output=/dev/null", f"--chdir={folder}",
+                                 f"--array={array}", "task"], cwd=folder, stdin=subprocess.DEVNULL,
+                                stdout=subprocess.DEVNULL, stderr=errors) as engine:
+                yield from _waited(engine)
+                (folder / CANCEL).unlink()
+    finally:
+        cancel(folder)
+        ending.remove(chore)
+
+
+def going(how: How, program: str, parts: Sequence[Job], folder: Path) -> Iterator[list[Job]]:
+    """Runs the parts that aren't done; gives again and again those that are done now. Where some have failed they are
+    named by `Stop`, after the others."""
+    laid_down(how, program, parts, folder)
+    gathered(folder)
+    waiting = {part.number: part for part in parts if not part.is_done()}
+    yield [part for part in parts if part.number not in waiting]
+    for part in waiting.values():
+        for kind in "whole", "status", "err":
+            part.file(kind).unlink(missing_ok=True)
+    chore = partial(_leave, folder)
+    ending.add(chore)
+    try:
+        if waiting:
+            engine = by_slurm if how.slurm else by_parallel if how.ssh else here
+            for _ in engine(how, program, list(waiting.values()), folder):
+                gathered(folder)
+                done = [part for part in waiting.values() if part.is_done()]
+                for part in done:
+                    del waiting[part.number]
+                yield done
+    finally:
+        gathered(folder)
+        _leave(folder)
+        ending.remove(chore)
+    if waiting:
+        raise failure(how, parts, list(waiting.values()), folder)
+
+
+def failure(how: How, parts: Sequence[Job], failed: Sequence[Job], folder: Path) -> Stop:
+    """What is said of parts that have failed."""
+    said = [f"spread: part {part.number} of {len(parts)} failed (experiments {part.names[0]} to "
+            f"{part.names[-1]}): {part.why()}" for part in failed]
+    log = folder / "engine.err"
+    said += ["spread: " + line for line in log.read_text(errors="replace").splitlines()[-3:]] if log.is_file() else []
+    if how.work is not None:
+        said.append(f"spread: {len(parts) - len(failed)} parts are kept in {folder}; "
+                    "the same words with --resume run the others")
+    return Stop(3, "\n".join(said) + "\n")
+
+
+def _join(parts: Iterable[Job], report: IO[bytes]) -> None:
+    for part in parts:
+        with open(part.file("whole"), "rb") as piece:
+            shutil.copyfileobj(piece, report)
+    report.flush()
+
+
+def put_together(out: Optional[str], parts: Sequence[Job]) -> None:
+    """Writes the report: to its file, which takes its name when it is whole, or to standard output."""
+    try:
+        if out is None:
+            with open(1, "wb", closefd=False) as report:
+                _join(parts, report)
+        else:
+            with whole_file(out) as file:
+                _join(parts, file)
+    except OSError as error:
+        raise Stop(3, f"spread: write: {error.strerror}\n") from error

@@ -1,0 +1,145 @@
+"""Runs the program `dnlab` on scenario texts, or the library in its place."""
+import os
+from pathlib import Path
+from typing import BinaryIO, Iterator, NamedTuple, Optional, Union
+
+from dnlab import library
+from dnlab.analysis.results import Report
+from dnlab.errors import Failed, Refused
+from dnlab.io.origin import Origin, origin_of, write_beside
+from dnlab.io.outputs import whole_file
+from dnlab.io.packed import unpacked
+from dnlab.io.pieces import pieces
+from dnlab.io.scenario import read
+from dnlab.io.scenario_parts import MOST_BYTES, MOST_EXPERIMENTS
+from dnlab.io.splitting import experiments_in, texts_of
+from dnlab.processes import children
+from dnlab.processes.rooms import Room
+from dnlab.programs import program
+
+
+def run(text: Union[str, bytes, Path], workers: int = 1, moves: Optional[int] = None,
+        out: Union[str, Path, None] = None, dnlab: Optional[str] = None, engine: str = "process") -> Report:
+    """Runs a scenario and gives its report, joined with it.
+
+    text     the scenario, or the path of its file, which may be packed by gzip; it may have more experiments and bytes
+             than the program takes at once, and is then run in several texts, one after the other
+    workers  how many threads run its experiments, 1 to 16
+    moves    after how many turns a thread offers an experiment to the others
+    out      the report's file; what made it is kept beside it, as OUT.json. Else it is a temporary one, which lives as
+             long as the report, and the report's `origin` has what made it
+    dnlab    the program; else see `dnlab.programs.program`
+    engine   "process" starts the program; "library" calls libdnlab in this process (`dnlab.library.library` says which), and
+             takes no workers, moves or program. Many short scenarios run quicker so; Ctrl-C waits until a text is done
+
+    A scenario that the program refuses raises `Failed`, whose `said` has `line L: CAUSE` (L counts in `text`), and what
+    `--explain` says. So does a program that ends with status 0 and whose report lacks an experiment.
+    """
+    runner = _runner(engine, workers, moves, dnlab)
+    data = unpacked(text.read_bytes()) if isinstance(text, Path) else text.encode() if isinstance(text, str) else text
+    room = Room()
+    scenario = room.path / "scenario.txt"
+    scenario.write_bytes(data)
+    report = Path(out) if out is not None else room.path / "report.txt"
+    with whole_file(report) as file:
+        for line, part in _parts(data):
+            _run_one(runner, part, line, file)
+        with os.fdopen(os.dup(file.fileno()), "rb") as written:
+            written.seek(0)
+            origin = _origin(data, written, runner)
+    if out is not None:
+        write_beside(report, origin)
+    return Report(report, scenario, room, origin)
+
+
+class _Program(NamedTuple):
+    """A program that is started for each text, with these words behind it."""
+    path: str
+    words: tuple[str, ...]
+    version: Optional[str] = None
+
+    def write(self, text: bytes, out: BinaryIO) -> tuple[int, str]:
+        """Writes the report of a text; gives the status and what was said."""
+        done = children.run([self.path, *self.words], text, out)
+        return done.status, done.said()
+
+    def explained(self, text: bytes) -> str:
+        """What is said of a faulty text by `--explain`, with the line of its fault; '' where nothing is."""
+        done = children.run([self.path, "check", "--explain"], text)
+        return done.said() if done.status == 1 else ""
+
+
+class _Library(NamedTuple):
+    """The library, called in this process."""
+    path: str
+    words: tuple[str, ...]
+    version: Optional[str]
+
+    def write(self, text: bytes, out: BinaryIO) -> tuple[int, str]:
+        """As that of a program."""
+        try:
+            out.write(library.alone(text))
+            # Its bytes are read by another descriptor.
+            out.flush()
+        except Failed as failed:
+            return failed.status, failed.said
+        return 0, ""
+
+    def explained(self, text: bytes) -> str:
+        """As that of a program."""
+        try:
+            library.check(text)
+        except library.FaultIn as fault:
+            return f"{fault.said}\n{library.explain(text)}".strip()
+        return ""
+
+
+_Runner = Union[_Program, _Library]
+
+
+def _runner(engine: str, workers: int, moves: Optional[int], dnlab: Optional[str]) -> _Runner:
+    """What runs the texts; `ValueError` where the words don't go together."""
+    if engine == "library":
+        if workers > 1 or moves is not None or dnlab is not None:
+            raise ValueError('engine="library" takes no workers, moves or program: leave them out, or take engine="process"')
+        return _Library(library.library(), ("alone",), f"libdnlab {library.version()}")
+    if engine != "process":
+        raise ValueError(f'the engine is "process" or "library", not {engine!r}')
+    words = ("run", "--workers", str(workers)) if workers > 1 else ("alone",)
+    more = ("--moves", str(moves)) if workers > 1 and moves is not None else ()
+    return _Program(program(dnlab), words + more)
+
+
+def _origin(data: bytes, report: BinaryIO, runner: _Runner) -> Origin:
+    """What is kept of a run. A program that says nothing of a text which is no scenario, or that doesn't report all of it,
+    isn't dnlab, or was stopped."""
+    try:
+        plans = read(data)
+        names = {piece.name for piece in pieces(report)}
+    except Refused as refused:
+        raise Failed(0, f"{runner.path} took what is no scenario, or wrote no report (is it dnlab?): {refused}") from None
+    lost = [name for name in plans if name not in names]
+    if lost:
+        raise Failed(0, f"{runner.path} wrote no report of experiment {lost[0]}, and {len(lost)} of {len(plans)} are lacking:"
+                     " is it dnlab?")
+    return origin_of(plans, runner.path, [runner.path, *runner.words], runner.version)
+
+
+def _parts(data: bytes) -> Iterator[tuple[int, bytes]]:
+    """The texts that the program takes one at a time, with the number of lines before each."""
+    if len(data) <= MOST_BYTES and data.count(b"\nexperiment ") < MOST_EXPERIMENTS:
+        yield 0, data
+        return
+    for one in texts_of(experiments_in([data])):
+        yield one[0].line - 1, b"".join(part.text for part in one)
+
+
+def _run_one(runner: _Runner, text: bytes, before: int, out: BinaryIO) -> None:
+    status, said = runner.write(text, out)
+    if status:
+        if said.startswith("line ") and before:
+            number, _, cause = said[5:].partition(":")
+            said = f"line {int(number) + before}:{cause}" if number.isdigit() else said
+        elif status == 1:
+            said = runner.explained(text) or said
+        raise Failed(status, said)

@@ -1,0 +1,265 @@
+"""Sweeps: a template, a grid of settings and seeds; each experiment is made, run and read, and groups get intervals."""
+import re
+import shlex
+from pathlib import Path
+from typing import Any, Iterable, Iterator, Mapping, Optional, Sequence, Union
+
+from dnlab.analysis.asking import USUAL, Ask, Found, check, merged, names_in, stats_given, usual
+from dnlab.analysis.notes import Note
+from dnlab.analysis.own import Own
+from dnlab.analysis.spans import Span, span_of
+from dnlab.analysis.work import cores
+from dnlab.errors import Failed, Faulty
+from dnlab.io.scenario import read
+from dnlab.io.scenario_parts import MOST_BYTES, MOST_EXPERIMENTS, Plan
+from dnlab.io.splitting import experiments_in
+from dnlab.processes import ending
+from dnlab.processes.children import Killed
+from dnlab.processes.crew import Crew
+from dnlab.processes.progress import Progress
+from dnlab.programs import program as program_of
+from dnlab.sweeps.batches import Answered, Waiting, answer_of, judged, raise_first, steps_of, together
+from dnlab.sweeps.grids import TAKEN, Case, cases_of
+from dnlab.sweeps.kept import Kept, checksum, program_checksum
+from dnlab.sweeps.making import Maker
+from dnlab.sweeps.measuring import measured
+from dnlab.sweeps.swept import Swept
+from dnlab.sweeps.templates import Template, shown
+
+# An experiment's name hangs on the order of --set, and its answers don't.
+_HEADING = re.compile(r"^( *experiment +)\S+", re.MULTILINE)
+# Marks of experiments that weren't run as their texts have it: a table of them is no answer, unless they are allowed.
+STOPPING = ("refused", "spent")
+
+
+class Sweep(Swept):
+    """The experiments of a template, `cases` in order; they are run when their rows or the table are asked for.
+
+    template  the path of the template, or its text
+    grid      of each setting its values
+    seeds     each setting is run with each of them
+    asks      of whom and which figures; without any those of flows and trains
+    kept      the file in which answers are kept, by the checksums of text and program; else they last as long as this
+    workers   how many processes; all cores if it isn't given
+    on        other machines: `slurm`, `dask:ADDRESS` of a scheduler, or as `dnlab-spread --ssh` has them; `there` is the
+              program's path on them, `parts` in how many parts they are given, else each takes about a minute
+    dnlab     the program; else see `dnlab.programs.program`
+    anew      whether all are run, whatever is kept
+    allow     which of `refused` and `spent` don't stop it: an experiment with a command that was refused, or whose steps
+              were spent before its end, raises `Faulty` if it isn't allowed
+    span      the part of each experiment's time that is summed up, as without a warm-up
+    """
+
+    def __init__(self, template: Union[str, Path], grid: Mapping[str, Sequence[Any]], seeds: Iterable[int] = (1,),
+                 asks: Sequence[Ask] = (), kept: Union[str, Path, None] = None, workers: Optional[int] = None,
+                 on: Optional[str] = None, there: Optional[str] = None, dnlab: Optional[str] = None,
+                 anew: bool = False, allow: Sequence[str] = (), parts: Optional[int] = None, span: Span = Span()) -> None:
+        self.template = Template(template)
+        for name in grid:
+            if name in TAKEN:
+                raise Faulty(f"no setting can be called {name}: the tables, or a template, have this name")
+            if name not in self.template.names:
+                raise Faulty(f"{self.template.name}: {name} is set, and there is no {{{{ {name} }}}} in it")
+        self.settings = list(grid)
+        self.cases = cases_of(grid, seeds)
+        self.asks = merged(asks)
+        self.workers = workers or cores()
+        self.on, self.there, self.parts = on, there, parts
+        self.allow = frozenset(allow)
+        self.span = span
+        self._maker = Maker(self.template)
+        self._named = dnlab
+        self.kept = Kept(kept)
+        self.anew = anew
+        self.found: dict[str, Found] = {}
+        # How many experiments were run, and not found among what was kept.
+        self.ran = 0
+
+    def text(self, case: Case) -> str:
+        """The text of an experiment; one that isn't just this experiment is refused."""
+        text = self._maker.made(case.name, case.seed, case.settings, case.told())
+        found = [part.name for part in experiments_in([text.encode()])]
+        if found != [case.name]:
+            has = f"it has {', '.join(found)}" if found else "it has none"
+            raise Faulty(f"{self.template.name}: {case.told()}: its text must have this one experiment, and {has}: let it"
+                         " begin with `experiment {{ name }} seed {{ seed }} budget 1000`")
+        return text
+
+    def _faulty(self, case: Case, said: str) -> Faulty:
+        words = [f"--set {shlex.quote(f'{name}={shown(value)}')}" for name, value in case.settings.items()]
+        seen = " ".join([*words, f"--seeds {case.seed} --dry-run"])
+        return Faulty(f"{self.template.name}: {case.told()}: a fault in the text that was made ({seen} shows it)\n{said}")
+
+    def check_texts(self, cases: Sequence[tuple[Case, str]], program: str) -> None:
+        """Has the program judge some texts, of one experiment each; the first fault is raised as `--explain` has it."""
+        joined = "".join(text for _, text in cases).encode()
+        if len(joined) <= MOST_BYTES and judged(program, joined) is None:
+            return
+        for case, text in cases:
+            said = judged(program, text.encode())
+            if said is not None:
+                raise self._faulty(case, said)
+
+    def _asked(self, program: str) -> None:
+        """Judges what is asked by the first texts of the settings, or chooses what is usual."""
+        plans: list[Plan] = []
+        firsts = list({tuple(map(str, case.settings.values())): case for case in reversed(self.cases)}.values())[::-1]
+        if not self.asks:
+            firsts = [firsts[0], firsts[-1]]
+        for place, case in enumerate(firsts):
+            text = self.text(case)
+            self.check_texts([(case, text)], program)
+            plans += read(text.encode()).values()
+            if self.asks:
+                try:
+                    return check(self.asks, names_in(plans))
+                except Faulty:
+                    if place + 1 == len(firsts):
+                        raise
+        self.asks = usual(names_in(plans))
+
+    def prepare(self) -> list[Waiting]:
+        """Makes and judges all texts; takes what is kept, and gives what must be run."""
+        program = program_of(self._named)
+        self._asked(program)
+        own = program_checksum(program)
+        waiting: list[Waiting] = []
+        texts: list[tuple[Case, str]] = []
+        size = 0
+        for case in self.cases:
+            if case.name in self.found:
+                continue
+            text = self.text(case)
+            key = checksum(_HEADING.sub(r"\1", text, count=1) + self.span.words(), own)
+            found = None if self.anew else self.kept.get(key, self.asks)
+            if found is not None:
+                self.found[case.name] = found
+                continue
+            if len(texts) == MOST_EXPERIMENTS or size + len(text) > MOST_BYTES:
+                self.check_texts(texts, program)
+                texts, size = [], 0
+            texts.append((case, text))
+            size += len(text)
+            waiting.append(Waiting(case, key, steps_of(text)))
+        self.check_texts(texts, program)
+        return waiting
+
+    def run(self) -> None:
+        """Runs what isn't known yet; each answer is kept as it comes."""
+        if len(self.found) == len(self.cases):
+            return
+        try:
+            waiting = self.prepare()
+            for case in self.cases:
+                self._judge(case)
+            self.kept.open()
+            self._run(waiting)
+        finally:
+            self._maker.close()
+
+    def _run(self, waiting: Sequence[Waiting]) -> None:
+        program = program_of(self._named)
+        with Progress("sweep", len(self.cases), len(self.cases) - len(waiting)) as progress:
+            for batch, found in self._answers(waiting, program):
+                with ending.held():
+                    self.kept.put([(one.key, self._keepable(answered)) for one, answered in zip(batch, found)])
+                    self.found.update((one.case.name, answered) for one, answered in zip(batch, found))
+                    self.ran += len(batch)
+                progress.step(len(batch))
+                for one in batch:
+                    self._judge(one.case)
+
+    def _keepable(self, found: Found) -> Found:
+        """What is kept: not what functions of one's own answered, since what they do may change."""
+        own = {str(stat) for ask in self.asks for stat in ask.stats if isinstance(stat, Own)}
+        return found if not own else found._replace(values={
+            of: {stat: values for stat, values in stats.items() if stat not in own} for of, stats in found.values.items()})
+
+    def _answers(self, waiting: Sequence[Waiting], program: str) -> Iterator[Answered]:
+        if self.on is None:
+            return self.here(waiting, program)
+        from dnlab.sweeps import elsewhere
+
+        return elsewhere.answers(self, waiting, program)
+
+    def _judge(self, case: Case) -> None:
+        """Refuses an experiment that wasn't run as its text has it, unless that is allowed."""
+        for note in self.found[case.name].notes if case.name in self.found else []:
+            if note.mark in STOPPING and note.mark not in self.allow:
+                raise Faulty(f"{self.template.name}: {case.told()}: {note.text} (--allow {note.mark} goes on)")
+
+    def here(self, waiting: Sequence[Waiting], program: str) -> Iterator[Answered]:
+        """Runs and reads by processes of this machine; what is done first comes first. If some fail the others are run,
+        and the first failure is raised at the end; one that a signal ended ends all."""
+        failures: list[Failed] = []
+        with Crew[tuple[Waiting, ...]](min(self.workers, max(len(waiting), 1))) as crew:
+            def begin(batch: Sequence[Waiting]) -> None:
+                crew.give(tuple(batch), measured, [self.text(one.case) for one in batch], self.asks, program,
+                          self.span)
+
+            for batch in together(waiting, self.workers):
+                begin(batch)
+                while len(crew) > 2 * self.workers:
+                    yield from self._taken(crew, begin, failures)
+            while len(crew):
+                yield from self._taken(crew, begin, failures)
+        raise_first(failures)
+
+    def _taken(self, crew: Crew[tuple[Waiting, ...]], begin: Any, failures: list[Failed]) -> Iterator[Answered]:
+        """What the next job gives. Experiments of a text that failed are begun anew one by one: so it is told which of
+        them it was, and where memory was short less is wanted at once."""
+        outcome = crew.next()
+        batch = list(outcome.token)
+        if not isinstance(outcome.fault, Failed) or isinstance(outcome.fault, Killed):
+            yield batch, answer_of(outcome)
+        elif len(batch) == 1:
+            failures.append(Failed(outcome.fault.status, f"{batch[0].case.told()}: {outcome.fault.said}"))
+        else:
+            for one in batch:
+                begin([one])
+
+    def changeless(self) -> Optional[str]:
+        """The warning if the seeds change nothing, so that intervals would have no width."""
+        by_setting: dict[tuple[str, ...], list[Case]] = {}
+        for case in self.cases:
+            by_setting.setdefault(tuple(map(str, case.settings.values())), []).append(case)
+        for same in by_setting.values():
+            texts = [re.sub("^ *experiment .*", "", self.text(case), flags=re.MULTILINE) for case in same[:2]]
+            if len(texts) < 2 or texts[0] != texts[1] or re.search(r" plr +(?!0(\.0*)?( |$))", texts[0], re.MULTILINE):
+                return None
+        return "the seeds change nothing: the template draws nothing by rng, and no pipe loses by a plr"
+
+    def notes(self) -> list[tuple[str, Note]]:
+        """What may be silently wrong in experiments that were run, with their names."""
+        return [(case.name, note) for case in self.cases if case.name in self.found
+                for note in self.found[case.name].notes]
+
+
+def sweep(template: Union[str, Path], *, seed: Union[int, Iterable[int]] = 1, of: Any = None, stat: Any = USUAL,
+          settings: Mapping[str, Any] = {}, kept: Union[str, Path, None] = None, workers: Optional[int] = None,
+          on: Optional[str] = None, dnlab: Optional[str] = None, allow: Sequence[str] = (), begin: int = 0,
+          end: Optional[int] = None, **grid: Any) -> Sweep:
+    """Runs a template with each setting and each seed: `dnlab.sweep("link.tmpl", queue=[10, 50], seed=range(30)).table()`.
+
+    template  the path of a template in Jinja2, or its text (a str of several lines)
+    seed      one or several; `settings` has settings that are called as a word here is
+    of, stat  whom and what to ask: `of="train 9", stat=["delay.p95", "lost"]`, or of={"train 9": ["delay.p95"], ..}
+    begin, end  only what happened from the moment `begin` on and before `end` (ns), so that a warm-up is left out
+    kept, workers, on, dnlab, allow   see `Sweep`
+
+    A stat may be a function of one's own: it is given the run, a `dnlab.Experiment`, or the run and of whom it is asked, and
+    gives a number. What it answers isn't kept.
+
+    A setting is a value or a list of them. Faults of the template, and of a text that was made of it, raise `Faulty`.
+    """
+    every = {name: [value] if isinstance(value, (str, int, float)) else list(value)
+             for name, value in {**settings, **grid}.items()}
+    asked = of if isinstance(of, Mapping) else {} if of is None else {
+        one: stat for one in ([of] if isinstance(of, str) else of)}
+    if of is None and stat is not USUAL:
+        if not all(callable(one) for one in (stat if isinstance(stat, (list, tuple)) else [stat])):
+            raise Faulty("stat without of: say of whom, as of='train 9' (a function alone is asked of the whole run)")
+        asked = {"all": stat}
+    asks = [Ask(one, stats_given(stats)) for one, stats in asked.items()]
+    return Sweep(template, every, [seed] if isinstance(seed, int) else seed, asks, kept, workers, on, dnlab=dnlab,
+                 allow=allow, span=span_of(begin, end))

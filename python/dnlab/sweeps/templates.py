@@ -1,0 +1,246 @@
+"""Templates of scenarios, in Jinja2 (Debian: python3-jinja2): a text in which settings, the seed and chance stand open."""
+import os
+import re
+from decimal import Decimal
+from fractions import Fraction
+from pathlib import Path
+from types import TracebackType
+from typing import Any, Callable, Iterator, Mapping, NoReturn, Optional, Union
+
+import jinja2
+import jinja2.meta
+import jinja2.sandbox
+
+from dnlab.chance import Chance
+from dnlab.errors import Faulty
+from dnlab.io.scenario_parts import MOST_BYTES
+from dnlab.sweeps.traffic import Traffic
+
+Value = Union[int, float, str]
+# What a template is given besides the settings.
+GIVEN = ("name", "seed", "rng", "traffic")
+_TEXT = "<template>"
+# A loop over more numbers would make a text that no program takes.
+_MOST_NUMBERS = 10**6
+
+
+class Written(float):
+    """A fraction that is printed as it was written, where Python might print 1e-06.
+
+    >>> f"{Written('0.000001')}", Written("0.5") * 2
+    ('0.000001', 1.0)
+    """
+    text: str
+
+    def __new__(cls, text: str) -> "Written":
+        made = super().__new__(cls, text)
+        made.text = text
+        return made
+
+    def __str__(self) -> str:
+        return self.text
+
+    def __format__(self, form: str) -> str:
+        return format(float(self), form) if form else self.text
+
+    def __reduce__(self) -> tuple[type, tuple[str]]:
+        return Written, (self.text,)
+
+
+def value_of(text: str) -> Value:
+    """A word as a number where it is one, so that a template can calculate with it.
+
+    >>> value_of("10"), value_of("010"), value_of("10Mbit/s")
+    (10, '010', '10Mbit/s')
+    """
+    if re.fullmatch(r"0|-?[1-9][0-9]*", text):
+        return int(text)
+    return Written(text) if re.fullmatch(r"-?[0-9]+\.[0-9]+", text) else text
+
+
+def shown(value: Any) -> Any:
+    """A value as it stands in a scenario: a float without an exponent, a whole one without its point.
+
+    >>> shown(2.0), shown(1e-06), shown("x")
+    (2, '0.000001', 'x')
+    """
+    if not isinstance(value, float) or isinstance(value, Written):
+        return value
+    return int(value) if value.is_integer() else format(Decimal(repr(value)), "f")
+
+
+@jinja2.pass_context
+def _shown(_: Any, value: Any) -> Any:
+    return shown(value)
+
+
+def nanoseconds(unit: int) -> Callable[[Any], int]:
+    """The filter of a unit: so many of it in whole nanoseconds.
+
+    >>> nanoseconds(10**6)("0.5")
+    500000
+    """
+    def filtered(value: Any) -> int:
+        text = str(shown(value))
+        # An exponent of many digits would be calculated for ever.
+        if len(text) > 64 or re.search(r"[eE][-+]?[0-9]{3}", text):
+            raise ValueError(f"{text[:64]!r} is no time")
+        time = Fraction(text) * unit
+        if time.denominator != 1:
+            raise ValueError(f"{value} is no whole number of nanoseconds")
+        return int(time)
+
+    return filtered
+
+
+def _no_chance(*_: Any) -> NoReturn:
+    raise jinja2.TemplateRuntimeError("the filter `random` draws otherwise each time: write rng.choice(..), which hangs on"
+                                      " the seed")
+
+
+class _Numbers:
+    """As Python's range: of any length where single numbers are taken, but only so long a one is gone through."""
+
+    def __init__(self, *ends: int) -> None:
+        self._range = range(*ends)
+
+    def __len__(self) -> int:
+        return len(self._range)
+
+    def __contains__(self, value: object) -> bool:
+        return value in self._range
+
+    def __getitem__(self, place: int) -> int:
+        return self._range[place]
+
+    def __iter__(self) -> Iterator[int]:
+        if len(self._range) > _MOST_NUMBERS:
+            raise OverflowError(f"{self._range}: it has {len(self._range)} numbers, and a template goes through"
+                                f" {_MOST_NUMBERS} at most")
+        return iter(self._range)
+
+
+class _Loader(jinja2.FileSystemLoader):
+    """Templates of a folder, but no hidden file and no link out of it; keeps which files were read, so that their lines
+    are known in a traceback."""
+
+    def __init__(self, folder: Path, own: str) -> None:
+        super().__init__(folder)
+        self.folder = os.path.realpath(folder)
+        # The template itself is read by whatever name it was given.
+        self.own = own
+        self.files: set[str] = {_TEXT}
+
+    def get_source(self, environment: jinja2.Environment,
+                   template: str) -> tuple[str, str, Callable[[], bool]]:
+        if template != self.own:
+            if any(part.startswith(".") and part not in (".", "..") for part in template.split("/")):
+                raise jinja2.TemplateRuntimeError(f"{template}: a hidden file isn't included")
+            real = os.path.realpath(os.path.join(self.folder, template))
+            if not real.startswith(self.folder + os.sep):
+                raise jinja2.TemplateRuntimeError(f"{template}: it is outside the template's folder")
+        found = super().get_source(environment, template)
+        self.files.add(found[1])
+        return found
+
+
+class Template:
+    """A template: the path of its file, or its text (a str of more than one line).
+
+    Names that nobody sets are errors. It may include and import others of its folder. `Faulty` says the file, the line
+    and the cause."""
+
+    def __init__(self, source: Union[str, Path]) -> None:
+        is_text = isinstance(source, str) and "\n" in source
+        self.path = None if is_text else Path(source)
+        self.name = "template" if self.path is None else str(self.path)
+        self._source = source
+        folder = Path(".") if self.path is None else self.path.parent
+        self._loader = _Loader(folder, "" if self.path is None else self.path.name)
+        # The sandbox keeps a template from all but what is given to it; also from what hangs on the machine or the day.
+        self._environment = jinja2.sandbox.SandboxedEnvironment(
+            loader=self._loader, undefined=jinja2.StrictUndefined, keep_trailing_newline=True,
+            # Nothing is calculated before a text is made, which has its limits (`making`): so nothing is optimized, and
+            # what is printed takes the context, which isn't there before.
+            optimized=False, finalize=_shown)
+        self._environment.filters.update(s=nanoseconds(10**9), ms=nanoseconds(10**6), us=nanoseconds(10**3),
+                                         random=_no_chance)
+        self._environment.globals.pop("lipsum")
+        self._environment.globals["range"] = _Numbers
+        try:
+            self.text = str(source) if self.path is None else self.path.read_text(encoding="utf-8")
+            self._compiled = (self._environment.from_string(self.text) if self.path is None
+                              else self._environment.get_template(self.path.name))
+            self.names = self._names(self.text, set())
+        except jinja2.TemplateError as fault:
+            raise Faulty(self._told(fault)) from None
+        except OSError as fault:
+            raise Faulty(f"{self.name}: {fault.strerror}") from None
+        except UnicodeDecodeError as fault:
+            raise Faulty(f"{self.name}: it is no text: byte {fault.start} is none of UTF-8") from None
+
+    def __reduce__(self) -> "tuple[type[Template], tuple[Union[str, Path]]]":
+        """What is compiled is made anew in another process."""
+        return Template, (self._source,)
+
+    def _names(self, text: str, seen: set[str]) -> set[str]:
+        """The names that a template takes from outside, those of what it includes too."""
+        parsed = self._environment.parse(text)
+        # As jinja2.meta.find_undeclared_variables, which would calculate what is constant.
+        finder: Any = jinja2.meta.TrackingCodeGenerator(self._environment)
+        finder.optimizer = None
+        finder.visit(parsed)
+        found: set[str] = set(finder.undeclared_identifiers)
+        for name in jinja2.meta.find_referenced_templates(parsed):
+            if name is not None and name not in seen:
+                seen.add(name)
+                try:
+                    found |= self._names(self._loader.get_source(self._environment, name)[0], seen)
+                except jinja2.TemplateNotFound:
+                    continue  # Where it is wanted the rendering says so, with the line.
+                except jinja2.TemplateRuntimeError:
+                    continue
+        return found
+
+    def made(self, name: str, seed: int, settings: Mapping[str, Any]) -> str:
+        """The text of an experiment; its last line is ended. `Faulty` where it is longer than a scenario may be."""
+        parts, size = [], 0
+        try:
+            rng = Chance(seed)
+            given = {**settings, "name": name, "seed": seed, "rng": rng, "traffic": Traffic(rng)}
+            for part in self._compiled.generate(given):
+                parts.append(part)
+                size += len(part)
+                if size > MOST_BYTES:
+                    raise Faulty(f"{self.name}: the text of {name} has more than {MOST_BYTES} bytes, which no scenario has")
+        except Faulty:
+            raise
+        except Exception as fault:  # A template calculates, so anything may go wrong in it.
+            raise Faulty(self._told(fault)) from None
+        text = "".join(parts)
+        return text if text.endswith("\n") else text + "\n"
+
+    def _told(self, fault: Exception) -> str:
+        """A fault with its file and line."""
+        if isinstance(fault, jinja2.TemplateSyntaxError):
+            return f"{fault.filename or self.name}: line {fault.lineno}: {fault.message}"
+        file, line = self._place(fault.__traceback__)
+        cause = str(fault) or type(fault).__name__
+        if isinstance(fault, jinja2.TemplateNotFound):
+            cause = f"there is no template {fault.name}"
+        elif isinstance(fault, jinja2.UndefinedError):
+            known = ", ".join(GIVEN)
+            cause += f" (settings are given by --set, and every template has {known})"
+        elif not isinstance(fault, jinja2.TemplateError):
+            cause = f"{type(fault).__name__}: {cause}"
+        return f"{file}: line {line}: {cause}" if line else f"{file}: {cause}"
+
+    def _place(self, trace: Optional[TracebackType]) -> tuple[str, Optional[int]]:
+        """The last line of a template that a traceback has; Jinja2 writes its lines into it."""
+        place: tuple[str, Optional[int]] = self.name, None
+        while trace is not None:
+            file = trace.tb_frame.f_code.co_filename
+            if file in self._loader.files:
+                place = self.name if file == _TEXT else file, trace.tb_lineno
+            trace = trace.tb_next
+        return place

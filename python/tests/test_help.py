@@ -1,0 +1,49 @@
+"""`--help` of each tool fits a terminal of 80 columns and shows two examples."""
+import os
+import subprocess
+from pathlib import Path
+
+import pytest
+from conftest import ROOT
+
+# They answer dnlab's own words for ./dnlab, `--help` among them.
+OF_DNLAB = {"tools/gate/by_try", "tools/gate/checked"}
+TOOLS = sorted(str(path.relative_to(ROOT)) for path in (
+    *ROOT.glob("tools/**/*"), *ROOT.glob("cookbook/*"), *ROOT.glob("stacks/**/*"), ROOT / "examples/check", ROOT / "test")
+    if path.is_file() and os.access(path, os.X_OK))
+
+
+def help_of(tool: str) -> str:
+    """What a tool prints of its words, as for a terminal of 80 columns."""
+    done = subprocess.run([f"./{tool}", "--help"], cwd=ROOT, capture_output=True, text=True, timeout=120, check=False,
+                          stdin=subprocess.DEVNULL, env={**os.environ, "COLUMNS": "80", "PYTHONDONTWRITEBYTECODE": "1"})
+    assert done.returncode == 0 and not done.stderr, done.stderr
+    return done.stdout
+
+
+def examples_in(text: str) -> list[str]:
+    """The commands below `Example:`; one that goes on is indented by more."""
+    _, _, after = text.partition("\nExample:\n")
+    return [line.strip() for line in after.split("\n\n")[0].splitlines() if line[:2] == "  " and line[2:3] != " "]
+
+
+@pytest.mark.parametrize("tool", [tool for tool in TOOLS if tool not in OF_DNLAB])
+def test_help_fits_and_shows_two_examples(tool: str) -> None:
+    text = help_of(tool)
+    assert not [line for line in text.splitlines() if len(line) > 80]
+    found = examples_in(text)
+    assert len(found) >= 2
+    # Where a tool is called by its path, so are its examples.
+    assert sum(tool in line for line in found) >= 1
+
+
+def test_what_an_example_is() -> None:
+    text = "usage: a\n\nExample:\n  a one \\\n    two\n  a three\n\nExit status: 0\n  no example\n"
+    assert examples_in(text) == ["a one \\", "a three"]
+    assert not examples_in("usage: a\n\n  a one\n")
+
+
+def test_all_tools_are_asked() -> None:
+    assert {"tools/summary", "tools/gate/docs", "tools/attack/hostile", "cookbook/check", "stacks/check", "test"} <= set(TOOLS)
+    assert all((ROOT / tool).exists() for tool in OF_DNLAB)
+    assert not [tool for tool in TOOLS if Path(tool).suffix == ".md"]
