@@ -21,7 +21,7 @@ use Rattle.live.specs.declared.answer.Answer.{Answer}
 use Rattle.live.specs.declared.answer.Answer.TheVariants as answers
 use Rattle.live.specs.declared.open.Phase.{Phase}
 use Rattle.live.specs.declared.open.Phase.TheVariants.{Going, Over, Lost}
-use Rattle.live.specs.Lines.{answer_line}
+use Rattle.live.specs.Lines.{answer_line, help_lines}
 use Rattle.live.specs.Opens.{KeptOpen, IsTold, IsToldIn, MayCome, IsFault, IsSame, Tells}
 use Rattle.live.specs.Sessions.{KeptSession, Stand, IsSoFar, TellsAll, Grows, Hears, Takes, Piece, Told, Answered, Helped, IsPlain, written, told}
 
@@ -201,13 +201,8 @@ answered-grows old new a more first mid last (Ok x) (bytes, is, grows) e = (
 answered-grows old new a more first mid last (Err x) h e = e
 
 -- what can be asked is told
-pub helped : (old : KeptSession) (first mid last bytes : List ℕ) → mid ≡ first ++ codes "# " → last ≡ mid ++ bytes →
-    (ps : List Piece) × (last ≡ first ++ flat_map written ps) × Grows (λ es. es) (flat_map told ps) old old
-helped old first mid last bytes e is = (
-  Helped bytes ∷ [],
-  is ∙ ap (λ (l : List ℕ). l ++ bytes) e ∙ append_assoc first (codes "# ") bytes ∙ ap (λ (l : List ℕ). first ++ l) (sym (append-nil (codes "# " ++ bytes))),
-  grows-none old old refl,
-)
+pub helped : (old : KeptSession) (first last : List ℕ) → last ≡ first ++ help_lines → (ps : List Piece) × (last ≡ first ++ flat_map written ps) × Grows (λ es. es) (flat_map told ps) old old
+helped old first last is = (Helped ∷ [], is ∙ ap (λ (l : List ℕ). first ++ l) (sym (append-nil help_lines)), grows-none old old refl)
 
 -- what an experiment told
 pub asked-told : (old new : KeptSession) (asked first last : List ℕ) (request : Request) (r : Result Answer AllocError) →

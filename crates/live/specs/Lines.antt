@@ -29,3 +29,14 @@ answer_line (answers.Next (Some n)) = codes "#< next " ++ decimal n ++ codes "\n
 answer_line (answers.Next None) = codes "#< next none\n"
 answer_line (answers.Over n) = codes "#< over " ++ decimal n ++ codes "\n"
 answer_line (answers.Fault c) = codes "#< fault " ++ cause_word c ++ codes "\n"
+
+-- what can be asked
+abbrev pub help_lines : List ℕ
+help_lines =
+    codes "# #> until @M                all that is due below M (ns) happens\n"
+    ++ codes "# #> until @M first [G]      the same, but at most G ns (1) past the first delivery or drop of an injected packet\n"
+    ++ codes "# #> until @M first any [G]  the same, of any packet\n"
+    ++ codes "# #> next                    when the next event is due\n"
+    ++ codes "# #> show mine|all           tell what concerns injected packets, or all\n"
+    ++ codes "# #> use NAME                the lines that follow are for this experiment\n"
+    ++ codes "# other lines are those of a scenario: experiment NAME seed S budget B [steps N], @M COMMAND, @M end\n"

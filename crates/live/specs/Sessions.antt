@@ -6,7 +6,7 @@ use Rattle.control.specs.Scenario.{experiments}
 use Rattle.control_lines.specs.Entries.{Entry, Says}
 use Rattle.control_words.specs.Text.{words}
 use Rattle.live.specs.declared.answer.Answer.{Answer}
-use Rattle.live.specs.Lines.{answer_line}
+use Rattle.live.specs.Lines.{answer_line, help_lines}
 use Rattle.live.specs.Opens.{KeptOpen, IsTold, IsFault}
 
 -- its experiments, and the place of the one that lines are for
@@ -19,13 +19,13 @@ pub data Piece : Type 0 where
   Told : List ℕ → Piece
   Answered : Answer → Piece
   Turned : List ℕ → Piece
-  Helped : List ℕ → Piece
+  Helped : Piece
 
 abbrev pub written : Piece → List ℕ
 written (Told bytes) = bytes
 written (Answered a) = answer_line a
 written (Turned name) = codes "#: " ++ name ++ codes "\n"
-written (Helped bytes) = codes "# " ++ bytes
+written Helped = help_lines
 
 -- the bytes of reports among it
 abbrev pub told : Piece → List ℕ

@@ -24,9 +24,9 @@ pub const MAX_LINE: usize = 512;
 /// How many experiments a session has at most, as a scenario.
 const MOST_EXPERIMENTS: usize = 256;
 
-// What can be asked, as comments, behind the first `# `.
+// What can be asked, as comments.
 const HELP: &[u8] = b"\
-#> until @M                all that is due below M (ns) happens\n\
+# #> until @M                all that is due below M (ns) happens\n\
 # #> until @M first [G]      the same, but at most G ns (1) past the first delivery or drop of an injected packet\n\
 # #> until @M first any [G]  the same, of any packet\n\
 # #> next                    when the next event is due\n\
@@ -183,7 +183,6 @@ impl Session {
         match read_request(asked) {
             Ok(Request::Use { name }) => self.turn_to(name, out),
             Ok(Request::Help) => {
-                out.extend_from_slice(b"# ")?;
                 out.extend_from_slice(HELP)?;
                 Ok(Answer::Done)
             }

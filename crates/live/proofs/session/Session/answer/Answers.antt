@@ -1,10 +1,9 @@
 use Rattle.live.proofs.SessionFacts.{helped, asked-told}
 use Rattle.live.proofs.session.Session.answer.Goals as goal
 
-pub returns-in_ok-extend_from_slice-in-Ok-Help-2 : goal.returns-in_ok-extend_from_slice-in-Ok-Help-2
-returns-in_ok-extend_from_slice-in-Ok-Help-2 c =
-    let h =
-        helped c.args.self.now c.args.out.now.items _ _ _ c.in_ok-extend_from_slice-in-Ok-Help.ensures.items c.in_ok-extend_from_slice-in-Ok-Help-2.ensures.items in
+pub returns-in_ok-extend_from_slice-in-Ok-Help : goal.returns-in_ok-extend_from_slice-in-Ok-Help
+returns-in_ok-extend_from_slice-in-Ok-Help c =
+    let h = helped c.args.self.now c.args.out.now.items _ c.in_ok-extend_from_slice-in-Ok-Help.ensures.items in
     (h.0, h.1, λ fine plain other. h.2)
 
 pub returns-in-Ok : goal.returns-in-Ok

@@ -14,7 +14,10 @@ returns c =
     by-fault c.in_ok-answer.answer _
     (λ fault. ([], (h.fault fault).1 ∙ sym (append-nil _), λ fine. absurd (fine fault)))
     (λ fine.
-    let t = h.told fine in
-    (t.0, t.1, λ still. subst (λ (s : KeptSession). Grows (λ es. with_last es c.args.command.now) t.0 s new) c.self.view_is
-    (grows-command old new c.index_mut.result.now c.take.new.self t.0 c.args.command.now refl refl
-    (let none = c.if-place-len.false in let len = c.len.ensures in let ok = c.self.inside.open.ok.0 in omega (arith, none, len, ok)) (sym c.index_mut.ensures.value) h.same t.2)))
+    let t = h.told fine in (
+      t.0,
+      t.1,
+      λ still. subst (λ (s : KeptSession). Grows (λ es. with_last es c.args.command.now) t.0 s new) c.self.view_is
+          (grows-command old new c.index_mut.result.now c.take.new.self t.0 c.args.command.now refl refl
+          (let none = c.if-place-len.false in let len = c.len.ensures in let ok = c.self.inside.open.ok.0 in omega (arith, none, len, ok)) (sym c.index_mut.ensures.value) h.same t.2),
+    ))
