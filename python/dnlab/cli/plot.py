@@ -107,13 +107,15 @@ def words(given: Sequence[str]) -> argparse.Namespace:
 def draw_one(view: View, what: Sequence[str], span: Span, every: Optional[int], patterns: Sequence[str]) -> Drawn:
     """The panels of one experiment, for another process."""
     names = [name for name, _ in view.senders]
+    # Of all senders, so before some are chosen.
+    notes = view.notes
     if patterns:
         view.senders = [(name, packets) for name, packets in view.senders
                         if any(is_named(name, pattern) for pattern in patterns)]
         if not view.senders:
             view.more_notes.append(Note("senders", f"--of {' '.join(map(repr, patterns))}: it has {', '.join(names)}"))
     panels = [panel_of(view, one, span, every) for one in what]
-    return Drawn(view.name, panels, view.notes + view.more_notes)
+    return Drawn(view.name, panels, notes + view.more_notes)
 
 
 def draw(given: argparse.Namespace) -> list[Drawn]:
