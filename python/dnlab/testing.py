@@ -13,11 +13,12 @@ and in a test:
 Refused commands, and an experiment whose steps were spent, fail as well, unless `allow` names them.
 """
 from pathlib import Path
-from typing import Callable, Optional, Sequence, Union
+from typing import Callable, Mapping, Optional, Sequence, Union
 
 import pytest
 
 from dnlab.analysis.bounds import allowed_of, bound_of, bounds_in, failing, judge, percentiles_for
+from dnlab.analysis.naming import with_names
 from dnlab.analysis.results import Report
 from dnlab.analysis.spans import span_of
 from dnlab.analysis.summing import summed
@@ -25,13 +26,14 @@ from dnlab.errors import Faulty
 
 
 def expecting(report: Report, *bounds: Union[str, Path], allow: Union[str, Sequence[str]] = (), begin: int = 0,
-              end: Optional[int] = None) -> None:
+              end: Optional[int] = None, names: Optional[Mapping[str, str]] = None) -> None:
     """Fails if a bound doesn't hold, if commands were refused and if steps were spent, with all bounds that were
     looked at; `dnlab.Faulty` for what is no bound, and if there is nothing to judge.
 
     bounds  each one in words, or a file of them (`dnlab.analysis.bounds` has the form)
     allow   `refused`, `spent`, or both: what doesn't fail
     begin, end  only what happened from the moment `begin` on and before `end`, ns
+    names   of injected packets' sources, as in `dnlab.read`
     """
     allowed = allowed_of(allow if isinstance(allow, str) else ",".join(allow)) if allow else []
     found = []
@@ -39,7 +41,7 @@ def expecting(report: Report, *bounds: Union[str, Path], allow: Union[str, Seque
         found += bounds_in(one, one.read_text()) if isinstance(one, Path) else [bound_of(one, f"bound {number}")]
     if not found:
         raise Faulty("no bound was given, so nothing is judged")
-    runs = list(summed(report.given, report.plans, percentiles=percentiles_for(found),
+    runs = list(summed(report.given, with_names(report.plans, names or {}), percentiles=percentiles_for(found),
                        span=span_of(begin, end)))
     if not runs:
         raise Faulty(f"{report.given.report}: it has no experiment, so no bound can hold")

@@ -21,14 +21,14 @@ _dnlab_tools() {
     *:--allow) words="refused spent refused,spent" ;;
     *:--within) words="1% 5% 10%" ;;
     *:--log) words="x y x,y" ;;
-    *:--experiment | *:--only | *:--pairs | *:--along | *:--rows | *:--label | *:--of | *:--columns | *:--ssh | *:--on | *:--set | *:--seeds | *:--from | *:--to) return ;;
+    *:--experiment | *:--name | *:--only | *:--pairs | *:--along | *:--rows | *:--label | *:--of | *:--columns | *:--ssh | *:--on | *:--set | *:--seeds | *:--from | *:--to) return ;;
     *:--out | *:--work | *:--program | *:--csv | *:--json | *:--parquet | *:--each | *:--long | *:--plot | *:--kept | *:--bounds) ;;
     dnlab-summary:*)
-      words="--experiment --of --percentiles --every --losses --by --columns --from --to --exact --workers --csv --json --help"
+      words="--experiment --name --of --percentiles --every --losses --by --columns --from --to --exact --workers --csv --json --help"
       ;;
-    dnlab-plot:*) words="--experiment --only --of --what --from --to --bin --overlay --out --workers --help" ;;
+    dnlab-plot:*) words="--experiment --name --only --of --what --from --to --bin --overlay --out --workers --help" ;;
     dnlab-compare:*) words="--experiment --of --tolerance --percentiles --lines --all --exact --json --help" ;;
-    dnlab-expect:*) words="--experiment --bounds --first --all --allow --json --from --to --workers --help" ;;
+    dnlab-expect:*) words="--experiment --name --bounds --first --all --allow --json --from --to --workers --help" ;;
     dnlab-view:*) words="--experiment --out --single --workers --help" ;;
     dnlab-pcap:*) words="--experiment --of --at --out --help" ;;
     dnlab-spread:*) words="--parts --jobs --ssh --slurm --program --out --work --resume --help" ;;

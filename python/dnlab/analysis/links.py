@@ -51,10 +51,13 @@ class Links:
         self.faults: list[_Fault] = []
         # Of each injected packet the row of its command; -1 of others.
         self.row_of = np.full(len(packets), -1, dtype=np.int64)
-        injected = [row for row, command in self.done if command.sends is not None and command.sends.number is None]
+        injected = [(row, command.sends.name()) for row, command in self.done
+                    if command.sends is not None and command.sends.number is None]
         if injected:
-            serials = np.flatnonzero(makings.who == makings.names.index("injected"))
-            self.row_of[serials] = np.array(injected, dtype=np.int64)[:len(serials)]
+            senders = {name for _, name in injected}
+            places = [place for place, name in enumerate(makings.names) if name in senders]
+            serials = np.flatnonzero(np.isin(makings.who, places))
+            self.row_of[serials] = np.array([row for row, _ in injected], dtype=np.int64)[:len(serials)]
 
     def check(self) -> None:
         lives = self.lives()

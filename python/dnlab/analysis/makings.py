@@ -160,15 +160,17 @@ class Maker:
         order = np.argsort(every, kind="stable")
         kinds = np.repeat(np.array([PLAIN, ACKNOWLEDGES], dtype=np.int8), [len(rows), len(segments)])[order]
         flows = np.concatenate((np.full(len(rows), -1, dtype=np.int32), self.columns.flow[segments]))[order]
-        who = np.zeros(65537, dtype=np.int32)
-        if len(rows):
-            names.append("injected")
+        senders = [started.sends.name() for started in self.injected]
+        names += dict.fromkeys(senders)
+        places = {name: place for place, name in enumerate(names)}
+        own = np.array([places[name] for name in senders] + [0] * len(segments), dtype=np.int32)[order]
+        who = np.zeros(65536, dtype=np.int32)
         for number in self.flows:
             who[number] = len(names)
             names.append(f"flow {number} acks")
         return Makings(names, self.columns.moment[every[order]],
                        np.concatenate((sizes, np.full(len(segments), HEADER, dtype=np.int64)))[order],
-                       who[flows], kinds, flows,
+                       np.where(flows < 0, own, who[flows]), kinds, flows,
                        np.concatenate((np.full(len(rows), -1, dtype=np.int64), upto))[order])
 
     def acknowledged(self) -> tuple[Ints, Ints]:

@@ -12,6 +12,8 @@ from dnlab.analysis import frames, names
 from dnlab.analysis.figures import Percentile, interval as interval_of
 from dnlab.analysis.losses import losses, windows
 from dnlab.analysis.marks import Refusal
+from dnlab.analysis.names import named
+from dnlab.analysis.naming import with_names
 from dnlab.analysis.options import columns_in, varied
 from dnlab.analysis.spans import span_of
 from dnlab.analysis.summing import lacking, summed
@@ -140,7 +142,7 @@ class Experiment:
         return pictures.figure_of([self.view], what)
 
 
-def _made_anew(report: bytes, scenarios: Sequence[bytes]) -> "Report":
+def _made_anew(report: bytes, scenarios: Sequence[bytes], given_names: Mapping[str, str]) -> "Report":
     """A report that came from another process, in files of its own."""
     from dnlab.processes.rooms import Room
 
@@ -148,7 +150,7 @@ def _made_anew(report: bytes, scenarios: Sequence[bytes]) -> "Report":
     files = [room.path / "report.txt", *(room.path / f"scenario{place}.txt" for place in range(len(scenarios)))]
     for file, data in zip(files, [report, *scenarios]):
         file.write_bytes(data)
-    return Report(files[0], files[1:], room)
+    return Report(files[0], files[1:], room, names=given_names)
 
 
 class Report(Mapping[str, Experiment]):
@@ -157,14 +159,16 @@ class Report(Mapping[str, Experiment]):
     Its experiments are found when it is opened; each is read, judged and joined when it is asked for."""
 
     def __init__(self, report: Union[str, Path], scenario: Names = (), keep: Any = None,
-                 origin: Optional[Origin] = None) -> None:
+                 origin: Optional[Origin] = None, names: Optional[Mapping[str, str]] = None) -> None:
         files = [scenario] if isinstance(scenario, (str, Path)) else scenario
         self.given = Given(str(report), tuple(str(name) for name in files))
         # What must live as long as the report does: the file of a run that nobody named.
         self._keep = keep
         # What made it: the checksums of scenario and program, its version, the command; None where nothing tells it.
         self.origin: Optional[Origin] = origin
-        self.plans: Optional[dict[str, Plan]] = plans_of(self.given.scenarios)
+        # Names of injected packets' senders, by source.
+        self._names = dict(names or {})
+        self.plans: Optional[dict[str, Plan]] = with_names(plans_of(self.given.scenarios), self._names)
         self._pieces: dict[str, Piece] = {piece.name: piece for piece in pieces_of(self.given.report)}
         self._last: Optional[Experiment] = None
         for name in self._pieces:
@@ -177,9 +181,9 @@ class Report(Mapping[str, Experiment]):
             warnings.warn(f"{self.given.report}: it is empty, and has no experiment: was the scenario empty, or all in"
                           " comments?", stacklevel=3)
 
-    def __reduce__(self) -> "tuple[Any, tuple[bytes, list[bytes]]]":
+    def __reduce__(self) -> "tuple[Any, tuple[bytes, list[bytes], dict[str, str]]]":
         """So that it passes to another process or machine whole: with the bytes of its files."""
-        return _made_anew, (bytes_of(self.given.report), [bytes_of(name) for name in self.given.scenarios])
+        return _made_anew, (bytes_of(self.given.report), [bytes_of(name) for name in self.given.scenarios], self._names)
 
     @cached_property
     def _varied(self) -> dict[str, str]:
@@ -215,22 +219,27 @@ class Report(Mapping[str, Experiment]):
 
     def summary(self, percentiles: Sequence[Percentile] = PERCENTILES, of: Sequence[str] = (),
                 experiments: Sequence[str] = (), workers: Optional[int] = None, begin: int = 0,
-                end: Optional[int] = None) -> pd.DataFrame:
+                end: Optional[int] = None, names: Optional[Mapping[str, str]] = None) -> pd.DataFrame:
         """The rows of all experiments (or of some, by name), by several processes if the report is long; `of` keeps
-        the rows of some names, as "train *", and `begin` and `end` are as in `Experiment.summary`. docs/reference/tools.md has
-        the columns."""
+        the rows of some names, as "train *", `begin` and `end` are as in `Experiment.summary`, and `names` as in `read`, in
+        place of those that the report has. docs/reference/tools.md has the columns."""
         patterns = [of] if isinstance(of, str) else of
         span = span_of(begin, end)
-        rows = [row for one in summed(self.given, self.plans, experiments, percentiles, patterns, workers=workers, span=span)
+        plans = with_names(self.plans, names or {}, experiments)
+        rows = [row for one in summed(self.given, plans, experiments, percentiles, patterns, workers=workers, span=span)
                 for row in one.rows]
-        return names.named(frames.of_rows(rows, columns_of(percentiles, span)))
+        return named(frames.of_rows(rows, columns_of(percentiles, span)))
 
 
-def read(report: Union[str, Path], scenario: Names = ()) -> Report:
+def read(report: Union[str, Path], scenario: Names = (), names: Optional[Mapping[str, str]] = None) -> Report:
     """Opens a report, with its scenario if there is one (or the several that it was run from).
 
+    names   of injected packets' sources, address or address:port, as {"10.0.0.1:1000": "mine"}: these packets are `mine`
+            in all tables, the others `injected`. `dnlab.Faulty` for a source that no packet has, and for a name that
+            can't be one
+
     A scenario given for another's report is refused with the line at which they part, when the experiment is read."""
-    return Report(report, scenario)
+    return Report(report, scenario, names=names)
 
 
 def intervals(rows: pd.DataFrame, by: Union[str, Sequence[str]], columns: Union[str, Sequence[str]]) -> pd.DataFrame:

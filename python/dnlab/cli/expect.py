@@ -7,10 +7,11 @@ from typing import Sequence
 
 from dnlab.analysis.bounds import FORM, Bound, Failing, Judged, allowed_of, bound_of, bounds_in, failing, judge, percentiles_for
 from dnlab.analysis.metrics import WORDS
+from dnlab.analysis.naming import names_of, with_names
 from dnlab.analysis.spans import Span
 from dnlab.analysis.summing import summed, tell
 from dnlab.analysis.work import Given, bytes_of, plans_of
-from dnlab.cli.words import add_span, add_texts, count_of, listed, parser_of, span_in, taken
+from dnlab.cli.words import add_names, add_span, add_texts, count_of, listed, parser_of, span_in, taken
 from dnlab.errors import DIFFERS, Faulty, status_of
 from dnlab.units import UNITS, named
 
@@ -46,6 +47,7 @@ report, or a faulty input, 3 what this machine lacks (a package, room to write).
 def words(given: Sequence[str]) -> argparse.Namespace:
     parser = parser_of("expect", __doc__ or "", EXAMPLE)
     add_texts(parser)
+    add_names(parser)
     parser.add_argument("--bounds", action="append", default=[], metavar="FILE",
                         help="a file of bounds; may be said again. Bounds stand also among the words, each in quotes")
     parser.add_argument("--first", action="store_true", help="look at none after the first that fails")
@@ -56,8 +58,8 @@ def words(given: Sequence[str]) -> argparse.Namespace:
     add_span(parser)
     parser.add_argument("--workers", type=count_of, metavar="N",
                         help="how many processes [all cores if the report is long]")
-    said = [word for word in given if is_bound(word)]
-    found = taken(parser, [word for word in given if not is_bound(word)])
+    said = [word for before, word in zip(["", *given], given) if is_bound(word, before)]
+    found = taken(parser, [word for before, word in zip(["", *given], given) if not is_bound(word, before)])
     found.said = said
     found.allow = [word for words in found.allow for word in words]
     if found.all and found.first:
@@ -77,13 +79,16 @@ def allowed(text: str) -> list[str]:
         raise argparse.ArgumentTypeError(str(fault)) from None
 
 
-def is_bound(word: str) -> bool:
-    """Whether a word is meant as a bound, right or wrong, and not as a file.
+def is_bound(word: str, before: str = "") -> bool:
+    """Whether a word is meant as a bound, right or wrong, and not as a file, nor as a name by `--name` before it.
 
     >>> is_bound("all: drops < 3"), is_bound("all: drops 3"), is_bound("runs/report.txt"), is_bound("--bounds=a")
     (True, True, False, False)
+    >>> is_bound("10.0.0.1:1000=mine", "--name")
+    False
     """
-    return not word.startswith("-") and re.search(r"[<>=]|: ", word) is not None
+    is_name = len(before) > 2 and "--name".startswith(before)
+    return not is_name and not word.startswith("-") and re.search(r"[<>=]|: ", word) is not None
 
 
 def bounds_of(given: argparse.Namespace) -> list[Bound]:
@@ -109,7 +114,7 @@ def main(words_given: Sequence[str]) -> int:
     given = words(words_given)
     try:
         bounds = bounds_of(given)
-        plans = plans_of(given.scenarios)
+        plans = with_names(plans_of(given.scenarios), names_of(given.names), given.experiment)
         found = list(summed(Given(given.report, tuple(given.scenarios)), plans, given.experiment,
                             percentiles_for(bounds), workers=given.workers, span=Span(given.begin, given.end)))
         if not found:

@@ -5,13 +5,14 @@ from functools import partial
 from typing import NamedTuple, Optional, Sequence
 
 from dnlab.analysis.metrics import is_named
+from dnlab.analysis.naming import names_of, with_names
 from dnlab.analysis.series import MORE, WHAT, Panel, panel_of
 from dnlab.analysis.shares import overlaid
 from dnlab.analysis.spans import Span
 from dnlab.analysis.summing import tell, whole
 from dnlab.analysis.view import Note, View
 from dnlab.analysis.work import Given, TooMany, over, plans_of
-from dnlab.cli.words import add_texts, count_of, moment_of, parser_of, taken, time_of
+from dnlab.cli.words import add_names, add_texts, count_of, moment_of, parser_of, taken, time_of
 from dnlab.errors import Faulty, status_of
 
 EXAMPLE = """A column for each experiment, a panel for each of --what:
@@ -77,6 +78,7 @@ def picture(text: str) -> str:
 def words(given: Sequence[str]) -> argparse.Namespace:
     parser = parser_of("plot", __doc__ or "", EXAMPLE)
     add_texts(parser)
+    add_names(parser)
     parser.add_argument("--only", action="append", default=[], type=lambda text: text.split(","),
                         metavar="NAME,..", help="only these experiments, with commas between")
     parser.add_argument("--what", type=chosen, default=list(WHAT),
@@ -105,17 +107,19 @@ def words(given: Sequence[str]) -> argparse.Namespace:
 def draw_one(view: View, what: Sequence[str], span: Span, every: Optional[int], patterns: Sequence[str]) -> Drawn:
     """The panels of one experiment, for another process."""
     names = [name for name, _ in view.senders]
+    # Of all senders, so before some are chosen.
+    notes = view.notes
     if patterns:
         view.senders = [(name, packets) for name, packets in view.senders
                         if any(is_named(name, pattern) for pattern in patterns)]
         if not view.senders:
             view.more_notes.append(Note("senders", f"--of {' '.join(map(repr, patterns))}: it has {', '.join(names)}"))
     panels = [panel_of(view, one, span, every) for one in what]
-    return Drawn(view.name, panels, view.notes + view.more_notes)
+    return Drawn(view.name, panels, notes + view.more_notes)
 
 
 def draw(given: argparse.Namespace) -> list[Drawn]:
-    plans = plans_of(given.scenarios)
+    plans = with_names(plans_of(given.scenarios), names_of(given.names), given.experiment)
     texts = Given(given.report, tuple(given.scenarios))
     drawn = []
     most = _MOST_OVER if given.overlay else _MOST

@@ -6,18 +6,20 @@ import sys
 from typing import Sequence, TextIO
 
 from dnlab.analysis.columns import TOLD, now, older, rows_now
+from dnlab.analysis.naming import names_of, with_names
 from dnlab.analysis.spans import Span
 from dnlab.analysis.summing import grouped, summed, tell, tell_empty
 from dnlab.analysis.tables import Row, columns_of, times_of
 from dnlab.analysis.view import Note
 from dnlab.analysis.work import Given, plans_of
 from dnlab.cli.layout import bare_table, table
-from dnlab.cli.words import add_span, add_texts, count_of, parser_of, percentiles_of, span_in, taken, time_of
+from dnlab.cli.words import add_names, add_span, add_texts, count_of, parser_of, percentiles_of, span_in, taken, time_of
 from dnlab.errors import Faulty, status_of
 
 EXAMPLE = """Rows: each flow's segments, each flow's acknowledgements, each train, the
-injected packets, each pipe and instance (two rows if packets of both directions
-came through it), both directions, and all packets. Columns:
+injected packets (by --name some of them), each pipe and instance (two rows if
+packets of both directions came through it), both directions, and all packets.
+Columns:
   packets    made; of a pipe: served by it
   delivered  delivered; of a pipe: that have left it
   held       still under way at the end (of a pipe: in its delay line)
@@ -62,6 +64,7 @@ lacks (a package, room to write)."""
 def words(given: Sequence[str]) -> argparse.Namespace:
     parser = parser_of("summary", __doc__ or "", EXAMPLE)
     add_texts(parser)
+    add_names(parser)
     parser.add_argument("--of", action="append", default=[], metavar="PATTERN",
                         help="only these rows, as 'flow 1', 'train *', 'pipe 1.0'; may be said again [all]")
     parser.add_argument("--percentiles", type=percentiles_of, default=["50", "99"], metavar="P,P..",
@@ -122,7 +125,7 @@ def main(words_given: Sequence[str]) -> int:
     notes: list[tuple[str, Note]] = []
     total = 0
     try:
-        plans = plans_of(given.scenarios)
+        plans = with_names(plans_of(given.scenarios), names_of(given.names), given.experiment)
         for one in summed(Given(given.report, tuple(given.scenarios)), plans, given.experiment, given.percentiles,
                           given.of, kind, given.every or 0, given.workers, span):
             rows += one.rows

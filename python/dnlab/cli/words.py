@@ -67,6 +67,13 @@ def add_texts(parser: argparse.ArgumentParser) -> None:
                         help="only this experiment, the others stay unread; may be said again [all]")
 
 
+def add_names(parser: argparse.ArgumentParser) -> None:
+    """Names of a user's own for who injects packets."""
+    parser.add_argument("--name", action="append", default=[], dest="names", metavar="SOURCE=NAME",
+                        help="rows of that name for packets injected from an address, or from address:port, as"
+                        " 10.0.0.1:1000=mine; may be said again [injected]")
+
+
 def add_span(parser: argparse.ArgumentParser) -> None:
     """The part of the time that is summed up."""
     parser.add_argument("--from", dest="begin", type=moment_of, default=0, metavar="TIME",

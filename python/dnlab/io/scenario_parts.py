@@ -27,7 +27,8 @@ class Sends:
     """What a command sends: a packet of `inject`, a train or a flow.
 
     `size` is a packet's in bytes, with 40 bytes of header in a flow's; `count` packets or segments; `gap` in ns;
-    `smss`, `window` and `ssthresh` in bytes; `source` and `target` are addresses.
+    `smss`, `window` and `ssthresh` in bytes; `source` and `target` are addresses. `label` is a name of a user's own for an
+    injected packet's sender (`dnlab.analysis.naming`).
     """
     word: str
     number: Optional[int]
@@ -39,14 +40,17 @@ class Sends:
     ssthresh: int = SSTHRESH
     source: str = ""
     target: str = ""
+    label: str = ""
 
     def name(self) -> str:
         """The sender as tables name it.
 
         >>> Sends("train", 9, 100).name()
         'train 9'
+        >>> Sends("inject", None, 100).name(), Sends("inject", None, 100, label="mine").name()
+        ('injected', 'mine')
         """
-        return "injected" if self.number is None else f"{self.word} {self.number}"
+        return self.label or "injected" if self.number is None else f"{self.word} {self.number}"
 
 
 class Command(NamedTuple):

@@ -1,9 +1,11 @@
 """Runs the program `dnlab` on scenario texts, or the library in its place."""
 import os
+from contextlib import suppress
 from pathlib import Path
-from typing import BinaryIO, Iterator, NamedTuple, Optional, Union
+from typing import BinaryIO, Iterator, Mapping, NamedTuple, Optional, Union
 
 from dnlab import library
+from dnlab.analysis.naming import with_names
 from dnlab.analysis.results import Report
 from dnlab.errors import Failed, Refused
 from dnlab.io.origin import Origin, origin_of, write_beside
@@ -19,7 +21,8 @@ from dnlab.programs import program
 
 
 def run(text: Union[str, bytes, Path], workers: int = 1, moves: Optional[int] = None,
-        out: Union[str, Path, None] = None, dnlab: Optional[str] = None, engine: str = "process") -> Report:
+        out: Union[str, Path, None] = None, dnlab: Optional[str] = None, engine: str = "process",
+        names: Optional[Mapping[str, str]] = None) -> Report:
     """Runs a scenario and gives its report, joined with it.
 
     text     the scenario, or the path of its file, which may be packed by gzip; it may have more experiments and bytes
@@ -31,12 +34,17 @@ def run(text: Union[str, bytes, Path], workers: int = 1, moves: Optional[int] = 
     dnlab    the program; else see `dnlab.programs.program`
     engine   "process" starts the program; "library" calls libdnlab in this process (`dnlab.library.library` says which), and
              takes no workers, moves or program. Many short scenarios run quicker so; Ctrl-C waits until a text is done
+    names    of injected packets' sources, as in `dnlab.read`
 
     A scenario that the program refuses raises `Failed`, whose `said` has `line L: CAUSE` (L counts in `text`), and what
     `--explain` says. So does a program that ends with status 0 and whose report lacks an experiment.
     """
     runner = _runner(engine, workers, moves, dnlab)
     data = unpacked(text.read_bytes()) if isinstance(text, Path) else text.encode() if isinstance(text, str) else text
+    if names:
+        # Before anything is run; a faulty scenario is refused by the program.
+        with suppress(Refused):
+            with_names(read(data), names)
     room = Room()
     scenario = room.path / "scenario.txt"
     scenario.write_bytes(data)
@@ -49,7 +57,7 @@ def run(text: Union[str, bytes, Path], workers: int = 1, moves: Optional[int] = 
             origin = _origin(data, written, runner)
     if out is not None:
         write_beside(report, origin)
-    return Report(report, scenario, room, origin)
+    return Report(report, scenario, room, origin, names)
 
 
 class _Program(NamedTuple):
