@@ -65,8 +65,14 @@ def missing(modules: Sequence[str]) -> Optional[str]:
 
 def said_of(command: str, module: str) -> str:
     """What is said of a module that isn't there: which Python lacks it, and how it is had."""
-    return (f"{command}: {module} is missing in {sys.executable} (pip install {module}; Debian, for /usr/bin/python3: "
-            f"apt-get install python3-{module})")
+    said = (f"{command}: {module} is missing in {sys.executable} (pip install {module}; Debian, for /usr/bin/python3: "
+            f"apt-get install python3-{module}")
+    if os.path.dirname(sys.executable) == "/usr/bin":
+        return f"{said})"
+    # Here, since --help and --version need none of it.
+    from dnlab.cli.words import as_installed
+
+    return f"{said}, then {as_installed(f'PATH=/usr/bin:$PATH tools/{command}')} ..)"
 
 
 def module_of(command: str) -> ModuleType:

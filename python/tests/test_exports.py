@@ -52,6 +52,42 @@ def test_ipfw_refuses_what_acts_twice(tmp_path: Path) -> None:
     assert tool("to-ipfw", file, "--host")[0] == 0
 
 
+def test_ipfw_rules_of_any(tmp_path: Path) -> None:
+    """A rule between any addresses matches each packet coming in and going out, whatever lies beyond an interface."""
+    file = text_file(tmp_path, HEAD + "@0 pipe 1 config delay 5\n@0 add 5 pipe 1 ip from any to any\n@9 end\n")
+    for words in ([], ["--if", "em0=any"], ["--if", "em1=10.0.1.0/24"]):
+        status, said, told = tool("to-ipfw", file, *words)
+        assert (status, said) == (2, "") and "line 3" in told and "no --if" in told and "--host" in told
+    assert tool("to-ipfw", file, "--host")[0] == 0
+
+
+@pytest.mark.parametrize("ends, behind, wanted", [
+    ("from 10.0.1.0/24 to any", ["em0=any", "em1=10.0.1.0/24"], "in recv em1"),
+    ("from any to 10.0.1.7", ["em0=any", "em1=10.0.1.0/24"], "out xmit em1"),
+    ("from 10.0.1.0/24 to 10.0.2.0/24", ["em0=10.0.0.0/8", "em1=10.0.1.0/24"], "in recv em1"),
+    ("from 10.0.2.0/24 to 10.0.1.0/24", ["em1=10.0.1.0/24"], "out xmit em1"),
+    ("from 10.0.1.0/24 to 10.0.2.0/24", ["em0=10.0.0.0/8"], ""),
+    ("from 10.0.1.0/24 to any", ["em0=any"], ""),
+    ("from any to 10.0.1.0/24", ["em0=any"], "")])
+def test_ipfw_directions(ends: str, behind: list[str], wanted: str, tmp_path: Path) -> None:
+    """By hand: an address lies beyond the interface of the longest prefix that holds it, as a router's table has it; a packet both of
+    whose ends lie beyond one interface has no direction there."""
+    file = text_file(tmp_path, HEAD + f"@0 pipe 1 config delay 5\n@0 add 5 pipe 1 ip {ends}\n@9 end\n")
+    status, script, told = tool("to-ipfw", file, *(word for one in behind for word in ("--if", one)))
+    if wanted:
+        assert status == 0 and f"\nipfw -q add 5 pipe 1 ip {ends} {wanted}\n" in script
+    else:
+        assert (status, script) == (2, "") and "line 3" in told and "both its ends lie beyond em0" in told
+
+
+def test_ipfw_says_what_it_removes(tmp_path: Path) -> None:
+    """Before anything is done the script's comments say what it does to the machine's own rules."""
+    _, script, _ = tool("to-ipfw", text_file(tmp_path, SCENARIO), "--host")
+    head = script[:script.index("\nkldload")]
+    assert "removes all rules and pipes" in head and "`65534 deny ip from any to any`" in head and "come in" in head
+    assert all(line.startswith("#") for line in head.splitlines())
+
+
 def test_ipfw_moments(tmp_path: Path) -> None:
     file = ROOT / "cookbook" / "new_rate" / "scenario.txt"
     status, _, told = tool("to-ipfw", file, "--host")
@@ -59,7 +95,7 @@ def test_ipfw_moments(tmp_path: Path) -> None:
     status, script, _ = tool("to-ipfw", file, "--host", "--timed")
     # The rate falls at 120 ms and rises at 320 ms.
     assert status == 0 and [line for line in script.splitlines() if line.startswith("sleep")] == ["sleep 0.12", "sleep 0.2"]
-    assert script.index("65534") < script.index("sleep")
+    assert script.index("ipfw -q add 65534") < script.index("sleep")
 
 
 def test_ipfw_limits_and_senders(tmp_path: Path) -> None:

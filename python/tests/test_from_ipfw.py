@@ -162,6 +162,15 @@ def test_refusals_have_a_way_out() -> None:
         assert all(word in said for word in wanted), said
 
 
+def test_a_direction_left_out() -> None:
+    """Without `out` a pipe between any addresses gets packets that come in too; one from an address of its own doesn't."""
+    pipe, rule, own = (imported(line)[-1].said for line in (
+        "add 1 pipe 1 ip from any to any out", "add 1 deny ip from any to any in", "add 1 pipe 1 ip from 10.0.0.1 to any out"))
+    assert len(pipe) == 1 and "packets the other way now go through this pipe too" in pipe[0] and "narrow" in pipe[0]
+    assert "packets the other way now match too" in rule[0]
+    assert len(own) == 1 and "`out` left out" in own[0] and "the other way" not in own[0]
+
+
 def test_numbers_of_rules() -> None:
     """ipfw(8): by itself a rule's number is the greatest so far and 100."""
     rules = imported("add allow ip from any to any", "add 250 allow ip from any to any", "add allow ip from any to any",

@@ -96,7 +96,7 @@ def test_the_rate_of_the_link(alone: Alone) -> None:
     view = seen(CHANGING, alone)
     rate, = link_rates(view)
     assert rate.moments[:3].tolist() == [0, MS, 4 * MS] and rate.values[:2].tolist() == [8, 4] and np.isnan(rate.values[2:]).all()
-    assert [one.label for one in panel_of(view, "throughput").series] == ["injected", "rate of pipe 1"]
+    assert [one.label for one in panel_of(view, "throughput").series] == ["delivered (injected)", "rate of pipe 1"]
 
 
 def test_utilisation_by_what_the_link_could_carry(alone: Alone) -> None:

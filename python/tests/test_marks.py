@@ -76,6 +76,7 @@ MARKS = [
     ("an end in milliseconds", BOTH + TRAIN, 100, "unsent units"),
     ("a rate without its unit", BOTH.replace("10Mbit/s", "10") + TRAIN, 5 * 10**9, "units"),
     ("no way back", LINK + "@0 add 100 pipe 1 ip from 10.0.0.0/24 to any\n" + FLOW, 10**9, "no-way-back unsent"),
+    ("a rule to a pipe that nobody configures", LINK + "@0 add 100 pipe 7 ip from any to any\n" + TRAIN, 5 * 10**9, "nopipe"),
     ("denied", LINK + "@0 add 100 pipe 1 ip from 10.0.7.0/24 to any\n" + TRAIN, 5 * 10**9, "denied"),
 ]
 
@@ -88,6 +89,13 @@ def test_marks(alone: Alone, what: str, commands: str, end: int, marks: str) -> 
 def test_spent_and_budget(alone: Alone) -> None:
     assert view(alone, BOTH + TRAIN, heading="seed 0 budget 1000 steps 20").marks() == "spent"
     assert view(alone, BOTH + TRAIN.replace("gap 20000000", "gap 0"), heading="seed 0 budget 3").marks() == "budget"
+
+
+def test_a_pipe_that_is_deleted(alone: Alone) -> None:
+    """By hand: the train's packets come at 0, 20, .. 180 ms; the pipe goes at 90 ms, so the last five find none."""
+    made = view(alone, BOTH + TRAIN + "@90000000 pipe delete 1\n")
+    notes = [note for note in made.notes if note.mark == "nopipe"]
+    assert [note.of for note in notes] == ["train 9"] and "train 9: 5 of 10 packets" in notes[0].text
 
 
 def test_whose_rows(alone: Alone) -> None:

@@ -13,7 +13,7 @@ import pytest
 import dnlab
 from conftest import ROOT
 from dnlab import programs
-from dnlab.__main__ import COMMANDS, NEEDS
+from dnlab.__main__ import COMMANDS, NEEDS, said_of
 from dnlab.cli.words import renamed
 
 # A package that stands alone, as pip installs it: a copy without its repository.
@@ -119,8 +119,16 @@ def test_a_missing_module_is_said_in_one_line(tmp_path: Path) -> None:
     # A Python without packages of others.
     done = subprocess.run([sys.executable, "-S", "-B", str(ROOT / "tools" / "summary"), "report.txt"], capture_output=True, text=True, check=False)
     assert done.returncode == 3 and done.stdout == ""
-    assert done.stderr == (f"summary: numpy is missing in {sys.executable} (pip install numpy; Debian, for /usr/bin/python3: "
-                           "apt-get install python3-numpy)\n")
+    assert done.stderr.startswith(f"summary: numpy is missing in {sys.executable} (pip install numpy; Debian, for /usr/bin/python3: "
+                                  "apt-get install python3-numpy")
+    assert done.stderr.count("\n") == 1
+
+
+def test_another_python_is_told_how_to_take_debians(monkeypatch: pytest.MonkeyPatch) -> None:
+    monkeypatch.setattr(sys, "executable", "/opt/python/bin/python3")
+    assert said_of("summary", "numpy").endswith("apt-get install python3-numpy, then PATH=/usr/bin:$PATH tools/summary ..)")
+    monkeypatch.setattr(sys, "executable", "/usr/bin/python3")
+    assert said_of("summary", "numpy").endswith("apt-get install python3-numpy)")
 
 
 def test_help_names_the_installed_commands(tmp_path: Path) -> None:

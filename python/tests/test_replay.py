@@ -149,6 +149,34 @@ def test_what_no_link_takes(tmp_path: Path) -> None:
     assert "1 below 40 bytes, sent as 40" in told and "1 neither tcp nor udp" in told and "1 without IPv4" in told
 
 
+def test_no_frame_is_cut(tmp_path: Path) -> None:
+    """The header's fifth number is how much of a frame a reader keeps (libpcap's file format): 1500 bytes of IP are 1514 with Ethernet."""
+    came = pcap(tmp_path / "in.pcap", [(0, tcp(1500, 1))])
+    assert tool("replay", came, "--link", "", "--out", tmp_path / "out.pcap")[0] == 0
+    data = (tmp_path / "out.pcap").read_bytes()
+    kept = struct.unpack("<I", data[24 + 8:24 + 12])[0]
+    assert kept == 1514 and struct.unpack("<I", data[16:20])[0] == 65535
+
+
+def test_a_capture_and_a_table(tmp_path: Path) -> None:
+    """One run writes both. By hand: 1000 bytes take 8 ms at 1 Mbit/s, and 10 ms of delay."""
+    came = pcap(tmp_path / "in.pcap", [(0, udp(1000))])
+    assert tool("replay", came, *LINK, "--out", tmp_path / "out.pcap", "--out", tmp_path / "out.csv")[0] == 0
+    assert [moment for moment, _, _ in left(tmp_path / "out.pcap")] == [18000000]
+    with open(tmp_path / "out.csv", encoding="ascii") as file:
+        assert [(row["left"], row["fate"]) for row in csv.DictReader(file)] == [("18000000", "delivered")]
+
+
+@pytest.mark.parametrize("names, wanted", [
+    (["out.txt"], ".pcap"), (["out.pcapng"], ".csv"), (["out.pcap", "out"], ".csv"), (["out.csv", "out.csv"], "twice")])
+def test_other_endings_are_refused(names: list[str], wanted: str, tmp_path: Path) -> None:
+    came = pcap(tmp_path / "in.pcap", [(0, udp(1000))])
+    words = [word for name in names for word in ("--out", str(tmp_path / name))]
+    status, said, told = tool("replay", came, *LINK, *words)
+    assert (status, said) == (2, "") and "--out" in told and wanted in told
+    assert [path.name for path in tmp_path.iterdir()] == ["in.pcap"]
+
+
 def test_tables(tmp_path: Path) -> None:
     """The same packets as a table give the same moments."""
     came = tmp_path / "in.csv"

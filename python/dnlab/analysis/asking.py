@@ -6,7 +6,7 @@ from typing import Any, Iterable, Iterator, NamedTuple, Optional, Sequence
 import numpy as np
 
 from dnlab.analysis.figures import percentile_name
-from dnlab.analysis.metrics import is_named, plain_word
+from dnlab.analysis.metrics import ALSO, is_named, plain_word, word_now
 from dnlab.analysis.own import Own, own_in, own_of
 from dnlab.analysis.spans import Span
 from dnlab.analysis.tables import WHOLE, Row, Tables
@@ -24,7 +24,10 @@ _UNITS = {"packets": "packets", "delivered": "packets", "held": "packets", "agai
           "last": "ns", "completion": "ns", "jain": "", "utilisation": "", "jitter": "ns",
           **{f"drops.{cause}": "packets" for cause in CAUSES}}
 _DELAYS = ("least", "mean", "median", "greatest")
-STATS = (*_UNITS, *(f"delay.{name}" for name in _DELAYS), "delay.pN")
+_KNOWN = (*_UNITS, *(f"delay.{name}" for name in _DELAYS))
+# As help has them: by the names in use now; the older ones are taken too.
+STATS = (*map(word_now, _KNOWN), "delay.pN")
+OLDER = tuple(ALSO.values())
 # Of each pattern of `of` and each `stat`: of whom, and the figure (None where it can't be told).
 Values = dict[str, dict[str, dict[str, Any]]]
 
@@ -64,7 +67,7 @@ def stats_of(text: str) -> tuple[str, ...]:
 
 
 def _known(word: str) -> None:
-    if plain_word(word) not in STATS[:-1] and percentile_of(word) is None:
+    if plain_word(word) not in _KNOWN and percentile_of(word) is None:
         raise ValueError(f"no stat {word!r}: {', '.join(STATS)} (N above 0 and up to 100, as delay.p95), or a function of"
                          " one's own, FILE.py:NAME")
 

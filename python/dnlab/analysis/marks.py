@@ -31,6 +31,7 @@ MEANS = {
     25: "there are 256 flows and trains already, those that have ended too",
 }
 _DENIED = DROPPED + CAUSES.index("denied")
+_NOPIPE = DROPPED + CAUSES.index("nopipe")
 _BUDGET = DROPPED + CAUSES.index("budget")
 # So many refused commands are told one by one.
 _MOST_TOLD = 3
@@ -107,11 +108,12 @@ def _ends(view: View) -> list[Note]:
 
 
 def _losses(view: View) -> list[Note]:
-    """Drops that tell of a scenario that isn't as it was meant: by rules, or for the budget."""
+    """Drops that tell of a scenario that isn't as it was meant: by rules, in a pipe that isn't there, or for the budget."""
     found = []
     fate, kind = view.packets.fate, view.packets.kind
     for name, packets in view.senders:
         denied = int(np.count_nonzero(fate[packets] == _DENIED))
+        nowhere = int(np.count_nonzero(fate[packets] == _NOPIPE))
         over = int(np.count_nonzero(fate[packets] == _BUDGET))
         came = int(np.count_nonzero(fate[packets] == DELIVERED))
         if denied and not came and int(kind[packets[0]]) == ACKNOWLEDGES:
@@ -120,6 +122,9 @@ def _losses(view: View) -> list[Note]:
         elif denied:
             found.append(Note("denied", f"{name}: {denied} of {len(packets)} packets were denied: no rule matched,"
                               " or a `deny`", "denied", name))
+        if nowhere:
+            found.append(Note("nopipe", f"{name}: {nowhere} of {len(packets)} packets were dropped since a rule hands them to a pipe"
+                              " that isn't there: configure that pipe, or name another", "nopipe", name))
         if over:
             found.append(Note("budget", f"{name}: {over} of {len(packets)} packets were dropped since as many were"
                               " under way as the budget allows", "budget", name))

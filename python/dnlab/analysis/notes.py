@@ -17,6 +17,7 @@ KINDS = {
     "spent": "their steps were spent before their end",
     "no way back": "no rule allows a flow's way back",
     "denied": "packets were denied: no rule matched, or a `deny`",
+    "nopipe": "packets went to a pipe that isn't there",
     "budget": "packets were dropped since as many were under way as the budget allows",
     "unsent": "`end` cut trains or flows off",
     "reconfigured": "a later `config` of a pipe set options back to their defaults",

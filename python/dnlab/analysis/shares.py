@@ -60,10 +60,10 @@ def panel_of(view: View, what: str, span: Span, every: Optional[int]) -> Panel:
     if not view.is_told:
         return Panel(title, unit, [], _NEEDS[of], across=across)
     if not kind:
-        series = [_stairs(label, moments, values, every) for label, moments, values in throughputs(view, every)]
+        series = [_stairs(_came(label), moments, values, every) for label, moments, values in throughputs(view, every)]
         return Panel(title, unit, most(view, what, series) + link_rates(view), "" if series else "nothing was delivered")
     samples = _times(view, span) if of == "sojourn" else [
-        (label, np.sort(values[(moments >= span.begin) & (moments + every <= until)]))
+        (_came(label), np.sort(values[(moments >= span.begin) & (moments + every <= until)]))
         for label, moments, values in throughputs(view, every)]
     samples = [(label, values) for label, values in samples if len(values)]
     words = "" if samples else "nothing was delivered in this time"
@@ -87,6 +87,15 @@ def throughputs(view: View, every: int) -> list[tuple[str, Ints, Ints]]:
         sizes = np.bincount(table.ended[delivered] // every, weights=table.size[delivered], minlength=count)
         found.append((who, np.arange(count, dtype=np.int64) * every, sizes.astype(np.int64) * 8 * 10**9 // every))
     return found
+
+
+def _came(label: str) -> str:
+    """A sender's name beside what came of it: `injected` alone would say what was sent.
+
+    >>> _came("injected"), _came("train 9")
+    ('delivered (injected)', 'train 9')
+    """
+    return "delivered (injected)" if label == "injected" else label
 
 
 def _stairs(label: str, moments: Ints, values: Ints, every: int) -> Series:

@@ -25,8 +25,8 @@ merged by their moments.
 --link is one pipe for all packets, in the words of `pipe config`. --scenario
 FILE has pipes and rules of your own, whose moments count from the first packet,
 and may have other senders. The ending of --out decides what comes out: a
-capture of nanoseconds, with each packet as it came but for its moment, or a
-table (.csv) with what became of each packet.
+capture of nanoseconds (.pcap), with each packet as it came but for its moment,
+or a table (.csv) with what became of each packet. Say --out twice for both.
 
 Packets go through `dnlab live` one by one, so the limit is 10000000 steps, some
 3 million packets. --inject writes them as `inject` lines instead, for a
@@ -35,7 +35,7 @@ scenario of at most 16777216 bytes.
 Example:
   tools/replay call.pcap --link 'bw 2Mbit/s delay 30 queue 50 plr 0.01' \\
     --out received.pcap
-  tools/replay call.pcap --scenario link.txt --out fates.csv
+  tools/replay call.pcap --scenario link.txt --out left.pcap --out fates.csv
 
 Exit status: 0 written, 2 wrong usage or a faulty input, 3 what this machine or
 the program lacks."""
@@ -48,7 +48,8 @@ def words(given: Sequence[str]) -> argparse.Namespace:
     link.add_argument("--link", metavar="WORDS", help="the pipe that all packets go through, as 'bw 10Mbit/s delay 20 queue 100 codel'")
     link.add_argument("--scenario", metavar="FILE", help="pipes and rules, each with its moment, or a scenario that has them")
     out = parser.add_mutually_exclusive_group(required=True)
-    out.add_argument("--out", metavar="FILE", help="what leaves the link: FILE.pcap or FILE.csv")
+    out.add_argument("--out", metavar="FILE", action="append", type=out_of,
+                     help="what leaves the link: FILE.pcap or FILE.csv, or - (a capture on standard output); may be said again")
     out.add_argument("--inject", metavar="FILE", help="a scenario with the packets as `inject` lines; nothing is run")
     parser.add_argument("--large", choices=arrivals.LARGE, default="refuse", help="what becomes of packets above 1500 bytes [refuse]")
     parser.add_argument("--align", action="store_true", help="each file begins at the same moment, whatever its clock says")
@@ -56,7 +57,21 @@ def words(given: Sequence[str]) -> argparse.Namespace:
     parser.add_argument("--begin", type=moment_of, default=0, metavar="TIME", help="the moment of the first packet on the link [0]")
     parser.add_argument("--seed", type=int, default=1, help="of losses [1]")
     parser.add_argument("--budget", type=int, default=65535, help="how many packets may be under way [65535]")
-    return parser.parse_args(list(given))
+    found = parser.parse_args(list(given))
+    if len(set(found.out or ())) < len(found.out or ()):
+        parser.error("--out: a file twice; a capture and a table may be asked for, each of a name of its own")
+    return found
+
+
+def out_of(text: str) -> str:
+    """A file that is written, whose ending says what.
+
+    >>> out_of("left.pcap"), out_of("fates.csv"), out_of("-")
+    ('left.pcap', 'fates.csv', '-')
+    """
+    if text != "-" and not text.endswith((".pcap", ".csv")):
+        raise argparse.ArgumentTypeError(f"{text!r} ends neither in .pcap (a capture) nor in .csv (a table)")
+    return text
 
 
 def link_of(given: argparse.Namespace, head: str) -> list[tuple[int, str]]:
@@ -89,19 +104,21 @@ def run(given: argparse.Namespace, head: str, left: Left) -> str:
     counts: Counter[str] = Counter()
     called = program()
     with ExitStack() as stack:
-        file: BinaryIO = sys.stdout.buffer if given.out == "-" else stack.enter_context(whole_file(given.out))
-        take = _writer(given, file, begin, stack)
+        takes = [_writer(given, name, begin, stack) for name in given.out]
 
         def tell(fate: Fate) -> None:
             counts[fate.cause] += 1
-            take(fate._replace(moment=fate.moment - given.begin))
+            seen = fate._replace(moment=fate.moment - given.begin)
+            for take in takes:
+                take(seen)
 
         held = replaying.replay(called, head, link, packets, begin - given.begin, given.tail, tell)
     return replaying.tally_of(counts, held)
 
 
-def _writer(given: argparse.Namespace, file: BinaryIO, begin: int, stack: ExitStack) -> Callable[[Fate], None]:
-    if given.out.endswith(".csv"):
+def _writer(given: argparse.Namespace, name: str, begin: int, stack: ExitStack) -> Callable[[Fate], None]:
+    file: BinaryIO = sys.stdout.buffer if name == "-" else stack.enter_context(whole_file(name))
+    if name.endswith(".csv"):
         table = replaying.Table(file, begin)
         stack.callback(table.close)
         return table.take

@@ -40,8 +40,9 @@ Columns:
   ended      `end`, or `spent` with the moment at which the steps were spent,
              and that of the end
   marks      what may be silently wrong: refused, spent, no-way-back, denied,
-             budget, unsent, reconfigured, outage, half-duplex, window-limited,
-             units (docs/reference/tools.md says what each means)
+             nopipe, budget, unsent, reconfigured, outage, half-duplex,
+             window-limited, units (docs/reference/tools.md says what each
+             means)
 A missing value is `-` (nothing in --csv, null in --json, whose times are
 nanoseconds). Without the scenario sizes and the moments at which packets were
 made are missing, unless all of the report was made under `trace 1`. --csv,

@@ -3,7 +3,7 @@ import argparse
 import os
 from typing import Any, Callable, Optional, Sequence, TypeVar
 
-from dnlab.analysis.asking import STATS, USUAL, Ask, stats_of
+from dnlab.analysis.asking import OLDER, STATS, USUAL, Ask, stats_of
 from dnlab.analysis.estimates import KINDS
 from dnlab.cli.plot import picture
 from dnlab.cli.words import add_span, count_of, listed, parser_of, span_in
@@ -34,7 +34,8 @@ written without an exponent.
          without any: flows, each train and the injected packets
 --stat   of the --of before it, with commas between:
          {listed(STATS, indent=9)}
-         (N above 0 and up to 100)
+         (N above 0 and up to 100; older names that are taken too:
+         {listed(OLDER, indent=9)})
          without any: {",".join(USUAL)}
          delay is the time from being made to delivery (of a pipe: in it), lost
          all drops, drops.lost those by plr; or FILE.py:NAME, a function of
@@ -53,7 +54,7 @@ before its end. --allow refused, or --allow spent, goes on and marks its rows.
 
 Example:
   tools/sweep python/examples/bottleneck.tmpl --set queue=10,25,50,100,200 \\
-    --seeds 1-30 --of 'train 9' --stat delay.median,delay.p95 \\
+    --seeds 1-30 --of 'train 9' --stat delay.p50,delay.p95 \\
     --of flows --stat goodput,lost --csv best.csv --plot best.svg
   tools/sweep python/examples/bottleneck.tmpl --set queue=50 --dry-run
 

@@ -48,7 +48,8 @@ _DEFAULT = "ipfw -q add 65534 deny ip from any to any"
 
 def _differs(setting: Setting) -> list[str]:
     """What is otherwise on the real machine."""
-    said = ["# What no rule matches is denied, as in the scenario, your own login too: add a rule for it.",
+    said = ["# It removes all rules and pipes that are there (`-f flush`, `pipe flush`), and ends by `65534 deny ip from any to any`.",
+            "# So what no rule matches is denied, as in the scenario, your own login too: packets that come in need a rule of their own.",
             "# dummynet works in ticks of 1/kern.hz: times are whole ticks there (sysctl kern.hz, 1000 by default).",
             "# one_pass 1: a packet that leaves a pipe is done with; on a router a packet passes the rules coming in and going out."]
     configs = [one for one, _ in setting.pipes().values()]
@@ -89,10 +90,26 @@ def _pipe(command: Command, config: Config) -> str:
 def _rule(command: Command, rule: Rule, machine: Machine) -> str:
     if rule.action != "pipe" or machine.behind is None:
         return rule.text()
-    for name, prefix in machine.behind.items():
-        if rule.source != "any" and network(rule.source).subnet_of(network(prefix)):
-            return f"{rule.text()} in recv {name}"
-        if rule.target != "any" and network(rule.target).subnet_of(network(prefix)):
-            return f"{rule.text()} out xmit {name}"
-    raise Faulty(f"line {command.line}: {command.text}: on a router this rule would act twice, on a packet coming in and going out:"
-                 " say what is behind an interface, as --if em1=10.0.1.0/24, or --host where the packets begin or end")
+    twice = f"line {command.line}: {command.text}: on a router this rule would act twice, on a packet coming in and going out:"
+    if rule.source == rule.target == "any":
+        raise Faulty(f"{twice} no --if can place a rule whose addresses are `any`: narrow its source or destination, or say --host if"
+                     " the packets begin or end there")
+    source, target = (_beyond(address, machine.behind) for address in (rule.source, rule.target))
+    if source is not None and source == target:
+        raise Faulty(f"{twice} both its ends lie beyond {source} by --if {source}={machine.behind[source]}, so it says no direction: say"
+                     " what lies beyond each interface, as --if em0=10.0.0.0/24 --if em1=10.0.1.0/24")
+    if source is not None and rule.source != "any":
+        return f"{rule.text()} in recv {source}"
+    if target is not None and rule.target != "any":
+        return f"{rule.text()} out xmit {target}"
+    raise Faulty(f"{twice} say what is behind an interface, as --if em1=10.0.1.0/24, or --host if the packets begin or end there")
+
+
+def _beyond(address: str, behind: Mapping[str, str]) -> Optional[str]:
+    """The interface beyond which an address lies: the one of the longest prefix that holds all of it; None if none does.
+
+    >>> _beyond("10.0.1.7", {"em0": "any", "em1": "10.0.1.0/24"}), _beyond("10.0.0.0/8", {"em1": "10.0.1.0/24"})
+    ('em1', None)
+    """
+    holding = [name for name, prefix in behind.items() if network(address).subnet_of(network(prefix))]
+    return max(holding, key=lambda name: network(behind[name]).prefixlen) if holding else None

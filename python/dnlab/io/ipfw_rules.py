@@ -203,7 +203,11 @@ def _direction(rule: Rule, words: list[str], name: str, known: Known) -> None:
         words.pop(0)
         _interface(rule, name, _take(words, "an interface"), known)
     else:
-        rule.costs.append(f"`{name}` left out: a packet passes the rules once here, on a router twice")
+        # Between any addresses the packets of both directions match.
+        both = "any" in rule.sides[0] and "any" in rule.sides[1]
+        does = "go through this pipe" if rule.action.startswith("pipe") else "match"
+        rule.costs.append(f"`{name}` left out: a packet passes the rules once here, on a router twice"
+                          + (f"; packets the other way now {does} too: narrow source or destination" if both else ""))
 
 
 def _interface(rule: Rule, direction: str, name: str, known: Known) -> None:

@@ -17,6 +17,8 @@ from dnlab.processes import ending
 # A session answers at once: who writes more than a pipe holds before reading would wait for ever.
 _MOST_OUT = 16_000
 _SECOND = 10**9
+# What libpcap takes for no limit: a reader cuts frames to the length that the file's header names.
+_SNAPLEN = 65535
 Command = tuple[int, str]
 
 
@@ -188,7 +190,7 @@ class Capture:
         self._file, self._begin = file, begin
         self._is_raw = link == RAW
         self._link = link
-        file.write(bytes(dpkt.pcap.LEFileHdr(magic=dpkt.pcap.TCPDUMP_MAGIC_NANO, linktype=link)))
+        file.write(bytes(dpkt.pcap.LEFileHdr(magic=dpkt.pcap.TCPDUMP_MAGIC_NANO, snaplen=_SNAPLEN, linktype=link)))
 
     def take(self, fate: Fate) -> None:
         """Writes a packet that left."""
