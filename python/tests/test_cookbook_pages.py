@@ -6,8 +6,8 @@ import pytest
 from conftest import ROOT
 
 PAGES = sorted(ROOT.glob("cookbook/*/README.md"))
-# Its answer is a number of seeds, of which there is nothing to draw and no report to check by hand.
-WITHOUT_PICTURE = {"seeds_enough"}
+# Its answer is a number of seeds, of which there is no report to check by hand.
+WITHOUT_REPORT = {"seeds_enough"}
 
 
 @pytest.mark.parametrize("page", PAGES, ids=lambda page: str(page.parent.name))
@@ -21,8 +21,8 @@ def test_the_form_of_a_page(page: Path) -> None:
     shown, _, checked = text.partition("\n<!--\n")
     assert f"    cookbook/{page.parent.name}/sweep\n" in shown
     assert shown.count("\n| ") >= 2  # a heading and a row of what to turn
-    if page.parent.name not in WITHOUT_PICTURE:
-        assert re.search(r"^!\[[^\]]+\]\(\.\./\.\./docs/pictures/\w+\.svg\)$", shown, re.MULTILINE)
+    assert re.search(r"^!\[[^\]]+\]\(\.\./\.\./docs/pictures/\w+\.svg\)$", shown, re.MULTILINE)
+    if page.parent.name not in WITHOUT_REPORT:
         assert checked.startswith("What was checked by hand:\n") and checked.endswith("-->\n")
         assert "by hand" not in shown
 
