@@ -59,7 +59,7 @@ function show() {
   const {found, said, spent} = shown;
   at("said").textContent = firstLine(found) + plain.decode(said);
   at("report").textContent = plain.decode(found.bytes.subarray(0, MOST_SHOWN)) + (found.bytes.length > MOST_SHOWN ? "\n.. and more: download it" : "");
-  say(found.status ? `status ${found.status}: no report` : `status 0: ${found.bytes.length} bytes of report in ${spent.toFixed(1)} ms`);
+  say(found.status ? `status ${found.status}: no report` : `status 0: ${found.bytes.length} bytes of report in ${spent.toFixed(1)} ms${shown.isLong ? ", too long to be drawn" : ""}`);
   const names = shown.experiments.map((one) => one.name), chosen = at("experiment").value;
   at("experiment").replaceChildren(...names.map((name) => new Option(name, name)));
   if (names.includes(chosen)) at("experiment").value = chosen;

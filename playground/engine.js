@@ -3,11 +3,18 @@
 const CAUSES = ["", "toobig", "cut", "toolong", "badbyte", "badword", "outofrange", "noend", "toomany", "samename",
   "noexperiment", "afterend", "backwards"];
 const DONE = 0, FAULT = 1, NO_MEMORY = 3, ROOM = 5, ANSWER_BYTES = 24;
+// A larger room isn't kept for the next call: it would stand beside the next report.
+const MOST_KEPT = 1 << 25;
 class Engine {
   constructor(instance) {
     this.calls = instance.exports;
     this.answer = this.room(ANSWER_BYTES);
     this.out = this.room(1 << 16);
+  }
+  resize(size) {
+    this.free(this.out);
+    this.out = {at: 0, size: 0};
+    this.out = this.room(size);
   }
   room(size) {
     const at = Number(this.calls.malloc(BigInt(Math.max(size, 1))));
@@ -27,12 +34,11 @@ class Engine {
       const view = new DataView(this.calls.memory.buffer, this.answer.at, ANSWER_BYTES);
       const status = view.getUint32(0, true), length = Number(view.getBigUint64(16, true));
       if (status === ROOM) {
-        this.free(this.out);
-        this.out = {at: 0, size: 0};
-        this.out = this.room(length);
+        this.resize(length);
         continue;
       }
       const bytes = status === DONE ? new Uint8Array(this.calls.memory.buffer, this.out.at, length).slice() : new Uint8Array(0);
+      if (this.out.size > MOST_KEPT) this.resize(1 << 16);
       return {status, cause: CAUSES[view.getUint32(4, true)], line: Number(view.getBigUint64(8, true)), bytes};
     }
   }

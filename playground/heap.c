@@ -6,7 +6,7 @@
  * chunks are kept in lists by size, two for each doubling. WebAssembly gives no memory back to the host. */
 typedef unsigned long u64;
 typedef unsigned char u8;
-enum { HEAD = 16, LEAST = 32, USED = 1, BEFORE_USED = 2, LISTS = 128, TRIES = 16, PAGE = 65536 };
+enum { HEAD = 16, LEAST = 32, USED = 1, BEFORE_USED = 2, LISTS = 128, TRIES = 16, PAGE = 65536, AHEAD = 64 };
 typedef struct Chunk {
   u64 before; /* bytes of the chunk before, while that is free */
   u64 size;   /* bytes with this head, and the two marks */
@@ -34,11 +34,12 @@ static void take(Chunk *chunk) {
   else lists[list_of(bytes_of(chunk))] = chunk->next;
   if (chunk->next) chunk->next->last = chunk->last;
 }
-/* Has the memory reach up to an end. */
+/* Has the memory reach up to an end, and some pages further where that is little. */
 static _Bool reach(u8 *end) {
   if (!limit) limit = (u8 *)(__builtin_wasm_memory_size(0) * PAGE);
   if (end <= limit) return 1;
   u64 pages = ((u64)(end - limit) + PAGE - 1) / PAGE, ahead = (u64)limit / PAGE / 8;
+  if (ahead > AHEAD) ahead = AHEAD;
   if (ahead > pages && __builtin_wasm_memory_grow(0, ahead) != (u64)-1) pages = ahead;
   else if (__builtin_wasm_memory_grow(0, pages) == (u64)-1) return 0;
   limit += pages * PAGE;

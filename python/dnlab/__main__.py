@@ -2,9 +2,10 @@
 import importlib
 import os
 import sys
+import warnings
 from pathlib import Path
 from types import ModuleType
-from typing import Optional, Sequence
+from typing import Optional, Sequence, TextIO, Union
 
 if not __package__:
     # Called by the file's name: the package stands above.
@@ -89,6 +90,23 @@ def help_alone(words: Sequence[str]) -> None:
         module_of(words[0]).main(["--help"])
 
 
+def tell_renamed(command: str) -> None:
+    """From here on older names are warned of on standard error, each once, in a line as the command's others."""
+    from dnlab.analysis.columns import Renamed
+
+    others = warnings.showwarning
+
+    def show(message: Union[Warning, str], category: type[Warning], filename: str, lineno: int,
+             file: Optional[TextIO] = None, line: Optional[str] = None) -> None:
+        if issubclass(category, Renamed):
+            print(f"{command}: {message}", file=sys.stderr)
+        else:
+            others(message, category, filename, lineno, file, line)
+
+    warnings.showwarning = show
+    warnings.simplefilter("once", Renamed)
+
+
 def main(words: Optional[Sequence[str]] = None) -> int:
     """Runs a command by its words, the command first; gives the status."""
     words = sys.argv[1:] if words is None else words
@@ -109,6 +127,7 @@ def main(words: Optional[Sequence[str]] = None) -> int:
         help_alone(words)
         print(said_of(words[0], lacking), file=sys.stderr)
         return MACHINE
+    tell_renamed(words[0])
     module = module_of(words[0])
     try:
         status: int = module.main(words[1:])

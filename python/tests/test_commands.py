@@ -3,6 +3,7 @@ import csv
 import io
 import json
 import os
+import re
 import subprocess
 import sys
 from pathlib import Path
@@ -80,9 +81,35 @@ def test_older_names_of_columns_are_taken_with_a_warning(older: str, now: str) -
     assert "summary: of is sender since version 0.2" in err
 
 
+def test_the_printed_table_has_the_names_of_columns() -> None:
+    """Each heading is a column of --csv, but for `drops`, which has all causes; ` ms` stands after those of times alone."""
+    printed = re.split("  +", tool("summary", REPORT, SCENARIO)[1].split("\n")[0])
+    columns = tool("summary", REPORT, SCENARIO, "--csv")[1].split("\n")[0].split(",")
+    assert set(printed) - {"drops"} <= {name for column in columns for name in (column, f"{column} ms")}
+    assert [one for one in printed if one.endswith(" ms")] == ["time ms", "min ms", "p50 ms", "p99 ms", "max ms", "fct ms"]
+    assert {"sender", "in_flight", "rate", "goodput", "retransmissions", "warnings"} < set(printed)
+
+
+@pytest.mark.parametrize("older, now", [("delay.median", "delay.p50"), ("completion", "fct"), ("held", "in_flight")])
+def test_older_names_of_metrics_are_taken_with_a_warning(older: str, now: str, tmp_path: Path) -> None:
+    said = f": {older} is {now} since version 0.2; the older name goes with version 0.3\n"
+    value = "0" if now == "in_flight" else "0ms"
+    status, out, err = tool("expect", REPORT, SCENARIO, f"train 1: {older} >= {value}")
+    assert err.count(f"expect{said}") == 1 and (status, "can't be told" in out) == ((1, True) if now == "fct" else (0, False))
+    _, _, err = tool("compare", REPORT, REPORT, SCENARIO, "--tolerance", f"{older}={value}")
+    assert err.startswith(f"compare{said}")
+    template = tmp_path / "one.tmpl"
+    template.write_text(SCENARIO.read_text().replace("experiment codel-one-drop", "experiment {{ name }}"))
+    words = ("sweep", template, "--of", "train 1", "--csv", "-", "--stat")
+    status, out, err = tool(*words, older)
+    assert status == 0 and err.count(f"sweep{said}") == 1 and f",{older}," in out
+    status, also, err = tool(*words, now)
+    assert (status, also) == (0, out.replace(older, now)) and "since version" not in err
+
+
 def test_times_for_people_are_ms() -> None:
     out = tool("summary", REPORT, SCENARIO, "--by", "varied", "--columns", "p50", "--of", "train*")[1].split("\n")
-    assert out[0].split() == ["varied", "sender", "rows", "p50", "n", "p50", "ms", "mean", "p50", "ms", "ci95"]
+    assert out[0].split() == ["varied", "sender", "rows", "p50", "n", "p50", "mean", "ms", "p50", "ci95", "ms"]
     assert out[1].split() == ["train", "1", "1", "1", "120.000", "-"]
     out = tool("summary", REPORT, SCENARIO, "--every", "100ms")[1].split("\n")
     assert out[0].split()[2:6] == ["begin", "ms", "end", "ms"] and out[1].split()[3:5] == ["0.000", "100.000"]

@@ -120,12 +120,12 @@ def test_the_same(two: list[Path]) -> None:
 def test_tolerances(two: list[Path]) -> None:
     a, plan, b, other = two
     # The median is 16/13 = 123.1 % of A's, and 3 ms above it.
-    for words, status in ((["delay.median=24%"], 0), (["delay.median=23%"], 1), (["delay.median=3ms"], 0),
-                          (["delay.median=2999999ns"], 1), (["packets=0"], 0), (["*=1%"], 1),
-                          (["*=100%", "delay.median=1%"], 1), (["delay.median=1%", "*=100%"], 0)):
+    for words, status in ((["delay.p50=24%"], 0), (["delay.p50=23%"], 1), (["delay.p50=3ms"], 0),
+                          (["delay.p50=2999999ns"], 1), (["packets=0"], 0), (["*=1%"], 1),
+                          (["*=100%", "delay.p50=1%"], 1), (["delay.p50=1%", "*=100%"], 0)):
         given = [word for one in words for word in ("--tolerance", one)]
         assert tool("compare", a, b, plan, other, "--of", "train *", *given)[0] == status, words
-    out = tool("compare", a, b, plan, other, "--of", "train *", "--tolerance", "delay.median=24%")[1]
+    out = tool("compare", a, b, plan, other, "--of", "train *", "--tolerance", "delay.p50=24%")[1]
     assert "within 24%" in out
     assert tolerance_of("drops=2").allows(Fraction(3), Fraction(5)) and not tolerance_of("drops=2").allows(Fraction(3), Fraction(6))
 
@@ -187,10 +187,10 @@ def test_bounds_that_hold_and_fail(two: list[Path], tmp_path: Path) -> None:
         "holds  bound 1: train 9: delay.p95 <= 15ms  (measured 15ms of a/train 9)",
         "holds  bound 2: a/train *: goodput > 2.6Mbit/s  (measured 2.666666Mbit/s of a/train 9)",
         "holds  bound 3: all: drops = 0  (measured 0 of a/all)"]
-    (tmp_path / "bounds").write_text("# of the train\ntrain 9: delay.least >= 11ms\n\n train 9 : delay.p95<15 ms\nall: packets > 9\n")
+    (tmp_path / "bounds").write_text("# of the train\ntrain 9: delay.min >= 11ms\n\n train 9 : delay.p95<15 ms\nall: packets > 9\n")
     status, out, _ = tool("expect", a, plan, "--bounds", tmp_path / "bounds")
     assert status == 1 and out == (
-        f"holds  {tmp_path}/bounds: line 2: train 9: delay.least >= 11ms  (measured 11ms of a/train 9)\n"
+        f"holds  {tmp_path}/bounds: line 2: train 9: delay.min >= 11ms  (measured 11ms of a/train 9)\n"
         f"FAILS  {tmp_path}/bounds: line 4: train 9 : delay.p95<15 ms  (measured 15ms of a/train 9)\n"
         f"FAILS  {tmp_path}/bounds: line 5: all: packets > 9  (measured 5 of a/all)\n")
     status, out, _ = tool("expect", a, plan, "--bounds", tmp_path / "bounds", "--first")

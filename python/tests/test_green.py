@@ -85,9 +85,9 @@ def test_in_notebooks(files: Callable[..., list[Path]], tmp_path: Path) -> None:
     packed.write_bytes(gzip.compress(report.read_bytes()))
     opened = dnlab.read(packed, plan)
     one = opened["a"]
-    assert [(row.line, row.code) for row in one.refused] == [(5, 10), (6, 22)] and one.marks == "refused"
+    assert [(row.line, row.code) for row in one.refused] == [(5, 10), (6, 22)] and one.warnings == "refused"
     rows = opened.summary()
-    assert rows.marks.unique().tolist() == ["refused"] and rows.refused.unique().tolist() == [2]
+    assert rows.warnings.unique().tolist() == ["refused"] and rows.refused.unique().tolist() == [2]
     assert rows.codes.unique().tolist() == ["10:1 22:1"] and len(one.packets()) == 5
 
 
@@ -130,8 +130,8 @@ def test_a_tolerance_that_judges_nothing(files: Callable[..., list[Path]]) -> No
         assert got[0] == status and said in got[2], (words, got)
     for words, status, said in (
             (["--tolerance", "delay.p95=5%"], 1, ""), (["--tolerance", "delay.p95=100s"], 0, ""),
-            (["--tolerance", "completion=5%"], 2, "only a flow has a completion"),
-            (["--tolerance", "again=5", "--of", "train *"], 2, "only a flow sends again"),
+            (["--tolerance", "fct=5%"], 2, "only a flow has a completion"),
+            (["--tolerance", "retransmissions=5", "--of", "train *"], 2, "only a flow sends again"),
             (["--tolerance", "jain=5%"], 2, "no line tells it"), (["--tolerance", "utilisation=5%"], 1, ""),
             (["--tolerance", "delay.p95=5%", "--of", "train 8"], 2, "no row is like train 8")):
         got = tool("compare", first, second, plan, other, *words)
@@ -141,11 +141,11 @@ def test_a_tolerance_that_judges_nothing(files: Callable[..., list[Path]]) -> No
 def test_what_both_lack_is_not_within(files: Callable[..., list[Path]]) -> None:
     """Flow 1 ended and flow 2 didn't, in both: the tolerance on completion can't be kept by what isn't there."""
     report, plan = files(FLOWS, "flows")
-    status, out, _ = tool("compare", report, report, plan, "--tolerance", "completion=5%")
+    status, out, _ = tool("compare", report, report, plan, "--tolerance", "fct=5%")
     row = next(line for line in out.split("\n") if " flow 2 " in line)
     assert status == 1 and "can't be told: it hadn't ended when the experiment did, at 0.1s" in row
-    assert tool("compare", report, report, plan, "--tolerance", "completion=5%", "--of", "flow 1")[0] == 0
-    assert tool("compare", report, report, plan, "--tolerance", "completion=5%", "--of", "flow 2")[0] == 2
+    assert tool("compare", report, report, plan, "--tolerance", "fct=5%", "--of", "flow 1")[0] == 0
+    assert tool("compare", report, report, plan, "--tolerance", "fct=5%", "--of", "flow 2")[0] == 2
 
 
 def test_a_report_that_lacks_an_experiment(files: Callable[..., list[Path]], tmp_path: Path) -> None:
@@ -242,9 +242,9 @@ def test_patterns_name_flows(files: Callable[..., list[Path]]) -> None:
     texts = files(FLOWS, "flows")
     status, out, _ = tool("expect", *texts, "flow *: goodput > 1kbit/s", "flow * acks: delivered > 0", "flow *: loss < 1%")
     assert status == 0 and out.count("the nearest of 2 rows") == 3
-    status, out, _ = tool("expect", *texts, "flow *: completion < 10s")
+    status, out, _ = tool("expect", *texts, "flow *: fct < 10s")
     assert status == 1 and "it can't be told of f/flow 2: it hadn't ended when the experiment did, at 0.1s" in out
-    assert tool("expect", *texts, "flow 1: completion < 10s")[0] == 0
+    assert tool("expect", *texts, "flow 1: fct < 10s")[0] == 0
     for bound, said in (("train 1: drops < 1", "no row 'train 1'"), ("pipe 1.0: utilisation < 101%", ""),
                         ("pipe 2.0: utilisation < 50%", "the pipe has no rate"), ("all: delay.p95 < 1s", "name `there` or `back`"),
                         ("pipe 1.0: loss < 1%", "under `trace 1`"), ("flow 1 acks: goodput > 1bit/s", "rows of this kind")):
@@ -357,7 +357,7 @@ def test_stored_summaries(files: Callable[..., list[Path]], tmp_path: Path) -> N
 def test_what_is_in_no_queue_is_said_where_it_counts(files: Callable[..., list[Path]], tmp_path: Path) -> None:
     """At the end three packets wait or fly; only a picture of queues depends on where."""
     texts = files(CALL.replace("@100000000 end", "@21050000 end").replace("count 3 gap 20000000", "count 2 gap 20000000"))
-    for name, words in (("summary", []), ("expect", ["all: held == 1"]), ("plot", ["--what", "rate", "--out", tmp_path / "r.svg"])):
+    for name, words in (("summary", []), ("expect", ["all: in_flight == 1"]), ("plot", ["--what", "rate", "--out", tmp_path / "r.svg"])):
         status, _, err = tool(name, *texts, *words)
         assert status == 0 and not err, (name, err)
     status, _, err = tool("plot", *texts, "--what", "queue,queue", "--out", tmp_path / "q.svg")

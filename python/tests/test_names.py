@@ -9,6 +9,7 @@ import pytest
 
 import dnlab
 from dnlab.analysis.by_hand import FLOWS, TRAIN, Run
+from dnlab.analysis.metrics import metric_of
 
 
 @pytest.fixture(params=[TRAIN], ids=["train"])
@@ -96,6 +97,15 @@ def test_sweeps_have_them(program: str) -> None:
     assert table[table["size"] == 2].set_index("stat")["mean"].to_dict() == {
         "delay.max": 12e6, "in_flight": 1, "delay.p50": 11e6, "fct": pytest.approx(float("nan"), nan_ok=True)}
     assert made.long().columns.tolist() == ["size", "seed", "experiment", "sender", "stat", "unit", "value", "warnings"]
+
+
+def test_older_stats_and_metrics_warn(program: str) -> None:
+    text = TRAIN.scenario.decode().replace("experiment train seed 0", "experiment {{ name }} seed {{ seed }}")
+    with pytest.warns(DeprecationWarning, match="delay.median is delay.p50 since version 0.2") as told:
+        made = dnlab.sweep(text, of="train 1", stat="delay.median", dnlab=program)
+    assert told[0].filename == __file__ and made.table()["mean"].tolist() == [11e6]
+    with pytest.warns(DeprecationWarning, match="completion is fct since version 0.2"):
+        assert metric_of("completion") == metric_of("fct")
 
 
 def test_bounds_take_both(tmp_path: Path) -> None:

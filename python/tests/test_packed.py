@@ -11,7 +11,7 @@ from conftest import ROOT, text_of, tool
 np = pytest.importorskip("numpy", reason="numpy is missing (Debian: python3-numpy)")
 Alone = Callable[[bytes], bytes]
 # 1000 bytes at 1 Mbit/s take 8 ms, and the delay is 10 ms more.
-BOUND = "injected: delay.median == 18ms"
+BOUND = "injected: delay.p50 == 18ms"
 
 
 def packet(folder: Path) -> tuple[Path, Path, Path]:

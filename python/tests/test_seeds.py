@@ -39,7 +39,7 @@ def template(tmp_path: Path) -> Path:
 
 def test_the_same_chance_leaves_the_setting_alone(program: str) -> None:
     """Means over seeds are wide, since sizes differ; 15 ms more of delay are 15 ms more at each seed."""
-    made = dnlab.sweep(ONE, delay=[5, 20, 9], seed=range(1, 6), of="train 1", stat="delay.median", dnlab=program)
+    made = dnlab.sweep(ONE, delay=[5, 20, 9], seed=range(1, 6), of="train 1", stat="delay.p50", dnlab=program)
     found = made.compare("delay")
     assert [(row.delay, row.base, row.n, row.mean, row.low, row.high, row.differs) for row in found.itertuples()] == [
         (20, 5, 5, 15.0 * MS, 15.0 * MS, 15.0 * MS, True), (9, 5, 5, 4.0 * MS, 4.0 * MS, 4.0 * MS, True)]
@@ -66,7 +66,7 @@ def test_what_can_be_no_pair_is_said_before_anything_runs(template: Path, words:
 
 
 def test_pairs_are_printed(template: Path) -> None:
-    out = tool("sweep", template, "--set", "delay=5,20", "--seeds", "1-3", "--of", "train 1", "--stat", "delay.median",
+    out = tool("sweep", template, "--set", "delay=5,20", "--seeds", "1-3", "--of", "train 1", "--stat", "delay.p50",
                "--pairs", "delay")[1]
     assert out.splitlines()[-1].split("  ")[0] == "20 less 5" and out.splitlines()[-1].endswith("15 ± 0")
 
@@ -93,10 +93,10 @@ def test_needed_by_the_tables() -> None:
 
 def test_needed_is_said_and_a_column(template: Path) -> None:
     status, out, err = tool("sweep", template, "--set", "delay=5", "--seeds", "1-3", "--of", "train 1", "--stat",
-                            "delay.median,lost", "--within", "1%", "--csv", "-")
+                            "delay.p50,lost", "--within", "1%", "--csv", "-")
     rows = list(csv.DictReader(io.StringIO(out)))
     assert status == 0 and int(rows[0]["needed"]) > 3 and rows[1]["needed"] == "2"
-    assert f"--within 0.01: 1 of 2 means need more than the 3 seeds here; the most, {rows[0]['needed']}, delay.median" in err
+    assert f"--within 0.01: 1 of 2 means need more than the 3 seeds here; the most, {rows[0]['needed']}, delay.p50" in err
     assert tool("sweep", template, "--set", "delay=5", "--within", "0%")[0] == 2
 
 
@@ -116,7 +116,7 @@ def test_marked_cells_are_told_in_the_table(template: Path) -> None:
     """A train of five packets needs 1.2 s, and the run has one."""
     out = tool("sweep", template, "--set", "count=1,5", "--set", "delay=5", "--of", "train 1", "--stat", "delivered")[1]
     lines = [line.split() for line in out.splitlines()]
-    assert lines[0][-1] == "marks" and [line[-1] for line in lines[1:]] == ["-", "unsent"]
+    assert lines[0][-1] == "warnings" and [line[-1] for line in lines[1:]] == ["-", "unsent"]
 
 
 # ---- the picture
@@ -179,7 +179,7 @@ def test_dask_has_the_same_table(template: Path, tmp_path: Path, program: str) -
                                   "--no-dashboard", "--local-directory", str(tmp_path / f"w{number}")], **quiet)
                 for number in (1, 2)]
     try:
-        words = ["--set", "delay=5,20", "--seeds", "1-3", "--of", "train 1", "--stat", f"delay.median,{tmp_path}/mine.py:made",
+        words = ["--set", "delay=5,20", "--seeds", "1-3", "--of", "train 1", "--stat", f"delay.p50,{tmp_path}/mine.py:made",
                  "--csv", "-"]
         here = tool("sweep", template, *words, "--kept", tmp_path / "here")
         for _ in range(20):

@@ -27,7 +27,7 @@ pytest.importorskip("scipy", reason="scipy is missing (Debian: python3-scipy)")
 from conftest import ROOT, tool  # noqa: E402
 
 import dnlab  # noqa: E402
-from dnlab.analysis.estimates import estimate  # noqa: E402
+from dnlab.analysis.figures import Interval, interval  # noqa: E402
 from dnlab.chance import Chance  # noqa: E402
 from dnlab.processes.progress import Progress  # noqa: E402
 from dnlab.sweeps.grids import cases_of, name_of, seeds_of, setting_of  # noqa: E402
@@ -232,11 +232,11 @@ def test_the_table_by_hand(tmp_path: Path, program: str) -> None:
     """A packet of so many bytes is under way 8000 ns for each, and the delay; of the five seeds the mean and Student's
     interval, whose t is 2.776 for four degrees of freedom and 95 %, and 2.132 for 90 %."""
     file = template(tmp_path)
-    made = dnlab.sweep(file, delay=[5, 20], seed=range(1, 6), of="train 1", stat="delay.median,bytes", dnlab=program)
+    made = dnlab.sweep(file, delay=[5, 20], seed=range(1, 6), of="train 1", stat="delay.p50,bytes", dnlab=program)
     sizes = [size_of(made.text(case)) for case in made.cases]
     assert sizes[:5] == sizes[5:] and len(set(sizes)) == 5
     for delay, level, t in ((5, 95, 2.776445), (20, 90, 2.131847)):
-        row = made.table(level).query(f"delay == {delay} and stat == 'delay.median'").iloc[0]
+        row = made.table(level).query(f"delay == {delay} and stat == 'delay.p50'").iloc[0]
         times = [8000 * size + delay * 10**6 for size in sizes[:5]]
         mean = sum(times) / 5
         half = t * math.sqrt(sum((time - mean) ** 2 for time in times) / 4 / 5)
@@ -244,25 +244,25 @@ def test_the_table_by_hand(tmp_path: Path, program: str) -> None:
         assert row["mean"] == mean and abs(row.high - mean - half) < 1e-6 * half
         assert abs(row.high + row.low - 2 * mean) < 1
     rows = made.rows()
-    assert list(rows.columns) == ["delay", "seed", "experiment", "sender", "delay.median", "bytes", "warnings"]
+    assert list(rows.columns) == ["delay", "seed", "experiment", "sender", "delay.p50", "bytes", "warnings"]
     assert rows.bytes.tolist() == sizes and rows.experiment.tolist()[:2] == ["delay5-s1", "delay5-s2"]
 
 
 def test_intervals_by_another_way() -> None:
     """The bootstrap against percentiles of means that are drawn here, of values far from normal; t of the table."""
     values = [1.0, 1.1, 1.2, 1.3, 1.5, 2.0, 9.0, 1.4, 1.6, 1.2]
-    found = estimate(values, 90, "bootstrap")
+    found = interval(values, 90, "bootstrap")
     chance = random.Random(5)
     means = sorted(sum(chance.choices(values, k=10)) / 10 for _ in range(20000))
     # The correction for bias and skewness moves both ends up here, and by no more than a third of the width.
     low, high = means[1000], means[19000]
     assert found.mean == pytest.approx(2.13) and low <= found.low <= low + (high - low) / 3
     assert high <= found.high <= high + (high - low) / 3
-    assert found == estimate(values, 90, "bootstrap") != estimate(values, 95, "bootstrap")
+    assert found == interval(values, 90, "bootstrap") != interval(values, 95, "bootstrap")
     half = 1.833113 * math.sqrt(sum((value - 2.13) ** 2 for value in values) / 9 / 10)
-    assert estimate(values, 90).high == pytest.approx(2.13 + half, rel=1e-6)
-    assert estimate([3.0, 3.0, 3.0]) == (3, 3, 3, 3) == estimate([3.0, 3.0, 3.0], kind="bootstrap")
-    assert estimate([4.0]) == (1, 4, None, None) and estimate([]) == (0, None, None, None)
+    assert interval(values, 90).high == pytest.approx(2.13 + half, rel=1e-6)
+    assert interval([3.0, 3.0, 3.0]) == Interval(3, 3, 0, 3, 3) == interval([3.0, 3.0, 3.0], kind="bootstrap")
+    assert interval([4.0]) == Interval(1, 4) and interval([]) == Interval(0, None)
 
 
 def test_counts_by_grep(tmp_path: Path, program: str, alone: Callable[[bytes], bytes]) -> None:
@@ -270,7 +270,7 @@ def test_counts_by_grep(tmp_path: Path, program: str, alone: Callable[[bytes], b
     each = tmp_path / "each.csv"
     words = ["--set", "length=2", "--set", "queue=10,200 codel", "--seeds", "3", "--kept", tmp_path / "k", "--each", each]
     stats = ["--of", "flows", "--stat", "lost,delivered,drops.full,drops.codel,drops.lost,again,packets", "--of", "train 9",
-             "--stat", "delivered,lost,delay.mean,delay.greatest"]
+             "--stat", "delivered,lost,delay.mean,delay.max"]
     assert tool("sweep", BOTTLENECK, *words, *stats, DNLAB=program)[0] == 0
     rows = rows_of(each.read_text())
     made = dnlab.sweep(BOTTLENECK, length=2, queue=[10, "200 codel"], seed=3)
@@ -291,7 +291,7 @@ def test_counts_by_grep(tmp_path: Path, program: str, alone: Callable[[bytes], b
         made_at = dict(zip(sorted([one for one, _ in plain] + list(lost)), range(0, 10**10, 20_000_000)))
         times = [moment - made_at[one] for one, moment in plain]
         assert float(call["delay.mean"]) == pytest.approx(sum(times) / len(times), rel=1e-12)
-        assert call["delay.greatest"] == str(max(times)) and call["drops.full"] == "" and flows["delay.mean"] == ""
+        assert call["delay.max"] == str(max(times)) and call["drops.full"] == "" and flows["delay.mean"] == ""
 
 
 def test_flows_together(tmp_path: Path, program: str) -> None:
@@ -304,15 +304,15 @@ def test_flows_together(tmp_path: Path, program: str) -> None:
 @0 flow 2 10.0.0.2 1000 10.0.1.2 80 smss 960 segments 2
 @1000000000 end
 """
-    stats = ["goodput", "completion", "jain", "again", "useful"]
-    made = dnlab.sweep(text, of={"flows": stats, "flow *": ["completion"], "flow * acks": ["delivered"]}, dnlab=program)
+    stats = ["goodput", "fct", "jain", "retransmissions", "useful"]
+    made = dnlab.sweep(text, of={"flows": stats, "flow *": ["fct"], "flow * acks": ["delivered"]}, dnlab=program)
     rows = {(row.sender, row.stat): row["mean"] for _, row in made.table().iterrows()}
     # `flow *` names flows alone. Each segment has its own acknowledgement.
-    assert {of for of, stat in rows if stat == "completion"} == {"flows", "flow 1", "flow 2"}
+    assert {of for of, stat in rows if stat == "fct"} == {"flows", "flow 1", "flow 2"}
     assert {of: mean for (of, stat), mean in rows.items() if stat == "delivered"} == {"flow 1 acks": 4, "flow 2 acks": 2}
     # The last segment of flow 1 is served to 32 ms and delivered at 42, that of flow 2 at 26 ms.
-    assert rows["flows", "completion"] == rows["flow 1", "completion"] == 42_000_000
-    assert rows["flow 2", "completion"] == 26_000_000 and rows["flows", "again"] == 0
+    assert rows["flows", "fct"] == rows["flow 1", "fct"] == 42_000_000
+    assert rows["flow 2", "fct"] == 26_000_000 and rows["flows", "retransmissions"] == 0
     assert rows["flows", "useful"] == 6 * 960 and rows["flows", "goodput"] == 6 * 960 * 8 * 1000 // 42
     first, second = 4 * 960 * 8 * 1000 // 42, 2 * 960 * 8 * 1000 // 26
     assert rows["flows", "jain"] == pytest.approx((first + second) ** 2 / 2 / (first**2 + second**2), abs=1e-6)
@@ -320,8 +320,8 @@ def test_flows_together(tmp_path: Path, program: str) -> None:
 
 def test_the_usual_questions(tmp_path: Path, program: str) -> None:
     found = dnlab.sweep(BOTTLENECK, length=1, queue=50, seed=(1, 2), dnlab=program).table()
-    assert list(zip(found.of, found.stat)) == [
-        (of, stat) for of in ("flows", "train 9") for stat in ("goodput", "delay.median", "delay.p95", "lost")]
+    assert list(zip(found.sender, found.stat)) == [
+        (of, stat) for of in ("flows", "train 9") for stat in ("goodput", "delay.p50", "delay.p95", "lost")]
 
 
 def test_marks_and_what_is_said(tmp_path: Path, program: str) -> None:
@@ -369,7 +369,7 @@ def test_parquet_needs_pyarrow(tmp_path: Path, program: str) -> None:
 def test_the_picture(program: str) -> None:
     """A point for each setting at the mean, a bar as long as the interval, a line for each other setting."""
     pytest.importorskip("matplotlib")
-    made = dnlab.sweep(ONE, delay=[5, 20, 10], seed=range(1, 4), of="train 1", stat=["delay.median"], dnlab=program)
+    made = dnlab.sweep(ONE, delay=[5, 20, 10], seed=range(1, 4), of="train 1", stat=["delay.p50"], dnlab=program)
     axes, = made.plot().axes
     bars, = axes.containers
     sizes = [size_of(made.text(case)) for case in made.cases[:3]]
@@ -517,7 +517,7 @@ def test_ended_from_outside(tmp_path: Path, program: str) -> None:
 def test_what_is_kept_is_judged(tmp_path: Path, program: str) -> None:
     """A digit that is changed in the file, a row of another, what isn't text: run again, and said; never a number."""
     file = template(tmp_path)
-    words = [file, "--set", "delay=5,7", "--seeds", "1-3", "--of", "train 1", "--stat", "delay.median", "--csv", "-"]
+    words = [file, "--set", "delay=5,7", "--seeds", "1-3", "--of", "train 1", "--stat", "delay.p50", "--csv", "-"]
     status, table, err = tool("sweep", *words, DNLAB=program)
     assert status == 0 and "6 were run" in err
     for change in ("UPDATE answers SET found = replace(found, '000', '001')",
@@ -617,7 +617,7 @@ def test_reports_and_sweeps_are_pickled(program: str) -> None:
     report = dnlab.run(made.text(made.cases[0]), dnlab=program)
     copied = pickle.loads(pickle.dumps(report))
     del report
-    assert copied["delay5-s1"].packets()["size"].tolist() == [size_of(made.text(made.cases[0]))]
+    assert copied["delay5-s1"].packets()["bytes"].tolist() == [size_of(made.text(made.cases[0]))]
 
 
 def test_by_dask(tmp_path: Path, program: str, monkeypatch: pytest.MonkeyPatch) -> None:

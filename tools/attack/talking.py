@@ -18,8 +18,8 @@ class Silent(Exception):
 class Raw:
     """A program `dnlab live` with pipes; killed where the block is left."""
 
-    def __init__(self, program: str, before: Sequence[str] = ()) -> None:
-        self.process = subprocess.Popen([*before, program, "live"], stdin=subprocess.PIPE, stdout=subprocess.PIPE,
+    def __init__(self, program: str, before: Sequence[str] = (), words: Sequence[str] = ()) -> None:
+        self.process = subprocess.Popen([*before, program, "live", *words], stdin=subprocess.PIPE, stdout=subprocess.PIPE,
                                         stderr=subprocess.PIPE, bufsize=0)
         assert self.process.stdin and self.process.stdout and self.process.stderr
         self.input, self.output, self.errors = self.process.stdin, self.process.stdout, self.process.stderr

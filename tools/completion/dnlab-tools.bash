@@ -7,7 +7,7 @@ _dnlab_tools() {
     *:--what) words="window queue sojourn rate drops throughput cdf:sojourn cdf:throughput box:sojourn box:throughput" ;;
     *:--percentiles) words="50,99 50,95,99" ;;
     *:--by) words="varied settings experiment seed" ;;
-    *:--stat) words="goodput delay.median delay.p95 delay.p99 lost" ;;
+    *:--stat) words="goodput delay.p50 delay.p95 delay.p99 lost" ;;
     *:--interval) words="t bootstrap" ;;
     *:--ci) words="90 95 99" ;;
     *:--every | *:--bin) words="10ms 100ms 1s" ;;

@@ -17,7 +17,7 @@ _dnlab() {
     run:*) words="--workers --moves --progress --explain --strict --help" ;;
     alone:*) words="--progress --explain --strict --help" ;;
     check:*) words="--explain --help" ;;
-    live:*) words="--help" ;;
+    live:*) words="--explain --help" ;;
     help:help) words="alone run check live help" ;;
     help:*) ;;
     *) words="alone run check live help --help --version" ;;

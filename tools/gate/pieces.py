@@ -61,7 +61,6 @@ BY_PROGRAM = (
     tried("cookbook/check", "the cookbook", 46),
     tried("tools/gate/check_install", "the manual pages, completion and the installation", 29, needs="command -v man && command -v groff && command -v zsh"),
     tried("tools/gate/check_library", "the library from C, Python and Rust", 10, needs="command -v cc", after=(LIBRARY,)),
-    tried("tools/gate/check_playground", "the playground in Node and in Chromium", 19, needs="command -v node && command -v wasm-opt", after=(LIBRARY,)),
 )
 # Beside those what only the whole tries.
 RELEASE = tried("tools/gate/check_release", "what tools/release makes", 36, needs="command -v dpkg-deb && /usr/bin/python3 -c 'import build, wheel'")
@@ -75,6 +74,12 @@ def drawn(minutes: int) -> Piece:
     """Scenarios drawn for at most so many minutes."""
     about = "drawn scenarios beside a second dnlab that was written from the pages of docs/"
     return tried("tools/second/differ", about, 13, "100", "1", "--minutes", str(minutes))
+
+
+def of_page(seconds: int, about: str, *words: str) -> Piece:
+    """The playground's tests, which look at the clock only in the whole."""
+    return tried("tools/gate/check_playground", about, seconds, *words, needs="command -v node && command -v wasm-opt", after=(LIBRARY,),
+                 is_alone=not words)
 
 
 def of_python(seconds: int, *words: str) -> Piece:
@@ -94,6 +99,7 @@ LISTS = {
         drawn(1),
         tried("tools/attack/sessions", "sessions beside alone", 3, "--quick"),
         *BY_PROGRAM,
+        of_page(19, "the playground in Node and in Chromium", "--quick"),
         of_python(500, "--quick"),
     ),
     "whole": (
@@ -105,6 +111,7 @@ LISTS = {
         tried("tools/attack/sessions", "sessions beside alone", 10, is_alone=True),
         drawn(2),
         *BY_PROGRAM,
+        of_page(100, "the playground in Node, Chromium and Firefox, with reports of millions of lines"),
         RELEASE,
         of_python(700),
     ),

@@ -70,7 +70,7 @@ pub enum AdoptError {
 impl Bench {
     ghost use Rattle.std.specs.Prelude.{◌≡◌, ◌≢◌, ◌+◌, ◌≤◌, ℕ, None, Some, true, false, [], length, IfOk, OnOk, IfErr, OnErr, IfSome, IfNone, MatchOption};
     ghost use Rattle.shard.specs.Stand.{Seat, seat_at, IsTold};
-    ghost use Rattle.shard.specs.Turns.{TurnsSettled, ManyTurnsSettled, Heard, NamesIt, IsPoll};
+    ghost use Rattle.shard.specs.Turns.{TurnsSettled, ManyTurnsSettled, HeardOf, NamesIt, IsPoll};
     ghost use Rattle.bench.specs.Rings.{ring_seen};
     ghost use Rattle.bench.specs.Custody.{hand, times, named, seated};
     ghost use Rattle.bench.specs.Ends.{peer_view};
@@ -157,7 +157,7 @@ impl Bench {
     /// `turn`, and then at most `more` further events of the same resident, while it has a next command, doesn't end,
     /// and `watch` says yes, which hears of each that ran.
     pub fn turns<W: Watch>(&mut self, more: u32, watch: &mut W) -> Turned<RingMail>
-        ensures shard { (ran name : ℕ) × Heard W.hears name ran watch.old watch.new
+        ensures shard { (ran name : ℕ) × HeardOf W.hears result name ran watch.old watch.new
             × NamesIt result name
             × ManyTurnsSettled ring_seen W.may_refuse more ran result (bench_seating self.old)
             (bench_seating self.new) }

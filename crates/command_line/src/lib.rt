@@ -2,6 +2,7 @@
 //! `lab`. The program `dnlab` adds its version.
 #![tactic(auto)]
 
+mod hinted;
 mod kept;
 mod meter;
 mod tell;
@@ -15,6 +16,7 @@ use clap::Error;
 use clap::error::ErrorKind;
 use control::parse_scenario;
 use explain_text::{explained, faults_text, refusals_text, warnings_text};
+use hinted::LineHints;
 use kept::{Keeper, Kept};
 use lab::{Device, OpenGate, Plan, RunFault, check, live, run_alone_told, run_told};
 use meter::Meter;
@@ -188,7 +190,10 @@ where
             run_alone_told(alloc, &mut reader, &mut writer, &meter)
         }
         Task::Check { .. } => check(alloc, &mut reader, &mut writer),
-        Task::Live => live(alloc, &mut reader, &mut writer),
+        Task::Live { explain } => {
+            let hints = LineHints { wanted: explain };
+            live(alloc, &mut reader, &mut writer, &hints)
+        }
     };
     let kept = reader.into_inner().into_kept();
     let watched = writer.into_inner().into_watched();

@@ -25,18 +25,20 @@ pub enum Task {
     Check {
         explain: bool,
     },
-    /// To answer each line of a session as it comes.
-    Live,
+    /// To answer each line of a session as it comes, one at fault with a hint if that is wanted.
+    Live {
+        explain: bool,
+    },
 }
 
 impl Task {
-    /// Whether faults, refused commands and what is silently wrong are to be explained.
+    /// Whether faults, refused commands and what is silently wrong are to be explained, once the text has ended.
     pub fn explains(&self) -> bool {
         match self {
             Task::Run { explain, .. } => *explain,
             Task::Alone { explain, .. } => *explain,
             Task::Check { explain } => *explain,
-            Task::Live => false,
+            Task::Live { .. } => false,
         }
     }
 
@@ -45,7 +47,7 @@ impl Task {
         match self {
             Task::Run { strict, .. } => *strict,
             Task::Alone { strict, .. } => *strict,
-            Task::Check { .. } | Task::Live => false,
+            Task::Check { .. } | Task::Live { .. } => false,
         }
     }
 
@@ -53,7 +55,7 @@ impl Task {
     pub fn runs(&self) -> bool {
         match self {
             Task::Run { .. } | Task::Alone { .. } => true,
-            Task::Check { .. } | Task::Live => false,
+            Task::Check { .. } | Task::Live { .. } => false,
         }
     }
 }
@@ -141,9 +143,14 @@ fn command<'a>(alloc: Global, version: &'a str) -> Result<Command<'a>, Error> {
     let check = Command::new(alloc, "check")
         .about("Says `ok`, how many experiments and commands, or the fault")
         .arg(explain_word(alloc))?;
-    let live = Command::new(alloc, "live").about(
-        "Answers lines of a scenario as they come (`#> help`: what to ask)",
-    );
+    let live = Command::new(alloc, "live")
+        .about("Answers lines of a scenario as they come (`#> help`: what to ask)")
+        .arg(
+            Arg::new(alloc, "explain")
+                .long("explain")
+                .action(ArgAction::SetTrue)
+                .help("Says, behind #, what is wrong with a line at fault"),
+        )?;
     let program = Command::new(alloc, "dnlab")
         .about(ABOUT)
         .version(version)
@@ -174,7 +181,9 @@ pub fn task_of(alloc: Global, version: &str, words: &[String]) -> Result<Task, E
             explain: given.get_flag("explain"),
             strict: given.get_flag("strict"),
         }),
-        Some(("live", _)) => Ok(Task::Live),
+        Some(("live", given)) => Ok(Task::Live {
+            explain: given.get_flag("explain"),
+        }),
         Some((_, given)) => Ok(Task::Check {
             explain: given.get_flag("explain"),
         }),

@@ -104,7 +104,7 @@ line-early (Command c) t e = timed-early c t (does (timed_within c) t e)
 no-entry : (t : Timed) → Does t ≡ Nothing → ⊥
 no-entry t e = cc
 
-says-early : (line : List ℕ) (t : Timed) → Says line (Does t) → t.moment ≤ 10 ^ 15
+pub says-early : (line : List ℕ) (t : Timed) → Says line (Does t) → t.moment ≤ 10 ^ 15
 says-early line t (inl p) = absurd (no-entry t p.1)
 says-early line t (inr p) = line-early p.0 t p.2
 

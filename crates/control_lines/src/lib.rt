@@ -10,4 +10,4 @@ mod raw;
 mod shape;
 
 pub use line::{LineEntry, LineFault, read_line};
-pub use lines_law::lines_say_one;
+pub use lines_law::{lines_are_read, lines_say_one};

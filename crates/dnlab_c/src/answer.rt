@@ -4,7 +4,8 @@ ghost use Rattle.std.specs.Prelude.{◌≡◌, flat_map};
 ghost use Rattle.dnlab_c.specs.Answers.{cause_number, IsPut};
 
 use control::{Cause, Fault};
-use lab::Text;
+use report_writer::{Report, put_reports};
+use std::alloc::Global;
 
 /// The text was written to the room.
 pub const DONE: u32 = 0;
@@ -92,21 +93,12 @@ pub fn put(text: &[u8], room: &mut [u8]) -> Answer
 }
 
 /// Puts reports into the room, one after the other, where it has room for all of them; else the first that fit.
-pub fn put_texts(texts: &[Text], room: &mut [u8]) -> Answer
-    ensures { IsPut (flat_map (λ t. t) texts.now) room.old room.new result }
+pub fn put_all(alloc: Global, reports: &[Report], room: &mut [u8]) -> Answer
+    ensures { IsPut (flat_map (λ r. r) reports.now) room.old room.new result }
 {
-    let mut length = 0usize;
-    for text in texts {
-        let bytes = text.as_bytes();
-        // All of them lie in memory, so that their sum has 64 bits; nothing says so here.
-        let Some(end) = length.checked_add(bytes.len()) else {
-            return no_memory();
-        };
-        if end <= room.len() {
-            room[length..end].copy_from_slice(bytes);
-        }
-        length = end;
-    }
+    let Ok(length) = put_reports(alloc, reports, room) else {
+        return no_memory();
+    };
     if length > room.len() {
         return told(ROOM, length);
     }

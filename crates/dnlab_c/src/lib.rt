@@ -9,7 +9,7 @@ ghost use Rattle.lab.specs.Reports.{reports, tally};
 ghost use Rattle.dnlab_c.specs.Answers.{Answers};
 
 pub use answer::Answer;
-use answer::{faulty, no_memory, put, put_texts};
+use answer::{faulty, no_memory, put, put_all};
 use explain_text::explained;
 use lab::{Device, RunFault, check, reports_of};
 use std::alloc::Global;
@@ -22,7 +22,7 @@ pub extern "C" fn dnlab_alone(alloc: Global, text: &[u8], room: &mut [u8], answe
     ensures { Answers reports text.now room.old room.new answer.new }
 {
     *answer = match reports_of(alloc, text) {
-        Ok(reports) => put_texts(reports.texts(), room),
+        Ok(reports) => put_all(alloc, reports.each(), room),
         Err(RunFault::Scenario(fault)) => faulty(&fault),
         Err(_) => no_memory(),
     };

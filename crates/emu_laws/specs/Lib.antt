@@ -26,3 +26,4 @@ pub mod Strangers
 pub mod StepPackets
 pub mod WaitBound
 pub mod WorkBound
+pub mod BoundsMet

@@ -27,7 +27,8 @@ pub use senders::{
     sequence_is_in_order, too_small_window_sends_nothing,
 };
 pub use single_states::{
-    dropping_ends_in_time, least_due_is_least, missing_is_least, numbers_count_identifiers,
+    bounds_are_met, dropping_ends_in_time, least_due_is_least, missing_is_least,
+    numbers_count_identifiers,
 };
 pub use strangers::{
     exits_are_told, instances_are_strangers, runs_are_histories, same_happenings_change_alike,

@@ -4,6 +4,7 @@ ghost use Rattle.emu_laws.specs.Missing.{MissingIsLeast};
 ghost use Rattle.emu_laws.specs.InstanceNumbers.{NumbersCountIdentifiers};
 ghost use Rattle.emu_laws.specs.LeastDue.{LeastDueIsLeast};
 ghost use Rattle.emu_laws.specs.CodelRuns.{DroppingEndsInTime};
+ghost use Rattle.emu_laws.specs.BoundsMet.{BoundsAreMet};
 
 /// What a receiver acknowledges is the least byte that didn't come, and every whole segment below it
 /// came (RFC 5681, section 4.2: the next byte that is expected).
@@ -26,4 +27,10 @@ pub fn least_due_is_least()
 /// left behind the head, and the second drop comes by the control law (RFC 8289, section 5.5).
 pub fn dropping_ends_in_time()
     ensures { DroppingEndsInTime }
+{}
+
+/// The bounds of `held_within_budget`, `flight_fits_window` and `rate_is_kept` are met, each by an example: so none of
+/// them holds with a lesser one (our choice).
+pub fn bounds_are_met()
+    ensures { BoundsAreMet }
 {}

@@ -4,7 +4,10 @@ use Rattle.std.specs.List.{prefix_len, position_or_len}
 use Rattle.explain.specs.declared.place.Place.{Place}
 use Rattle.control_words.specs.Text.{words}
 use Rattle.control.specs.declared.fault.Cause.{Cause}
-use Rattle.control.specs.declared.fault.Cause.TheVariants.{NoEnd, SameName, NoExperiment, AfterEnd, Backwards}
+use Rattle.control.specs.declared.fault.Cause.TheVariants.{BadWord, OutOfRange, NoEnd, SameName, NoExperiment, AfterEnd, Backwards}
+use Rattle.control_faults.specs.declared.fault.Check.{Check}
+use Rattle.control_faults.specs.declared.fault.Check.TheVariants.{Forms, Ranges}
+use Rattle.control_faults.specs.FirstWrong.{IsFine, IsFirstWrong}
 
 -- the line with this number, counted from 1
 abbrev pub nth_line : ℕ → List (List ℕ) → Option (List ℕ)
@@ -54,3 +57,14 @@ abbrev pub Marks : Option ℕ → Option Place → List ℕ → Type 0
 Marks None place line = Unit {0}
 Marks (Some k) None line = ⊥
 Marks (Some k) (Some p) line = IsFirstAt (drop k (words line)) line p
+
+-- the first word at fault is marked; nothing is, where no word is at fault
+abbrev pub MarksWord : Check → Option Place → List ℕ → Type 0
+MarksWord check None line = IsFine check (words line)
+MarksWord check (Some p) line = (k : ℕ) × IsFirstWrong check (words line) k × IsFirstAt (drop k (words line)) line p
+
+-- the same, where the cause is one of a word
+abbrev pub MarksBlamed : Cause → Option Place → List ℕ → Type 0
+MarksBlamed BadWord place line = MarksWord Forms place line
+MarksBlamed OutOfRange place line = MarksWord Ranges place line
+MarksBlamed _ place line = Unit {0}

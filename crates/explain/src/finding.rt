@@ -4,13 +4,23 @@ ghost use Rattle.std.specs.Prelude.{◌≡◌, ℕ, List, Some, IfSome, option_m
 ghost use Rattle.std.specs.List.{prefix_len};
 ghost use Rattle.control_lines.specs.Entries.{is_printable};
 ghost use Rattle.control_words.specs.Text.{lines};
-ghost use Rattle.explain.specs.Lines.{nth_line, nonempty, IsWithin, IsInLine, Marks, marked_word};
+ghost use Rattle.explain.specs.Lines.{
+  nth_line,
+  nonempty,
+  IsWithin,
+  IsInLine,
+  Marks,
+  marked_word,
+  MarksWord,
+  MarksBlamed,
+};
 ghost use Rattle.explain.specs.Past.{IsBefore, IsPastOf, line_for};
 
 use crate::past::{Earlier, Past, name_in, past_of};
 use crate::place::{Place, line_at, part, place_of_word};
 use control::{Cause, Fault};
-use explain_line::{byte_hint, first_trouble, hint, range_hint};
+use control_faults::{Check, blame};
+use explain_line::{byte_hint, hint, range_hint, wanted_at};
 
 /// What is found in a line: where the first word at fault stands, what was expected there, an example, and what to
 /// write instead.
@@ -81,21 +91,23 @@ fn bad_byte(line: &[u8]) -> Inside
 }
 
 // A word without the form that is wanted, or a number outside its range.
-fn bad_word(line: &[u8], ranges: bool) -> Inside
-    ensures { IsWithin result.place line.now }
+fn bad_word(line: &[u8], check: Check) -> Inside
+    ensures within { IsWithin result.place line.now }
+    ensures word { MarksWord check result.place line.now }
 {
-    let Some(trouble) = first_trouble(line, ranges) else {
+    let Some(blamed) = blame(line, check) else {
         return whole("a line of docs/reference/scenario.md", None);
     };
-    let wanted = trouble.wanted;
-    let place = place_of_word(line, trouble.index);
+    let place = place_of_word(line, blamed.index);
     let word = part(line, place);
+    let wanted = wanted_at(blamed.expected, word);
     let hint = if word.is_empty() {
         Some("the line ends before it")
-    } else if ranges {
-        range_hint(wanted.form, word)
     } else {
-        hint(wanted.form, word)
+        match check {
+            Check::Forms => hint(blamed.expected, word),
+            Check::Ranges => range_hint(blamed.expected, word),
+        }
     };
     Inside {
         place: Some(place),
@@ -130,6 +142,7 @@ const BACKWARDS: &str = "a moment not below that of the command before it";
 fn in_line(line: &[u8], cause: Cause) -> Inside
     ensures within { IsWithin result.place line.now }
     ensures marks { Marks (marked_word cause) result.place line.now }
+    ensures blamed { MarksBlamed cause result.place line.now }
 {
     match cause {
         Cause::TooBig => whole(
@@ -139,8 +152,8 @@ fn in_line(line: &[u8], cause: Cause) -> Inside
         Cause::Cut => cut_off(line),
         Cause::TooLong => whole("at most 512 bytes in a line, comments too", None),
         Cause::BadByte => bad_byte(line),
-        Cause::BadWord => bad_word(line, false),
-        Cause::OutOfRange => bad_word(line, true),
+        Cause::BadWord => bad_word(line, Check::Forms),
+        Cause::OutOfRange => bad_word(line, Check::Ranges),
         Cause::NoEnd => at_word(line, 0, NO_END, Some("@5000000000 end")),
         Cause::TooMany => whole(
             "at most 256 experiments",
@@ -210,6 +223,8 @@ pub fn find<'a>(text: &'a [u8], fault: &Fault) -> Finding<'a>
     ensures before { IsBefore (lines text.now) fault.now.line result.before }
     ensures marks { (l : List ℕ) → nth_line fault.now.line (lines text.now) ≡ Some l →
         Marks (marked_word fault.now.cause) result.inside.place l }
+    ensures blamed { (l : List ℕ) → nth_line fault.now.line (lines text.now) ≡ Some l →
+        MarksBlamed fault.now.cause result.inside.place l }
 {
     let Some(line) = line_at(text, fault.line) else {
         return Finding {

@@ -4,7 +4,9 @@ use crate::slips::{
     ACTIONS, FIRSTS, FOR_NUMBERS, FOR_STEPS, MOMENT, OPTIONS, OWN_ACTIONS, OWN_FIRSTS,
     OWN_FLOW_OPTIONS, OWN_OPTIONS, OWN_VERBS, VERBS, meant_by, said_of,
 };
-use crate::wanted::{Choice, Form};
+use control_faults::{
+    Expected, FlowWord, Form, Keyword, PipeWord, RuleWord, stood_before, value_at,
+};
 use control_words::{addresses, is};
 
 fn has(word: &[u8], byte: u8) -> bool {
@@ -495,19 +497,20 @@ fn end_hint(word: &[u8]) -> Option<&'static str> {
     }
 }
 
-fn choice_hint(choice: Choice, word: &[u8]) -> Option<&'static str> {
-    let own = match choice {
-        Choice::Verb => verb_hint(word),
-        Choice::Action => action_hint(word),
-        Choice::PipeOption => option_hint(word),
-        Choice::FlowOption => flow_option_hint(word),
-        Choice::End => end_hint(word),
-        Choice::Field | Choice::Once => None,
-    };
-    if own.is_none() && has_capital(word) {
-        return Some(LOWER);
+// One of several words is expected, or the end of the line.
+fn choice_hint(expected: Expected, word: &[u8]) -> Option<&'static str> {
+    if stood_before(expected, word) {
+        return None;
     }
-    own
+    let own = match expected {
+        Expected::Verb => verb_hint(word),
+        Expected::Rule(RuleWord::Action) => action_hint(word),
+        Expected::Pipe(PipeWord::Mask(_)) => None,
+        Expected::Pipe(_) => option_hint(word),
+        Expected::Flow(FlowWord::Setting(_)) => flow_option_hint(word),
+        _ => end_hint(word),
+    };
+    own.or(has_capital(word).then_some(LOWER))
 }
 
 // Where the word `config` is wanted, behind a pipe's number.
@@ -523,27 +526,44 @@ fn config_hint(word: &[u8]) -> Option<&'static str> {
     }
 }
 
-fn word_hint(wanted: &str, word: &[u8]) -> Option<&'static str> {
-    let own = if wanted == "config" {
+fn seed_hint(word: &[u8]) -> Option<&'static str> {
+    if begins_with_digit(word) {
+        Some("the name is missing: experiment two-flows seed 1 budget 1000")
+    } else if is(word, "budget") {
+        Some("the seed stands before the budget: experiment two-flows seed 1 budget 1000")
+    } else {
+        None
+    }
+}
+
+// What is said of a word in the place of a keyword, by that keyword alone.
+fn own_hint(wanted: Keyword, word: &[u8]) -> Option<&'static str> {
+    match wanted {
+        Keyword::Seed => seed_hint(word),
+        Keyword::Steps => said_of(&FOR_STEPS, word),
+        Keyword::From if is(word, "to") => {
+            Some("the source stands before the destination: ip from any to any")
+        }
+        Keyword::Gap => {
+            Some("the time between two packets is their gap, in nanoseconds: gap 1000000")
+        }
+        Keyword::Count => Some(
+            "how many packets there are, and then the time between two: count 7 gap 1000000",
+        ),
+        Keyword::Smss if is(word, "segments") => Some(
+            "a segment's bytes stand before the number of segments: smss 1460 segments 1000",
+        ),
+        _ => None,
+    }
+}
+
+fn word_hint(wanted: Keyword, word: &[u8]) -> Option<&'static str> {
+    let own = if wanted == Keyword::Config {
         config_hint(word)
     } else if has(word, b'=') {
         Some("a space stands between a word and its value, no =")
-    } else if wanted == "seed" && begins_with_digit(word) {
-        Some("the name is missing: experiment two-flows seed 1 budget 1000")
-    } else if wanted == "seed" && is(word, "budget") {
-        Some("the seed stands before the budget: experiment two-flows seed 1 budget 1000")
-    } else if wanted == "steps" {
-        said_of(&FOR_STEPS, word)
-    } else if wanted == "from" && is(word, "to") {
-        Some("the source stands before the destination: ip from any to any")
-    } else if wanted == "gap" {
-        Some("the time between two packets is their gap, in nanoseconds: gap 1000000")
-    } else if wanted == "count" {
-        Some("how many packets there are, and then the time between two: count 7 gap 1000000")
-    } else if wanted == "smss" && is(word, "segments") {
-        Some("a segment's bytes stand before the number of segments: smss 1460 segments 1000")
     } else {
-        None
+        own_hint(wanted, word)
     };
     own.or(has_capital(word).then_some(LOWER))
 }
@@ -551,7 +571,6 @@ fn word_hint(wanted: &str, word: &[u8]) -> Option<&'static str> {
 // By the form that is wanted.
 fn form_hint(form: Form, word: &[u8]) -> Option<&'static str> {
     match form {
-        Form::Choice(choice) => choice_hint(choice, word),
         Form::Word(wanted) => word_hint(wanted, word),
         Form::Number(_, _) | Form::Segment | Form::Window => number_hint(word),
         Form::Moment => moment_hint(word),
@@ -572,19 +591,22 @@ fn form_hint(form: Form, word: &[u8]) -> Option<&'static str> {
 }
 
 /// What to write in place of a word that hasn't the form that is wanted, where something is known of it. Own.
-pub fn hint(form: Form, word: &[u8]) -> Option<&'static str> {
+pub fn hint(expected: Expected, word: &[u8]) -> Option<&'static str> {
     if word.first() == Some(&b'#') {
         return Some("a comment has a line of its own");
     }
     if word.len() > 1 && word.last() == Some(&b';') {
         return Some(NO_SEMICOLON);
     }
-    form_hint(form, word)
+    match value_at(expected) {
+        Some(value) => form_hint(value.form, word),
+        None => choice_hint(expected, word),
+    }
 }
 
 /// What to say of a number outside its range, where there is more to say than the range. Own.
-pub fn range_hint(form: Form, word: &[u8]) -> Option<&'static str> {
-    match form {
+pub fn range_hint(expected: Expected, word: &[u8]) -> Option<&'static str> {
+    match value_at(expected)?.form {
         Form::Ports => ports_hint(word),
         Form::Moment => Some("10^15 ns are 11 days and a half"),
         Form::Segment if word.len() > 3 => Some(

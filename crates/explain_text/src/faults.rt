@@ -1,8 +1,9 @@
 //! What is said of a text that is no scenario.
 
 use control::{Cause, Fault};
+use control_faults::{Behind, Blamed, Check, blame, blame_behind};
 use explain::{faults_behind, find, line_at, place_of_word, put_row, show_finding, show_found};
-use explain_line::{Behind, Trouble, first_trouble, trouble_behind};
+use explain_line::wanted_at;
 use std::alloc::{AllocError, Global};
 
 /// So many further words of one line are told at most.
@@ -11,33 +12,35 @@ const MOST_WORDS: usize = 8;
 // The word at fault that is told first, if the fault is one of a word.
 fn told_word(line: &[u8], cause: Cause) -> Option<usize> {
     match cause {
-        Cause::BadWord => Some(first_trouble(line, false)?.index),
-        Cause::OutOfRange => Some(first_trouble(line, true)?.index),
+        Cause::BadWord => Some(blame(line, Check::Forms)?.index),
+        Cause::OutOfRange => Some(blame(line, Check::Ranges)?.index),
         _ => None,
     }
 }
 
 // A row for another word at fault: the word, and what was expected. Whether there is such a word.
-fn put_word(out: &mut Vec<u8>, line: &[u8], trouble: &Trouble) -> Result<bool, AllocError> {
-    let place = place_of_word(line, trouble.index);
+fn put_word(out: &mut Vec<u8>, line: &[u8], blamed: &Blamed) -> Result<bool, AllocError> {
+    let place = place_of_word(line, blamed.index);
+    let word = &line[place.start..place.start + place.width];
     out.extend_from_slice(b"  also: `")?;
-    out.extend_from_slice(&line[place.start..place.start + place.width])?;
-    put_row(out, "`, expected: ", trouble.wanted.expected.as_bytes())?;
-    Ok(place.width > 0)
+    out.extend_from_slice(word)?;
+    let wanted = wanted_at(blamed.expected, word);
+    put_row(out, "`, expected: ", wanted.expected.as_bytes())?;
+    Ok(!word.is_empty())
 }
 
 // The other words at fault of a line. None where the line's words may stand at other places than they seem to.
 fn others_in(alloc: Global, line: &[u8], told: usize) -> Result<Vec<u8>, AllocError> {
     let mut out = Vec::new(alloc);
-    let mut next = first_trouble(line, true);
+    let mut next = blame(line, Check::Ranges);
     for _ in 0..MOST_WORDS {
-        let Some(trouble) = next else {
+        let Some(blamed) = next else {
             return Ok(out);
         };
-        if trouble.index != told && !put_word(&mut out, line, &trouble)? {
+        if blamed.index != told && !put_word(&mut out, line, &blamed)? {
             return Ok(Vec::new(alloc));
         }
-        next = match trouble_behind(line, &trouble) {
+        next = match blame_behind(line, &blamed) {
             Behind::Fine => None,
             Behind::Fault(behind) => Some(behind),
             Behind::Unsure => return Ok(Vec::new(alloc)),

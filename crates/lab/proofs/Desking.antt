@@ -1,5 +1,5 @@
 -- What a worker's calls keep of the names on its bench.
-use Rattle.std.proofs.Common.{◌≡◌, ℕ, ◌+◌, List, [], ◌∷◌, ◌++◌, refl, sym, ap, ◌∙◌, arith, append-nil}
+use Rattle.std.proofs.Common.{◌≡◌, ℕ, ◌+◌, List, [], ◌∷◌, ◌++◌, ap, ◌∙◌, arith, append-nil}
 use Rattle.std.specs.Prelude.{cond, ◌==◌}
 use Rattle.std.proofs.lemmas.List.Sums.{sum_by-append}
 use Rattle.shard.specs.Stand.{Final, Stand}
@@ -9,7 +9,7 @@ use Rattle.bench.specs.Benches.{SameLists, Notes, Admits}
 use Rattle.lab.specs.declared.worker.Desk.{Desk}
 use Rattle.lab.specs.Joins.{dossiers_named}
 use Rattle.lab.specs.declared.worker.Given.{Given}
-use Rattle.lab.specs.Desks.{KeepsDossiers, LosesNone, Readmits, HandsOver}
+use Rattle.lab.specs.Desks.{LosesNone, Readmits, HandsOver}
 
 -- one name more in a list
 more : (x : ℕ) (list now : List ℕ) (n : ℕ) → now ≡ list ++ n ∷ [] → times x now ≡ times x list + cond (n == x) 1 0

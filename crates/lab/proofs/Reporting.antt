@@ -6,7 +6,10 @@ use Rattle.std.proofs.lemmas.List.Concat.{flat_map-append}
 use Rattle.control.specs.declared.scenario.Experiment.{Experiment}
 use Rattle.lab.specs.Bytes.{Puts, Stops}
 use Rattle.lab.specs.Reports.{report_alone, reports}
-use Rattle.lab.proofs.Writing.{puts_both, stops_before, stops_behind}
+use Rattle.lab.proofs.Writing.{puts_both, stops_any, stops_before, stops_behind}
+use Rattle.emu_model.specs.declared.records.Record.{Record}
+use Rattle.report.specs.Lines.{line_of}
+use Rattle.report.proofs.Taken.{flat_map_further}
 
 -- pieces in their turns
 module _ {A : Type 0} (f : A → List ℕ) where
@@ -48,3 +51,38 @@ texts_stops = pieces_stops (λ x. x)
 pub texts_alone : (es : List Experiment) → flat_map (λ x. x) (map report_alone es) ≡ reports es
 texts_alone [] = refl
 texts_alone (e ∷ es) = ap (λ (l : List ℕ). report_alone e ++ l) (texts_alone es)
+
+-- the lines of some records more
+module _ {A : Type 0} (f : A → List ℕ) where
+  more-lines : (rs : List A) (i n : ℕ) → flat_map f (take i rs) ++ flat_map f (take n (drop i rs)) ≡ flat_map f (take (i + n) rs)
+  more-lines rs i n = flat_map_further f [] rs i n
+
+  pub pieces_further : (a b c : Option (List ℕ)) (k l m : List ℕ) (rs : List A) (i n : ℕ) →
+      Puts a k b l (flat_map f (take i rs)) → Puts b l c m (flat_map f (take n (drop i rs))) → Puts a k c m (flat_map f (take (i + n) rs))
+  pieces_further a b c k l m rs i n g h =
+      subst (Puts a k c m) (more-lines rs i n) (puts_both a b c k l m (flat_map f (take i rs)) (flat_map f (take n (drop i rs))) g h)
+
+  pub pieces_cut : (a b c : Option (List ℕ)) (k l : List ℕ) (rs : List A) (i : ℕ) →
+      Puts a k b l (flat_map f (take i rs)) → Stops b l c [] → Stops a k c (flat_map f rs)
+  pieces_cut a b c k l rs i g h =
+      subst (Stops a k c) (all-pieces f rs i)
+      (stops_behind a b c k l (flat_map f (take i rs)) (flat_map f (drop i rs)) g (stops_any b c l (flat_map f (drop i rs)) h))
+
+pub lines_puts : (a b c : Option (List ℕ)) (k l m : List ℕ) (rs : List Record) (i n : ℕ) →
+    Puts a k b l (flat_map line_of (take i rs)) → Puts b l c m (flat_map line_of (take n (drop i rs))) → Puts a k c m (flat_map line_of (take (i + n) rs))
+lines_puts = pieces_further line_of
+
+pub lines_stops : (a b c : Option (List ℕ)) (k l : List ℕ) (rs : List Record) (i : ℕ) →
+    Puts a k b l (flat_map line_of (take i rs)) → Stops b l c [] → Stops a k c (flat_map line_of rs)
+lines_stops = pieces_cut line_of
+
+-- two pieces of one
+module _ (first second whole : List ℕ) (is : first ++ second ≡ whole) where
+  pub both_put : (a b c : Option (List ℕ)) (k l m : List ℕ) → Puts a k b l first → Puts b l c m second → Puts a k c m whole
+  both_put a b c k l m f g = subst (Puts a k c m) is (puts_both a b c k l m first second f g)
+
+  pub first_stops : (a b : Option (List ℕ)) (k : List ℕ) → Stops a k b first → Stops a k b whole
+  first_stops a b k f = subst (Stops a k b) is (stops_before a b k first second f)
+
+  pub second_stops : (a b c : Option (List ℕ)) (k l : List ℕ) → Puts a k b l first → Stops b l c second → Stops a k c whole
+  second_stops a b c k l f g = subst (Stops a k c) is (stops_behind a b c k l first second f g)

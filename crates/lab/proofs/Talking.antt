@@ -1,5 +1,5 @@
 -- What a session hears of a text.
-use Rattle.std.proofs.Common.{◌≡◌, ℕ, ◌≤◌, ◌<◌, map, cond, eqb, Bool, true, false, List, [], ◌∷◌, ◌++◌, length, refl, sym, ap, ◌∙◌, subst, append_assoc, append-nil, arith}
+use Rattle.std.proofs.Common.{◌≡◌, ℕ, ◌≤◌, map, cond, eqb, Bool, true, false, List, [], ◌∷◌, ◌++◌, length, refl, sym, ap, ◌∙◌, subst, append_assoc, append-nil, arith}
 use Rattle.std.specs.Prelude.{flat_map, All, Result, Ok, Err, OnOk, Option, Some, None}
 use Rattle.lab.specs.declared.fault.RunFault.{RunFault}
 use Rattle.std.proofs.lemmas.List.Elements.{recursion_from_All}
@@ -14,17 +14,17 @@ use Rattle.control.specs.Scenario.{experiments, AreSpelled, Spells}
 use Rattle.control.proofs.Joining.{some_line, lines-glue, onto, glue}
 use Rattle.control_lines.specs.Entries.{Entry}
 use Rattle.control_words.specs.Text.{lines}
-use Rattle.live.specs.declared.answer.Answer.TheVariants as answers
 use Rattle.live.specs.declared.open.Phase.{Phase}
 use Rattle.live.specs.declared.open.Phase.TheVariants.{Going, Over, Lost}
 use Rattle.live.specs.RunLaws.{report_of_commands}
 use Rattle.live.specs.Opens.{KeptOpen, IsToldIn}
-use Rattle.live.specs.Sessions.{KeptSession, Piece, Answered, IsPlain, Stand, IsSoFar, TellsAll, Takes, told, written}
+use Rattle.live.specs.Sessions.{KeptSession, Piece, IsPlain, Stand, IsSoFar, TellsAll, Takes, told, written}
 use Rattle.lab.specs.Reports.{report_alone, reports}
-use Rattle.lab.specs.Bytes.{IsWriting, Puts}
+use Rattle.lab.specs.Bytes.{Puts}
 use Rattle.std.specs.Io.KnownBytes.{Appends, Consumes, Keeps, IsAtEnd}
 use Rattle.lab.proofs.Writing.{puts_none, puts_kept, puts_both, puts_flushed, writing_none, writing_done}
-use Rattle.lab.specs.Talks.{KeptTalk, AsksForAll, Say, IsHeard, with_earlier, HasHeard, Hears, GoesOn}
+use Rattle.control.specs.declared.fault.Cause.{Cause}
+use Rattle.lab.specs.Talks.{KeptTalk, refusal, AsksForAll, Say, IsHeard, with_earlier, HasHeard, Hears, GoesOn}
 
 -- ---- lines
 joined : List (List ℕ) → List ℕ
@@ -144,8 +144,16 @@ goes-answered after qs s t takes part skipping text ps h plain =
       heard = heard-line s.part was.done ps qs s.session t.session was.heard takes;
     }
 
-pub goes-long : (a b : List ℕ) (s t : KeptTalk) → GoesOn a b (Answered (answers.Fault TooLong) ∷ []) s t
-goes-long a b s t = goes-refused a b (Answered (answers.Fault TooLong) ∷ []) s t (λ plain. plain.0 tt)
+pub goes-long : (hint a b : List ℕ) (s t : KeptTalk) → GoesOn a b (refusal hint TooLong) s t
+goes-long hint a b s t = goes-refused a b (refusal hint TooLong) s t (λ plain. plain.1.0 tt)
+
+pub on_ok : {T E : Type 0} (P Q : Type 0) (r : Result T E) → (P → Q) → OnOk r P → OnOk r Q
+on_ok P Q (Ok x) f h = f h
+on_ok P Q (Err e) f h = h
+
+-- a line that isn't taken isn't plain
+pub takes-refusal : (line hint : List ℕ) (cause : Cause) (s t : KeptSession) → Takes line (refusal hint cause) s t
+takes-refusal line hint cause s t = record { hears = λ plain. absurd (plain.1.0 tt) }
 
 -- a whole line came at once
 pub goes-line : (line after : List ℕ) (qs : List Piece) (s t : KeptTalk) → lines line ≡ line ∷ [] → s.part ≡ [] → Takes line qs s.session t.session →

@@ -1,8 +1,8 @@
 -- What a worker's calls keep of the names on its bench.
-use Rattle.std.specs.Prelude.{◌≡◌, ◌+◌, ◌==◌, ℕ, List, cond}
+use Rattle.std.specs.Prelude.{◌≡◌, ◌+◌, ◌==◌, ℕ, cond}
 use Rattle.shard.specs.declared.shard.TakeInError.{TakeInError}
 use Rattle.shard.specs.declared.shard.TakeInError.TheVariants.{Crowded, NoMemory}
-use Rattle.shard.specs.Stand.{Final, Stand}
+use Rattle.shard.specs.Stand.{Stand}
 use Rattle.bench.specs.declared.bench.Bench.{Bench}
 use Rattle.bench.specs.declared.mail.RingMail.{RingMail}
 use Rattle.bench.specs.Custody.{times}

@@ -4,7 +4,9 @@ use Rattle.std.specs.List.{AllByRecursion}
 use Rattle.control.specs.Scenario.{experiments}
 use Rattle.control_lines.specs.Entries.{Entry, Says}
 use Rattle.control_words.specs.Text.{lines}
-use Rattle.live.specs.Sessions.{KeptSession, Piece, IsPlain, AsksForMine, TellsAll, told}
+use Rattle.control.specs.declared.fault.Cause.{Cause}
+use Rattle.live.specs.declared.answer.Answer.TheVariants as answers
+use Rattle.live.specs.Sessions.{KeptSession, Piece, Answered, Hinted, IsPlain, AsksForMine, TellsAll, told}
 
 -- the session, what came of a line that isn't whole yet, what isn't written yet, and whether the rest of a line is passed over
 pub record KeptTalk : Type 0 where
@@ -12,6 +14,10 @@ pub record KeptTalk : Type 0 where
   pub part : List ℕ
   pub out : List ℕ
   pub is_skipping : Bool
+
+-- what is said of a line that isn't taken
+abbrev pub refusal : List ℕ → Cause → List Piece
+refusal hint cause = Hinted hint ∷ Answered (answers.Fault cause) ∷ []
 
 -- no line asks for what concerns injected packets alone
 abbrev pub AsksForAll : List (List ℕ) → Type 0

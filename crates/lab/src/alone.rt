@@ -1,5 +1,5 @@
 //! An experiment by itself: each command is applied in its turn, and events are made until the next one
-//! is wanted. What they record becomes text on the way.
+//! is wanted. What they record is kept packed, and becomes lines when it is written.
 
 ghost use Rattle.std.specs.Prelude.{◌≡◌, ◌≤◌, ℕ, List, IfOk, OnOk, All, map};
 ghost use Rattle.packet_store.specs.Own.{own_pocket};
@@ -10,19 +10,18 @@ ghost use Rattle.lab.specs.Runs.{Advances, IsNew, Plays};
 ghost use Rattle.report_writer.specs.Written.{CanWrite, IsWritten};
 ghost use Rattle.lab.specs.Reports.{report_alone};
 
+use crate::lone::LoneShelf;
 use crate::progress::Progress;
-use crate::texts::Text;
 use control::Experiment as Script;
 use emu_model::{Timed, later_commands_wait, packets_add_up};
 use experiment::{ApplyError, Event, Experiment};
-use packet_store::OwnShelf;
-use report_writer::ReportWriter;
+use report_writer::{Report, ReportKeeper};
 use std::alloc::{AllocError, Global};
 
 /// After how many steps it is told again how many were made.
 const TOLD: u64 = 65_536;
 
-/// So many records are written together: they stay where they were recorded a moment before.
+/// So many records are kept together: they stay where they were recorded a moment before.
 const BATCH: usize = 256;
 
 // Tells now and then how many steps were made.
@@ -35,9 +34,9 @@ fn tell<P: Progress>(experiment: &Experiment, progress: &P)
     }
 }
 
-// Writes what was recorded, once there is a batch of it.
+// Keeps what was recorded, once there is a batch of it.
 #[inline(always)]
-fn write_batch(experiment: &mut Experiment, report: &mut ReportWriter) -> Result<(), AllocError>
+fn keep_batch(experiment: &mut Experiment, report: &mut ReportKeeper) -> Result<(), AllocError>
     requires { CanWrite report.old experiment.old }
     ensures written { OnOk result ((head : List ℕ) (p : Pocket) →
         IsWritten head report.old p experiment.old → IsWritten head report.new p experiment.new) }
@@ -50,7 +49,7 @@ fn write_batch(experiment: &mut Experiment, report: &mut ReportWriter) -> Result
     if experiment.records().len() < BATCH {
         return Ok(());
     }
-    report.write(experiment)?;
+    report.keep(experiment)?;
     Ok(())
 }
 
@@ -58,8 +57,8 @@ fn write_batch(experiment: &mut Experiment, report: &mut ReportWriter) -> Result
 #[inline(always)]
 fn advance<P: Progress>(
     experiment: &mut Experiment,
-    shelf: &mut OwnShelf,
-    report: &mut ReportWriter,
+    shelf: &mut LoneShelf,
+    report: &mut ReportKeeper,
     progress: &P,
 ) -> Result<(), AllocError>
     requires housed { IsHousedIn (own_pocket shelf.old) experiment.old }
@@ -71,7 +70,7 @@ fn advance<P: Progress>(
 {
     packets_add_up();
     loop {
-        write_batch(experiment, report)?;
+        keep_batch(experiment, report)?;
         match experiment.event(shelf, 0) {
             Event::Ran => tell(experiment, progress),
             Event::Halted => return Err(AllocError),
@@ -83,8 +82,8 @@ fn advance<P: Progress>(
 // Applies each command in its turn, until the experiment has ended.
 fn play<P: Progress>(
     experiment: &mut Experiment,
-    shelf: &mut OwnShelf,
-    report: &mut ReportWriter,
+    shelf: &mut LoneShelf,
+    report: &mut ReportKeeper,
     commands: &[Timed],
     progress: &P,
 ) -> Result<(), AllocError>
@@ -118,18 +117,18 @@ fn report_by_itself<P: Progress>(
     alloc: Global,
     script: &Script,
     progress: &P,
-) -> Result<Vec<u8>, AllocError>
+) -> Result<Report, AllocError>
     requires { AreInOrder 0 script.now.commands }
-    ensures { IfOk result (λ text. text.items ≡ report_alone script.now) }
+    ensures { IfOk result (λ report. report ≡ report_alone script.now) }
 {
     later_commands_wait();
     packets_add_up();
-    let mut shelf = OwnShelf::new(alloc, script.spec.budget.packets);
+    let mut shelf = LoneShelf::new(alloc, script.spec.budget.packets);
     let mut experiment = Experiment::new(alloc, script.spec)?;
-    let mut report = ReportWriter::new(alloc, script.name.as_bytes())?;
+    let mut report = ReportKeeper::new(alloc, script.name.as_bytes())?;
     let commands = script.commands.as_slice();
     play(&mut experiment, &mut shelf, &mut report, commands, progress)?;
-    report.write(&mut experiment)?;
+    report.keep(&mut experiment)?;
     report.into_report(&experiment.counters())
 }
 
@@ -138,15 +137,15 @@ pub fn run_all<P: Progress>(
     alloc: Global,
     scripts: &[Script],
     progress: &P,
-) -> Result<Vec<Text>, AllocError>
+) -> Result<Vec<Report>, AllocError>
     requires { All (λ e. AreInOrder 0 e.commands) scripts.now }
-    ensures { IfOk result (λ texts. texts.items ≡ map report_alone scripts.now) }
+    ensures { IfOk result (λ reports. reports.items ≡ map report_alone scripts.now) }
 {
-    let mut texts = Vec::with_capacity(alloc, scripts.len())?;
+    let mut reports = Vec::with_capacity(alloc, scripts.len())?;
     for script in scripts {
-        let text = Text::of(report_by_itself(alloc, script, progress)?);
-        texts.push(text)?;
-        progress.ended(texts.len() as u64, scripts.len() as u64);
+        let report = report_by_itself(alloc, script, progress)?;
+        reports.push(report)?;
+        progress.ended(reports.len() as u64, scripts.len() as u64);
     }
-    Ok(texts)
+    Ok(reports)
 }

@@ -103,7 +103,7 @@ pub fn run_alone_told<R: Inlet, W: Outlet, P: Progress>(
     let Ok(mut buffer) = Buffer::new(alloc) else {
         return Err(RunFault::Memory);
     };
-    let Ok(()) = buffer.put_texts(writer, made.texts()) else {
+    let Ok(()) = buffer.put_reports(writer, made.each()) else {
         return Err(RunFault::Write);
     };
     let Ok(()) = buffer.finish(writer) else {

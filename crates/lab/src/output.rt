@@ -1,10 +1,13 @@
 //! Writing the reports, by way of a buffer that finds its room before the first byte is written.
 
-ghost use Rattle.std.specs.Prelude.{◌≡◌, [], true, is_err, flat_map, IfOk, OnOk, OnErr};
+ghost use Rattle.std.specs.Prelude.{◌≡◌, ◌+◌, ◌<◌, ◌≤◌, [], true, is_err, drop, flat_map, length, take, IfOk, OnOk, OnErr};
+ghost use Rattle.report.specs.Lines.{line_of};
 ghost use Rattle.lab.specs.Bytes.{Puts, Stops};
 
 use crate::ends::{Failed, Outlet, flush_all, write_all};
 use crate::texts::Text;
+use report::{Archive, Moments, Source, write_some};
+use report_writer::{Part, Report};
 use std::alloc::{AllocError, Global};
 use std::marker::Model;
 
@@ -13,6 +16,9 @@ const CAPACITY: usize = 65_536;
 
 /// So many bytes are written by themselves: to copy them would cost more than a call.
 const LONG: usize = 16_384;
+
+/// So many bytes are enough for the lines that are made at once.
+const PAGE: usize = 4_624;
 
 /// What was not handed to the writer yet, at most 65536 bytes.
 #[derive(Drop)]
@@ -91,6 +97,138 @@ impl Buffer {
             self.put(writer, text.as_bytes())?;
         }
         Ok(())
+    }
+
+    /// Puts reports one after the other, whose lines are made on the way.
+    #[tactic(auto, using(crate::proofs::Writing::puts_none, crate::proofs::Reporting::texts_puts, crate::proofs::Reporting::texts_stops))]
+    pub fn put_reports<W: Outlet>(
+        &mut self,
+        writer: &mut W,
+        reports: &[Report],
+    ) -> Result<(), Failed>
+        ensures ok { OnOk result
+            (Puts (W.contents writer.old) self.old (W.contents writer.new) self.new
+            (flat_map (λ t. t) reports.now)) }
+        ensures cut { OnErr result
+            (Stops (W.contents writer.old) self.old (W.contents writer.new)
+            (flat_map (λ t. t) reports.now)) }
+        ensures failed { OnErr result (W.failed writer.new ≡ true) }
+    {
+        let mut moments = Moments::new();
+        for report in reports {
+            self.put_report(writer, &mut moments, report)?;
+        }
+        Ok(())
+    }
+
+    // Puts a report.
+    #[tactic(auto, using(crate::proofs::Reporting::both_put, crate::proofs::Reporting::first_stops, crate::proofs::Reporting::second_stops))]
+    fn put_report<W: Outlet>(
+        &mut self,
+        writer: &mut W,
+        moments: &mut Moments,
+        report: &Report,
+    ) -> Result<(), Failed>
+        ensures ok { OnOk result
+            (Puts (W.contents writer.old) self.old (W.contents writer.new) self.new report.now) }
+        ensures cut { OnErr result
+            (Stops (W.contents writer.old) self.old (W.contents writer.new) report.now) }
+        ensures failed { OnErr result (W.failed writer.new ≡ true) }
+    {
+        let (parts, last) = report.parts();
+        self.put_parts(writer, moments, parts)?;
+        self.put(writer, last)
+    }
+
+    // Puts the parts of a report, one after the other.
+    #[tactic(auto, using(crate::proofs::Writing::puts_none, crate::proofs::Reporting::texts_puts, crate::proofs::Reporting::texts_stops))]
+    fn put_parts<W: Outlet>(
+        &mut self,
+        writer: &mut W,
+        moments: &mut Moments,
+        parts: &[Part],
+    ) -> Result<(), Failed>
+        ensures ok { OnOk result
+            (Puts (W.contents writer.old) self.old (W.contents writer.new) self.new
+            (flat_map (λ p. p) parts.now)) }
+        ensures cut { OnErr result
+            (Stops (W.contents writer.old) self.old (W.contents writer.new)
+            (flat_map (λ p. p) parts.now)) }
+        ensures failed { OnErr result (W.failed writer.new ≡ true) }
+    {
+        for part in parts {
+            self.put_part(writer, moments, part)?;
+        }
+        Ok(())
+    }
+
+    // Puts a part of a report.
+    #[tactic(auto, using(crate::proofs::Reporting::both_put, crate::proofs::Reporting::first_stops, crate::proofs::Reporting::second_stops))]
+    fn put_part<W: Outlet>(
+        &mut self,
+        writer: &mut W,
+        moments: &mut Moments,
+        part: &Part,
+    ) -> Result<(), Failed>
+        ensures ok { OnOk result
+            (Puts (W.contents writer.old) self.old (W.contents writer.new) self.new part.now) }
+        ensures cut { OnErr result
+            (Stops (W.contents writer.old) self.old (W.contents writer.new) part.now) }
+        ensures failed { OnErr result (W.failed writer.new ≡ true) }
+    {
+        let (lines, records) = part.halves();
+        self.put(writer, lines)?;
+        self.put_lines(writer, moments, records)
+    }
+
+    // Puts the lines of records.
+    #[tactic(auto, using(crate::proofs::Writing::puts_none, crate::proofs::Reporting::lines_puts, crate::proofs::Reporting::lines_stops))]
+    fn put_lines<W: Outlet>(
+        &mut self,
+        writer: &mut W,
+        moments: &mut Moments,
+        records: &Archive,
+    ) -> Result<(), Failed>
+        ensures ok { OnOk result
+            (Puts (W.contents writer.old) self.old (W.contents writer.new) self.new
+            (flat_map line_of records.now)) }
+        ensures cut { OnErr result
+            (Stops (W.contents writer.old) self.old (W.contents writer.new)
+            (flat_map line_of records.now)) }
+        ensures failed { OnErr result (W.failed writer.new ≡ true) }
+    {
+        let mut done = 0;
+        while done < records.len() {
+            done += self.put_some(writer, moments, records, done)?;
+        }
+        Ok(())
+    }
+
+    // Puts the lines of some records from a place on, and says of how many.
+    #[tactic(auto, using(crate::proofs::Writing::puts_next, crate::proofs::Writing::puts_kept_as, crate::proofs::Writing::puts_none, crate::proofs::Writing::stops_any))]
+    fn put_some<W: Outlet>(
+        &mut self,
+        writer: &mut W,
+        moments: &mut Moments,
+        records: &Archive,
+        from: usize,
+    ) -> Result<usize, Failed>
+        requires { from < length records.now }
+        ensures count { IfOk result (λ n. (0 < n) × (from + n ≤ length records.now)) }
+        ensures ok { IfOk result (λ n.
+            Puts (W.contents writer.old) self.old (W.contents writer.new) self.new
+            (flat_map line_of (take n (drop from records.now)))) }
+        ensures cut { OnErr result
+            (Stops (W.contents writer.old) self.old (W.contents writer.new) []) }
+        ensures failed { OnErr result (W.failed writer.new ≡ true) }
+    {
+        if self.kept.len() > CAPACITY - PAGE {
+            self.hand_on(writer)?;
+        }
+        let Ok(count) = write_some(&mut self.kept, moments, records, from) else {
+            unreachable!()
+        };
+        Ok(count)
     }
 
     /// Writes all that is kept, and has the writer hand it on.

@@ -10,13 +10,14 @@ ghost use Rattle.live.specs.Sessions.{Piece, IsPlain, Takes, told, written};
 ghost use Rattle.lab.specs.Bytes.{Puts};
 ghost use Rattle.lab.specs.Plans.{IsOwnFault};
 ghost use Rattle.lab.specs.Reports.{reports};
-ghost use Rattle.lab.specs.Talks.{AsksForAll, GoesOn};
+ghost use Rattle.lab.specs.Talks.{AsksForAll, GoesOn, refusal};
 
 use crate::ends::{Inlet, Outlet, flush_all, read_some, write_all};
 use crate::fault::RunFault;
+use crate::hints::Hints;
 use control::{Cause, Fault};
 use control_words::first_line;
-use live::{Answer, MAX_LINE, Session, put_answer};
+use live::{Answer, MAX_LINE, Session, put_answer, put_comment};
 use std::alloc::Global;
 use std::marker::Model;
 
@@ -26,6 +27,7 @@ const CHUNK: usize = 65_536;
 /// A session over bytes: its experiments, what came of a line that isn't whole yet, and what isn't written yet.
 #[derive(Drop)]
 struct Talk {
+    alloc: Global,
     session: Session,
     part: Vec<u8>,
     out: Vec<u8>,
@@ -48,6 +50,53 @@ impl Model for Talk {
     } };
 }
 
+// Says that a line isn't taken, behind the hint for it. By itself, since it is rare: so others have a small frame.
+#[inline(never)]
+fn refuse<H: Hints>(
+    alloc: Global,
+    hints: &H,
+    line: &[u8],
+    cause: Cause,
+    out: &mut Vec<u8>,
+) -> Result<(), RunFault>
+    ensures own { IfErr result IsOwnFault }
+    ensures says { OnOk result ((text : List ℕ) × (out.new.items
+        ≡ out.old.items ++ flat_map written (refusal text cause))) }
+{
+    let Ok(text) = hints.hint(alloc, line, cause) else {
+        return Err(RunFault::Memory);
+    };
+    let Ok(()) = put_comment(out, text.as_slice()) else {
+        return Err(RunFault::Memory);
+    };
+    let Ok(()) = put_answer(out, Answer::Fault(cause)) else {
+        return Err(RunFault::Memory);
+    };
+    Ok(())
+}
+
+// Has a session answer a line.
+fn answer_line<H: Hints>(
+    alloc: Global,
+    session: &mut Session,
+    hints: &H,
+    line: &[u8],
+    out: &mut Vec<u8>,
+) -> Result<(), RunFault>
+    ensures own { IfErr result IsOwnFault }
+    ensures takes { OnOk result ((qs : List Piece)
+        × (out.new.items ≡ out.old.items ++ flat_map written qs)
+        × Takes line.now qs session.old session.new) }
+{
+    let Ok(fault) = session.take(line, out) else {
+        return Err(RunFault::Memory);
+    };
+    match fault {
+        None => Ok(()),
+        Some(cause) => refuse(alloc, hints, line, cause, out),
+    }
+}
+
 impl Talk {
     fn new(alloc: Global) -> Self
         ensures { result ≡ record {
@@ -58,6 +107,7 @@ impl Talk {
         } }
     {
         Talk {
+            alloc,
             session: Session::new(alloc),
             part: Vec::new(alloc),
             out: Vec::new(alloc),
@@ -81,7 +131,7 @@ impl Talk {
     }
 
     // Has the session answer the line that came in parts.
-    fn answer_part(&mut self) -> Result<(), RunFault>
+    fn answer_part<H: Hints>(&mut self, hints: &H) -> Result<(), RunFault>
         ensures own { IfErr result IsOwnFault }
         ensures takes { OnOk result ((qs : List Piece)
             × (self.new.out ≡ self.old.out ++ flat_map written qs)
@@ -89,15 +139,14 @@ impl Talk {
         ensures part { OnOk result (self.new.part ≡ []) }
         ensures same { OnOk result (self.new.is_skipping ≡ self.old.is_skipping) }
     {
-        let Ok(()) = self.session.take(self.part.as_slice(), &mut self.out) else {
-            return Err(RunFault::Memory);
-        };
+        let line = self.part.as_slice();
+        answer_line(self.alloc, &mut self.session, hints, line, &mut self.out)?;
         self.part.clear();
         Ok(())
     }
 
     // Has the session answer a line.
-    fn answer(&mut self, line: &[u8]) -> Result<(), RunFault>
+    fn answer<H: Hints>(&mut self, hints: &H, line: &[u8]) -> Result<(), RunFault>
         ensures own { IfErr result IsOwnFault }
         ensures takes { OnOk result ((qs : List Piece)
             × (self.new.out ≡ self.old.out ++ flat_map written qs)
@@ -105,14 +154,11 @@ impl Talk {
         ensures same { OnOk result ((self.new.part ≡ self.old.part)
             × (self.new.is_skipping ≡ self.old.is_skipping)) }
     {
-        let Ok(()) = self.session.take(line, &mut self.out) else {
-            return Err(RunFault::Memory);
-        };
-        Ok(())
+        answer_line(self.alloc, &mut self.session, hints, line, &mut self.out)
     }
 
     // Adds to the line that isn't whole. One that has too many bytes is answered at once, and not kept.
-    fn add(&mut self, bytes: &[u8]) -> Result<(), RunFault>
+    fn add<H: Hints>(&mut self, hints: &H, bytes: &[u8]) -> Result<(), RunFault>
         requires { lines bytes.now ≡ bytes.now ∷ [] }
         ensures own { IfErr result IsOwnFault }
         ensures hears { OnOk result ((qs : List Piece)
@@ -123,9 +169,7 @@ impl Talk {
             return Ok(());
         }
         if self.part.len().saturating_add(bytes.len()) > MAX_LINE {
-            let Ok(()) = put_answer(&mut self.out, Answer::Fault(Cause::TooLong)) else {
-                return Err(RunFault::Memory);
-            };
+            refuse(self.alloc, hints, b"", Cause::TooLong, &mut self.out)?;
             self.part.clear();
             self.is_skipping = true;
             return Ok(());
@@ -137,23 +181,23 @@ impl Talk {
     }
 
     // The rest of a line came, of which there is a part.
-    fn end_part(&mut self, rest: &[u8]) -> Result<(), RunFault>
+    fn end_part<H: Hints>(&mut self, hints: &H, rest: &[u8]) -> Result<(), RunFault>
         requires { lines rest.now ≡ rest.now ∷ [] }
         ensures own { IfErr result IsOwnFault }
         ensures hears { OnOk result ((qs : List Piece)
             × (self.new.out ≡ self.old.out ++ flat_map written qs)
             × ((after : List ℕ) → GoesOn (rest.now ++ 10 ∷ after) after qs self.old self.new)) }
     {
-        self.add(rest)?;
+        self.add(hints, rest)?;
         if self.is_skipping {
             self.is_skipping = false;
             return Ok(());
         }
-        self.answer_part()
+        self.answer_part(hints)
     }
 
     // The rest of a line came.
-    fn end_line(&mut self, rest: &[u8]) -> Result<(), RunFault>
+    fn end_line<H: Hints>(&mut self, hints: &H, rest: &[u8]) -> Result<(), RunFault>
         requires { lines rest.now ≡ rest.now ∷ [] }
         ensures own { IfErr result IsOwnFault }
         ensures hears { OnOk result ((qs : List Piece)
@@ -162,13 +206,18 @@ impl Talk {
     {
         self.lines = self.lines.saturating_add(1);
         if self.part.is_empty() && !self.is_skipping {
-            return self.answer(rest);
+            return self.answer(hints, rest);
         }
-        self.end_part(rest)
+        self.end_part(hints, rest)
     }
 
     // Takes bytes that were read: each line that they end is answered.
-    fn take<W: Outlet>(&mut self, writer: &mut W, bytes: &[u8]) -> Result<(), RunFault>
+    fn take<W: Outlet, H: Hints>(
+        &mut self,
+        writer: &mut W,
+        hints: &H,
+        bytes: &[u8],
+    ) -> Result<(), RunFault>
         ensures own { IfErr result IsOwnFault }
         ensures hears { OnOk result ((qs : List Piece)
             × Puts (W.contents writer.old) self.old.out (W.contents writer.new) self.new.out
@@ -177,13 +226,13 @@ impl Talk {
     {
         let mut rest = bytes;
         while let Some((line, after)) = first_line(rest) {
-            self.end_line(line)?;
+            self.end_line(hints, line)?;
             if self.out.len() > CHUNK {
                 self.hand_on(writer)?;
             }
             rest = after;
         }
-        self.add(rest)
+        self.add(hints, rest)
     }
 
     // How it ends where no more comes: each experiment has its end, and the last line is whole.
@@ -206,14 +255,16 @@ impl Talk {
 }
 
 /// A session: reads lines of a scenario as they come, with requests among them, and answers each before more is read.
+/// A line that isn't taken has the lines of `hints` in front of its answer, each behind `# `.
 /// Where the text spells a scenario, to which requests are comments, no answer is a fault, and neither `use` nor `show mine`
 /// was asked, what is written is what `run_alone` writes for it, with lines that begin with `#` in between. A `Scenario` fault comes at the end of what is read alone: the last line is cut, or an experiment has no end. `Read`
 /// comes where the reader failed, `Write` where the writer did, `Memory` where memory was refused; what was written is
 /// then the beginning of what would have been.
-pub fn live<R: Inlet, W: Outlet>(
+pub fn live<R: Inlet, W: Outlet, H: Hints>(
     alloc: Global,
     reader: &mut R,
     writer: &mut W,
+    hints: &H,
 ) -> Result<(), RunFault>
     ensures own { IfErr result IsOwnFault }
     ensures tells { (text : List ℕ) → R.remaining reader.old ≡ Some text → result ≡ Ok tt →
@@ -231,7 +282,7 @@ pub fn live<R: Inlet, W: Outlet>(
         if count == 0 {
             return talk.end();
         }
-        talk.take(writer, &chunk[..count])?;
+        talk.take(writer, hints, &chunk[..count])?;
         talk.hand_on(writer)?;
         let Ok(()) = flush_all(writer) else {
             return Err(RunFault::Write);

@@ -9,16 +9,16 @@ ghost use Rattle.lab.specs.Reports.{reports, tally_of, tally_line, IsTextFault};
 use crate::alone::run_all;
 use crate::fault::RunFault;
 use crate::progress::{Progress, Silent};
-use crate::texts::Text;
 use control::{Experiment, ParseError, Scenario, parse_scenario};
 use itoa::Buffer as Digits;
+use report_writer::Report;
 use std::alloc::{AllocError, Global};
 use std::marker::Model;
 
 /// The reports of a scenario's experiments, in its order. A contract sees their bytes, one after the other.
 #[derive(Drop)]
 pub struct Reports {
-    texts: Vec<Text>,
+    reports: Vec<Report>,
 }
 
 impl Model for Reports {
@@ -26,15 +26,15 @@ impl Model for Reports {
 
     ghost Value = { List ℕ };
 
-    ghost view = { λ r. flat_map (λ t. t) r.texts.items };
+    ghost view = { λ r. flat_map (λ t. t) r.reports.items };
 }
 
 impl Reports {
     /// Each experiment's report.
-    pub fn texts(&self) -> &[Text]
+    pub fn each(&self) -> &[Report]
         ensures { flat_map (λ t. t) result.now ≡ self.now }
     {
-        self.texts.as_slice()
+        self.reports.as_slice()
     }
 }
 
@@ -72,10 +72,10 @@ pub fn reports_told<P: Progress>(
     ensures fault { IfErr result (IsTextFault text.now) }
 {
     let scenario = scenario_of(alloc, text)?;
-    let Ok(texts) = run_all(alloc, scenario.experiments(), progress) else {
+    let Ok(reports) = run_all(alloc, scenario.experiments(), progress) else {
         return Err(RunFault::Memory);
     };
-    Ok(Reports { texts })
+    Ok(Reports { reports })
 }
 
 /// How many experiments and how many commands a scenario has.

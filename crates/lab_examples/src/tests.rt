@@ -10,6 +10,7 @@ use std::sync::Wait;
 use std::test::Fail;
 use std::thread::Threads;
 
+mod crowd;
 mod devices;
 mod ends;
 mod sessions;

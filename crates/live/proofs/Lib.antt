@@ -1,4 +1,7 @@
+mod MarkFacts
+mod CommentFacts
 mod RunFacts
+mod StopFacts
 mod Reporting
 mod OpenFacts
 mod SessionFacts

@@ -1,6 +1,6 @@
 -- What was told of an experiment of a session, from one call to the next.
 use Rattle.std.proofs.Common.{◌≡◌, ℕ, ◌≤◌, Bool, List, [], ◌∷◌, ◌++◌, Option, Some, None, true, false, refl, sym, ap, ◌∙◌, subst, append_assoc, append-nil}
-use Rattle.std.specs.Prelude.{flat_map, IsSome}
+use Rattle.std.specs.Prelude.{flat_map, IsSome, IfSome}
 use Rattle.std.proofs.lemmas.List.Concat.{flat_map-append}
 use Rattle.emu_model.specs.declared.commands.Timed.{Timed}
 use Rattle.emu_model.specs.declared.records.Record.{Record}
@@ -9,12 +9,17 @@ use Rattle.experiment.specs.Kept.{KeptExperiment}
 use Rattle.report.specs.Lines.{heading_of, line_of}
 use Rattle.live.specs.declared.open.Phase.TheVariants.{Going, Over, Lost}
 use Rattle.live.specs.declared.open.Phase.{Phase}
-use Rattle.live.specs.Runs.{KeptRun, IsAt, IsAfter, Forgets, Goes, closing_of}
+use Rattle.live.specs.Runs.{KeptRun, IsAt, IsAfter, IsQuiet, first_moment, Forgets, Goes, closing_of}
 use Rattle.live.specs.Runs as runs
 use Rattle.report_writer.specs.Written.{Written}
+use Rattle.live.specs.declared.fates.Stop.{Stop}
+use Rattle.live.specs.declared.fates.Stop.TheVariants.{Moment}
+use Rattle.live.specs.Stops.{StopsAt}
+use Rattle.live.specs.Effects.{IsNext, IsPassed, Comes, Commanded, closing_in}
+use Rattle.live.specs.declared.fates.Taken.{Taken}
 use Rattle.live.specs.RunLaws.{IsDone, told_of, report_of_commands, EndedRunsAreReports, SpentRunsAreReports}
-use Rattle.live.specs.Opens.{KeptOpen, IsGoing, IsOver, IsWhole, IsToldIn, IsTold, IsTakenIn, Tells, Takes, MayCome, Settles}
-use Rattle.live.proofs.RunFacts.{at-written, at-handed, after-written}
+use Rattle.live.specs.Opens.{KeptOpen, IsGoing, IsOver, IsWhole, IsToldIn, IsTakenIn, Tells, Takes, Settles}
+use Rattle.live.proofs.RunFacts.{at-written, at-handed, after-written, tells-all, quiet-forgets}
 
 -- what was told and what is not handed out yet are the heading and the lines of these records
 abbrev pub IsPending : List ℕ → List Record → List ℕ → KeptRun → Type 0
@@ -43,7 +48,7 @@ settled-going a b bytes s earlier told at shows unclosed pending going =
       consumed = ap (λ (e : KeptExperiment). e.consumed) f.experiment;
       earlier = earlier ++ rs;
       at = at-handed a.reached (earlier ++ rs) s.written handed (at-written a.reached earlier a.run s.written at f) refl;
-      lines = ap (λ (l : List ℕ). told ++ l) (s.going going).1 ∙ pending-more a.name told earlier rs a.run s.written pending (f.tells shows);
+      lines = ap (λ (l : List ℕ). told ++ l) (s.going going).1 ∙ pending-more a.name told earlier rs a.run s.written pending (tells-all a.run s.written rs shows f.tells);
     })
 
 -- what was told of one that is over, with its counters
@@ -55,7 +60,7 @@ settled-told a b bytes s earlier told shows pending over =
     let rs : List Record = a.run.experiment.net.log.records in
     ap (λ (l : List ℕ). told ++ l) (s.over over).1
     ∙ sym (append_assoc told s.written.report.text (closing_of s.written))
-    ∙ ap (λ (l : List ℕ). l ++ closing_of s.written) (pending-more a.name told earlier rs a.run s.written pending (f.tells shows))
+    ∙ ap (λ (l : List ℕ). l ++ closing_of s.written) (pending-more a.name told earlier rs a.run s.written pending (tells-all a.run s.written rs shows f.tells))
 
 none-both : (b : Bool) → b ≡ false → b ≡ true → ⊥
 none-both false f t = absurd (cc)
@@ -138,7 +143,7 @@ passed law was a b bytes s going name unclosed empty g came told h =
     let all : List Record = here.earlier ++ t.0 in
     let first : IsPending a.name here.earlier told was.run =
     ap (λ (l : List ℕ). told ++ l) empty ∙ append-nil told ∙ here.lines ∙ ap (λ (n : List ℕ). heading_of n ++ flat_map line_of here.earlier) (sym name) in
-    let pending : IsPending a.name all told a.run = pending-more a.name told here.earlier t.0 was.run a.run first (t.2 here.shows) in
+    let pending : IsPending a.name all told a.run = pending-more a.name told here.earlier t.0 was.run a.run first (tells-all was.run a.run t.0 here.shows t.2) in
     let shows = g.shows ∙ here.shows in
     subst (λ (cs : List Timed). IsToldIn b.phase cs (told ++ bytes) b) (g.consumed ∙ here.consumed ∙ sym (append-nil came))
     (told-in b.phase a.run.experiment.consumed (told ++ bytes) b
@@ -155,7 +160,7 @@ took law was a b mid u c bytes s going name unclosed empty g up k reached came t
     let all : List Record = here.earlier ++ t.0 in
     let first : IsPending a.name here.earlier told was.run =
     ap (λ (l : List ℕ). told ++ l) empty ∙ append-nil told ∙ here.lines ∙ ap (λ (n : List ℕ). heading_of n ++ flat_map line_of here.earlier) (sym name) in
-    let middle : IsPending a.name all told mid = pending-more a.name told here.earlier t.0 was.run mid first (t.2 here.shows) in
+    let middle : IsPending a.name all told mid = pending-more a.name told here.earlier t.0 was.run mid first (tells-all was.run mid t.0 here.shows t.2) in
     let pending : IsPending a.name all told a.run = ap (λ (w : Written). told ++ w.text) k.report ∙ middle in
     let shows = k.shows ∙ g.shows ∙ here.shows in
     let consumed = k.consumed ∙ ap (λ (cs : List Timed). cs ++ c ∷ []) (g.consumed ∙ here.consumed) in
@@ -191,3 +196,55 @@ pub goes-on : (p : Phase) (came : List Timed) (told : List ℕ) (o : KeptOpen) �
 goes-on Going came told o never h = h
 goes-on Over came told o never h = absurd (never refl)
 goes-on Lost came told o never h = h
+
+-- ---- nothing is due
+none-before : (a b : KeptOpen) (bytes : List ℕ) (s : Settles a b bytes) → b.phase ≡ Going → a.run.experiment.ending ≡ None
+none-before a b bytes s going = sym (ap (λ (e : KeptExperiment). e.ending) s.forgets.experiment) ∙ (s.going going).0
+
+told-by : (a b : KeptOpen) (bytes : List ℕ) (s : Settles a b bytes) (p : Phase) → b.phase ≡ p → bytes ≡ s.written.report.text ++ closing_in p s.written
+told-by a b bytes s Going is = (s.going is).1 ∙ sym (append-nil s.written.report.text)
+told-by a b bytes s Over is = (s.over is).1
+told-by a b bytes s Lost is = absurd (settled a b bytes s is)
+
+-- time passed
+pub settled-passed : (was a b : KeptOpen) (bytes : List ℕ) (limit : ℕ) (stop : Stop) (s : Settles a b bytes) →
+    record a { reached = was.reached; phase = was.phase; run = was.run } ≡ was → was.run.report.text ≡ [] → a.is_closed ≡ was.is_closed →
+    StopsAt stop was.reached limit a.reached was.run a.run →
+    (a.run.experiment.ending ≡ None → IsQuiet a.reached a.run) → (a.run.experiment.ending ≡ None → stop ≡ Moment → a.reached ≡ limit) →
+    IsPassed limit stop bytes was b
+settled-passed was a b bytes limit stop s from clean closed stops quiet whole =
+    let reached : b.reached ≡ a.reached = ap (λ (o : KeptOpen). o.reached) s.is in
+    let handed : KeptRun = record s.written { report = record s.written.report { text = [] } } in
+    record {
+      clean = clean;
+      ran = a.run;
+      stopped = subst (λ u. StopsAt stop was.reached limit u was.run a.run) (sym reached) stops;
+      wrote = s.written;
+      forgets = s.forgets;
+      is = s.is ∙ (λ i. record (from i) { reached = sym reached i; phase = b.phase; run = handed });
+      told = told-by a b bytes s b.phase refl;
+      quiet = λ going. subst (λ (o : KeptOpen). IsQuiet o.reached o.run) (sym s.is) (quiet-forgets a.reached a.run s.written s.forgets (quiet (none-before a b bytes s going)));
+      whole = λ going moment. reached ∙ whole (none-before a b bytes s going) moment;
+    }
+
+-- and then a command came
+pub settled-done : (was a b : KeptOpen) (bytes : List ℕ) (c : Timed) (t : Taken) (before : KeptRun) (s : Settles a b bytes) →
+    record a { reached = was.reached; phase = was.phase; run = was.run } ≡ was → was.run.report.text ≡ [] →
+    StopsAt Moment was.reached c.moment c.moment was.run before → Comes c t before a.run → a.reached ≡ c.moment → Commanded c t bytes was b
+settled-done was a b bytes c t before s from clean stops comes reached =
+    let handed : KeptRun = record s.written { report = record s.written.report { text = [] } } in
+    record {
+      clean = clean;
+      before = before;
+      stopped = stops;
+      after = a.run;
+      comes = comes;
+      wrote = s.written;
+      forgets = s.forgets;
+      is = s.is ∙ (λ i. record (from i) { reached = reached i; phase = b.phase; run = handed });
+      told = told-by a b bytes s b.phase refl;
+    }
+
+pub next-is : (o : KeptOpen) (m : Option ℕ) → IfSome m (λ n. n ≡ first_moment o.run) → (m ≡ None → IsQuiet 2000000000000000 o.run) → IsNext o m
+next-is o None some none = none refl
+next-is o (Some n) some none = some

@@ -1,15 +1,19 @@
 -- What was told of an experiment whose commands come one by one.
-use Rattle.std.proofs.Common.{◌≡◌, ℕ, ◌≤◌, List, [], ◌∷◌, ◌++◌, None, refl, sym, ap, ◌∙◌, subst, append_assoc, append-nil, arith}
-use Rattle.std.specs.Prelude.{flat_map}
+use Rattle.std.proofs.Common.{◌≡◌, ℕ, ◌≤◌, Bool, true, false, length, List, [], ◌∷◌, ◌++◌, Option, Some, None, ◌⊎◌, inl, inr, refl, sym, ap, ◌∙◌, subst, append_assoc, append-nil, arith}
+use Rattle.std.specs.Prelude.{flat_map, IfSome, is_some, option_map, get_or, slice_get, ltb}
+use Rattle.std.proofs.lemmas.Bool.{ltb-true, ltb-false}
+use Rattle.std.proofs.lemmas.Option.{slice_get_past, slice_get_read}
 use Rattle.std.proofs.lemmas.List.Concat.{flat_map-append}
+use Rattle.std.proofs.lemmas.List.Elements.{filter-append}
 use Rattle.emu_model.specs.declared.commands.Timed.{Timed}
 use Rattle.emu_model.specs.declared.records.Record.{Record}
+use Rattle.emu_model.specs.declared.records.Ending.{Ending}
 use Rattle.emu_model.specs.Step.{State}
 use Rattle.emu_model.specs.RunLaws.{PacketsAddUp}
-use Rattle.session_laws.specs.Waits.{IsAloneUntil, WaitsBegin}
+use Rattle.session_laws.specs.Waits.{IsAloneUntil, WaitsBegin, IsSettled}
 use Rattle.packet_store.specs.Pocket.{Pocket}
 use Rattle.packet_store.specs.Own.{Own, own_pocket}
-use Rattle.experiment.specs.Kept.{KeptExperiment, IsHousedIn, IsWaiting, IsAloneAfter, last_moment}
+use Rattle.experiment.specs.Kept.{KeptExperiment, view, IsHousedIn, IsWaiting, IsAloneAfter, last_moment}
 use Rattle.report.specs.Lines.{line_of}
 use Rattle.report_writer.specs.Written.{Written, Counts, CanWrite}
 use Rattle.report_writer.proofs.CallerLemmas.{adds_alone, adds_waiting}
@@ -18,7 +22,45 @@ use Rattle.experiment.specs.Kept.{shown_ending}
 use Rattle.experiment.specs.Moves.{Passes}
 use Rattle.experiment.specs.declared.experiment.Event.{Event}
 use Rattle.experiment.specs.declared.experiment.Event.TheVariants as events
-use Rattle.live.specs.Runs.{KeptRun, IsProper, IsAt, IsAfter, Goes, Takes, Forgets}
+use Rattle.live.specs.Marking.{Marks}
+use Rattle.live.specs.Fates.{concerns, first_hold}
+use Rattle.live.specs.declared.fates.Stop.{Stop}
+use Rattle.live.specs.declared.fates.Stop.TheVariants.{Moment}
+use Rattle.live.specs.Runs.{KeptRun, IsProper, IsAt, IsAfter, IsQuiet, IsQuietAfter, Goes, Takes, Tells, Forgets, picked, chosen}
+
+-- ---- what is written of records
+picked-both : (all : Bool) (mine : Marks) (rs more : List Record) → picked all mine (rs ++ more) ≡ picked all mine rs ++ picked all mine more
+picked-both true mine rs more = refl
+picked-both false mine rs more = filter-append (concerns mine) rs more
+
+pub picked-none : (all : Bool) (mine : Marks) → picked all mine [] ≡ []
+picked-none true mine = refl
+picked-none false mine = refl
+
+picked-same : (a b : KeptRun) (rs : List Record) → a.shows_all ≡ b.shows_all → a.mine ≡ b.mine → chosen a rs ≡ chosen b rs
+picked-same a b rs shows mine = ap (λ all. picked all a.mine rs) shows ∙ ap (λ (m : Marks). picked b.shows_all m rs) mine
+
+-- all are, where all are shown
+pub tells-all : (old new : KeptRun) (rs : List Record) → old.shows_all ≡ true → Tells rs old new → new.report.text ≡ old.report.text ++ flat_map line_of rs
+tells-all old new rs shows tells = tells ∙ ap (λ all. old.report.text ++ flat_map line_of (picked all old.mine rs)) shows
+
+pub tells-none : (old new : KeptRun) → new.report.text ≡ old.report.text → Tells [] old new
+tells-none old new same =
+    same ∙ sym (append-nil old.report.text) ∙ ap (λ (rs : List Record). old.report.text ++ flat_map line_of rs) (sym (picked-none old.shows_all old.mine))
+
+pub tells-both : (was old new : KeptRun) (more rs : List Record) → Tells more was old → Tells rs old new → old.shows_all ≡ was.shows_all → old.mine ≡ was.mine → Tells (more ++ rs) was new
+tells-both was old new more rs first then shows mine =
+    then ∙ ap (λ (l : List ℕ). l ++ flat_map line_of (chosen old rs)) first
+    ∙ append_assoc was.report.text (flat_map line_of (chosen was more)) (flat_map line_of (chosen old rs))
+    ∙ ap (λ (l : List Record). was.report.text ++ (flat_map line_of (chosen was more) ++ flat_map line_of l)) (picked-same old was rs shows mine)
+    ∙ ap (λ (l : List ℕ). was.report.text ++ l)
+    (sym (ap (flat_map line_of) (picked-both was.shows_all was.mine more rs) ∙ flat_map-append line_of (chosen was more) (chosen was rs)))
+
+-- ---- what is due
+pub quiet-forgets : (t : ℕ) (old new : KeptRun) → Forgets old new → IsQuiet t old → IsQuiet t new
+quiet-forgets t old new f h =
+    subst (λ (s : Own). IsQuiet t (record new { shelf = s })) (sym f.shelf)
+    (subst (λ (e : KeptExperiment). IsQuiet t (record new { shelf = old.shelf; experiment = e })) (sym f.experiment) h)
 
 -- one that goes on wasn't halted
 pub not_ended : (e : KeptExperiment) → e.ending ≡ None → IsSome e.ending → IsSome (shown_ending e.ending)
@@ -74,6 +116,7 @@ goes-written t u was old new g f = record {
   spec = ap (λ (e : KeptExperiment). e.spec) f.experiment ∙ g.spec;
   consumed = ap (λ (e : KeptExperiment). e.consumed) f.experiment ∙ g.consumed;
   shows = f.shows ∙ g.shows;
+  mine = f.mine ∙ g.mine;
   tells = λ earlier at.
       let h = g.tells earlier at in
       let more : List Record = h.0 in
@@ -89,24 +132,22 @@ goes-written t u was old new g f = record {
           latest = subst (λ (l : List Timed). last_moment 0 l ≤ u) (sym (ap (λ (e : KeptExperiment). e.consumed) f.experiment)) h.1.latest;
           proper = proper-forgets old new f h.1.proper;
         },
-        λ shows.
-            f.tells (g.shows ∙ shows) ∙ ap (λ (l : List ℕ). l ++ flat_map line_of rs) (h.2 shows)
-            ∙ append_assoc was.report.text (flat_map line_of more) (flat_map line_of rs)
-            ∙ ap (λ (l : List ℕ). was.report.text ++ l) (sym (flat_map-append line_of more rs)),
+        tells-both was old new more rs h.2 f.tells g.shows g.mine,
       );
 }
 
 -- nothing is told of an event yet
 pub goes-event : (t u v : ℕ) (was old new : KeptRun) → Goes t u was old → u ≤ v →
-    new.report ≡ old.report → new.shows_all ≡ old.shows_all → new.experiment.spec ≡ old.experiment.spec →
+    new.report ≡ old.report → new.shows_all ≡ old.shows_all → new.mine ≡ old.mine → new.experiment.spec ≡ old.experiment.spec →
     new.experiment.consumed ≡ old.experiment.consumed → IsHousedIn (own_pocket new.shelf) new.experiment →
     (IsProper old.experiment → IsProper new.experiment) →
     ((earlier : List Record) → IsWaiting u earlier (own_pocket old.shelf) old.experiment → IsWaiting v earlier (own_pocket new.shelf) new.experiment) →
     Goes t v was new
-goes-event t u v was old new g up report shows spec consumed housed proper waits = record {
+goes-event t u v was old new g up report shows mine spec consumed housed proper waits = record {
   spec = spec ∙ g.spec;
   consumed = consumed ∙ g.consumed;
   shows = shows ∙ g.shows;
+  mine = mine ∙ g.mine;
   tells = λ earlier at.
       let h = g.tells earlier at in (
         h.0,
@@ -117,7 +158,7 @@ goes-event t u v was old new g up report shows spec consumed housed proper waits
           latest = let same = ap (last_moment 0) consumed in omega (arith, h.1.latest, up, same);
           proper = proper h.1.proper;
         },
-        λ all. ap (λ (w : Written). w.text) report ∙ h.2 all,
+        ap (λ (w : Written). w.text) report ∙ h.2,
       );
 }
 
@@ -127,7 +168,8 @@ goes-nowhere t r = record {
   spec = refl;
   consumed = refl;
   shows = refl;
-  tells = λ earlier at. ([], subst (λ (l : List Record). IsAt t l r) (sym (append-nil earlier)) at, λ all. sym (append-nil r.report.text));
+  mine = refl;
+  tells = λ earlier at. ([], subst (λ (l : List Record). IsAt t l r) (sym (append-nil earlier)) at, tells-none r r refl);
 }
 
 -- where it stands after that
@@ -196,3 +238,42 @@ pub at-handed : (t : ℕ) (earlier : List Record) (old new : KeptRun) → IsAt t
     IsAt t earlier new
 at-handed t earlier old new h same =
     subst (IsAt t earlier) (sym same) (record { housed = h.housed; counts = record { delivered = h.counts.delivered; drops = h.counts.drops }; waits = h.waits; latest = h.latest; proper = h.proper })
+
+-- ---- nothing is due
+ended-some : (e : Option Ending) → IsSome (shown_ending e) → IsSome e
+ended-some None some = some
+ended-some (Some e) some = refl
+
+pub quiet-still : (limit u : ℕ) (r : KeptRun) (p : Pocket) (old : KeptExperiment) → u ≡ limit → Passes limit events.Still p old (own_pocket r.shelf) r.experiment → IsQuietAfter limit (false, u) r
+quiet-still limit u r p old same (kept, pocket, h) =
+    turned (subst (λ (e : KeptExperiment). IsSettled limit (view (own_pocket r.shelf) e) ⊎ IsSome e.ending) (sym kept)
+    (subst (λ (q : Pocket). IsSettled limit (view q old) ⊎ IsSome old.ending) (sym pocket) h))
+  where
+    turned : IsQuiet limit r ⊎ IsSome r.experiment.ending → IsQuietAfter limit (false, u) r
+    turned (inl quiet) = inr (same, quiet)
+    turned (inr ended) = inl ended
+
+pub quiet-ended : (limit u : ℕ) (r : KeptRun) (p : Pocket) (old : KeptExperiment) → Passes limit events.Ended p old (own_pocket r.shelf) r.experiment → IsQuietAfter limit (false, u) r
+quiet-ended limit u r p old h = inl (ended-some r.experiment.ending h.1)
+
+never-some : (e : Option Ending) → IsSome e → e ≡ None → ⊥
+never-some None some none = cc
+never-some (Some e) some none = absurd (cc)
+
+-- at the end of a wait
+pub quiet-at : (limit u : ℕ) (r : KeptRun) → IsQuietAfter limit (false, u) r → r.experiment.ending ≡ None → (u ≡ limit) × IsQuiet u r
+quiet-at limit u r (inl ended) none = absurd (never-some r.experiment.ending ended none)
+quiet-at limit u r (inr (same, quiet)) none = (same, subst (λ n. IsQuiet n r) (sym same) quiet)
+
+-- a moment alone holds nothing
+holds-none : (mine : Marks) (rs : List Record) → first_hold mine Moment rs ≡ None
+holds-none mine [] = refl
+holds-none mine (r ∷ rs) = holds-none mine rs
+
+pub no-hold : (mine : Marks) (rs : List Record) (stop : Stop) (hold : ℕ) → stop ≡ Moment → Some hold ≡ first_hold mine stop rs → ⊥
+no-hold mine rs stop hold moment some = let none = some ∙ ap (λ s. first_hold mine s rs) moment ∙ holds-none mine rs in cc
+
+-- what is read at a place
+pub read-at : {B : Type 0} (now : B → Record) (r : Option B) (rs : List Record) (n : ℕ) → is_some r ≡ ltb n (length rs) → IfSome r (λ x. now x ≡ get_or rs n (now x)) → option_map now r ≡ slice_get rs n
+read-at now None rs n some read = sym (slice_get_past rs n (ltb-false n (length rs) (sym some)))
+read-at now (Some x) rs n some read = sym (slice_get_read rs (length rs) n (now x) refl (ltb-true n (length rs) (sym some)) read)

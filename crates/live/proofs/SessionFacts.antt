@@ -1,9 +1,10 @@
 -- What was told by a session, from one line to the next.
-use Rattle.std.proofs.Common.{◌≡◌, ◌⊎◌, inl, inr, ℕ, ◌+◌, ◌-◌, ◌<◌, ◌≤◌, cond, eqb, Bool, true, false, List, [], ◌∷◌, ◌++◌, length, length-append, map, refl, sym, ap, ◌∙◌, subst, append_assoc, append-nil, arith}
-use Rattle.std.specs.Prelude.{flat_map, set, get_or, codes, Result, Ok, Err, OnOk, IfOk}
+use Rattle.std.proofs.Common.{◌≡◌, ◌⊎◌, inl, inr, ℕ, ◌+◌, ◌<◌, cond, eqb, Bool, true, false, List, [], ◌∷◌, ◌++◌, length, length-append, map, refl, sym, ap, ◌∙◌, subst, append_assoc, append-nil, arith}
+use Rattle.std.specs.Prelude.{flat_map, set, get_or, slice_get, codes, Option, Some, None, IsSome, Result, Ok, Err, IfOk}
 use Rattle.std.specs.declared.alloc.AllocError.{AllocError}
 use Rattle.std.specs.List.{AllByRecursion, filter, onto_first}
-use Rattle.std.proofs.lemmas.List.{length-map}
+use Rattle.std.proofs.lemmas.List.{length-map, set-get_or}
+use Rattle.std.proofs.lemmas.Option.{slice_get-get_or}
 use Rattle.std.proofs.lemmas.List.Concat.{flat_map-append}
 use Rattle.std.proofs.Math.Seq.{set-append_seam, get_or-append_seam}
 use Rattle.emu_model.specs.declared.commands.Spec.{Spec}
@@ -15,13 +16,14 @@ use Rattle.control.proofs.LinesRead.{with_last_is}
 use Rattle.control_lines.specs.Entries.{Entry, Nothing, Begins, Does, IsEntry, is_skipped}
 use Rattle.control_lines.specs.LinesSayOne.{LinesSayOne}
 use Rattle.control_words.specs.Text.{parts, words, is_word}
-use Rattle.live.specs.declared.request.Request.{Request}
-use Rattle.live.specs.Requests.{IsMine}
+use Rattle.live.specs.Requests.{Show, request_of}
+use Rattle.live.specs.Effects.{Moves, IsSaid}
+use Rattle.live.specs.Faults.{Answers, of_current, current_of}
 use Rattle.live.specs.declared.answer.Answer.{Answer}
 use Rattle.live.specs.declared.answer.Answer.TheVariants as answers
 use Rattle.live.specs.declared.open.Phase.{Phase}
 use Rattle.live.specs.declared.open.Phase.TheVariants.{Going, Over, Lost}
-use Rattle.live.specs.Lines.{answer_line, help_lines}
+use Rattle.live.specs.Lines.{answer_line, help_lines, fault_of, said_of}
 use Rattle.live.specs.Opens.{KeptOpen, IsTold, IsToldIn, MayCome, IsFault, IsSame, Tells}
 use Rattle.live.specs.Sessions.{KeptSession, Stand, IsSoFar, TellsAll, Grows, Hears, Takes, Piece, Told, Answered, Helped, IsPlain, written, told}
 
@@ -189,51 +191,137 @@ grows-shown old new o p all is every opened current within found =
     (subst (λ (cs : List Timed). IsTold cs text q) (sym (append-nil came)) (shown o.phase came text o h)))
 
 -- what was told, and the line that answers
-pub answered-grows : (old new : KeptSession) (a : Answer) (more : List Experiment → List Experiment) (first mid last : List ℕ) (r : Result (Unit {0}) AllocError) →
-    ((bytes : List ℕ) × (mid ≡ first ++ bytes) × ((¬ IsFault a) → Grows more bytes old new)) → OnOk r (last ≡ mid ++ answer_line a) →
-    OnOk r ((ps : List Piece) × (last ≡ first ++ flat_map written ps) × (AllByRecursion IsPlain ps → Grows more (flat_map told ps) old new))
-answered-grows old new a more first mid last (Ok x) (bytes, is, grows) e = (
+pub answered-grows : (old new : KeptSession) (a : Answer) (more : List Experiment → List Experiment) (first mid last : List ℕ) →
+    ((bytes : List ℕ) × (mid ≡ first ++ bytes) × ((¬ IsFault a) → Grows more bytes old new)) → last ≡ mid ++ answer_line a → (IsFault a → ⊥) →
+    (ps : List Piece) × (last ≡ first ++ flat_map written ps) × (AllByRecursion IsPlain ps → Grows more (flat_map told ps) old new)
+answered-grows old new a more first mid last (bytes, is, grows) e fine = (
   Told bytes ∷ Answered a ∷ [],
   e ∙ ap (λ (l : List ℕ). l ++ answer_line a) is ∙ append_assoc first bytes (answer_line a)
       ∙ ap (λ (l : List ℕ). first ++ (bytes ++ l)) (sym (append-nil (answer_line a))),
-  λ plain. subst (λ (l : List ℕ). Grows more l old new) (sym (append-nil bytes)) (grows plain.1.0),
+  λ plain. subst (λ (l : List ℕ). Grows more l old new) (sym (append-nil bytes)) (grows fine),
 )
-answered-grows old new a more first mid last (Err x) h e = e
 
 -- what can be asked is told
 pub helped : (old : KeptSession) (first last : List ℕ) → last ≡ first ++ help_lines → (ps : List Piece) × (last ≡ first ++ flat_map written ps) × Grows (λ es. es) (flat_map told ps) old old
 helped old first last is = (Helped ∷ [], is ∙ ap (λ (l : List ℕ). first ++ l) (sym (append-nil help_lines)), grows-none old old refl)
 
 -- what an experiment told
-pub asked-told : (old new : KeptSession) (asked first last : List ℕ) (request : Request) (r : Result Answer AllocError) →
-    (IsMine request → words asked ≡ codes "show" ∷ codes "mine" ∷ []) →
-    IfOk r (λ a. (bytes : List ℕ) × (last ≡ first ++ bytes) × ((IsMine request → ⊥) → Grows (λ es. es) bytes old new)) →
-    IfOk r (λ a. (ps : List Piece) × (last ≡ first ++ flat_map written ps) × ((IsFault a → ⊥) → AllByRecursion IsPlain ps →
-    (words asked ≡ codes "show" ∷ codes "mine" ∷ [] → ⊥) → Grows (λ es. es) (flat_map told ps) old new))
-asked-told old new asked first last request (Ok a) mine (bytes, is, grows) = (
+pub asked-told : (P : Type 0) (old new : KeptSession) (first last : List ℕ) (r : Result Answer AllocError) →
+    IfOk r (λ a. (bytes : List ℕ) × (last ≡ first ++ bytes) × Grows (λ es. es) bytes old new) →
+    IfOk r (λ a. (ps : List Piece) × (last ≡ first ++ flat_map written ps) × ((IsFault a → ⊥) → AllByRecursion IsPlain ps → P → Grows (λ es. es) (flat_map told ps) old new))
+asked-told P old new first last (Ok a) (bytes, is, grows) = (
   Told bytes ∷ [],
   is ∙ ap (λ (l : List ℕ). first ++ l) (sym (append-nil bytes)),
-  λ fine plain other. subst (λ (l : List ℕ). Grows (λ es. es) l old new) (sym (append-nil bytes)) (grows (λ m. other (mine m))),
+  λ fine plain p. subst (λ (l : List ℕ). Grows (λ es. es) l old new) (sym (append-nil bytes)) grows,
 )
-asked-told old new asked first last request (Err e) mine h = h
+asked-told P old new first last (Err e) h = h
 
 -- a request's line that answers
-pub requested : (old new : KeptSession) (a : Answer) (asked first mid last : List ℕ) (r : Result (Unit {0}) AllocError) →
+pub requested : (old new : KeptSession) (a : Answer) (asked first mid last : List ℕ) →
     ((ps : List Piece) × (mid ≡ first ++ flat_map written ps) × ((IsFault a → ⊥) → AllByRecursion IsPlain ps →
-    (words asked ≡ codes "show" ∷ codes "mine" ∷ [] → ⊥) → Grows (λ es. es) (flat_map told ps) old new)) →
-    OnOk r (last ≡ mid ++ answer_line a) →
-    OnOk r ((ps : List Piece) × (last ≡ first ++ flat_map written ps) × (AllByRecursion IsPlain ps →
-    (words asked ≡ codes "show" ∷ codes "mine" ∷ [] → ⊥) → Grows (λ es. es) (flat_map told ps) old new))
-requested old new a asked first mid last (Ok x) (ps, is, grows) e = (
+    (request_of asked ≡ Ok (Show false) → ⊥) → Grows (λ es. es) (flat_map told ps) old new)) →
+    last ≡ mid ++ answer_line a → (IsFault a → ⊥) →
+    (ps : List Piece) × (last ≡ first ++ flat_map written ps) × (AllByRecursion IsPlain ps →
+    (request_of asked ≡ Ok (Show false) → ⊥) → Grows (λ es. es) (flat_map told ps) old new)
+requested old new a asked first mid last (ps, is, grows) e fine = (
   ps ++ Answered a ∷ [],
   e ∙ ap (λ (l : List ℕ). l ++ answer_line a) is ∙ append_assoc first (flat_map written ps) (answer_line a)
       ∙ ap (λ (l : List ℕ). first ++ (flat_map written ps ++ l)) (sym (append-nil (answer_line a)))
       ∙ ap (λ (l : List ℕ). first ++ l) (sym (flat_map-append written ps (Answered a ∷ []))),
   λ plain other.
       subst (λ (l : List ℕ). Grows (λ es. es) l old new) (sym (append-nil (flat_map told ps)) ∙ sym (flat_map-append told ps (Answered a ∷ [])))
-      (grows (last_all IsPlain ps (Answered a) plain) (first_all IsPlain ps (Answered a) plain) other),
+      (grows fine (first_all IsPlain ps (Answered a) plain) other),
 )
-requested old new a asked first mid last (Err x) h e = e
+
+-- ---- faults
+pub if_ok : {T E : Type 0} (P Q : T → Type 0) (r : Result T E) → ((x : T) → P x → Q x) → IfOk r P → IfOk r Q
+if_ok P Q (Ok x) f h = f x h
+if_ok P Q (Err e) f h = h
+
+-- nothing changes by a fault
+pub faulty : (f : Option Cause) (a : Answer) (same : Type 0) → Answers f a same → IsFault a → same
+faulty None a same fine fault = absurd (fine fault)
+faulty (Some c) a same h fault = h.1
+
+pub no-fault : (a : Answer) → fault_of a ≡ None → IsFault a → ⊥
+no-fault (answers.Fault c) none fault = absurd (cc)
+no-fault answers.Done none fault = fault
+no-fault (answers.Packet n) none fault = fault
+no-fault (answers.Refused n) none fault = fault
+no-fault (answers.Now n) none fault = fault
+no-fault (answers.Next n) none fault = fault
+no-fault (answers.Over n) none fault = fault
+
+fault-none : (a : Answer) → (IsFault a → ⊥) → fault_of a ≡ None
+fault-none answers.Done fine = refl
+fault-none (answers.Packet n) fine = refl
+fault-none (answers.Refused n) fine = refl
+fault-none (answers.Now n) fine = refl
+fault-none (answers.Next n) fine = refl
+fault-none (answers.Over n) fine = refl
+fault-none (answers.Fault c) fine = absurd (fine tt)
+
+pub said-all : (a : Answer) → fault_of a ≡ None → said_of a ≡ answer_line a
+said-all (answers.Fault c) none = absurd (cc)
+said-all answers.Done none = refl
+said-all (answers.Packet n) none = refl
+said-all (answers.Refused n) none = refl
+said-all (answers.Now n) none = refl
+said-all (answers.Next n) none = refl
+said-all (answers.Over n) none = refl
+
+-- a fault is handed back where there is one
+pub fault-said : (fault f : Option Cause) (a : Answer) (old new : KeptSession) (first mid last : List ℕ) → Answers fault a ((new ≡ old) × (mid ≡ first)) →
+    f ≡ fault_of a → last ≡ mid ++ said_of a → (f ≡ fault) × (IsSome f → (new ≡ old) × (last ≡ first))
+fault-said None f a old new first mid last fine is said =
+    let none : f ≡ None = is ∙ fault-none a fine in (none, λ some. absurd (let h = subst IsSome none some in cc))
+fault-said (Some c) f a old new first mid last (is_fault, (same, kept)) is said = (
+  is ∙ ap fault_of is_fault,
+  λ some. (same, said ∙ ap (λ b. mid ++ said_of b) is_fault ∙ append-nil mid ∙ kept),
+)
+
+-- ---- what a line does
+get-some : {A : Type 0} (xs : List A) (i : ℕ) (x : A) → i < length xs → get_or xs i x ≡ x → slice_get xs i ≡ Some x
+get-some xs i x within is = slice_get-get_or xs i x within ∙ ap Some is
+
+-- the experiment that lines are for became another
+pub moves : (P : Answer → KeptOpen → KeptOpen → Type 0) (a : Answer) (old new : KeptSession) (o p : KeptOpen) →
+    new.opened ≡ set old.opened old.current p → new.current ≡ old.current → old.current < length old.opened → get_or old.opened old.current o ≡ o →
+    P a o p → Moves P a old new
+moves P a old new o p opened current within found by = record {
+  before = o;
+  after = p;
+  current = get-some old.opened old.current o within found;
+  moved = λ i. record { opened = opened i; current = current i };
+  by = by;
+}
+
+same-by : (f : Option Cause) (a : Answer) (P Q : Type 0) → (P → Q) → Answers f a P → Answers f a Q
+same-by None a P Q g h = h
+same-by (Some c) a P Q g h = (h.0, g h.1)
+
+-- a fault of the experiment that lines are for
+pub current-fault : (f : KeptOpen → Option Cause) (a : Answer) (old : KeptSession) (o p : KeptOpen) (kept : Type 0) → old.current < length old.opened → get_or old.opened old.current o ≡ o →
+    Answers (f o) a ((p ≡ o) × kept) → Answers (of_current f (current_of old)) a ((record { opened = set old.opened old.current p; current = old.current } ≡ old) × kept)
+current-fault f a old o p kept within found h =
+    let back : p ≡ o → record { opened = set old.opened old.current p; current = old.current } ≡ old = λ same.
+    ap (λ (l : List KeptOpen). record { opened = l; current = old.current })
+    (ap (λ (q : KeptOpen). set old.opened old.current q) (same ∙ sym found) ∙ set-get_or old.opened old.current o) in
+    subst (λ (c : Option KeptOpen). Answers (of_current f c) a ((record { opened = set old.opened old.current p; current = old.current } ≡ old) × kept))
+    (sym (get-some old.opened old.current o within found))
+    (same-by (f o) a ((p ≡ o) × kept) ((record { opened = set old.opened old.current p; current = old.current } ≡ old) × kept) (λ (x : (p ≡ o) × kept). (back x.0, x.1)) h)
+
+-- what was said of a line that was taken
+pub does-said : (f : Option Cause) (a : Answer) (first mid last : List ℕ) (P : List ℕ → Answer → Type 0) →
+    ((IsFault a → ⊥) → (bytes : List ℕ) × (mid ≡ first ++ bytes) × P bytes a) → f ≡ fault_of a → last ≡ mid ++ said_of a → f ≡ None →
+    (said : List ℕ) × (last ≡ first ++ said) × IsSaid said P
+does-said f a first mid last P did is said none =
+    let fine : fault_of a ≡ None = sym is ∙ none in
+    let h = did (no-fault a fine) in (
+      h.0 ++ answer_line a,
+      said ∙ ap (λ (l : List ℕ). mid ++ l) (said-all a fine) ∙ ap (λ (l : List ℕ). l ++ answer_line a) h.1 ∙ append_assoc first h.0 (answer_line a),
+      (h.0, a, refl, h.2),
+    )
 
 -- ---- what a line says
 pub hears-nothing : (line : List ℕ) (s : KeptSession) → IsEntry line Nothing → Hears line [] s s
@@ -251,37 +339,19 @@ hears-command : (line : List ℕ) (c : Timed) (bytes : List ℕ) (old new : Kept
 hears-command line c bytes old new is grows e before text says h =
     subst (λ (x : Entry). TellsAll (experiments (x ∷ before)) (text ++ bytes) new) (sym (is.only e says)) (grows (experiments before) text h)
 
-pub heard-begin : (line name : List ℕ) (spec : Spec) (old new : KeptSession) (first last : List ℕ) (r : Result (Unit {0}) AllocError) → IsEntry line (Begins name spec) →
-    OnOk r ((ps : List Piece) × (last ≡ first ++ flat_map written ps) × (AllByRecursion IsPlain ps → Grows (λ es. es ++ begun name spec ∷ []) (flat_map told ps) old new)) →
-    OnOk r ((ps : List Piece) × (last ≡ first ++ flat_map written ps) × (AllByRecursion IsPlain ps → Hears line (flat_map told ps) old new))
-heard-begin line name spec old new first last (Ok x) is (ps, wrote, grows) = (ps, wrote, λ plain. hears-begin line name spec (flat_map told ps) old new is (grows plain))
-heard-begin line name spec old new first last (Err x) is h = h
+pub heard-begin : {T : Type 0} (P : T → Type 0) (line name : List ℕ) (spec : Spec) (old new : KeptSession) (first last : List ℕ) (r : Result T AllocError) → IsEntry line (Begins name spec) →
+    IfOk r (λ f. P f → (ps : List Piece) × (last ≡ first ++ flat_map written ps) × (AllByRecursion IsPlain ps → Grows (λ es. es ++ begun name spec ∷ []) (flat_map told ps) old new)) →
+    IfOk r (λ f. P f → (ps : List Piece) × (last ≡ first ++ flat_map written ps) × (AllByRecursion IsPlain ps → Hears line (flat_map told ps) old new))
+heard-begin P line name spec old new first last (Ok x) is h = λ p. let g = h p in (g.0, g.1, λ plain. hears-begin line name spec (flat_map told g.0) old new is (g.2 plain))
+heard-begin P line name spec old new first last (Err x) is h = h
 
-pub heard-command : (line : List ℕ) (c : Timed) (old new : KeptSession) (first last : List ℕ) (r : Result (Unit {0}) AllocError) → IsEntry line (Does c) →
-    OnOk r ((ps : List Piece) × (last ≡ first ++ flat_map written ps) × (AllByRecursion IsPlain ps → Grows (λ es. with_last es c) (flat_map told ps) old new)) →
-    OnOk r ((ps : List Piece) × (last ≡ first ++ flat_map written ps) × (AllByRecursion IsPlain ps → Hears line (flat_map told ps) old new))
-heard-command line c old new first last (Ok x) is (ps, wrote, grows) = (ps, wrote, λ plain. hears-command line c (flat_map told ps) old new is (grows plain))
-heard-command line c old new first last (Err x) is h = h
-
-pub fault-said : (cause : Cause) (first last : List ℕ) (Q : List Piece → Type 0) (r : Result (Unit {0}) AllocError) → OnOk r (last ≡ first ++ answer_line (answers.Fault cause)) →
-    OnOk r ((ps : List Piece) × (last ≡ first ++ flat_map written ps) × (AllByRecursion IsPlain ps → Q ps))
-fault-said cause first last Q (Ok x) e = (
-  Answered (answers.Fault cause) ∷ [],
-  e ∙ ap (λ (l : List ℕ). first ++ l) (sym (append-nil (answer_line (answers.Fault cause)))),
-  λ plain. absurd (plain.0 tt),
-)
-fault-said cause first last Q (Err x) e = e
+pub heard-command : {T : Type 0} (P : T → Type 0) (line : List ℕ) (c : Timed) (old new : KeptSession) (first last : List ℕ) (r : Result T AllocError) → IsEntry line (Does c) →
+    IfOk r (λ f. P f → (ps : List Piece) × (last ≡ first ++ flat_map written ps) × (AllByRecursion IsPlain ps → Grows (λ es. with_last es c) (flat_map told ps) old new)) →
+    IfOk r (λ f. P f → (ps : List Piece) × (last ≡ first ++ flat_map written ps) × (AllByRecursion IsPlain ps → Hears line (flat_map told ps) old new))
+heard-command P line c old new first last (Ok x) is h = λ p. let g = h p in (g.0, g.1, λ plain. hears-command line c (flat_map told g.0) old new is (g.2 plain))
+heard-command P line c old new first last (Err x) is h = h
 
 -- ---- taking a line
-pub taken-long : (line : List ℕ) (cause : Cause) (old : KeptSession) (first last : List ℕ) (r : Result (Unit {0}) AllocError) → OnOk r (last ≡ first ++ answer_line (answers.Fault cause)) →
-    OnOk r ((ps : List Piece) × (last ≡ first ++ flat_map written ps) × Takes line ps old old)
-taken-long line cause old first last (Ok x) e = (
-  Answered (answers.Fault cause) ∷ [],
-  e ∙ ap (λ (l : List ℕ). first ++ l) (sym (append-nil (answer_line (answers.Fault cause)))),
-  record { long = λ more plain. plain.0 tt; hears = λ plain. absurd (plain.0 tt) },
-)
-taken-long line cause old first last (Err x) e = e
-
 made : (b : Bool) (x : ℕ) (ls : List (List ℕ)) → (m : List ℕ) × (ms : List (List ℕ)) × (cond b ([] ∷ ls) (onto_first x ls) ≡ m ∷ ms)
 made true x ls = ([], ls, refl)
 made false x [] = (x ∷ [], [], refl)
@@ -294,29 +364,22 @@ some_part (x ∷ xs) = made (eqb x 32) x (parts 32 xs)
 skipped : (rest : List ℕ) → is_skipped (words (35 ∷ 62 ∷ rest)) ≡ true
 skipped rest = let p = some_part rest in ap (λ (ps : List (List ℕ)). is_skipped (filter is_word (onto_first 35 (onto_first 62 ps)))) p.2
 
-pub taken-request : LinesSayOne → (line asked : List ℕ) (old new : KeptSession) (first last : List ℕ) (r : Result (Unit {0}) AllocError) → length line ≤ 512 → line ≡ codes "#>" ++ asked →
-    OnOk r ((ps : List Piece) × (last ≡ first ++ flat_map written ps) × (AllByRecursion IsPlain ps →
-    (words asked ≡ codes "show" ∷ codes "mine" ∷ [] → ⊥) → Grows (λ es. es) (flat_map told ps) old new)) →
-    OnOk r ((ps : List Piece) × (last ≡ first ++ flat_map written ps) × Takes line ps old new)
-taken-request one line asked old new first last (Ok x) few is (ps, wrote, grows) = (
+pub taken-request : LinesSayOne → (line asked : List ℕ) (old new : KeptSession) (first last : List ℕ) → line ≡ codes "#>" ++ asked →
+    ((ps : List Piece) × (last ≡ first ++ flat_map written ps) × (AllByRecursion IsPlain ps →
+    (request_of asked ≡ Ok (Show false) → ⊥) → Grows (λ es. es) (flat_map told ps) old new)) →
+    (ps : List Piece) × (last ≡ first ++ flat_map written ps) × Takes line ps old new
+taken-request one line asked old new first last is (ps, wrote, grows) = (
   ps,
   wrote,
   record {
-    long = λ more. absurd (omega (arith, few, more));
     hears = λ plain other e before text says h.
         subst (λ (x : Entry). TellsAll (experiments (x ∷ before)) (text ++ flat_map told ps) new)
         (one line Nothing e (inl (ap (λ (l : List ℕ). is_skipped (words l)) is ∙ skipped asked, refl)) says)
         (grows plain (λ m. other (asked, is, m)) (experiments before) text h);
   },
 )
-taken-request one line asked old new first last (Err x) few is h = h
 
-pub taken-line : (line : List ℕ) (old new : KeptSession) (first last : List ℕ) (r : Result (Unit {0}) AllocError) → length line ≤ 512 →
-    OnOk r ((ps : List Piece) × (last ≡ first ++ flat_map written ps) × (AllByRecursion IsPlain ps → Hears line (flat_map told ps) old new)) →
-    OnOk r ((ps : List Piece) × (last ≡ first ++ flat_map written ps) × Takes line ps old new)
-taken-line line old new first last (Ok x) few (ps, wrote, hears) = (
-  ps,
-  wrote,
-  record { long = λ more. absurd (omega (arith, few, more)); hears = λ plain other. hears plain },
-)
-taken-line line old new first last (Err x) few h = h
+pub taken-line : (line : List ℕ) (old new : KeptSession) (first last : List ℕ) →
+    ((ps : List Piece) × (last ≡ first ++ flat_map written ps) × (AllByRecursion IsPlain ps → Hears line (flat_map told ps) old new)) →
+    (ps : List Piece) × (last ≡ first ++ flat_map written ps) × Takes line ps old new
+taken-line line old new first last (ps, wrote, hears) = (ps, wrote, record { hears = λ plain other. hears plain })

@@ -1,6 +1,11 @@
+pub mod Marking
+pub mod Fates
 pub mod Runs
+pub mod Stops
 pub mod Lines
 pub mod Requests
 pub mod Opens
 pub mod RunLaws
 pub mod Sessions
+pub mod Faults
+pub mod Effects

@@ -1,7 +1,8 @@
 -- The lines that answer (our choice).
-use Rattle.std.specs.Prelude.{ℕ, List, ◌++◌, codes, decimal, Some, None}
+use Rattle.std.specs.Prelude.{ℕ, List, [], ◌∷◌, ◌++◌, codes, decimal, Option, Some, None}
 use Rattle.control.specs.declared.fault.Cause.{Cause}
 use Rattle.control.specs.declared.fault.Cause.TheVariants as causes
+use Rattle.control_words.specs.Text.{lines}
 use Rattle.live.specs.declared.answer.Answer.{Answer}
 use Rattle.live.specs.declared.answer.Answer.TheVariants as answers
 
@@ -29,6 +30,29 @@ answer_line (answers.Next (Some n)) = codes "#< next " ++ decimal n ++ codes "\n
 answer_line (answers.Next None) = codes "#< next none\n"
 answer_line (answers.Over n) = codes "#< over " ++ decimal n ++ codes "\n"
 answer_line (answers.Fault c) = codes "#< fault " ++ cause_word c ++ codes "\n"
+
+-- the fault that an answer names, if it is one
+abbrev pub fault_of : Answer → Option Cause
+fault_of (answers.Fault cause) = Some cause
+fault_of _ = None
+
+-- what is said where the line was taken
+abbrev pub said_of : Answer → List ℕ
+said_of (answers.Fault c) = []
+said_of a = answer_line a
+
+-- a text as comments, one for each of its lines
+abbrev pub comment_line : List ℕ → List ℕ
+comment_line line = codes "# " ++ (line ++ codes "\n")
+
+abbrev pub comments : List (List ℕ) → List ℕ
+comments [] = []
+comments ([] ∷ []) = []
+comments ((c ∷ cs) ∷ []) = comment_line (c ∷ cs)
+comments (line ∷ next ∷ rest) = comment_line line ++ comments (next ∷ rest)
+
+abbrev pub comment_of : List ℕ → List ℕ
+comment_of text = comments (lines text)
 
 -- what can be asked
 abbrev pub help_lines : List ℕ

@@ -1,5 +1,6 @@
 -- An experiment whose commands come one by one, and what was written of it (our choice).
-use Rattle.std.specs.Prelude.{◌≡◌, ℕ, ◌*◌, ◌^◌, ◌≤◌, Bool, true, IsSome, None, List, [], ◌∷◌, ◌++◌, flat_map}
+use Rattle.std.specs.Prelude.{◌≡◌, ℕ, ◌*◌, ◌^◌, ◌≤◌, Bool, true, false, IsSome, None, ◌⊎◌, List, [], ◌∷◌, ◌++◌, flat_map}
+use Rattle.std.specs.List.{filter}
 use Rattle.emu_model.specs.declared.commands.Timed.{Timed}
 use Rattle.emu_model.specs.declared.records.Record.{Record}
 use Rattle.packet_store.specs.Pocket.{Pocket}
@@ -10,14 +11,19 @@ use Rattle.report.specs.Lines as lines
 use Rattle.emu_model.specs.Net.{counters_of}
 use Rattle.emu_model.specs.Dues.{dues_of, least_due}
 use Rattle.emu_model.specs.Step.{State}
+use Rattle.session_laws.specs.Waits.{IsSettled}
 use Rattle.report_writer.specs.Written.{Written, Counts}
+use Rattle.live.specs.Fates.{concerns}
+use Rattle.live.specs.Marking.{Marks}
 
--- the experiment over its own packets, what was written and not yet handed out, and whether all records are written
+-- the experiment over its own packets, what was written and not yet handed out, whether all records are written, and which
+-- packets were injected
 pub record KeptRun : Type 0 where
   pub experiment : KeptExperiment
   pub shelf : Own
   pub report : Written
   pub shows_all : Bool
+  pub mine : Marks
 
 -- its steps are within its budget, and it wasn't halted for want of memory
 pub record IsProper (e : KeptExperiment) : Type 0 where
@@ -40,15 +46,24 @@ pub record IsAfter (earlier : List Record) (r : KeptRun) : Type 0 where
   pub alone : IsAloneAfter earlier (own_pocket r.shelf) r.experiment
   pub proper : IsProper r.experiment
 
--- what is written of records, where all are
+-- of some records, these are written
+abbrev pub picked : Bool → Marks → List Record → List Record
+picked true mine rs = rs
+picked false mine rs = filter (concerns mine) rs
+
+abbrev pub chosen : KeptRun → List Record → List Record
+chosen r rs = picked r.shows_all r.mine rs
+
+-- what is written of records
 abbrev pub Tells : List Record → KeptRun → KeptRun → Type 0
-Tells more old new = old.shows_all ≡ true → new.report.text ≡ old.report.text ++ flat_map line_of more
+Tells more old new = new.report.text ≡ old.report.text ++ flat_map line_of (chosen old more)
 
 -- from one moment to another: what happened was told, and no command came
 pub record Goes (t u : ℕ) (old new : KeptRun) : Type 0 where
   pub spec : new.experiment.spec ≡ old.experiment.spec
   pub consumed : new.experiment.consumed ≡ old.experiment.consumed
   pub shows : new.shows_all ≡ old.shows_all
+  pub mine : new.mine ≡ old.mine
   pub tells : (earlier : List Record) → IsAt t earlier old →
       (more : List Record) × IsAt u (earlier ++ more) new × Tells more old new
 
@@ -58,6 +73,7 @@ pub record Forgets (old new : KeptRun) : Type 0 where
   pub records : new.experiment.net.log.records ≡ []
   pub shelf : new.shelf ≡ old.shelf
   pub shows : new.shows_all ≡ old.shows_all
+  pub mine : new.mine ≡ old.mine
   pub tells : Tells old.experiment.net.log.records old new
   pub counts : (rs : List Record) → Counts rs old.report → Counts (rs ++ old.experiment.net.log.records) new.report
   pub housed : (p : Pocket) → IsHousedIn p old.experiment → IsHousedIn p new.experiment
@@ -88,3 +104,16 @@ abbrev pub first_moment : KeptRun → ℕ
 first_moment r =
     let s : State = view (own_pocket r.shelf) r.experiment in
     (least_due (2 * 10 ^ 15) (dues_of s.clock s.net)).moment
+
+-- how many packets were made
+abbrev pub made_of : KeptRun → ℕ
+made_of r = (view (own_pocket r.shelf) r.experiment).net.made
+
+-- nothing is due below a moment
+abbrev pub IsQuiet : ℕ → KeptRun → Type 0
+IsQuiet t r = IsSettled t (view (own_pocket r.shelf) r.experiment)
+
+-- no event was made that it goes on after: it has ended, or nothing is due below the moment to which time has come
+abbrev pub IsQuietAfter : ℕ → (Bool × ℕ) → KeptRun → Type 0
+IsQuietAfter limit (true, u) r = Unit {0}
+IsQuietAfter limit (false, u) r = IsSome r.experiment.ending ⊎ ((u ≡ limit) × IsQuiet limit r)

@@ -1,31 +1,33 @@
 -- What a session writes, line by line, and how it stands (our choice).
-use Rattle.std.specs.Prelude.{◌≡◌, ℕ, ◌<◌, ◌-◌, List, [], ◌∷◌, ◌++◌, length, map, flat_map, codes}
+use Rattle.std.specs.Prelude.{◌≡◌, ℕ, ◌-◌, false, Ok, List, [], ◌∷◌, ◌++◌, length, map, flat_map, codes}
 use Rattle.std.specs.List.{AllByRecursion}
 use Rattle.control.specs.declared.scenario.Experiment.{Experiment}
 use Rattle.control.specs.Scenario.{experiments}
 use Rattle.control_lines.specs.Entries.{Entry, Says}
-use Rattle.control_words.specs.Text.{words}
 use Rattle.live.specs.declared.answer.Answer.{Answer}
-use Rattle.live.specs.Lines.{answer_line, help_lines}
+use Rattle.live.specs.Lines.{answer_line, help_lines, comment_of}
 use Rattle.live.specs.Opens.{KeptOpen, IsTold, IsFault}
+use Rattle.live.specs.Requests.{Show, request_of}
 
 -- its experiments, and the place of the one that lines are for
 pub record KeptSession : Type 0 where
   pub opened : List KeptOpen
   pub current : ℕ
 
--- what is written: bytes of reports, and lines that begin with `#`: an answer, the name of the experiment that lines are for from now on, and what can be asked
+-- what is written: bytes of reports, and lines that begin with `#`: an answer, the name of the experiment that lines are for from now on, what can be asked, and a hint
 pub data Piece : Type 0 where
   Told : List ℕ → Piece
   Answered : Answer → Piece
   Turned : List ℕ → Piece
   Helped : Piece
+  Hinted : List ℕ → Piece
 
 abbrev pub written : Piece → List ℕ
 written (Told bytes) = bytes
 written (Answered a) = answer_line a
 written (Turned name) = codes "#: " ++ name ++ codes "\n"
 written Helped = help_lines
+written (Hinted text) = comment_of text
 
 -- the bytes of reports among it
 abbrev pub told : Piece → List ℕ
@@ -40,7 +42,7 @@ IsPlain _ = Unit {0}
 
 -- `#> show mine`: from now on only what concerns injected packets is told
 abbrev pub AsksForMine : List ℕ → Type 0
-AsksForMine line = (rest : List ℕ) × (line ≡ codes "#>" ++ rest) × (words rest ≡ codes "show" ∷ codes "mine" ∷ [])
+AsksForMine line = (rest : List ℕ) × (line ≡ codes "#>" ++ rest) × (request_of rest ≡ Ok (Show false))
 
 -- an experiment of a scenario, what was told of it, and how it stands in the session
 pub record Stand : Type 0 where
@@ -72,7 +74,6 @@ abbrev pub Hears : List ℕ → List ℕ → KeptSession → KeptSession → Typ
 Hears line bytes old new = (e : Entry) (before : List Entry) (text : List ℕ) → Says line e →
     TellsAll (experiments before) text old → TellsAll (experiments (e ∷ before)) (text ++ bytes) new
 
--- this was written for a line: where it is plain, the reports so far stay so
+-- this was written for a line that was taken: where it is plain, the reports so far stay so
 pub record Takes (line : List ℕ) (ps : List Piece) (old new : KeptSession) : Type 0 where
-  pub long : 512 < length line → ¬ AllByRecursion IsPlain ps
   pub hears : AllByRecursion IsPlain ps → ¬ AsksForMine line → Hears line (flat_map told ps) old new

@@ -1,9 +1,10 @@
 //! The line that answers.
 
 ghost use Rattle.std.specs.Prelude.{◌≡◌, ◌++◌, OnOk, codes, decimal};
-ghost use Rattle.live.specs.Lines.{answer_line, cause_word};
+ghost use Rattle.live.specs.Lines.{answer_line, cause_word, comment_line, comment_of};
 
 use control::Cause;
+use control_words::first_line;
 use itoa::Buffer as Digits;
 use std::alloc::AllocError;
 
@@ -55,7 +56,7 @@ fn put_number(out: &mut Vec<u8>, words: &[u8], number: u64) -> Result<(), AllocE
     let mut digits = Digits::new();
     out.extend_from_slice(words)?;
     out.extend_from_slice(digits.format(number).as_bytes())?;
-    out.extend_from_slice(b"\n")?;
+    out.push(b'\n')?;
     Ok(())
 }
 
@@ -93,4 +94,29 @@ pub fn put_answer(out: &mut Vec<u8>, answer: Answer) -> Result<(), AllocError>
         Answer::Over(moment) => put_number(out, b"#< over ", moment),
         Answer::Fault(cause) => put_fault(out, cause),
     }
+}
+
+// Appends a line as a comment.
+fn put_comment_line(out: &mut Vec<u8>, line: &[u8]) -> Result<(), AllocError>
+    ensures { OnOk result (out.new.items ≡ out.old.items ++ comment_line line.now) }
+{
+    out.extend_from_slice(b"# ")?;
+    out.extend_from_slice(line)?;
+    out.extend_from_slice(b"\n")?;
+    Ok(())
+}
+
+/// Appends a text as comments: each of its lines behind `# `. `AllocError` leaves what was appended by then.
+pub fn put_comment(out: &mut Vec<u8>, text: &[u8]) -> Result<(), AllocError>
+    ensures { OnOk result (out.new.items ≡ out.old.items ++ comment_of text.now) }
+{
+    let mut rest = text;
+    while let Some((line, after)) = first_line(rest) {
+        put_comment_line(out, line)?;
+        rest = after;
+    }
+    if rest.is_empty() {
+        return Ok(());
+    }
+    put_comment_line(out, rest)
 }

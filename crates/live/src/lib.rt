@@ -3,6 +3,7 @@
 #![tactic(auto)]
 
 mod answer;
+mod fates;
 mod marks;
 mod open;
 mod request;
@@ -10,7 +11,8 @@ mod run;
 mod run_laws;
 mod session;
 
-pub use answer::{Answer, put_answer};
-pub use run::{Run, Stop, Taken};
+pub use answer::{Answer, put_answer, put_comment};
+pub use fates::{Stop, Taken};
+pub use run::Run;
 pub use run_laws::{ended_runs_are_reports, spent_runs_are_reports};
 pub use session::{MAX_LINE, Session};

@@ -1,19 +1,23 @@
 //! One experiment of a session: how far its time has come, and how it stands.
 
-ghost use Rattle.std.specs.Prelude.{◌≡◌, ◌^◌, ◌≤◌, ◌<◌, ◌⊎◌, ◌++◌, ◌∷◌, [], ℕ, List, true, false, None, Ok, OnOk, IfOk, IfNone, MatchOption};
-ghost use Rattle.control.specs.declared.fault.Cause.TheVariants.{AfterEnd, Backwards};
+ghost use Rattle.std.specs.Prelude.{◌≡◌, ◌^◌, ◌≤◌, ◌<◌, ◌⊎◌, ◌++◌, ◌∷◌, [], ℕ, List, true, false, None, Ok, OnOk, IfOk, IfNone, IfSome, MatchOption};
+ghost use Rattle.emu_model.specs.Commands.{is_end};
+ghost use Rattle.live.specs.Effects.{Commanded, ObeysIn, IsPassed, PassesIn, NextIn, answer_of};
+ghost use Rattle.live.specs.declared.fates.Stop.TheVariants.{Moment};
 ghost use Rattle.emu_model.specs.declared.records.Record.{Record};
 ghost use Rattle.packet_store.specs.Own.{own_pocket};
 ghost use Rattle.experiment.specs.Kept.{IsHousedIn};
 ghost use Rattle.report.specs.Lines.{heading_of};
 ghost use Rattle.report_writer.specs.Written.{CanWrite};
 ghost use Rattle.live.specs.Runs.{IsAt};
+ghost use Rattle.live.specs.Faults.{Answers, command_fault, time_fault};
 ghost use Rattle.live.specs.Opens.{IsTold, Tells, Takes, Settles, IsSame, IsFault, stand_of};
 ghost use Rattle.live.specs.declared.answer.Answer.TheVariants as answers;
 ghost use Rattle.live.specs.declared.open.Phase.TheVariants.{Lost, Going, Over};
 
 use crate::answer::Answer;
-use crate::run::{Run, Stop, Taken};
+use crate::fates::{Stop, Taken};
+use crate::run::Run;
 use crate::run_laws::{ended_runs_are_reports, spent_runs_are_reports};
 use control::Cause;
 use emu_model::{Command, Spec, Timed, packets_add_up};
@@ -60,7 +64,9 @@ impl Model for Open {
 }
 
 // Whether a command is an experiment's last.
-fn is_end(command: &Command) -> bool {
+fn is_end(command: &Command) -> bool
+    ensures { result ≡ is_end command.now }
+{
     match command {
         Command::End => true,
         _ => false,
@@ -69,7 +75,8 @@ fn is_end(command: &Command) -> bool {
 
 // What is said of a command that was taken.
 fn answer_of(taken: Taken) -> Answer
-    ensures { ¬ IsFault result }
+    ensures value { result ≡ answer_of taken }
+    ensures fine { ¬ IsFault result }
 {
     match taken {
         Taken::Done => Answer::Done,
@@ -157,6 +164,8 @@ impl Open {
         ensures same { OnOk result (IsSame self.old self.new) }
         ensures open { OnOk result (self.new.is_closed ≡ false) }
         ensures between { OnOk result ((self.old.reached ≤ self.new.reached) × (self.new.reached ≤ limit)) }
+        ensures passes { OnOk result ((bytes : List ℕ) × (out.new.items ≡ out.old.items ++ bytes)
+            × IsPassed limit stop bytes self.old self.new) }
     {
         packets_add_up();
         spent_runs_are_reports();
@@ -174,6 +183,9 @@ impl Open {
             × MatchOption t (Tells [] bytes self.old self.new)
             (λ _. Takes command.now bytes self.old self.new)) }
         ensures over { IfOk result (λ t. IfNone t (self.new.phase ≡ Over)) }
+        ensures comes { IfOk result (λ t. IfSome t (λ k. (bytes : List ℕ)
+            × (out.new.items ≡ out.old.items ++ bytes)
+            × Commanded command.now k bytes self.old self.new)) }
         ensures same { IfOk result (λ _. IsSame self.old self.new) }
         ensures open { IfOk result (λ _. self.new.is_closed ≡ false) }
         ensures reached { IfOk result (λ t. MatchOption t (self.new.reached ≤ command.now.moment)
@@ -211,9 +223,11 @@ impl Open {
             × Tells [] bytes self.old self.new) }
         ensures same { IfOk result (λ _. IsSame self.old self.new) }
         ensures closed { IfOk result (λ _. self.new.is_closed ≡ self.old.is_closed) }
-        ensures stands { IfOk result (λ a. a ≡ answers.Fault Backwards ⊎ a ≡ stand_of self.new) }
-        ensures back { IfOk result (λ a. a ≡ answers.Fault Backwards →
-            (limit < self.old.reached) × (self.new ≡ self.old) × (out.new.items ≡ out.old.items)) }
+        ensures fault { IfOk result (λ a. Answers (time_fault self.old limit) a
+            ((self.new ≡ self.old) × (out.new.items ≡ out.old.items))) }
+        ensures passes { IfOk result (λ a. ¬ IsFault a → (bytes : List ℕ)
+            × (out.new.items ≡ out.old.items ++ bytes)
+            × PassesIn self.old.phase limit stop bytes a self.old self.new) }
     {
         match self.phase {
             Phase::Over => return Ok(Answer::Over(self.reached)),
@@ -228,7 +242,9 @@ impl Open {
     }
 
     /// When the next event is due.
-    pub fn next(&self) -> Answer {
+    pub fn next(&self) -> Answer
+        ensures { NextIn self.now.phase result self.now }
+    {
         match self.phase {
             Phase::Going => Answer::Next(self.run.next_moment()),
             _ => Answer::Over(self.reached),
@@ -241,7 +257,10 @@ impl Open {
         requires open { self.old.is_closed ≡ false }
         requires on { self.old.reached ≤ command.now.moment }
         ensures told { Tells (command.now ∷ []) [] self.old self.new }
-        ensures same { IsSame self.old self.new }
+        ensures is { self.new ≡ record self.old {
+          reached = command.now.moment;
+          is_closed = is_end command.now.command;
+        } }
         ensures answer { result ≡ answers.Over command.now.moment }
     {
         self.reached = command.moment;
@@ -257,12 +276,11 @@ impl Open {
             × (out.new.items ≡ out.old.items ++ bytes)
             × Tells (command.now ∷ []) bytes self.old self.new) }
         ensures same { IfOk result (λ _. IsSame self.old self.new) }
-        ensures closed { self.old.is_closed ≡ true → result ≡ Ok (answers.Fault AfterEnd) }
-        ensures back { self.old.is_closed ≡ false → command.now.moment < self.old.reached →
-            result ≡ Ok (answers.Fault Backwards) }
-        ensures fault { IfOk result (λ a. IsFault a → (self.new ≡ self.old)
-            × (out.new.items ≡ out.old.items)
-            × ((self.old.is_closed ≡ true) ⊎ (command.now.moment < self.old.reached))) }
+        ensures fault { IfOk result (λ a. Answers (command_fault self.old command.now.moment) a
+            ((self.new ≡ self.old) × (out.new.items ≡ out.old.items))) }
+        ensures obeys { IfOk result (λ a. ¬ IsFault a → (bytes : List ℕ)
+            × (out.new.items ≡ out.old.items ++ bytes)
+            × ObeysIn self.old.phase command.now bytes a self.old self.new) }
     {
         if self.is_closed {
             return Ok(Answer::Fault(Cause::AfterEnd));

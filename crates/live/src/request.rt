@@ -1,16 +1,17 @@
 //! What a session is asked besides what a scenario says. To a scenario these lines are comments.
 
-ghost use Rattle.std.specs.Prelude.{◌≡◌, ◌≤◌, ◌^◌, ◌∷◌, ◌++◌, [], IfOk, IfSome, codes};
+ghost use Rattle.std.specs.Prelude.{◌≡◌, ◌≤◌, ◌^◌, ◌∷◌, ◌++◌, [], IfOk, IfSome, MatchResult, codes, option_map};
 ghost use Rattle.control_words.specs.Text.{words as words_of};
-ghost use Rattle.live.specs.Requests.{IsInRange, IsMine};
+ghost use Rattle.control_words.specs.Numbers.{moment_of};
+ghost use Rattle.live.specs.Requests.{IsInRange, asked_of, hold_of, first_of, until_of, used_of, shown_of, ended_of, shape_of, asked_within, time_within, request_of, view_request, view_raw};
 
 use control::Cause;
 use control_words::addresses::name as name_in;
 use control_words::numbers::{moment, number};
 use control_words::{Words, is};
 
-/// The latest moment (ns).
-pub const LATEST: u64 = 1_000_000_000_000_000;
+// The latest moment (ns).
+const LATEST: u64 = 1_000_000_000_000_000;
 
 /// A line that asks.
 #[derive(Clone, Copy)]
@@ -32,9 +33,23 @@ pub enum Request<'a> {
     Help,
 }
 
+// A line that asks, whatever its numbers are.
+#[derive(Clone, Copy)]
+enum RawRequest<'a> {
+    Until { limit: u128 },
+    UntilMine { limit: u128, hold: u128 },
+    UntilAny { limit: u128, hold: u128 },
+    Next,
+    Use { name: &'a [u8] },
+    Show { all: bool },
+    Help,
+}
+
 /// What a line asks, if it does: its first bytes are `#>`.
+#[tactic(auto, unfolding(crate::specs::Requests::asked_of))]
 pub fn asked_in(line: &[u8]) -> Option<&[u8]>
-    ensures { IfSome result (λ rest. line.now ≡ codes "#>" ++ rest.now) }
+    ensures value { option_map (λ rest. rest.now) result ≡ asked_of line.now }
+    ensures rest { IfSome result (λ rest. line.now ≡ codes "#>" ++ rest.now) }
 {
     match line {
         [b'#', b'>', rest @ ..] => Some(rest),
@@ -42,130 +57,157 @@ pub fn asked_in(line: &[u8]) -> Option<&[u8]>
     }
 }
 
-// A number of ns from one on to the latest moment.
-fn in_range(number: u128, least: u64) -> Result<u64, Cause>
-    requires { least ≤ 10 ^ 15 }
-    ensures { IfOk result (λ n. (least ≤ n) × (n ≤ 10 ^ 15)) }
+// The number that stands last, if one does, and else 1.
+#[tactic(auto, unfolding(crate::specs::Requests::hold_of))]
+fn hold(words: &mut Words) -> Option<u128>
+    ensures { result ≡ hold_of (words_of words.old.rest.now) }
 {
-    if number < u128::from(least) || number > u128::from(LATEST) {
-        return Err(Cause::OutOfRange);
-    }
-    Ok(number as u64)
-}
-
-// The number that a word says, if there is a word, and else 1.
-fn hold_in(word: Option<&[u8]>) -> Result<u128, Cause> {
-    let Some(word) = word else {
-        return Ok(1);
+    let Some(word) = words.next_word() else {
+        return Some(1);
     };
-    number(word).ok_or(Cause::BadWord)
+    let hold = number(word)?;
+    words.finished()?;
+    Some(hold)
 }
 
 // What stands after `until @M first`.
-fn first<'a>(words: &mut Words<'a>, limit: u128) -> Result<Request<'a>, Cause>
-    ensures range { IfOk result IsInRange }
-    ensures other { IfOk result (λ r. ¬ IsMine r) }
+#[tactic(auto, unfolding(crate::specs::Requests::first_of))]
+fn first<'a>(words: &mut Words<'a>, limit: u128) -> Option<RawRequest<'a>>
+    ensures { option_map view_raw result ≡ first_of limit (words_of words.old.rest.now) }
 {
-    let mut word = words.next_word();
-    let mut any = false;
-    if let Some(given) = word {
-        if is(given, "any") {
-            any = true;
-            word = words.next_word();
-        }
+    let mut ahead = *words;
+    if ahead.expect_word("any").is_some() {
+        let hold = hold(&mut ahead)?;
+        return Some(RawRequest::UntilAny { limit, hold });
     }
-    let hold = hold_in(word)?;
-    if words.next_word().is_some() {
-        return Err(Cause::BadWord);
-    }
-    let limit = in_range(limit, 0)?;
-    let hold = in_range(hold, 1)?;
-    if any {
-        return Ok(Request::UntilAny { limit, hold });
-    }
-    Ok(Request::UntilMine { limit, hold })
+    let hold = hold(words)?;
+    Some(RawRequest::UntilMine { limit, hold })
 }
 
 // What stands after `until`.
-fn until<'a>(words: &mut Words<'a>) -> Result<Request<'a>, Cause>
-    ensures range { IfOk result IsInRange }
-    ensures other { IfOk result (λ r. ¬ IsMine r) }
+#[tactic(auto, unfolding(crate::specs::Requests::until_of))]
+fn until<'a>(words: &mut Words<'a>) -> Option<RawRequest<'a>>
+    ensures { option_map view_raw result ≡ until_of (words_of words.old.rest.now) }
 {
-    let word = words.next_word().ok_or(Cause::BadWord)?;
-    let limit = moment(word).ok_or(Cause::BadWord)?;
+    let limit = moment(words.next_word()?)?;
     let Some(word) = words.next_word() else {
-        let limit = in_range(limit, 0)?;
-        return Ok(Request::Until { limit });
+        return Some(RawRequest::Until { limit });
     };
     if !is(word, "first") {
-        return Err(Cause::BadWord);
+        return None;
     }
     first(words, limit)
 }
 
 // What stands after `use`.
-fn used<'a>(words: &mut Words<'a>) -> Result<Request<'a>, Cause>
-    ensures range { IfOk result IsInRange }
-    ensures other { IfOk result (λ r. ¬ IsMine r) }
+#[tactic(auto, unfolding(crate::specs::Requests::used_of))]
+fn used<'a>(words: &mut Words<'a>) -> Option<RawRequest<'a>>
+    ensures { option_map view_raw result ≡ used_of (words_of words.old.rest.now) }
 {
-    let word = words.next_word().ok_or(Cause::BadWord)?;
-    let name = name_in(word).ok_or(Cause::BadWord)?;
-    Ok(Request::Use { name })
+    let name = name_in(words.next_word()?)?;
+    words.finished()?;
+    Some(RawRequest::Use { name })
 }
 
 // What stands after `show`.
-fn shown<'a>(words: &mut Words<'a>) -> Result<Request<'a>, Cause>
-    ensures range { IfOk result IsInRange }
-    ensures mine { IfOk result (λ r. IsMine r →
-        words_of words.old.rest.now ≡ codes "mine" ∷ words_of words.new.rest.now) }
+#[tactic(auto, unfolding(crate::specs::Requests::shown_of))]
+fn shown<'a>(words: &mut Words<'a>) -> Option<RawRequest<'a>>
+    ensures { option_map view_raw result ≡ shown_of (words_of words.old.rest.now) }
 {
-    let word = words.next_word().ok_or(Cause::BadWord)?;
-    if is(word, "all") {
-        return Ok(Request::Show { all: true });
+    let word = words.next_word()?;
+    let all = is(word, "all");
+    if !all && !is(word, "mine") {
+        return None;
     }
-    if is(word, "mine") {
-        return Ok(Request::Show { all: false });
-    }
-    Err(Cause::BadWord)
+    words.finished()?;
+    Some(RawRequest::Show { all })
 }
 
-// What the first word begins.
-fn asked<'a>(words: &mut Words<'a>) -> Result<Request<'a>, Cause>
-    ensures range { IfOk result IsInRange }
-    ensures mine { IfOk result (λ r. IsMine r →
-        words_of words.old.rest.now
-        ≡ codes "show" ∷ codes "mine" ∷ words_of words.new.rest.now) }
+// A request of one word.
+#[tactic(auto, unfolding(crate::specs::Requests::ended_of))]
+fn ended<'a>(words: &mut Words<'a>, request: RawRequest<'a>) -> Option<RawRequest<'a>>
+    ensures { option_map view_raw result
+        ≡ ended_of (view_raw request.entry) (words_of words.old.rest.now) }
 {
-    let word = words.next_word().ok_or(Cause::BadWord)?;
-    if is(word, "show") {
-        return shown(words);
-    }
+    words.finished()?;
+    Some(request)
+}
+
+// What the words of a line ask, whatever their numbers are.
+#[tactic(auto, unfolding(crate::specs::Requests::shape_of))]
+fn shape<'a>(words: &mut Words<'a>) -> Option<RawRequest<'a>>
+    ensures { option_map view_raw result ≡ shape_of (words_of words.old.rest.now) }
+{
+    let word = words.next_word()?;
     if is(word, "until") {
-        return until(words);
+        until(words)
+    } else if is(word, "next") {
+        ended(words, RawRequest::Next)
+    } else if is(word, "use") {
+        used(words)
+    } else if is(word, "show") {
+        shown(words)
+    } else if is(word, "help") {
+        ended(words, RawRequest::Help)
+    } else {
+        None
     }
-    if is(word, "next") {
-        return Ok(Request::Next);
-    }
-    if is(word, "use") {
-        return used(words);
-    }
-    if is(word, "help") {
-        return Ok(Request::Help);
-    }
-    Err(Cause::BadWord)
 }
 
-/// What a line asks, without its `#>`: `BadWord` where the words aren't those of a request, `OutOfRange` where a number
-/// is past 10^15 ns, or a time to wait is 0.
+// A number of ns from one on to the latest moment.
+fn in_range(number: u128, least: u64) -> Option<u64>
+    requires { least ≤ 10 ^ 15 }
+    ensures value { result ≡ time_within least number }
+    ensures range { IfSome result (λ n. (least ≤ n) × (n ≤ 10 ^ 15)) }
+{
+    if number < u128::from(least) || number > u128::from(LATEST) {
+        return None;
+    }
+    Some(number as u64)
+}
+
+// The request with its numbers, where they are in their ranges.
+#[tactic(auto, unfolding(crate::specs::Requests::asked_within))]
+fn in_ranges(request: RawRequest) -> Option<Request>
+    ensures value { option_map view_request result ≡ asked_within (view_raw request.entry) }
+    ensures range { IfSome result IsInRange }
+{
+    match request {
+        RawRequest::Until { limit } => {
+            let limit = in_range(limit, 0)?;
+            Some(Request::Until { limit })
+        }
+        RawRequest::UntilMine { limit, hold } => {
+            let limit = in_range(limit, 0)?;
+            let hold = in_range(hold, 1)?;
+            Some(Request::UntilMine { limit, hold })
+        }
+        RawRequest::UntilAny { limit, hold } => {
+            let limit = in_range(limit, 0)?;
+            let hold = in_range(hold, 1)?;
+            Some(Request::UntilAny { limit, hold })
+        }
+        RawRequest::Next => Some(Request::Next),
+        RawRequest::Use { name } => Some(Request::Use { name }),
+        RawRequest::Show { all } => Some(Request::Show { all }),
+        RawRequest::Help => Some(Request::Help),
+    }
+}
+
+/// What a line asks, without its `#>`: `BadWord` where the words aren't those of a request, whatever the numbers are,
+/// `OutOfRange` where a number is past 10^15 ns, or a time to wait is 0.
+#[tactic(auto, unfolding(crate::specs::Requests::request_of))]
 pub fn read_request(line: &[u8]) -> Result<Request, Cause>
+    ensures value { MatchResult result (λ r. request_of line.now ≡ Ok (view_request r))
+        (λ c. request_of line.now ≡ Err c) }
     ensures range { IfOk result IsInRange }
-    ensures mine { IfOk result (λ r. IsMine r →
-        words_of line.now ≡ codes "show" ∷ codes "mine" ∷ []) }
 {
     let mut words = Words { rest: line };
-    let found = asked(&mut words)?;
-    if words.next_word().is_some() {
+    let Some(request) = shape(&mut words) else {
         return Err(Cause::BadWord);
-    }
-    Ok(found)
+    };
+    let Some(request) = in_ranges(request) else {
+        return Err(Cause::OutOfRange);
+    };
+    Ok(request)
 }

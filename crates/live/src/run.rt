@@ -1,48 +1,30 @@
 //! An experiment whose commands come one by one: time passes as far as it is asked to, and what happens is written.
 
-ghost use Rattle.std.specs.Prelude.{◌≡◌, ℕ, ◌+◌, ◌*◌, ◌^◌, ◌≤◌, ◌++◌, [], List, None, IfOk, IfSome, OnOk, OnErr, true};
+ghost use Rattle.std.specs.Prelude.{◌≡◌, ℕ, ◌+◌, ◌*◌, ◌^◌, ◌≤◌, ◌++◌, [], List, None, IfOk, IfSome, OnOk, OnErr, Bool, true, false, length, flat_map, slice_get, drop};
+ghost use Rattle.std.specs.List.{filter};
+ghost use Rattle.live.specs.Fates.{concerns, first_hold, refusal_in, taken_by, MarkedBy};
 ghost use Rattle.emu_model.specs.declared.records.Record.{Record};
-ghost use Rattle.report.specs.Lines.{heading_of};
+ghost use Rattle.report.specs.Lines.{heading_of, line_of};
 ghost use Rattle.report_writer.specs.Written.{CanWrite};
-ghost use Rattle.live.specs.Runs.{KeptRun, IsAt, IsProper, Forgets, Goes, Takes, closing_of, first_moment};
+ghost use Rattle.live.specs.Runs.{KeptRun, IsAt, IsProper, Forgets, Goes, Takes, IsQuiet, IsQuietAfter, made_of, closing_of, first_moment};
+ghost use Rattle.live.specs.Stops.{StopsAt, IsEvent, Keeps};
 ghost use Rattle.packet_store.specs.Own.{own_pocket};
 ghost use Rattle.session_laws.specs.Waits.{IsSettled};
 ghost use Rattle.experiment.specs.Kept.{view, IsHousedIn, IsAloneAfter};
-ghost use Rattle.experiment.specs.declared.experiment.Event.TheVariants.{Ran};
+ghost use Rattle.live.specs.declared.fates.Stop.TheVariants.{Moment};
 
+use crate::fates::{Stop, Taken, concerns, first_hold, mark_injected, taken_by};
 use crate::marks::Marks;
-use emu_model::{Command, Ending, Load, Record, Spec, Timed, packets_add_up};
+use emu_model::{Ending, Record, Spec, Timed, packets_add_up};
 use experiment::{ApplyError, Event, Experiment};
 use packet_store::OwnShelf;
 use report_writer::ReportWriter;
-use session_laws::waits_begin;
+use session_laws::{waits_begin, waits_read_no_records};
 use std::alloc::{AllocError, Global};
 use std::marker::Model;
 
 /// So many records are written together.
 const BATCH: usize = 256;
-
-/// Where time stops on its way to a moment.
-#[derive(Clone, Copy, PartialEq)]
-pub enum Stop {
-    /// At that moment alone.
-    Moment,
-    /// So long (ns, 1 at least) after the first delivery or drop of an injected packet.
-    Mine(u64),
-    /// So long (ns, 1 at least) after the first delivery or drop of any packet.
-    Any(u64),
-}
-
-/// What became of a command.
-#[derive(Clone, Copy, PartialEq)]
-pub enum Taken {
-    /// It was done.
-    Done,
-    /// It was done, and made the packet with this serial number.
-    Packet(u64),
-    /// It was refused, with this code.
-    Refused(u64),
-}
 
 /// An experiment with its packets, and the lines that were written of it and not yet handed out.
 #[derive(Drop)]
@@ -65,79 +47,15 @@ impl Model for Run {
       shelf = r.shelf;
       report = r.report;
       shows_all = r.shows_all;
+      mine = r.mine;
     } };
-}
-
-// Whether a record says that a packet, without a load, was delivered or dropped, and which.
-fn plain_fate(line: &Record) -> Option<u64> {
-    match line {
-        Record::PacketDelivered {
-            packet,
-            load: Load::Plain,
-            ..
-        } => Some(*packet),
-        Record::PacketDropped {
-            packet,
-            load: Load::Plain,
-            ..
-        } => Some(*packet),
-        _ => None,
-    }
-}
-
-// Whether a record says that a packet was delivered or dropped.
-fn is_fate(line: &Record) -> bool {
-    match line {
-        Record::PacketDelivered { .. } | Record::PacketDropped { .. } => true,
-        _ => false,
-    }
-}
-
-// Whether it says so of an injected packet.
-fn is_fate_of(mine: &Marks, line: &Record) -> bool {
-    match plain_fate(line) {
-        Some(packet) => mine.has(packet),
-        None => false,
-    }
-}
-
-// Whether a record is told to one who asked for what concerns the injected packets alone: their deliveries and drops,
-// refusals, listings, and that the steps are spent.
-fn concerns(mine: &Marks, line: &Record) -> bool {
-    match line {
-        Record::PacketDelivered { .. } | Record::PacketDropped { .. } => is_fate_of(mine, line),
-        Record::CommandRefused { .. }
-        | Record::StepsSpent { .. }
-        | Record::RuleLine { .. }
-        | Record::PipeLine { .. }
-        | Record::InstanceLine { .. } => true,
-        _ => false,
-    }
-}
-
-// How long after its moment (ns) a record stops time, if it does.
-fn hold_of(mine: &Marks, line: &Record, stop: Stop) -> Option<u64> {
-    match stop {
-        Stop::Moment => None,
-        Stop::Mine(hold) => is_fate_of(mine, line).then_some(hold),
-        Stop::Any(hold) => is_fate(line).then_some(hold),
-    }
-}
-
-// The same of the first of some records that does.
-fn first_hold(mine: &Marks, records: &[Record], stop: Stop) -> Option<u64> {
-    for line in records {
-        let hold = hold_of(mine, line, stop);
-        if hold.is_some() {
-            return hold;
-        }
-    }
-    None
 }
 
 // Appends the lines of the records that concern injected packets.
 fn put_chosen(report: &mut ReportWriter, mine: &Marks, records: &[Record]) -> Result<(), AllocError>
-    ensures { OnOk result (report.new ≡ record report.old { text = report.new.text }) }
+    ensures { OnOk result (report.new ≡ record report.old {
+      text = report.old.text ++ flat_map line_of (filter (concerns mine.now) records.now);
+    }) }
 {
     for line in records {
         if concerns(mine, line) {
@@ -145,14 +63,6 @@ fn put_chosen(report: &mut ReportWriter, mine: &Marks, records: &[Record]) -> Re
         }
     }
     Ok(())
-}
-
-// Marks the packet that a command injects, if it does.
-fn mark_injected(mine: &mut Marks, command: &Command, number: u64) -> Result<(), AllocError> {
-    match command {
-        Command::Inject(_) => mine.mark(number),
-        _ => Ok(()),
-    }
 }
 
 // Events are made until the command that came is done, or the experiment has ended.
@@ -188,6 +98,7 @@ impl Run {
         ensures given { IfOk result
             (λ r. (r.experiment.spec ≡ spec) × (r.experiment.consumed ≡ [])
             × (r.experiment.ending ≡ None) × (r.shows_all ≡ true)
+            × (r.mine ≡ [])
             × (r.report.text ≡ heading_of name.now)) }
     {
         waits_begin();
@@ -239,6 +150,7 @@ impl Run {
             Goes t u was self.new) }
         ensures steps { OnOk result ((self.new.experiment.steps ≡ self.old.experiment.steps)
             × (self.new.experiment.spec ≡ self.old.experiment.spec)) }
+        ensures keeps { OnOk result (Keeps self.old self.new) }
     {
         if self.experiment.records().len() < BATCH {
             return Ok(());
@@ -246,31 +158,36 @@ impl Run {
         self.write()
     }
 
-    // What is due first below a moment happens. Answers that moment where nothing is, and else one past the event: to it
-    // time has come.
-    fn next_before(&mut self, reached: u64, limit: u64) -> Result<(Event, u64), AllocError>
+    // What is due first below a moment happens. Answers whether something did and it goes on, and the moment to which time
+    // has come: one past the event, or the one that was named where nothing is due.
+    fn next_before(&mut self, reached: u64, limit: u64) -> Result<(bool, u64), AllocError>
         requires at { (earlier : List Record) × IsAt reached earlier self.old }
         requires on { reached ≤ limit }
         requires early { limit ≤ 10 ^ 15 }
         ensures between { IfOk result (λ r. (reached ≤ r.1) × (r.1 ≤ limit)) }
         ensures goes { IfOk result (λ r. (t : ℕ) (was : KeptRun) → Goes t reached was self.old →
             Goes t r.1 was self.new) }
-        ensures runs { IfOk result (λ r. r.0 ≡ Ran →
+        ensures runs { IfOk result (λ r. r.0 ≡ true →
             (self.new.experiment.steps ≡ self.old.experiment.steps + 1)
             × (self.new.experiment.steps ≤ self.new.experiment.spec.budget.steps)
             × (self.new.experiment.spec ≡ self.old.experiment.spec)) }
+        ensures quiet { IfOk result (λ r. IsQuietAfter limit r self.new) }
+        ensures event { IfOk result (λ r. IsEvent reached limit r self.old self.new) }
     {
+        waits_read_no_records();
         let event = self.experiment.event_before(&mut self.shelf, 0, limit);
         match event {
             Event::Halted => Err(AllocError),
-            Event::Still => Ok((event, limit)),
-            Event::Ran => Ok((event, reached.max(self.experiment.clock() + 1))),
-            Event::Ended => Ok((event, reached.max(self.experiment.clock() + 1))),
+            Event::Still => Ok((false, limit)),
+            Event::Ran => Ok((true, reached.max(self.experiment.clock() + 1))),
+            Event::Ended => Ok((false, reached.max(self.experiment.clock() + 1))),
         }
     }
 
     // How long after the last event time is to stop, if one of the records from a place on stops it.
-    fn hold_since(&self, seen: usize, stop: Stop) -> Option<u64> {
+    fn hold_since(&self, seen: usize, stop: Stop) -> Option<u64>
+        ensures { result ≡ first_hold self.now.mine stop (drop seen self.now.experiment.net.log.records) }
+    {
         let fresh = self.experiment.records().get(seen..)?;
         first_hold(&self.mine, fresh, stop)
     }
@@ -284,37 +201,30 @@ impl Run {
         requires early { limit ≤ 10 ^ 15 }
         ensures between { IfOk result (λ u. (from ≤ u) × (u ≤ limit)) }
         ensures goes { IfOk result (λ u. Goes from u self.old self.new) }
+        ensures quiet { IfOk result (λ u. self.new.experiment.ending ≡ None → IsQuiet u self.new) }
+        ensures whole { IfOk result (λ u. self.new.experiment.ending ≡ None → stop ≡ Moment → u ≡ limit) }
+        ensures stops { IfOk result (λ u. StopsAt stop from limit u self.old self.new) }
     {
         packets_add_up();
         let mut reached = from;
         let mut last = limit;
-        let mut stop = stop;
+        let mut until = stop;
         loop {
             self.write_batch()?;
             let seen = self.experiment.records().len();
-            let (event, now) = self.next_before(reached, last)?;
+            let (goes_on, now) = self.next_before(reached, last)?;
             reached = now;
-            match event {
-                Event::Ran => {}
-                _ => break,
+            if !goes_on {
+                return Ok(reached);
             }
-            if let Some(hold) = self.hold_since(seen, stop) {
-                let after = self.experiment.clock().saturating_add(hold);
-                last = last.min(reached.max(after));
-                stop = Stop::Moment;
+            match self.hold_since(seen, until) {
+                None => {}
+                Some(hold) => {
+                    let after = self.experiment.clock().saturating_add(hold);
+                    last = last.min(reached.max(after));
+                    until = Stop::Moment;
+                }
             }
-        }
-        Ok(reached)
-    }
-
-    // What became of a command, by what was recorded from a place on.
-    fn outcome(&self, command: &Command, number: u64, seen: usize) -> Taken {
-        if let Some(Record::CommandRefused { refusal, .. }) = self.experiment.records().get(seen) {
-            return Taken::Refused(u64::from(*refusal as u8));
-        }
-        match command {
-            Command::Inject(_) => Taken::Packet(number),
-            _ => Taken::Done,
         }
     }
 
@@ -325,7 +235,12 @@ impl Run {
             × (t ≤ command.now.moment) }
         requires going { self.old.experiment.ending ≡ None }
         requires early { command.now.moment ≤ 10 ^ 15 }
-        ensures { OnOk result (Takes command.now self.old self.new) }
+        ensures takes { OnOk result (Takes command.now self.old self.new) }
+        ensures marked { OnOk result
+            (MarkedBy command.now.command (made_of self.old) self.old.mine self.new.mine) }
+        ensures taken { IfOk result (λ t. t ≡ taken_by command.now.command (made_of self.old)
+            (refusal_in (slice_get self.new.experiment.net.log.records
+            (length self.old.experiment.net.log.records)))) }
     {
         waits_begin();
         let number = self.experiment.made();
@@ -339,7 +254,11 @@ impl Run {
             Err(ApplyError::Backward) => unreachable!(),
         }
         obey(&mut self.experiment, &mut self.shelf)?;
-        Ok(self.outcome(&command.command, number, seen))
+        Ok(taken_by(
+            &command.command,
+            number,
+            self.experiment.records().get(seen),
+        ))
     }
 
     /// Writes the line of the counters. `AllocError` leaves what was written of it.

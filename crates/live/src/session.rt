@@ -1,17 +1,20 @@
 //! What is said to each line.
 
-ghost use Rattle.std.specs.Prelude.{◌≡◌, ◌≤◌, ◌<◌, ◌^◌, length, ◌++◌, ◌∷◌, [], ℕ, List, flat_map, codes, OnOk, IfOk, IsTrue, All, true};
+ghost use Rattle.std.specs.Prelude.{◌≡◌, ◌≤◌, ◌<◌, ◌^◌, length, ◌++◌, ◌∷◌, [], ℕ, List, flat_map, None, Ok, IfOk, IsSome, ⊤, IsTrue, All, true, false};
 ghost use Rattle.std.specs.List.{AllByRecursion};
 ghost use Rattle.control.specs.Scenario.{begun, with_last};
-ghost use Rattle.control_words.specs.Text.{words as words_of};
+ghost use Rattle.live.specs.Lines.{fault_of, said_of};
 ghost use Rattle.live.specs.Opens.{IsFault};
-ghost use Rattle.live.specs.Requests.{IsInRange, IsMine};
+ghost use Rattle.live.specs.Requests.{IsInRange, Asked, Next, Show, Use, request_of, view_request};
+ghost use Rattle.control_lines.specs.Entries.{Does};
+ghost use Rattle.live.specs.Effects.{PassesIn, Moves, Obeys, Follows, IsBegun, IsSaid, DoesBy, LineDoes};
+ghost use Rattle.live.specs.Faults.{Answers, IsFaultAlone, IsFaultOf, cause_of, place_named, current_of, of_current, begin_fault, command_fault, time_fault, request_fault, asked_fault};
 ghost use Rattle.live.specs.Sessions.{Piece, IsPlain, Grows, Hears, Takes, written, told};
 
 use crate::answer::{Answer, put_answer};
+use crate::fates::Stop;
 use crate::open::Open;
-use crate::request::{LATEST, Request, asked_in, read_request};
-use crate::run::Stop;
+use crate::request::{Request, asked_in, read_request};
 use control::Cause;
 use control_lines::{LineEntry, LineFault, lines_say_one, read_line};
 use emu_model::{Spec, Timed};
@@ -51,13 +54,27 @@ impl Model for Session {
 }
 
 // A line's own fault as a cause.
-fn cause_of(fault: LineFault) -> Cause {
+fn cause_of(fault: LineFault) -> Cause
+    ensures { result ≡ cause_of fault }
+{
     match fault {
         LineFault::TooLong => Cause::TooLong,
         LineFault::BadByte => Cause::BadByte,
         LineFault::BadWord => Cause::BadWord,
         LineFault::OutOfRange => Cause::OutOfRange,
     }
+}
+
+// Says an answer, but for a fault, which is handed back.
+fn say(answer: Answer, out: &mut Vec<u8>) -> Result<Option<Cause>, AllocError>
+    ensures { IfOk result (λ f. (f ≡ fault_of answer)
+        × (out.new.items ≡ out.old.items ++ said_of answer)) }
+{
+    if let Answer::Fault(cause) = answer {
+        return Ok(Some(cause));
+    }
+    put_answer(out, answer)?;
+    Ok(None)
 }
 
 impl Session {
@@ -80,14 +97,21 @@ impl Session {
     }
 
     // The place of the experiment with a name.
-    fn place_of(&self, name: &[u8]) -> Option<usize> {
+    fn place_of(&self, name: &[u8]) -> Option<usize>
+        ensures { result ≡ place_named name.now self.now.opened }
+    {
         self.open.iter().position(|it| it.name() == name)
     }
 
     // An experiment begins.
     fn begin(&mut self, name: &[u8], spec: Spec, out: &mut Vec<u8>) -> Result<Answer, AllocError>
-        ensures { IfOk result (λ a. (bytes : List ℕ) × (out.new.items ≡ out.old.items ++ bytes)
+        ensures grows { IfOk result (λ a. (bytes : List ℕ) × (out.new.items ≡ out.old.items ++ bytes)
             × (¬ IsFault a → Grows (λ es. es ++ begun name.now spec ∷ []) bytes self.old self.new)) }
+        ensures fault { IfOk result (λ a. Answers (begin_fault self.old.opened name.now) a
+            ((self.new ≡ self.old) × (out.new.items ≡ out.old.items))) }
+        ensures begins { IfOk result (λ a. ¬ IsFault a → (bytes : List ℕ)
+            × (out.new.items ≡ out.old.items ++ bytes)
+            × IsBegun name.now spec bytes a self.old self.new) }
     {
         if self.open.len() >= MOST_EXPERIMENTS {
             return Ok(Answer::Fault(Cause::TooMany));
@@ -103,12 +127,16 @@ impl Session {
 
     // A command comes to the experiment that lines are for.
     fn command(&mut self, command: &Timed, out: &mut Vec<u8>) -> Result<Answer, AllocError>
-        ensures { IfOk result (λ a. (bytes : List ℕ) × (out.new.items ≡ out.old.items ++ bytes)
+        requires { command.now.moment ≤ 10 ^ 15 }
+        ensures grows { IfOk result (λ a. (bytes : List ℕ) × (out.new.items ≡ out.old.items ++ bytes)
             × (¬ IsFault a → Grows (λ es. with_last es command.now) bytes self.old self.new)) }
+        ensures fault { IfOk result (λ a. Answers
+            (of_current (λ o. command_fault o command.now.moment) (current_of self.old)) a
+            ((self.new ≡ self.old) × (out.new.items ≡ out.old.items))) }
+        ensures obeys { IfOk result (λ a. ¬ IsFault a → (bytes : List ℕ)
+            × (out.new.items ≡ out.old.items ++ bytes)
+            × Follows (Does command.now) bytes a self.old self.new) }
     {
-        if command.moment > LATEST {
-            return Ok(Answer::Fault(Cause::OutOfRange));
-        }
         let place = self.current;
         if place >= self.open.len() {
             return Ok(Answer::Fault(Cause::NoExperiment));
@@ -119,9 +147,14 @@ impl Session {
 
     // The lines that follow are for the experiment with a name.
     fn turn_to(&mut self, name: &[u8], out: &mut Vec<u8>) -> Result<Answer, AllocError>
-        ensures { IfOk result (λ a. (ps : List Piece)
+        ensures turns { IfOk result (λ a. (ps : List Piece)
             × (out.new.items ≡ out.old.items ++ flat_map written ps)
             × (¬ IsFault a → ¬ AllByRecursion IsPlain ps)) }
+        ensures fault { IfOk result (λ a. Answers (request_fault self.old (Use name.now)) a
+            ((self.new ≡ self.old) × (out.new.items ≡ out.old.items))) }
+        ensures obeys { IfOk result (λ a. ¬ IsFault a → (bytes : List ℕ)
+            × (out.new.items ≡ out.old.items ++ bytes)
+            × Obeys (Use name.now) bytes a self.old self.new) }
     {
         let Some(place) = self.place_of(name) else {
             return Ok(Answer::Fault(Cause::NoExperiment));
@@ -133,127 +166,204 @@ impl Session {
         Ok(Answer::Done)
     }
 
-    // Time passes in an experiment, to a moment (ns) or until `stop`.
-    fn until(
-        &mut self,
-        place: usize,
-        limit: u64,
-        stop: Stop,
-        out: &mut Vec<u8>,
-    ) -> Result<Answer, AllocError>
-        requires place { (place ≡ self.old.current) × (place < length self.old.opened) }
-        requires limit { limit ≤ 10 ^ 15 }
-        ensures { IfOk result (λ _. (bytes : List ℕ) × (out.new.items ≡ out.old.items ++ bytes)
+    // Time passes in the experiment that lines are for, to a moment (ns) or until `stop`.
+    fn until(&mut self, limit: u64, stop: Stop, out: &mut Vec<u8>) -> Result<Answer, AllocError>
+        requires { limit ≤ 10 ^ 15 }
+        ensures grows { IfOk result (λ _. (bytes : List ℕ) × (out.new.items ≡ out.old.items ++ bytes)
             × Grows (λ es. es) bytes self.old self.new) }
-    {
-        let answer = self.open[place].until(limit, stop, out)?;
-        Ok(answer)
-    }
-
-    // What is asked of the experiment that lines are for.
-    fn ask(&mut self, request: Request, out: &mut Vec<u8>) -> Result<Answer, AllocError>
-        requires { IsInRange request }
-        ensures { IfOk result (λ _. (bytes : List ℕ) × (out.new.items ≡ out.old.items ++ bytes)
-            × (¬ IsMine request.entry → Grows (λ es. es) bytes self.old self.new)) }
+        ensures fault { IfOk result (λ a. Answers
+            (of_current (λ o. time_fault o limit) (current_of self.old)) a
+            ((self.new ≡ self.old) × (out.new.items ≡ out.old.items))) }
+        ensures passes { IfOk result (λ a. ¬ IsFault a → (bytes : List ℕ)
+            × (out.new.items ≡ out.old.items ++ bytes)
+            × Moves (λ b o p. PassesIn o.phase limit stop bytes b o p) a self.old self.new) }
     {
         let place = self.current;
         if place >= self.open.len() {
             return Ok(Answer::Fault(Cause::NoExperiment));
         }
+        let answer = self.open[place].until(limit, stop, out)?;
+        Ok(answer)
+    }
+
+    // Which records of the experiment that lines are for are told from now on.
+    fn show(&mut self, all: bool) -> Answer
+        ensures grows { ¬ (all ≡ false) → Grows (λ es. es) [] self.old self.new }
+        ensures fault { Answers (of_current (λ _. None) (current_of self.old)) result
+            (self.new ≡ self.old) }
+        ensures shows { ¬ IsFault result → Obeys (Show all) [] result self.old self.new }
+    {
+        let place = self.current;
+        if place >= self.open.len() {
+            return Answer::Fault(Cause::NoExperiment);
+        }
+        self.open[place].show(all);
+        Answer::Done
+    }
+
+    // When the next event is due in the experiment that lines are for.
+    fn next(&self) -> Answer
+        ensures fault { Answers (of_current (λ _. None) (current_of self.now)) result ⊤ }
+        ensures next { ¬ IsFault result → Obeys Next [] result self.now self.now }
+    {
+        match self.open.get(self.current) {
+            Some(open) => open.next(),
+            None => Answer::Fault(Cause::NoExperiment),
+        }
+    }
+
+    // Does what is asked.
+    fn obey(&mut self, request: Request, out: &mut Vec<u8>) -> Result<Answer, AllocError>
+        requires { IsInRange request }
+        ensures grows { IfOk result (λ a. (ps : List Piece)
+            × (out.new.items ≡ out.old.items ++ flat_map written ps)
+            × (¬ IsFault a → AllByRecursion IsPlain ps →
+            ¬ (view_request request.entry ≡ Show false) →
+            Grows (λ es. es) (flat_map told ps) self.old self.new)) }
+        ensures fault { IfOk result (λ a.
+            Answers (request_fault self.old (view_request request.entry)) a
+            ((self.new ≡ self.old) × (out.new.items ≡ out.old.items))) }
+        ensures obeys { IfOk result (λ a. ¬ IsFault a → (bytes : List ℕ)
+            × (out.new.items ≡ out.old.items ++ bytes)
+            × Obeys (view_request request.entry) bytes a self.old self.new) }
+    {
         match request {
-            Request::Until { limit } => self.until(place, limit, Stop::Moment, out),
-            Request::UntilMine { limit, hold } => self.until(place, limit, Stop::Mine(hold), out),
-            Request::UntilAny { limit, hold } => self.until(place, limit, Stop::Any(hold), out),
-            Request::Show { all } => {
-                self.open[place].show(all);
+            Request::Until { limit } => self.until(limit, Stop::Moment, out),
+            Request::UntilMine { limit, hold } => self.until(limit, Stop::Mine(hold), out),
+            Request::UntilAny { limit, hold } => self.until(limit, Stop::Any(hold), out),
+            Request::Next => Ok(self.next()),
+            Request::Use { name } => self.turn_to(name, out),
+            Request::Show { all } => Ok(self.show(all)),
+            Request::Help => {
+                out.extend_from_slice(HELP)?;
                 Ok(Answer::Done)
             }
-            _ => Ok(self.open[place].next()),
         }
     }
 
     // Answers a request.
     fn answer(&mut self, asked: &[u8], out: &mut Vec<u8>) -> Result<Answer, AllocError>
-        ensures { IfOk result (λ a. (ps : List Piece)
+        ensures grows { IfOk result (λ a. (ps : List Piece)
             × (out.new.items ≡ out.old.items ++ flat_map written ps)
             × (¬ IsFault a → AllByRecursion IsPlain ps →
-            ¬ (words_of asked.now ≡ codes "show" ∷ codes "mine" ∷ []) →
+            ¬ (request_of asked.now ≡ Ok (Show false)) →
             Grows (λ es. es) (flat_map told ps) self.old self.new)) }
+        ensures fault { IfOk result (λ a. Answers (asked_fault self.old (request_of asked.now)) a
+            ((self.new ≡ self.old) × (out.new.items ≡ out.old.items))) }
+        ensures obeys { IfOk result (λ a. ¬ IsFault a → (bytes : List ℕ)
+            × (out.new.items ≡ out.old.items ++ bytes)
+            × ((q : Asked) × (request_of asked.now ≡ Ok q)
+            × Obeys q bytes a self.old self.new)) }
     {
         match read_request(asked) {
-            Ok(Request::Use { name }) => self.turn_to(name, out),
-            Ok(Request::Help) => {
-                out.extend_from_slice(HELP)?;
-                Ok(Answer::Done)
-            }
-            Ok(request) => self.ask(request, out),
+            Ok(request) => self.obey(request, out),
             Err(cause) => Ok(Answer::Fault(cause)),
         }
     }
 
-    // Takes a request, without its `#>`.
-    fn take_request(&mut self, asked: &[u8], out: &mut Vec<u8>) -> Result<(), AllocError>
-        ensures { OnOk result ((ps : List Piece)
+    // Takes a request, without its `#>`. By itself, so the frame of `take` stays small.
+    #[inline(never)]
+    fn take_request(&mut self, asked: &[u8], out: &mut Vec<u8>) -> Result<Option<Cause>, AllocError>
+        ensures grows { IfOk result (λ f. f ≡ None → (ps : List Piece)
             × (out.new.items ≡ out.old.items ++ flat_map written ps)
             × (AllByRecursion IsPlain ps →
-            ¬ (words_of asked.now ≡ codes "show" ∷ codes "mine" ∷ []) →
+            ¬ (request_of asked.now ≡ Ok (Show false)) →
             Grows (λ es. es) (flat_map told ps) self.old self.new)) }
+        ensures fault { IfOk result (λ f. (f ≡ asked_fault self.old (request_of asked.now))
+            × (IsSome f → (self.new ≡ self.old) × (out.new.items ≡ out.old.items))) }
+        ensures does { IfOk result (λ f. f ≡ None → (said : List ℕ)
+            × (out.new.items ≡ out.old.items ++ said)
+            × IsSaid said (λ bytes a. (q : Asked) × (request_of asked.now ≡ Ok q)
+            × Obeys q bytes a self.old self.new)) }
     {
         let answer = self.answer(asked, out)?;
-        put_answer(out, answer)
+        say(answer, out)
     }
 
     // Takes an experiment's line.
-    fn take_begin(&mut self, name: &[u8], spec: Spec, out: &mut Vec<u8>) -> Result<(), AllocError>
-        ensures { OnOk result ((ps : List Piece)
+    fn take_begin(
+        &mut self,
+        name: &[u8],
+        spec: Spec,
+        out: &mut Vec<u8>,
+    ) -> Result<Option<Cause>, AllocError>
+        ensures grows { IfOk result (λ f. f ≡ None → (ps : List Piece)
             × (out.new.items ≡ out.old.items ++ flat_map written ps)
             × (AllByRecursion IsPlain ps →
             Grows (λ es. es ++ begun name.now spec ∷ []) (flat_map told ps) self.old self.new)) }
+        ensures fault { IfOk result (λ f. (f ≡ begin_fault self.old.opened name.now)
+            × (IsSome f → (self.new ≡ self.old) × (out.new.items ≡ out.old.items))) }
+        ensures does { IfOk result (λ f. f ≡ None → (said : List ℕ)
+            × (out.new.items ≡ out.old.items ++ said)
+            × IsSaid said (λ bytes a. IsBegun name.now spec bytes a self.old self.new)) }
     {
         let answer = self.begin(name, spec, out)?;
-        put_answer(out, answer)
+        say(answer, out)
     }
 
     // Takes a command's line.
-    fn take_command(&mut self, command: &Timed, out: &mut Vec<u8>) -> Result<(), AllocError>
-        ensures { OnOk result ((ps : List Piece)
+    fn take_command(
+        &mut self,
+        command: &Timed,
+        out: &mut Vec<u8>,
+    ) -> Result<Option<Cause>, AllocError>
+        requires { command.now.moment ≤ 10 ^ 15 }
+        ensures grows { IfOk result (λ f. f ≡ None → (ps : List Piece)
             × (out.new.items ≡ out.old.items ++ flat_map written ps)
             × (AllByRecursion IsPlain ps →
             Grows (λ es. with_last es command.now) (flat_map told ps) self.old self.new)) }
+        ensures fault { IfOk result (λ f.
+            (f ≡ of_current (λ o. command_fault o command.now.moment) (current_of self.old))
+            × (IsSome f → (self.new ≡ self.old) × (out.new.items ≡ out.old.items))) }
+        ensures does { IfOk result (λ f. f ≡ None → (said : List ℕ)
+            × (out.new.items ≡ out.old.items ++ said)
+            × IsSaid said (λ bytes a. Follows (Does command.now) bytes a self.old self.new)) }
     {
         let answer = self.command(command, out)?;
-        put_answer(out, answer)
+        say(answer, out)
     }
 
     // Takes a line of a scenario.
-    fn take_line(&mut self, line: &[u8], out: &mut Vec<u8>) -> Result<(), AllocError>
-        ensures { OnOk result ((ps : List Piece)
+    fn take_line(&mut self, line: &[u8], out: &mut Vec<u8>) -> Result<Option<Cause>, AllocError>
+        ensures hears { IfOk result (λ f. f ≡ None → (ps : List Piece)
             × (out.new.items ≡ out.old.items ++ flat_map written ps)
             × (AllByRecursion IsPlain ps → Hears line.now (flat_map told ps) self.old self.new)) }
+        ensures fault { IfOk result (λ f. IsFaultAlone self.old line.now f
+            × (IsSome f → (self.new ≡ self.old) × (out.new.items ≡ out.old.items))) }
+        ensures does { IfOk result (λ f. f ≡ None → (said : List ℕ)
+            × (out.new.items ≡ out.old.items ++ said)
+            × DoesBy None line.now said self.old self.new) }
     {
         match read_line(line) {
-            Ok(LineEntry::Nothing) => Ok(()),
+            Ok(LineEntry::Nothing) => Ok(None),
             Ok(LineEntry::Begins { name, spec }) => self.take_begin(name, spec, out),
             Ok(LineEntry::Does(command)) => self.take_command(&command, out),
-            Err(fault) => put_answer(out, Answer::Fault(cause_of(fault))),
+            Err(fault) => Ok(Some(cause_of(fault))),
         }
     }
 
     /// Takes a line, without its line feed, and appends what is said to it: the records that it let happen, as a report has
-    /// them, and then one line that begins with `#<`. A line that says nothing has no answer. `AllocError`, where memory
-    /// was refused, ends the session: what was appended is the beginning of what would be said.
-    pub fn take(&mut self, line: &[u8], out: &mut Vec<u8>) -> Result<(), AllocError>
-        ensures { OnOk result ((ps : List Piece)
+    /// them, and then one line that begins with `#<`. A line that says nothing has no answer. Where the line isn't taken
+    /// its fault is handed back, which is yet to be said: nothing changes then, and nothing is appended. `AllocError`,
+    /// where memory was refused, ends the session: what was appended is the beginning of what would be said.
+    pub fn take(&mut self, line: &[u8], out: &mut Vec<u8>) -> Result<Option<Cause>, AllocError>
+        ensures takes { IfOk result (λ f. f ≡ None → (ps : List Piece)
             × (out.new.items ≡ out.old.items ++ flat_map written ps)
             × Takes line.now ps self.old self.new) }
+        ensures fault { IfOk result (λ f. IsFaultOf line.now self.old f) }
+        ensures same { IfOk result (λ f. IsSome f →
+            (self.new ≡ self.old) × (out.new.items ≡ out.old.items)) }
+        ensures does { IfOk result (λ f. f ≡ None → (said : List ℕ)
+            × (out.new.items ≡ out.old.items ++ said)
+            × LineDoes line.now said self.old self.new) }
     {
         lines_say_one();
         if line.len() > MAX_LINE {
-            return put_answer(out, Answer::Fault(Cause::TooLong));
+            return Ok(Some(Cause::TooLong));
         }
-        if let Some(asked) = asked_in(line) {
-            return self.take_request(asked, out);
+        match asked_in(line) {
+            Some(asked) => self.take_request(asked, out),
+            None => self.take_line(line, out),
         }
-        self.take_line(line, out)
     }
 }

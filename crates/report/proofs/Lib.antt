@@ -6,3 +6,5 @@ pub mod Behind
 pub mod Short
 pub mod Kept
 pub mod Taken
+mod Packing
+mod WholeRecords

@@ -2,3 +2,4 @@ pub mod Words
 pub mod Alike
 pub mod Lines
 pub mod Room
+pub mod Archive

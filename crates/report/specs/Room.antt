@@ -3,8 +3,8 @@ use Rattle.std.specs.Prelude.{◌≡◌, ℕ, ◌+◌, ◌-◌, ◌≤◌, List,
 use Rattle.std.specs.Global.{Vec}
 use Rattle.std.specs.Vec.{vec_len, vec_capacity}
 
-unfoldable pub spare : Vec ℕ → ℕ
-spare bytes = vec_capacity bytes - vec_len bytes
+unfoldable pub spare : {X : Type 0} → Vec X → ℕ
+spare items = vec_capacity items - vec_len items
 
 -- a text was appended where there was room, of which it takes so much at most
 pub record Appends (text : List ℕ) (most : ℕ) (old new : Vec ℕ) : Type 0 where

@@ -141,7 +141,7 @@ pub fn put_number(text: &mut [u8], at: usize, number: u64) -> usize
     put_long(text, at, number)
 }
 
-/// Puts a number that mostly has one digit, as a flow, a pipe or an instance, and returns where it ends.
+/// Puts a number that mostly has few digits, as a flow, a pipe or an instance, and returns where it ends.
 #[inline(always)]
 pub fn put_small(text: &mut [u8], at: usize, number: u64) -> usize
     requires { at + 20 ≤ length text.old }
@@ -152,5 +152,18 @@ pub fn put_small(text: &mut [u8], at: usize, number: u64) -> usize
         text[at] = b'0' + number as u8;
         return at + 1;
     }
+    if number < 10_000 {
+        return put_short(text, at, number as u32);
+    }
+    put_wide(text, at, number)
+}
+
+// `put_number`, called: so what puts a small number stays short enough to be put into its callers.
+#[inline(never)]
+fn put_wide(text: &mut [u8], at: usize, number: u64) -> usize
+    requires { at + 20 ≤ length text.old }
+    ensures end { (at ≤ result) × (result ≤ at + 20) }
+    ensures items { take result text.new ≡ take at text.old ++ decimal number }
+{
     put_number(text, at, number)
 }

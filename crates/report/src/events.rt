@@ -1,12 +1,14 @@
 //! The lines of events, each put behind what stands before a place.
 
 ghost use Rattle.std.specs.Prelude.{◌≡◌, ◌+◌, ◌≤◌, ◌++◌, codes, decimal, false, length, take, IfSome, None};
+ghost use Rattle.report.specs.Archive.{Names, record_of};
 ghost use Rattle.report.specs.Words.{instance_name, load_of, cause_of};
 ghost use Rattle.report.specs.Lines.{line_of, is_event};
 
 use crate::clock::Clock;
 use crate::digits::{put_number, put_small};
 use crate::forward::{put_byte, put_cause, put_instance, put_load, put_next, put_word};
+use crate::packed::{Kind, Parts, cause_at, flow_of, pipe_of};
 use emu_model::{DropCause, Load, PipeNumber, Record};
 
 /// Puts a moment, what happened then, and to which number; returns where the number ends.
@@ -94,7 +96,7 @@ fn put_delivery(
 }
 
 // Puts that a packet was dropped, and why.
-#[inline(always)]
+#[inline(never)]
 fn put_drop(
     clock: &mut Clock,
     text: &mut [u8],
@@ -150,6 +152,7 @@ fn put_window(
 }
 
 /// Puts the line of an event, and returns where it ends; `None` where the record is none.
+// It is so large that only a single call of it is put into its caller.
 #[inline(always)]
 pub fn put_line(clock: &mut Clock, text: &mut [u8], at: usize, line: &Record) -> Option<usize>
     requires { at + 256 ≤ length text.old }
@@ -260,4 +263,108 @@ pub fn put_line(clock: &mut Clock, text: &mut [u8], at: usize, line: &Record) ->
         _ => return None,
     };
     Some(end)
+}
+
+/// Puts the line of a common record, and returns where it ends.
+#[inline(always)]
+pub(crate) fn put_parts(clock: &mut Clock, text: &mut [u8], at: usize, parts: Parts) -> usize
+    requires room { at + 256 ≤ length text.old }
+    requires names { Names parts.kind parts.tag parts.number }
+    ensures end { (at ≤ result) × (result ≤ at + 128) }
+    ensures items { take result text.new ≡ take at text.old ++ line_of (record_of parts) }
+{
+    let Parts {
+        kind,
+        moment,
+        tag,
+        packet,
+        number,
+    } = parts;
+    match kind {
+        Kind::Whole => unreachable!(),
+        Kind::Finished => {
+            let (pipe, instance) = (pipe_of(tag), number as u8);
+            put_at_instance(
+                clock,
+                text,
+                at,
+                moment,
+                b" finish ",
+                8,
+                packet,
+                pipe,
+                instance,
+            )
+        }
+        Kind::Segment => {
+            let load = Load::Seg {
+                flow: flow_of(tag),
+                first: number,
+            };
+            put_delivery(clock, text, at, moment, packet, load)
+        }
+        Kind::Acknowledged => {
+            let load = Load::Ack {
+                flow: flow_of(tag),
+                upto: number,
+            };
+            put_delivery(clock, text, at, moment, packet, load)
+        }
+        Kind::Delivered => put_delivery(clock, text, at, moment, packet, Load::Plain),
+        Kind::Window => put_window(
+            clock,
+            text,
+            at,
+            moment,
+            b" ack    ",
+            5,
+            u64::from(tag),
+            packet,
+            number,
+        ),
+        Kind::Expired => put_window(
+            clock,
+            text,
+            at,
+            moment,
+            b" expire ",
+            8,
+            u64::from(tag),
+            packet,
+            number,
+        ),
+        Kind::Dropped => {
+            let cause = cause_at(tag);
+            put_drop(clock, text, at, moment, packet, Load::Plain, cause)
+        }
+        Kind::Arrived => {
+            let (pipe, instance) = (pipe_of(tag), number as u8);
+            put_at_instance(
+                clock,
+                text,
+                at,
+                moment,
+                b" arrive ",
+                8,
+                packet,
+                pipe,
+                instance,
+            )
+        }
+        Kind::Passed => {
+            let (pipe, instance) = (pipe_of(tag), number as u8);
+            put_at_instance(
+                clock,
+                text,
+                at,
+                moment,
+                b" pass   ",
+                6,
+                packet,
+                pipe,
+                instance,
+            )
+        }
+        Kind::Done => put_done(clock, text, at, moment, number),
+    }
 }

@@ -78,19 +78,13 @@ pub fn put_load(text: &mut [u8], at: usize, load: Load) -> usize
     ensures end { (at ≤ result) × (result ≤ at + 47) }
     ensures items { take result text.new ≡ take at text.old ++ (codes " " ++ load_of load) }
 {
-    match load {
-        Load::Plain => put_word(text, at, b" plain  ", 6),
-        Load::Seg { flow, first } => {
-            let at = put_word(text, at, b" data   ", 6);
-            let at = put_small(text, at, u64::from(flow.get()));
-            put_next(text, at, first)
-        }
-        Load::Ack { flow, upto } => {
-            let at = put_word(text, at, b" ack    ", 5);
-            let at = put_small(text, at, u64::from(flow.get()));
-            put_next(text, at, upto)
-        }
-    }
+    let (end, flow, number) = match load {
+        Load::Plain => return put_word(text, at, b" plain  ", 6),
+        Load::Seg { flow, first } => (put_word(text, at, b" data   ", 6), flow, first),
+        Load::Ack { flow, upto } => (put_word(text, at, b" ack    ", 5), flow, upto),
+    };
+    let end = put_small(text, end, u64::from(flow.get()));
+    put_next(text, end, number)
 }
 
 /// Puts a space and why a packet was dropped, and returns where it ends.

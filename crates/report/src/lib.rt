@@ -1,18 +1,23 @@
 //! The text of a report, and of the listings in it (our choice).
 #![tactic(auto)]
 
+mod archive;
 mod clock;
 mod digits;
 mod events;
 mod forward;
 mod lines;
 mod moments;
+mod packed;
 mod pieces;
 mod report;
 mod runs;
+mod source;
 mod words;
 
+pub use archive::Archive;
 pub use lines::{write_counters, write_heading, write_record};
 pub use moments::Moments;
 pub use report::{pipe_listing, report_text, rule_listing};
-pub use runs::write_records;
+pub use runs::{write_records, write_some, write_source};
+pub use source::Source;

@@ -8,10 +8,12 @@ ghost use Rattle.std.specs.List.{flat_map};
 ghost use Rattle.report.specs.Lines.{spaced, fields_of, line_of, is_event, heading_of, behind_space, counters_of};
 ghost use Rattle.emu_model.specs.declared.records.Record.TheVariants.{RuleLine, PipeLine};
 
-use crate::events::{put_event, put_line};
+use crate::events::put_event;
 use crate::forward::put_load;
 use crate::moments::Moments;
 use crate::pieces::{append, append_labelled, append_number, append_places};
+use crate::runs::put_lines;
+use crate::source::Listed;
 use crate::words::{
     append_action, append_discipline, append_end, append_header, append_instance, append_mask,
     append_protocol, append_queue, refusal_code,
@@ -177,9 +179,11 @@ fn append_line(out: &mut Vec<u8>, moments: &mut Moments, line: &Record)
     requires { 400 ≤ spare out.old }
     ensures { Appends (line_of line.now) 400 out.old out.new }
 {
-    let Some(end) = put_line(&mut moments.clock, &mut moments.page, 0, line) else {
+    let one = [*line];
+    let (count, end) = put_lines(moments, &Listed { records: &one }, 0);
+    if count == 0 {
         return append_other(out, moments, line);
-    };
+    }
     append(out, &moments.page[..end]);
 }
 

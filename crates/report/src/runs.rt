@@ -1,28 +1,35 @@
 //! The lines of many records. Those of events are made on one page and appended together, so that what an append
 //! costs isn't paid for each line.
 
-ghost use Rattle.std.specs.Prelude.{◌≡◌, ◌+◌, ◌*◌, ◌<◌, ◌≤◌, ◌++◌, length, take, vec_len, vec_capacity, IfOk, IsOk, OnOk, OnErr};
+ghost use Rattle.std.specs.Prelude.{◌≡◌, ◌+◌, ◌-◌, ◌*◌, ◌<◌, ◌≤◌, ◌++◌, true, drop, length, take, slice_index_or, vec_len, vec_capacity, IfOk, IsOk, OnOk, OnErr};
 ghost use Rattle.std.specs.List.{flat_map};
 ghost use Rattle.report.specs.Lines.{line_of};
+ghost use Rattle.emu_model.specs.declared.records.Record.TheVariants.{StepsSpent};
 ghost use Rattle.report.specs.Room.{spare};
 
-use crate::events::put_line;
 use crate::lines::write_record;
 use crate::moments::{FULL, Moments};
+use crate::source::{Listed, Source};
 use emu_model::Record;
 use std::alloc::AllocError;
 
-// Puts the lines of the events in front on the page, until it is full; says of how many, and where they end.
-fn put_lines(moments: &mut Moments, records: &[Record]) -> (usize, usize)
-    ensures count { result.0 ≤ length records.now }
+/// Puts the lines from a place on the page, until it is full or the source leaves one; says of how many records, and where
+/// they end.
+pub(crate) fn put_lines<S: Source>(moments: &mut Moments, source: &S, from: usize) -> (usize, usize)
+    requires { from < length (S.list source.now) }
+    ensures count { from + result.0 ≤ length (S.list source.now) }
+    ensures none { result.0 ≡ 0 →
+        S.leaves (slice_index_or (S.list source.now) from (StepsSpent 0)) ≡ true }
     ensures end { (result.1 ≤ 4224) × (result.1 ≤ 128 * result.0) }
-    ensures items { take result.1 moments.new.page ≡ flat_map line_of (take result.0 records.now) }
+    ensures items { take result.1 moments.new.page
+        ≡ flat_map line_of (take result.0 (drop from (S.list source.now))) }
 {
+    let left = source.len() - from;
     let mut count = 0;
     let mut end = 0;
-    while count < records.len() && end < FULL {
+    while count < left && end < FULL {
         let (clock, page) = (&mut moments.clock, &mut moments.page);
-        let Some(next) = put_line(clock, page, end, &records[count]) else {
+        let Some(next) = source.put(clock, page, end, from + count) else {
             return (count, end);
         };
         end = next;
@@ -31,46 +38,50 @@ fn put_lines(moments: &mut Moments, records: &[Record]) -> (usize, usize)
     (count, end)
 }
 
-// Appends the lines of the first records, and says of how many; `AllocError` leaves the text as it
-// was.
+/// Appends the lines of some records from a place on, and says of how many; `AllocError` leaves the text as it was. A
+/// page's room (4,624 bytes) is enough.
 #[tactic(auto, unfolding(crate::specs::Room::spare))]
-fn append_run(
+pub fn write_some<S: Source>(
     out: &mut Vec<u8>,
     moments: &mut Moments,
-    records: &[Record],
+    source: &S,
+    from: usize,
 ) -> Result<usize, AllocError>
-    requires { 0 < length records.now }
-    ensures count { IfOk result (λ n. (0 < n) × (n ≤ length records.now)) }
-    ensures ok { IfOk result
-        (λ n. out.new.items ≡ out.old.items ++ flat_map line_of (take n records.now)) }
+    requires { from < length (S.list source.now) }
+    ensures count { IfOk result (λ n. (0 < n) × (from + n ≤ length (S.list source.now))) }
+    ensures ok { IfOk result (λ n. out.new.items
+        ≡ out.old.items ++ flat_map line_of (take n (drop from (S.list source.now)))) }
     ensures err { OnErr result (out.new.items ≡ out.old.items) }
     ensures room { IfOk result (λ n. spare out.old ≤ spare out.new + 400 * n) }
     ensures capacity { vec_capacity out.old ≤ vec_capacity out.new }
-    ensures succeeds { 400 * length records.now ≤ spare out.old → IsOk result }
+    ensures succeeds { 400 * (length (S.list source.now) - from) ≤ spare out.old → IsOk result }
+    ensures page { vec_len out.old + 4624 ≤ vec_capacity out.old → IsOk result }
 {
-    let (count, end) = put_lines(moments, records);
+    let (count, end) = put_lines(moments, source, from);
     if count == 0 {
-        write_record(out, moments, &records[0])?;
+        write_record(out, moments, &source.record(from))?;
         return Ok(1);
     }
     out.extend_from_slice(&moments.page[..end])?;
     Ok(count)
 }
 
-// Appends the lines of records; `AllocError` leaves of them what was appended by then.
-fn append_records(
+/// Appends the lines of all records; `AllocError` leaves of them what was appended by then.
+#[tactic(auto, unfolding(crate::specs::Room::spare))]
+pub fn write_source<S: Source>(
     out: &mut Vec<u8>,
     moments: &mut Moments,
-    records: &[Record],
+    source: &S,
 ) -> Result<(), AllocError>
-    ensures ok { OnOk result (out.new.items ≡ out.old.items ++ flat_map line_of records.now) }
+    ensures ok { OnOk result
+        (out.new.items ≡ out.old.items ++ flat_map line_of (S.list source.now)) }
     ensures kept { take (length out.old.items) out.new.items ≡ out.old.items }
     ensures capacity { vec_capacity out.old ≤ vec_capacity out.new }
-    ensures succeeds { 400 * length records.now ≤ spare out.old → IsOk result }
+    ensures succeeds { 400 * length (S.list source.now) ≤ spare out.old → IsOk result }
 {
     let mut done = 0;
-    while done < records.len() {
-        done += append_run(out, moments, &records[done..])?;
+    while done < source.len() {
+        done += write_some(out, moments, source, done)?;
     }
     Ok(())
 }
@@ -90,7 +101,7 @@ pub fn write_records(
         IsOk result }
 {
     let before = out.len();
-    let written = append_records(out, moments, records);
+    let written = write_source(out, moments, &Listed { records });
     if written.is_err() {
         out.truncate(before);
     }

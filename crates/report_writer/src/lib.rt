@@ -2,6 +2,10 @@
 //! counters needs is counted. Own.
 #![tactic(auto)]
 
+mod keeper;
+mod room;
 mod writer;
 
+pub use keeper::{Part, Report, ReportKeeper};
+pub use room::put_reports;
 pub use writer::ReportWriter;

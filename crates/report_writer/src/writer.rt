@@ -12,6 +12,7 @@ use experiment::Experiment;
 use report::{Moments, write_counters, write_heading, write_record, write_records};
 use std::alloc::{AllocError, Global};
 use std::marker::Model;
+use std::mem;
 
 /// The lines so far, behind that of the name, and how many deliveries and drops, by cause, are among them.
 #[derive(Drop)]
@@ -136,6 +137,14 @@ impl ReportWriter {
         out.extend_from_slice(self.text.as_slice())?;
         self.text.clear();
         Ok(())
+    }
+
+    /// The text so far, which is then empty; the counts stay. Takes no memory.
+    pub fn take_text(&mut self, alloc: Global) -> Vec<u8>
+        ensures text { result.items ≡ self.old.text }
+        ensures rest { self.new ≡ record self.old { text = [] } }
+    {
+        mem::replace(&mut self.text, Vec::new(alloc))
     }
 
     /// Appends the line of the counters, of which some are those of the experiment as it stands. `AllocError` leaves what

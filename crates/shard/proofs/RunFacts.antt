@@ -17,7 +17,7 @@ use Rattle.shard.specs.declared.resident.Resident.{Resident}
 use Rattle.shard.specs.Stand.{Stand}
 use Rattle.shard.specs.Kept.{IsKept, IsGoing}
 use Rattle.shard.specs.Seats.{standing, IsSeated}
-use Rattle.shard.specs.Steps.{IsLeaving, Advances, HasStayed, HasLeft, RunsOn, Runs}
+use Rattle.shard.specs.Steps.{IsLeaving, Advances, HeardAt, HasStayed, HasLeft, RunsOn, Runs}
 use Rattle.shard.specs.Turns.{IsTurn, AreTurns, SaidYes, Heard, LeavesOff, last_state}
 
 module _ {M : Type 0} (seen : M → Seen) where
@@ -34,9 +34,30 @@ module _ {M : Type 0} (seen : M → Seen) where
   heard_more hears name other n answer u v w same h e =
       subst (λ k. Heard hears name k u w) (sym (add-one n)) (v, h, (answer, subst (λ k. hears k answer v w) same e))
 
-  pub heard_all : {W : Type 0} (hears : ℕ → Bool → W → W → Type 0) (name n : ℕ) (u w : W) → SaidYes hears name n u w → Heard hears name n u w
-  heard_all hears name zero u w h = h
-  heard_all hears name (suc n) u w h = (h.0, h.1, (true, h.2))
+  -- where the resident ended all were answered by yes
+  pub heard_at : {W : Type 0} (hears : ℕ → Bool → W → W → Type 0) (event : Event) (name n : ℕ) (u w : W) → sameb the_type event Ran ≡ true → Heard hears name n u w → HeardAt hears event name n u w
+  heard_at hears Ran name n u w same h = h
+  heard_at hears Ended name n u w same h = absurd (cc)
+  heard_at hears Halted name n u w same h = absurd (cc)
+  heard_at hears Still name n u w same h = absurd (cc)
+
+  pub said_at : {W : Type 0} (hears : ℕ → Bool → W → W → Type 0) (event : Event) (name n : ℕ) (u w : W) → sameb the_type event Ran ≡ false → SaidYes hears name n u w → HeardAt hears event name n u w
+  said_at hears Ran name n u w other h = absurd (cc)
+  said_at hears Ended name n u w other h = h
+  said_at hears Halted name n u w other h = h
+  said_at hears Still name n u w other h = h
+
+  pub heard_ran : {W : Type 0} (hears : ℕ → Bool → W → W → Type 0) (event : Event) (name n : ℕ) (u w : W) → sameb the_type event Ran ≡ true → HeardAt hears event name n u w → Heard hears name n u w
+  heard_ran hears Ran name n u w same h = h
+  heard_ran hears Ended name n u w same h = absurd (cc)
+  heard_ran hears Halted name n u w same h = absurd (cc)
+  heard_ran hears Still name n u w same h = absurd (cc)
+
+  pub said_left : {W : Type 0} (hears : ℕ → Bool → W → W → Type 0) (event : Event) (name n : ℕ) (u w : W) → sameb the_type event Ran ≡ false → HeardAt hears event name n u w → SaidYes hears name n u w
+  said_left hears Ran name n u w other h = absurd (cc)
+  said_left hears Ended name n u w other h = h
+  said_left hears Halted name n u w other h = h
+  said_left hears Still name n u w other h = h
 
   pub not_same : (b : Bool) → not b ≡ true → b ≡ false
   not_same true h = absurd (cc)

@@ -13,7 +13,14 @@ use Rattle.shard.specs.declared.resident.Resident.{Resident}
 use Rattle.shard.specs.Entries.{entries_of, row_at}
 use Rattle.shard.specs.Kept.{IsKept, IsGoing, next_kept}
 use Rattle.shard.specs.Seats.{standing, IsSeated}
-use Rattle.shard.specs.Turns.{IsTurn, AreTurns, LeavesOff, last_state}
+use Rattle.shard.specs.Turns.{IsTurn, AreTurns, Heard, SaidYes, LeavesOff, last_state}
+
+-- who watches said yes to so many turns, but perhaps to the last one where the resident goes on
+abbrev pub HeardAt : {W : Type 0} → (ℕ → Bool → W → W → Type 0) → Event → ℕ → ℕ → W → W → Type 0
+HeardAt {W} hears Ran name n v w = Heard hears name n v w
+HeardAt {W} hears Ended name n v w = SaidYes hears name n v w
+HeardAt {W} hears Halted name n v w = SaidYes hears name n v w
+HeardAt {W} hears Still name n v w = SaidYes hears name n v w
 
 module _ {M : Type 0} where
   -- a resident whose entry is the least of the agenda

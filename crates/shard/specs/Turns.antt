@@ -181,6 +181,13 @@ abbrev pub Heard : {W : Type 0} → (ℕ → Bool → W → W → Type 0) → �
 Heard {W} hears name zero v w = w ≡ v
 Heard {W} hears name (suc n) v w = (u : W) × SaidYes hears name n v u × ((answer : Bool) × hears name answer u w)
 
+-- who watches heard of each of the turns, of which so many ran: it said yes each time, but perhaps to the last one where
+-- none followed; to all where the resident ended in the next one
+abbrev pub HeardOf : {M W : Type 0} → (ℕ → Bool → W → W → Type 0) → Turned M → ℕ → ℕ → W → W → Type 0
+HeardOf {M} {W} hears (Ran n) name ran v w = Heard hears name ran v w
+HeardOf {M} {W} hears (Ended d) name ran v w = SaidYes hears name ran v w
+HeardOf {M} {W} hears Idle name ran v w = w ≡ v
+
 -- the name of whose turns they were
 abbrev pub NamesIt : {M : Type 0} → Turned M → ℕ → Type 0
 NamesIt (Ran n) name = n ≡ name
@@ -195,6 +202,7 @@ pub record TakenIn {M : Type 0} (parcel : Stand M) (old new : Seating M) (slot :
   pub same : s.stand ≡ parcel
   pub there : seat_at new.seats slot ≡ Some s
   pub others : new.seats ≡ slice_set old.seats slot (Some s)
+  pub clock : new.clock ≡ old.clock
 
 -- the parcel comes back; no slot is vacant where it is said so
 abbrev pub ComesBack : {M : Type 0} → Stand M → Seating M → TakeInError M → Type 0
@@ -211,6 +219,7 @@ pub record PackedAt {M : Type 0} (parcel : Stand M) (old new : Seating M) (slot 
   pub was : seat_at old.seats slot ≡ Some s
   pub same : parcel ≡ s.stand
   pub others : new.seats ≡ slice_set old.seats slot None
+  pub clock : new.clock ≡ old.clock
 
 -- a command came out of a mail, after letters were put into it
 pub record Gives {M : Type 0} (seen : M → Seen) (old : M) (c : Timed) (new : M) : Type 0 where

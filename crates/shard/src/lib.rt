@@ -18,5 +18,5 @@ pub use mail::Mail;
 pub use many_turns::many_turns_are_turns;
 pub use parcel::{Parcel, Unopened};
 pub use posts::{PostError, Vacant};
-pub use shard::{PackError, Polled, Shard, TakeInError, Turned};
+pub use shard::{MOST_RESIDENTS, PackError, Polled, Shard, TakeInError, Turned};
 pub use watch::{Unwatched, Watch};

@@ -77,8 +77,8 @@ impl<M: Mail> Resident<M> {
     ghost use Rattle.experiment.specs.Kept.{view, IsAlone};
     ghost use Rattle.shard.specs.Kept.{IsKept, IsGoing};
     ghost use Rattle.shard.specs.Seats.{IsDossierOf, IsSeated, standing, seat};
-    ghost use Rattle.shard.specs.Turns.{Polls, Heard};
-    ghost use Rattle.shard.specs.Steps.{IsLeast, IsStale, Advances, RunsOn, Runs};
+    ghost use Rattle.shard.specs.Turns.{Polls};
+    ghost use Rattle.shard.specs.Steps.{IsLeast, IsStale, Advances, HeardAt, RunsOn, Runs};
 
     // Sets its entry anew, from the agenda's clock on. Parked where it has no next command, or where memory is
     // refused.
@@ -152,7 +152,7 @@ impl<M: Mail> Resident<M> {
             (pocket_of store.old self.old.owner) self.old.experiment self.old.published
             self.old.mail }
         requires next { IsSome self.old.experiment.next }
-        ensures runs { (n : ℕ) × Heard W.hears self.old.name n watch.old watch.new
+        ensures runs { (n : ℕ) × HeardAt W.hears result self.old.name n watch.old watch.new
             × RunsOn M.seen W.may_refuse more n result
             (pocket_of store.old self.old.owner) self.old
             (pocket_of store.new self.old.owner) self.new }
@@ -189,7 +189,7 @@ impl<M: Mail> Resident<M> {
     ) -> Event
         requires least { IsLeast M.seen (pocket_of store.old self.old.owner)
             (A.entries agenda.old slot) (A.time agenda.old) self.old }
-        ensures runs { (n : ℕ) × Heard W.hears self.old.name n watch.old watch.new
+        ensures runs { (n : ℕ) × HeardAt W.hears result self.old.name n watch.old watch.new
             × Runs M.seen W.may_refuse more n result (pocket_of store.old self.old.owner) self.old
             (pocket_of store.new self.old.owner) (A.entries agenda.new slot)
             (A.time agenda.old) self.new }

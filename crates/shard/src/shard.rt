@@ -95,7 +95,7 @@ impl<A: Agenda, M: Mail> Model for Shard<A, M> {
 impl<A: Agenda, M: Mail> Shard<A, M> {
     ghost use Rattle.std.specs.Prelude.{◌≡◌, ◌≢◌, ℕ, ◌≤◌, ◌<◌, ◌^◌, None, Some, IfOk, IfErr, IfSome, IfNone, OnErr, IsSome, length, IsTrue, IsFalse};
     ghost use Rattle.shard.specs.Stand.{seat_at, Seat, IsTold};
-    ghost use Rattle.shard.specs.Turns.{TurnsSettled, ManyTurns, ManyTurnsSettled, Heard, NamesIt, TakenIn, ComesBack, HasVacancy, PackedAt, IsPoll, IsRebased};
+    ghost use Rattle.shard.specs.Turns.{TurnsSettled, ManyTurns, ManyTurnsSettled, HeardOf, NamesIt, TakenIn, ComesBack, HasVacancy, PackedAt, IsPoll, IsRebased};
 
     /// A shard without residents, whose clock is 0.
     pub fn new(alloc: Global) -> Result<Self, AllocError>
@@ -138,7 +138,7 @@ impl<A: Agenda, M: Mail> Shard<A, M> {
     /// `turn`, and then at most `more` further events of the same resident, whatever else is due before: while it has
     /// a next command, doesn't end, and `watch` says yes, which hears of each that ran.
     pub fn turns<W: Watch>(&mut self, more: u32, watch: &mut W) -> Turned<M>
-        ensures { (ran name : ℕ) × Heard W.hears name ran watch.old watch.new × NamesIt result name
+        ensures { (ran name : ℕ) × HeardOf W.hears result name ran watch.old watch.new × NamesIt result name
             × ManyTurnsSettled M.seen W.may_refuse more ran result self.old self.new }
     {
         if self.agenda.clock() >= LATEST_CLOCK {
@@ -150,7 +150,7 @@ impl<A: Agenda, M: Mail> Shard<A, M> {
     // The events of one resident.
     fn turns_now<W: Watch>(&mut self, more: u32, watch: &mut W) -> Turned<M>
         requires early { self.old.clock < 2 ^ 62 }
-        ensures { (ran name : ℕ) × Heard W.hears name ran watch.old watch.new × NamesIt result name
+        ensures { (ran name : ℕ) × HeardOf W.hears result name ran watch.old watch.new × NamesIt result name
             × ManyTurns M.seen W.may_refuse more ran result self.old self.new }
     {
         let Some(entry) = self.agenda.move_to_least() else {

@@ -4,14 +4,15 @@ ghost use Rattle.std.specs.Prelude.{◌^◌, ◌≤◌};
 
 mod agendas;
 mod calls;
+mod crowd;
 mod desk;
 mod refusals;
 mod turns;
 
 use agendas::{Anew, GivesUp};
 use calls::{
-    Desk, Host, arrive, counted, is_crowded, pack, packs_nobody, poll, put, seen_back, seen_in,
-    slot_of, take_in,
+    Desk, Host, advance, arrive, counted, is_crowded, pack, packs_nobody, poll, put, seen_back,
+    seen_in, slot_of, take_in,
 };
 use desk::{
     Guest, MOST_TURNS, Move, attend, host, invite, invite_all, parcel, post, settle, settle_all,
@@ -19,7 +20,7 @@ use desk::{
 };
 use emu_model::Command;
 use example_texts as texts;
-use shard::{Polled, Shard};
+use shard::{ListMail, MOST_RESIDENTS, Polled, Shard, Turned};
 use std::alloc::{AllocError, Global};
 use std::mem;
 use std::process::Abort;
@@ -330,8 +331,9 @@ fn seats(
 
 // Fills a shard, and has one guest more before its door.
 fn crowds(rt: &(impl Abort + AllocGlobal), shard: &mut Desk) -> Result<(), AllocError> {
-    for slot in 0..256u32 {
-        assert_eq!(rt; seats(rt, shard, slot)?, slot as usize);
+    for slot in 0..MOST_RESIDENTS {
+        let name = u32::try_from(slot).unwrap_or(0);
+        assert_eq!(rt; seats(rt, shard, name)?, slot);
     }
     let last = invite(rt, 777, texts::NEW_RATE, texts::NEW_RATE_REPORT)?;
     assert!(rt; crowds_out(rt.alloc(), shard, &last)?);
@@ -353,6 +355,49 @@ fn unread(rt: HostRuntime) -> Result<(), Fail> {
     // Its report has 82 lines of records.
     let cards = [(texts::CODEL_TWO_DROPS, texts::CODEL_TWO_DROPS_REPORT)];
     are_hosted(&rt, &cards, false)?;
+    Ok(())
+}
+
+// Packets that are delivered one after the other: more records than letters have room by far.
+const LONG: &str = "experiment long seed 0 budget 9\n\
+@0 add 100 allow udp from any to any\n\
+@0 train 1 udp 10.0.0.1 1 10.0.0.2 2 100 count 20000 gap 10\n\
+@1000000 end\n\
+";
+
+// How many records and delivered packets an experiment left that has ended.
+fn left_by(turned: &Turned<ListMail>) -> Option<(usize, u64)> {
+    match turned {
+        Turned::Ended(left) => Some((left.records().len(), left.counters().delivered)),
+        Turned::Ran(_) | Turned::Idle => None,
+    }
+}
+
+// Has a guest to its end, whose letters nobody reads.
+fn ends_unread(rt: &(impl Abort + AllocGlobal), shard: &mut Desk) -> Result<(), AllocError> {
+    let mut guests = invite_all(rt, 0, &[(LONG, "")])?;
+    settle_all(rt.alloc(), shard, guests.as_slice())?;
+    for _ in 0..MOST_TURNS {
+        attend(rt, shard, guests.as_mut_slice(), false);
+        let turned = advance(shard);
+        let left = left_by(&turned);
+        drop(turned);
+        if left.is_some() {
+            // The lines of three commands, and one for each packet.
+            assert_eq!(rt; left, Some((20_003, 20_000)));
+            return Ok(());
+        }
+    }
+    assert!(rt; false, "not ended");
+    Ok(())
+}
+
+#[test]
+fn long_and_unread(rt: HostRuntime) -> Result<(), Fail> {
+    let mut shard = Desk::new(rt.alloc())?;
+    let done = ends_unread(&rt, &mut shard);
+    drop(shard);
+    done?;
     Ok(())
 }
 

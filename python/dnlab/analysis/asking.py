@@ -6,7 +6,7 @@ from typing import Any, Iterable, Iterator, NamedTuple, Optional, Sequence
 import numpy as np
 
 from dnlab.analysis.figures import percentile_name
-from dnlab.analysis.metrics import ALSO, is_named, plain_word, word_now
+from dnlab.analysis.metrics import ALSO, is_named, plain_word, warn_older, word_now
 from dnlab.analysis.own import Own, own_in, own_of
 from dnlab.analysis.spans import Span
 from dnlab.analysis.tables import WHOLE, Row, Tables
@@ -18,14 +18,14 @@ from dnlab.io.scenario_parts import Plan
 
 # All flows' segments taken together, and the packets of all trains.
 GROUPS = ("flows", "trains")
-USUAL = ("goodput", "delay.median", "delay.p95", "lost")
+USUAL = ("goodput", "delay.p50", "delay.p95", "lost")
 _UNITS = {"packets": "packets", "delivered": "packets", "held": "packets", "again": "packets", "lost": "packets",
           "bytes": "bytes", "useful": "bytes", "rate": "bit/s", "goodput": "bit/s", "time": "ns", "first": "ns",
           "last": "ns", "completion": "ns", "jain": "", "utilisation": "", "jitter": "ns",
           **{f"drops.{cause}": "packets" for cause in CAUSES}}
 _DELAYS = ("least", "mean", "median", "greatest")
 _KNOWN = (*_UNITS, *(f"delay.{name}" for name in _DELAYS))
-# As help has them: by the names in use now; the older ones are taken too.
+# As help has them: by the names in use now; the older ones are taken too, with a warning.
 STATS = (*map(word_now, _KNOWN), "delay.pN")
 OLDER = tuple(ALSO.values())
 # Of each pattern of `of` and each `stat`: of whom, and the figure (None where it can't be told).
@@ -67,6 +67,7 @@ def stats_of(text: str) -> tuple[str, ...]:
 
 
 def _known(word: str) -> None:
+    warn_older(word)
     if plain_word(word) not in _KNOWN and percentile_of(word) is None:
         raise ValueError(f"no stat {word!r}: {', '.join(STATS)} (N above 0 and up to 100, as delay.p95), or a function of"
                          " one's own, FILE.py:NAME")

@@ -2,6 +2,8 @@
 
 Rows within the package have the older names; what is written for others, and tables of pandas, have those in use now.
 """
+import sys
+import warnings
 from typing import Any, Sequence
 
 # Of each older name those in use now; a table has one of them.
@@ -22,6 +24,18 @@ def now(name: str) -> str:
     ('retransmissions', 'p50 ci95', 'p95 mean', 'goodput')
     """
     return " ".join(NOW[word][0] if word in NOW else word for word in name.split(" "))
+
+
+class Renamed(DeprecationWarning):
+    """A name that has another one now; the commands say it on standard error."""
+
+
+def warn(old: str, new: str) -> None:
+    """Says that a name has another one now, with the line outside of this package that has the name."""
+    level, frame = 2, sys._getframe(1)
+    while frame.f_back is not None and frame.f_globals.get("__name__", "").partition(".")[0] == "dnlab":
+        level, frame = level + 1, frame.f_back
+    warnings.warn(TOLD.format(old=old, new=new), Renamed, stacklevel=level)
 
 
 def older(name: str) -> str:

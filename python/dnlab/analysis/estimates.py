@@ -1,23 +1,10 @@
-"""Means with their intervals, by scipy (Debian: python3-scipy)."""
+"""What intervals take of scipy (Debian: python3-scipy); `dnlab.analysis.figures.interval` is the interval."""
 import math
 import warnings
-from typing import Literal, NamedTuple, Optional, Sequence
+from typing import Sequence
 
 import numpy as np
 from scipy import special
-
-Kind = Literal["t", "bootstrap"]
-KINDS: tuple[Kind, ...] = ("t", "bootstrap")
-# So many digits behind the point are kept: the last ones of a float differ from one scipy to the next.
-_DIGITS = 6
-
-
-class Estimate(NamedTuple):
-    """A mean of `n` values with the ends of its interval; None where there are too few values."""
-    n: int
-    mean: Optional[float]
-    low: Optional[float]
-    high: Optional[float]
 
 
 def student(level: float, freedom: int) -> float:
@@ -40,30 +27,14 @@ def half_of(values: Sequence[float], level: float = 95) -> float:
     return student(level, len(values) - 1) * float(np.std(values, ddof=1) / math.sqrt(len(values)))
 
 
-def estimate(values: Sequence[float], level: float = 95, kind: Kind = "t") -> Estimate:
-    """The mean of values that were drawn apart (by seeds), with the interval that has it in `level` of 100 cases.
+def drawn(values: Sequence[float], level: float) -> tuple[float, float]:
+    """The ends of the bootstrap's interval around the mean of two values or more, which has the true mean in a share
+    `level` of the cases.
 
-    kind  `t` is Student's, for means of values that are near to normal; `bootstrap` draws the values again, with
-          replacement, 9999 times (bias-corrected and accelerated), always by the same chance.
-
-    >>> estimate([1.0, 2.0, 3.0])
-    Estimate(n=3, mean=2.0, low=-0.484138, high=4.484138)
+    >>> low, high = drawn([1.0, 2.0, 3.0, 4.0], 0.95)
+    >>> 1 <= low < 2.5 < high <= 4
+    True
     """
-    count = len(values)
-    if count < 2:
-        return Estimate(count, round(float(values[0]), _DIGITS) if count else None, None, None)
-    mean = math.fsum(values) / count
-    if min(values) == max(values):
-        low = high = mean
-    elif kind == "t":
-        half = half_of(values, level)
-        low, high = mean - half, mean + half
-    else:
-        low, high = _drawn(values, level / 100)
-    return Estimate(count, *(round(float(value), _DIGITS) for value in (mean, low, high)))
-
-
-def _drawn(values: Sequence[float], level: float) -> tuple[float, float]:
     # Here, since it takes long to load and few ask for it.
     from scipy import stats
 

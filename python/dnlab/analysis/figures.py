@@ -2,11 +2,14 @@
 import math
 from dataclasses import dataclass
 from fractions import Fraction
-from typing import Iterable, Optional, Sequence, Union
+from typing import Iterable, Literal, Optional, Sequence, Union
 
 from dnlab.errors import Lacking
 
 Percentile = Union[int, float, str]
+# How an interval is made.
+Kind = Literal["t", "bootstrap"]
+KINDS: tuple[Kind, ...] = ("t", "bootstrap")
 
 
 def place(count: int, percentile: Percentile) -> int:
@@ -40,24 +43,37 @@ def jain(values: Sequence[float]) -> Optional[float]:
 
 @dataclass(frozen=True)
 class Interval:
-    """A mean of `count` values and half the width of its 95 % interval; None where there are too few for it."""
+    """A mean of `count` values, half the width of its interval, and the interval's ends; None where there are too few for it."""
     count: int
     mean: Optional[float]
-    half: Optional[float]
+    half: Optional[float] = None
+    low: Optional[float] = None
+    high: Optional[float] = None
 
 
-def interval(values: Iterable[float]) -> Interval:
-    """The mean of values that were drawn apart (by seeds), with half the width of its 95 % interval (Student).
+def interval(values: Iterable[float], level: float = 95, kind: Kind = "t") -> Interval:
+    """The mean of values that were drawn apart (by seeds), with the interval that has the true mean in `level` of 100 cases.
 
-    >>> interval([1.0, 2.0, 3.0])
-    Interval(count=3, mean=2.0, half=2.4841377118)
+    kind  `t` is Student's, for means of values that are near to normal; `bootstrap` draws the values again, with
+          replacement, 9999 times (bias-corrected and accelerated), always by the same chance
+
+    >>> mean = interval([1.0, 2.0, 3.0])
+    >>> mean.count, mean.mean, round(mean.half, 6), round(mean.low, 6), round(mean.high, 6)
+    (3, 2.0, 2.484138, -0.484138, 4.484138)
     """
-    known = list(values)
+    known = [float(value) for value in values]
     if len(known) < 2:
-        return Interval(len(known), known[0] if known else None, None)
+        return Interval(len(known), known[0] if known else None)
     try:
         # Here, since only who asks for intervals needs scipy.
-        from dnlab.analysis.estimates import half_of
+        from dnlab.analysis import estimates
     except ModuleNotFoundError:
         raise Lacking("scipy is missing, which intervals take (Debian: apt-get install python3-scipy)") from None
-    return Interval(len(known), math.fsum(known) / len(known), float(f"{half_of(known):.11g}"))
+    mean = math.fsum(known) / len(known)
+    if min(known) == max(known):
+        return Interval(len(known), mean, 0.0, mean, mean)
+    if kind == "t":
+        half = estimates.half_of(known, level)
+        return Interval(len(known), mean, half, mean - half, mean + half)
+    low, high = estimates.drawn(known, level / 100)
+    return Interval(len(known), mean, (high - low) / 2, low, high)

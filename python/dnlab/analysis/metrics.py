@@ -4,6 +4,7 @@ from fnmatch import fnmatchcase
 from fractions import Fraction
 from typing import Iterable, NamedTuple, Optional
 
+from dnlab.analysis.columns import warn
 from dnlab.analysis.figures import percentile_name
 from dnlab.analysis.tables import PERCENTILES, WHOLE, Row, times_of
 from dnlab.io.lines import CAUSES
@@ -15,8 +16,6 @@ _PLAIN = {"packets": "count", "delivered": "count", "held": "count", "bytes": "s
           "first": "time", "last": "time", "time": "time", "rate": "rate", "goodput": "rate", "utilisation": "share",
           "again": "count", "completion": "time", "jitter": "time", "jain": "index", "refused": "count", "ended": "ending"}
 _DELAYS = ("least", "median", "mean", "greatest")
-WORDS = (*_PLAIN, "loss", "drops", *(f"drops.{cause}" for cause in CAUSES), *(f"delay.{one}" for one in _DELAYS),
-         "delay.pN")
 # Rows of a kind alone have these; in words for who asks it of another.
 _OF_KIND = {"completion": (("flow",), "only a flow has a completion"), "again": (("flow",), "only a flow sends again"),
             "jain": (("whole",), "only all flows together have an index of fairness"),
@@ -40,11 +39,11 @@ class Metric(NamedTuple):
         >>> from dnlab.analysis.by_hand import FLOWS, TRAIN, rows_of
         >>> train, pipe = (rows_of(TRAIN)[name] for name in ("train 1", "pipe 1.0"))
         >>> def told(row, *words): return [str(metric_of(word).of(row)) for word in words]
-        >>> told(train, "packets", "delivered", "held", "drops", "drops.full", "drops.lost", "loss")
+        >>> told(train, "packets", "delivered", "in_flight", "drops", "drops.full", "drops.lost", "loss")
         ['4', '2', '1', '1', '1', '0', '1/4']
         >>> told(train, "bytes", "useful", "first", "last", "time")
         ['2000', '2000', '0', '12000000', '12000000']
-        >>> told(train, "delay.least", "delay.median", "delay.mean", "delay.p95", "delay.greatest")
+        >>> told(train, "delay.min", "delay.p50", "delay.mean", "delay.p95", "delay.max")
         ['11000000', '11000000', '11500000', '12000000', '12000000']
 
         16000 bits in 12 ms are 1333333 bit/s. The one difference of 1 ms counts a sixteenth (RFC 3550):
@@ -61,9 +60,9 @@ class Metric(NamedTuple):
         Flow 1 brings 1920 bytes without headers in 12 ms; flow 2 is sent again after 1 s. With rates of 1280000 and 7679
         bit/s Jain's index is 1287679^2 / (2 * (1280000^2 + 7679^2)):
 
-        >>> told(first, "bytes", "useful", "goodput", "again", "completion", "refused")
+        >>> told(first, "bytes", "useful", "goodput", "retransmissions", "fct", "refused")
         ['2000', '1920', '1280000', '0', '12000000', '1']
-        >>> told(second, "packets", "drops.denied", "loss", "goodput", "again", "completion")
+        >>> told(second, "packets", "drops.denied", "loss", "goodput", "retransmissions", "fct")
         ['2', '1', '1/2', '7679', '1', '1000000001']
         >>> abs(metric_of("jain").of(there) - Fraction(1287679**2, 2 * (1280000**2 + 7679**2))) < Fraction(1, 10**9)
         True
@@ -144,6 +143,9 @@ def is_named(of: str, pattern: str) -> bool:
 ALSO = {"fct": "completion", "retransmissions": "again", "in_flight": "held", "delay.min": "delay.least",
         "delay.max": "delay.greatest", "delay.p50": "delay.median"}
 _NOW = {older: now for now, older in ALSO.items()}
+# As messages and help have them: by the names in use now; the older ones are taken too.
+WORDS = (*(_NOW.get(word, word) for word in _PLAIN), "loss", "drops", *(f"drops.{cause}" for cause in CAUSES),
+         *(_NOW.get(word, word) for word in map("delay.{}".format, _DELAYS)), "delay.pN")
 
 
 def plain_word(word: str) -> str:
@@ -164,12 +166,19 @@ def word_now(word: str) -> str:
     return _NOW.get(word, word)
 
 
+def warn_older(word: str) -> None:
+    """Warns of an older word of a metric."""
+    if word in _NOW:
+        warn(word, _NOW[word])
+
+
 def metric_of(word: str) -> Metric:
-    """The metric of a word, or of another name of it; `ValueError` with the words that there are.
+    """The metric of a word, or of the older name of it, which is warned of; `ValueError` with the words that there are.
 
     >>> metric_of("delay.p95")
     Metric(word='delay.p95', kind='time', column='p95')
     """
+    warn_older(word)
     word = plain_word(word)
     if word in _PLAIN:
         return Metric(word, _PLAIN[word], word)

@@ -2,16 +2,11 @@
 
 Two of the older names, `size` and `pipe`, were names of pandas' own, so that `packets.size` was no column.
 """
-import warnings
 from typing import Any, Iterable, Optional
 
 import pandas as pd
 
-from dnlab.analysis.columns import NOW, TOLD
-
-def warn(old: str, new: str, level: int = 3) -> None:
-    """Says that a name has another one now."""
-    warnings.warn(TOLD.format(old=old, new=new), DeprecationWarning, stacklevel=level + 1)
+from dnlab.analysis.columns import NOW, warn
 
 
 class Line(pd.Series):  # type: ignore[misc]  # pandas has no types here
@@ -33,14 +28,14 @@ class Line(pd.Series):  # type: ignore[misc]  # pandas has no types here
     def __getitem__(self, key: Any) -> Any:
         new = self._now(key)
         if new is not None:
-            warn(key, new, 2)
+            warn(key, new)
         return super().__getitem__(key if new is None else new)
 
     def __getattr__(self, name: str) -> Any:
         new = self._now(name) if name in NOW else None
         if new is None:
             return super().__getattr__(name)
-        warn(name, new, 2)
+        warn(name, new)
         return super().__getitem__(new)
 
 
@@ -65,12 +60,12 @@ class Table(pd.DataFrame):  # type: ignore[misc]  # pandas has no types here
         if isinstance(key, str):
             new = self._now(key)
             if new is not None:
-                warn(key, new, 2)
+                warn(key, new)
                 return super().__getitem__(new)
         elif isinstance(key, list) and any(self._now(name) for name in key):
             for name in key:
                 if self._now(name):
-                    warn(name, str(self._now(name)), 2)
+                    warn(name, str(self._now(name)))
             return super().__getitem__([self._now(name) or name for name in key])
         return super().__getitem__(key)
 
@@ -81,7 +76,7 @@ class Table(pd.DataFrame):  # type: ignore[misc]  # pandas has no types here
         if name in NOW:
             new = self._now(name)
             if new is not None:
-                warn(name, new, 2)
+                warn(name, new)
                 return super().__getitem__(new)
         return super().__getattr__(name)
 

@@ -9,6 +9,7 @@ from typing import Any, Iterator, Optional, Sequence, Union
 import pandas as pd
 
 from dnlab.analysis import frames, names
+from dnlab.analysis.columns import warn
 from dnlab.analysis.figures import Percentile, interval as interval_of
 from dnlab.analysis.losses import losses, windows
 from dnlab.analysis.marks import Refusal
@@ -61,7 +62,7 @@ class Experiment:
     @property
     def settings(self) -> Optional[str]:
         """The older name of `params`."""
-        names.warn("settings", "params", 2)
+        warn("settings", "params")
         return self.params
 
     @property
@@ -77,7 +78,7 @@ class Experiment:
     @property
     def marks(self) -> str:
         """The older name of `warnings`."""
-        names.warn("marks", "warnings", 2)
+        warn("marks", "warnings")
         return self.warnings
 
     @property

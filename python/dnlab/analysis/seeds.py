@@ -6,11 +6,25 @@ import pandas as pd
 
 from dnlab.analysis import frames
 from dnlab.analysis.asking import unit_of
-from dnlab.analysis.estimates import Kind, estimate, student
+from dnlab.analysis.estimates import student
+from dnlab.analysis.figures import Interval, Kind, interval as interval_of
 from dnlab.errors import Faulty
 
 # More seeds than this aren't counted.
 _MOST = 10**6
+# So many digits behind the point tables have: the last ones of a float differ from one scipy to the next.
+_DIGITS = 6
+
+
+def columns_of(made: Interval) -> dict[str, Optional[float]]:
+    """A mean with its interval, as tables over seeds have it.
+
+    >>> columns_of(interval_of([1.0, 2.0, 3.0]))
+    {'n': 3, 'mean': 2.0, 'low': -0.484138, 'high': 4.484138}
+    """
+    ends = {name: value if value is None else round(value, _DIGITS)
+            for name, value in (("mean", made.mean), ("low", made.low), ("high", made.high))}
+    return {"n": made.count, **ends}
 
 
 def long_of(rows: pd.DataFrame, settings: Sequence[str], stats: Sequence[str]) -> pd.DataFrame:
@@ -59,9 +73,9 @@ def compared(rows: pd.DataFrame, settings: Sequence[str], stats: Sequence[str], 
                     continue
                 both = (by_value[value][stat].astype("Float64") - by_value[base][stat].astype("Float64")).dropna()
                 marks = " ".join(dict.fromkeys(" ".join([*by_value[base].marks, *by_value[value].marks]).split()))
-                made = estimate([float(one) for one in both], level, interval)
+                made = interval_of([float(one) for one in both], level, interval)
                 differs = None if made.low is None or made.high is None else not made.low <= 0 <= made.high
-                found.append({**own, "stat": str(stat), "unit": unit_of(stat), along: value, "base": base, **made._asdict(),
+                found.append({**own, "stat": str(stat), "unit": unit_of(stat), along: value, "base": base, **columns_of(made),
                               "differs": differs, "level": level, "method": interval, "marks": marks})
     return frames.of_rows(found, [*others, "of", "stat", "unit", along, "base", "n", "mean", "low", "high", "differs", "level",
                                   "method", "marks"])

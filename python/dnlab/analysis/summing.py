@@ -86,7 +86,9 @@ def grouped(rows: Sequence[Row], by: Sequence[str], columns: Sequence[str]) -> l
         made: Row = {**dict(zip(keys, key)), "rows": len(members)}
         for column in columns:
             one = interval(float(row[column]) for row in members if row[column] is not None)
-            made |= {f"{column} n": one.count, f"{column} mean": one.mean, f"{column} half": one.half}
+            # Eleven digits: the last ones of a float differ from one scipy to the next.
+            half = None if one.half is None else float(f"{one.half:.11g}")
+            made |= {f"{column} n": one.count, f"{column} mean": one.mean, f"{column} half": half}
         found.append(made)
     return found
 

@@ -3,10 +3,16 @@ import math
 import re
 from typing import Optional, Sequence
 
+from dnlab.analysis.columns import now
 from dnlab.analysis.figures import Percentile
 from dnlab.analysis.tables import PERCENTILES, Row, times_of
 from dnlab.io.lines import CAUSES
 from dnlab.units import FOR_PEOPLE
+
+
+_COUNTS = ("packets", "delivered", "held", "bytes")
+# Columns of times in ns, and what `grouped` makes of them.
+_TIME = re.compile(r"^(p[0-9.]+|min|max|mean|jitter|time|first|last|begin|end|fct|ended_at)( mean| ci95)?$")
 
 
 def milliseconds(value: Optional[int], exact: bool = True) -> str:
@@ -60,23 +66,29 @@ def lines_of(cells: Sequence[Sequence[str]], left: Sequence[int]) -> str:
 
 
 def table(rows: Sequence[Row], percentiles: Sequence[Percentile] = PERCENTILES, exact: bool = False) -> str:
-    """The rows of a summary; times in ms, and fractions, with three digits behind the point unless they are to be exact."""
+    """The rows of a summary under the names of its columns; times in ms, and fractions, with three digits behind the point
+    unless they are to be exact. All drops stand in one column."""
     times = times_of(percentiles)
-    cells = [["experiment", "of", "packets", "delivered", "held", "bytes", "time ms", "bit/s", "drops",
-              *(f"{name} ms" for name in times), "goodput", "again", "done ms", "jain", "ended", "marks"]]
+    names = ["experiment", "of", *_COUNTS, "time", "rate", "drops", *times, "goodput", "again", "completion", "jain", "ended",
+             "marks"]
+    cells = [[heading(now(name)) for name in names]]
     for row in rows:
         cells.append([row["experiment"], row["of"],
-                      *(plain(row[name]) for name in ("packets", "delivered", "held", "bytes")),
+                      *(plain(row[name]) for name in _COUNTS),
                       milliseconds(row["time"], exact), plain(row["rate"]), loss_of(row),
                       *(milliseconds(row[name], exact) for name in times), plain(row["goodput"]), plain(row["again"]),
                       milliseconds(row["completion"], exact), plain(row["jain"], exact), ended_of(row, exact),
                       row["marks"] or "-"])
-    width = len(cells[0])
-    return lines_of(cells, (0, 1, 8, width - 2, width - 1))
+    return lines_of(cells, [names.index(name) for name in ("experiment", "of", "drops", "ended", "marks")])
 
 
-# Columns of times in ns, and what `grouped` makes of them.
-_TIME = re.compile(r"^(p[0-9.]+|min|max|mean|jitter|time|first|last|begin|end|fct|ended_at)( mean| ci95)?$")
+def heading(name: str) -> str:
+    """A column's name as it stands above a printed table: with the unit, if that isn't the column's own.
+
+    >>> heading("p50"), heading("p50 mean"), heading("p50 n"), heading("goodput")
+    ('p50 ms', 'p50 mean ms', 'p50 n', 'goodput')
+    """
+    return f"{name} ms" if _TIME.match(name) else name
 
 
 def _shown(name: str, value: object, exact: bool) -> str:
@@ -89,8 +101,7 @@ def _shown(name: str, value: object, exact: bool) -> str:
 def bare_table(rows: Sequence[Row], exact: bool = False) -> str:
     """Any rows, with their own names of columns; times, and means of times, in ms; rounded as in `table`."""
     names = list(rows[0])
-    heading = [_TIME.sub(r"\1 ms\2", name) for name in names]
-    cells = [heading, *([_shown(name, row[name], exact) for name in names] for row in rows)]
+    cells = [[heading(name) for name in names], *([_shown(name, row[name], exact) for name in names] for row in rows)]
     texts = [place for place, name in enumerate(names) if all(isinstance(row[name], str) for row in rows)]
     return lines_of(cells, texts)
 
@@ -129,10 +140,10 @@ def sweep_table(rows: Sequence[Row], settings: Sequence[str], exact: bool = Fals
         key = tuple(plain(row[name]) for name in settings)
         lines.setdefault(key, {})[row["of"], row["stat"]] = estimated(row, exact)
         marks.setdefault(key, {}).update(dict.fromkeys((row["marks"] or "").split()))
-    heading = [*settings, *(" ".join(filter(None, (*column, unit))) for column, unit in columns.items())]
-    cells = [heading, *([*key, *(own.get(column, "-") for column in columns)] for key, own in lines.items())]
+    names = [*settings, *(" ".join(filter(None, (*column, unit))) for column, unit in columns.items())]
+    cells = [names, *([*key, *(own.get(column, "-") for column in columns)] for key, own in lines.items())]
     left = list(range(len(settings)))
     if any(marks.values()):
-        left.append(len(heading))
-        cells = [line + [words] for line, words in zip(cells, ("marks", *(" ".join(own) or "-" for own in marks.values())))]
+        left.append(len(names))
+        cells = [line + [words] for line, words in zip(cells, ("warnings", *(" ".join(own) or "-" for own in marks.values())))]
     return lines_of(cells, left)

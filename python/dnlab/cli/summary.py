@@ -5,7 +5,7 @@ import json
 import sys
 from typing import Sequence, TextIO
 
-from dnlab.analysis.columns import TOLD, now, older, rows_now
+from dnlab.analysis.columns import now, older, rows_now, warn
 from dnlab.analysis.naming import names_of, with_names
 from dnlab.analysis.spans import Span
 from dnlab.analysis.summing import grouped, summed, tell, tell_empty
@@ -22,36 +22,39 @@ packets of both directions came through it), both directions, and all packets.
 Columns:
   packets    made; of a pipe: served by it
   delivered  delivered; of a pipe: that have left it
-  held       still under way at the end (of a pipe: in its delay line)
+  in_flight  still under way at the end (of a pipe: in its delay line)
   bytes      of what was delivered; of a pipe: that it served
   time       from the first packet made to the last delivered; of a pipe: from
              the first arrival to the last finish
-  bit/s      bytes * 8 over that time, rounded down
+  rate       bytes * 8 over that time, bit/s, rounded down
   drops      by cause; of a pipe only those of CoDel, unless all of the report
              was made under `trace 1`: no other line says which pipe lost a
              packet
-  least, median, p99, greatest
+  min, p50, p99, max
              the time from being made to delivery; of a pipe: from arrival to
              exit. Percentiles are by nearest rank.
   goodput    bit/s of what was new: each byte once, a flow's without headers
-  again      segments that were sent again
-  done       from the flow's command to the delivery of its last missing byte
+  retransmissions
+             segments that were sent again
+  fct        from the flow's command to the delivery of its last missing byte
   jain       Jain's index over the flows' goodputs, 1 if all are equal
   ended      `end`, or `spent` with the moment at which the steps were spent,
              and that of the end
-  marks      what may be silently wrong: refused, spent, no-way-back, denied,
+  warnings   what may be silently wrong: refused, spent, no-way-back, denied,
              nopipe, budget, unsent, reconfigured, outage, half-duplex,
              window-limited, units (docs/reference/tools.md says what each
              means)
+Times are printed in ms, which the heading has after the name.
 A missing value is `-` (nothing in --csv, null in --json, whose times are
 nanoseconds). Without the scenario sizes and the moments at which packets were
-made are missing, unless all of the report was made under `trace 1`. --csv,
---json and --by have names for programs: sender, in_flight, min, p50, max,
-retransmissions, fct, params, warnings. --csv and --json have besides the mean
-and the jitter (RFC 3550) of the one-way delay, utilisation (of a pipe: what it
-served by what its rate could have carried), refused (how many commands were)
-and their codes, seed, budgets and settings of each row's experiment, and
-`varied`, what of its pipes isn't the same in all experiments.
+made are missing, unless all of the report was made under `trace 1`. --csv and
+--json have drops in a column for each cause, and besides the mean and the
+jitter (RFC 3550) of the one-way delay, utilisation (of a pipe: what it served
+by what its rate could have carried), refused (how many commands were) and
+their codes, seed, budgets and params of each row's experiment, and `varied`,
+what of its pipes isn't the same in all experiments. --by and --columns take
+the names of version 0.1 too (held, least, median, greatest, again,
+completion ..), with a warning.
 
 Example:
   ./dnlab alone < scenario.txt | tools/summary - scenario.txt
@@ -103,7 +106,7 @@ def words(given: Sequence[str]) -> argparse.Namespace:
 def column_of(name: str) -> str:
     """A column that is asked for, by the name that rows have; an older name is warned of."""
     if now(name) != name:
-        print(f"summary: {TOLD.format(old=name, new=now(name))}", file=sys.stderr)
+        warn(name, now(name))
     return older(name)
 
 

@@ -4,7 +4,7 @@ import os
 from typing import Any, Callable, Optional, Sequence, TypeVar
 
 from dnlab.analysis.asking import OLDER, STATS, USUAL, Ask, stats_of
-from dnlab.analysis.estimates import KINDS
+from dnlab.analysis.figures import KINDS
 from dnlab.cli.plot import picture
 from dnlab.cli.words import add_span, count_of, listed, parser_of, span_in
 from dnlab.sweeps.elsewhere import DASK

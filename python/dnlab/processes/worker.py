@@ -56,7 +56,11 @@ def main() -> None:
         beside.write_bytes(spelled(answer(job)))
         os.replace(beside, folder / f"{number}.answer")
         job.unlink()
-        os.write(out, b"%d\n" % number)
+        try:
+            os.write(out, b"%d\n" % number)
+        except BrokenPipeError:
+            # It has ended in between, and the signal for that is on its way.
+            end()
 
 
 if __name__ == "__main__":

@@ -6,7 +6,7 @@ import pandas as pd
 
 from dnlab.analysis import frames, names, seeds as over_seeds
 from dnlab.analysis.asking import Ask, Found, unit_of
-from dnlab.analysis.estimates import Kind, estimate
+from dnlab.analysis.figures import Kind, interval as interval_of
 from dnlab.analysis.metrics import is_named
 from dnlab.sweeps.grids import Case
 from dnlab.sweeps.templates import shown
@@ -95,8 +95,8 @@ class Swept:
             marks = " ".join(dict.fromkeys(word for words in group.marks for word in words.split()))
             for stat in self._stats_of(own["of"]):
                 values = [float(value) for value in group[stat].dropna()]
-                made = estimate(values, level, interval)
-                found.append({**own, "stat": stat, "unit": unit_of(stat), **made._asdict(),
+                made = interval_of(values, level, interval)
+                found.append({**own, "stat": stat, "unit": unit_of(stat), **over_seeds.columns_of(made),
                               "least": min(values, default=None), "greatest": max(values, default=None),
                               "level": level, "method": interval, "marks": marks,
                               "needed": None if within is None else over_seeds.needed(values, within, level)})

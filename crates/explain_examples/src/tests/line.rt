@@ -1,13 +1,14 @@
-//! Words at fault, by their numbers in the line.
+//! Words at fault, by their numbers in the line, and what is said of them.
 
-use explain_line::{Form, byte_hint, first_trouble, hint, range_hint};
+use control_faults::{Behind, Check, Expected, FlowSeen, FlowWord, RuleWord, blame, blame_behind};
+use explain_line::{byte_hint, hint, range_hint, wanted_at};
 use std::process::Abort;
 use std::test::*;
 
 /// Wants of each line this word to be the first at fault, or none where none is given.
-fn blames(rt: &impl Abort, ranges: bool, lines: &[(&str, Option<usize>)]) {
+fn blames(rt: &impl Abort, check: Check, lines: &[(&str, Option<usize>)]) {
     for (line, index) in lines {
-        let found = first_trouble(line.as_bytes(), ranges).map(|trouble| trouble.index);
+        let found = blame(line.as_bytes(), check).map(|blamed| blamed.index);
         assert!(rt; found == *index, "in {line}");
     }
 }
@@ -16,7 +17,7 @@ fn blames(rt: &impl Abort, ranges: bool, lines: &[(&str, Option<usize>)]) {
 fn words_without_their_form(rt: HostRuntime) {
     blames(
         &rt,
-        false,
+        Check::Forms,
         &[
             ("", Some(0)),
             ("experiment a seed 0 budget 1", None),
@@ -45,7 +46,7 @@ fn words_without_their_form(rt: HostRuntime) {
 fn numbers_outside_their_range(rt: HostRuntime) {
     blames(
         &rt,
-        true,
+        Check::Ranges,
         &[
             (
                 "@0 flow 1 1.2.3.4 1 1.2.3.4 2 smss 99 segments 9 rto adaptive",
@@ -58,13 +59,47 @@ fn numbers_outside_their_range(rt: HostRuntime) {
 }
 
 #[test]
+fn words_behind(rt: HostRuntime) {
+    let line = b"@0 inject udp 10.0.0 1 10.0.0.2 70000 9 ";
+    let first = blame(line, Check::Ranges).expect(&rt, "the address is at fault");
+    assert!(rt; first.index == 3);
+    let Behind::Fault(second) = blame_behind(line, &first) else {
+        panic!(rt; "the port is at fault too");
+    };
+    assert!(rt; second.index == 6);
+    let Behind::Fault(third) = blame_behind(line, &second) else {
+        panic!(rt; "the size is at fault too");
+    };
+    assert!(rt; third.index == 7);
+    assert!(rt; matches!(blame_behind(line, &third), Behind::Fine));
+    let line = b"@0 inject udp 10.0.0 1 10.0.0.2 7";
+    let first = blame(line, Check::Ranges).expect(&rt, "the address is at fault");
+    let Behind::Fault(second) = blame_behind(line, &first) else {
+        panic!(rt; "the size is lacking");
+    };
+    assert!(rt; second.index == 7);
+    assert!(rt; matches!(blame_behind(line, &second), Behind::Unsure));
+}
+
+#[test]
 fn hints(rt: HostRuntime) {
-    assert!(rt; hint(Form::Rate, b"10Mbps").is_some());
-    assert!(rt; hint(Form::Fraction, b"5%") == Some("no percent sign: 5% is 0.05"));
-    assert!(rt; hint(Form::Number(0, 9), b"#") == Some("a comment has a line of its own"));
+    let seen = FlowSeen {
+        ssthresh: true,
+        window: false,
+        timing: false,
+    };
+    let option = Expected::Flow(FlowWord::Setting(seen));
+    assert!(rt; wanted_at(option, b"ssthresh").expected == "each option at most once");
+    assert!(rt; hint(option, b"ssthresh").is_none());
+    let ports = Expected::Rule(RuleWord::LastPorts);
     assert!(rt;
-        range_hint(Form::Ports, b"9-3") == Some("the first port is above the last: turn them round")
+        hint(ports, b"80,90")
+            == Some("no lists: a rule has one port or one range; write a rule for each")
     );
-    assert!(rt; range_hint(Form::Ports, b"1-70000").is_none());
+    assert!(rt; hint(Expected::Stopped, b"#") == Some("a comment has a line of its own"));
+    assert!(rt;
+        range_hint(ports, b"9-3") == Some("the first port is above the last: turn them round")
+    );
+    assert!(rt; range_hint(ports, b"1-70000").is_none());
     assert!(rt; byte_hint(b'\t', false) == "it is a tab: put spaces between words");
 }

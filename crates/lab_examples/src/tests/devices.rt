@@ -39,6 +39,36 @@ impl Read for Shaky<'_> {
     }
 }
 
+/// A writer that is interrupted twice before each write, which takes a byte, and before each flush.
+#[derive(Drop)]
+struct ShakyOut {
+    taken: Vec<u8>,
+    turn: u32,
+}
+
+impl ShakyOut {
+    fn begin(&mut self) -> io::Result<()> {
+        self.turn = self.turn.wrapping_add(1);
+        if self.turn % 3 != 0 {
+            return Err(io::Error::from(ErrorKind::Interrupted));
+        }
+        Ok(())
+    }
+}
+
+impl Write for ShakyOut {
+    fn write(&mut self, buf: &[u8]) -> io::Result<usize> {
+        self.begin()?;
+        let count = buf.len().min(1);
+        self.taken.extend_from_slice(&buf[..count])?;
+        Ok(count)
+    }
+
+    fn flush(&mut self) -> io::Result<()> {
+        self.begin()
+    }
+}
+
 /// A writer that takes so many bytes, a few at each write, and then fails, or takes none.
 #[derive(Drop)]
 struct Writer {
@@ -171,6 +201,28 @@ fn interrupted_reads(rt: HostRuntime) {
         assert!(rt; outcome == Ok(()));
         assert!(rt; !reader.has_failed());
         assert!(rt; writer.into_inner().as_slice() == texts::ONE_PACKET_REPORT.as_bytes());
+    }
+}
+
+/// Patience for two interruptions is enough where each call after them goes well: it is given back then.
+#[test]
+fn patience_is_given_back(rt: HostRuntime) {
+    for way in [Way::Alone, Way::Together] {
+        let shaky = Shaky {
+            left: texts::ONE_PACKET.as_bytes(),
+            turn: 0,
+        };
+        let mut reader = Device::with_patience(shaky, 2);
+        let shaky = ShakyOut {
+            taken: Vec::new(rt.alloc()),
+            turn: 0,
+        };
+        let mut writer = Device::with_patience(shaky, 2);
+        let outcome = call(&rt, rt.alloc(), way, &mut reader, &mut writer);
+        assert!(rt; outcome == Ok(()));
+        assert!(rt; !reader.has_failed() && !writer.has_failed());
+        let ShakyOut { taken, .. } = writer.into_inner();
+        assert!(rt; taken.as_slice() == texts::ONE_PACKET_REPORT.as_bytes());
     }
 }
 

@@ -1,13 +1,13 @@
 //! Sessions over memory, and a scenario's bytes by the pure core.
 
 use super::*;
-use lab::{live, reports_of};
+use lab::{NoHints, live, reports_of};
 
 /// What a session answers, and what it wrote.
 fn talk(alloc: Global, lines: &str) -> (Result<(), RunFault>, Vec<u8>) {
     let mut reader = Device::new(lines.as_bytes());
     let mut writer = Device::new(Vec::new(alloc));
-    let outcome = live(alloc, &mut reader, &mut writer);
+    let outcome = live(alloc, &mut reader, &mut writer, &NoHints);
     (outcome, writer.into_inner())
 }
 
@@ -67,9 +67,10 @@ fn ends_as_a_text_does(rt: HostRuntime) {
 #[test]
 fn reports_from_bytes(rt: HostRuntime) -> Result<(), Fail> {
     let reports = reports_of(rt.alloc(), texts::ONE_PACKET.as_bytes()).map_err(|_e| "reports")?;
-    assert!(rt; reports.texts().len() == 1);
-    for text in reports.texts() {
-        assert!(rt; text.as_bytes() == texts::ONE_PACKET_REPORT.as_bytes());
+    assert!(rt; reports.each().len() == 1);
+    for report in reports.each() {
+        let text = report.text(rt.alloc()).map_err(|_e| "text")?;
+        assert!(rt; text.as_slice() == texts::ONE_PACKET_REPORT.as_bytes());
     }
     let fault = reports_of(rt.alloc(), b"@0 end\n").err();
     let cause = Cause::NoExperiment;

@@ -32,7 +32,7 @@ impl Gate for Meeting {
 }
 
 /// What a run by workers answers, and what it wrote.
-fn ran<R: Threads + Wait + Sync, G: Gate>(
+pub fn ran<R: Threads + Wait + Sync, G: Gate>(
     rt: &R,
     alloc: Global,
     scenario: &str,

@@ -7,10 +7,10 @@ use std::process::Abort;
 use std::test::Fail;
 use timer_wheel::ListAgenda;
 
-type Lists = Shard<ListAgenda, ListMail>;
+pub type Lists = Shard<ListAgenda, ListMail>;
 
-// An experiment to which no command came; None where memory was refused.
-fn parcel(alloc: Global, name: u32) -> Option<Parcel<ListMail>> {
+/// An experiment to which no command came; None where memory was refused.
+pub fn parcel(alloc: Global, name: u32) -> Option<Parcel<ListMail>> {
     let packets = PacketBudget::new(4)?;
     let steps = StepBudget::new(100)?;
     let budget = Budget { packets, steps };
@@ -32,23 +32,24 @@ fn seat_all(alloc: Global, shard: &mut Lists, names: &[u32]) -> Option<()> {
     Some(())
 }
 
-fn put(shard: &mut Lists, slot: usize, moment: u16) -> Result<(), PostError> {
+/// Puts a listing of the pipes at a moment.
+pub fn put(shard: &mut Lists, slot: usize, moment: u16) -> Result<(), PostError> {
     let moment = u64::from(moment);
     let command = Command::PipeShow;
     shard.put(slot, Timed { moment, command })
 }
 
-// What a turn was.
+/// What a turn was.
 #[derive(Clone, Copy, Debug, PartialEq)]
-enum Was {
+pub enum Was {
     Ran(u32),
     Ended,
     Idle,
 }
 
-// Makes a turn. A shard, a parcel and what a turn gives are dropped by calls: where they stand, each of their parts
-// would be proved.
-fn turned(shard: &mut Lists) -> Was {
+/// Makes a turn. A shard, a parcel and what a turn gives are dropped by calls: where they stand, each of their parts
+/// would be proved.
+pub fn turned(shard: &mut Lists) -> Was {
     let turned = shard.turn();
     let was = match &turned {
         Turned::Ran(name) => Was::Ran(*name),
@@ -59,8 +60,8 @@ fn turned(shard: &mut Lists) -> Was {
     was
 }
 
-// How many commands the resident of a slot consumed.
-fn consumed(shard: &Lists, slot: usize) -> Option<usize> {
+/// How many commands the resident of a slot consumed.
+pub fn consumed(shard: &Lists, slot: usize) -> Option<usize> {
     let commands = shard.consumed(slot).ok()?;
     Some(commands.len())
 }

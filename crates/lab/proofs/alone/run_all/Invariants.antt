@@ -4,5 +4,5 @@ use Rattle.lab.proofs.alone.run_all.Given as goal
 
 abbrev pub invariant-loop-script : goal.invariant-loop-script
 invariant-loop-script g l = record {
-  done : l.texts.items ≡ map report_alone (take l.script-index l.scripts);
+  done : l.reports.items ≡ map report_alone (take l.script-index l.scripts);
 }

@@ -1,7 +1,4 @@
-use Rattle.std.proofs.Common.{◌≡◌, ◌<◌, [], length, refl, ap, take, arith}
-use Rattle.std.specs.Prelude.{All}
-use Rattle.std.proofs.lemmas.Bool.Decides.{Decides-eqb}
-use Rattle.lab.specs.Talks.{KeptTalk}
+use Rattle.std.proofs.Common.{◌≡◌, ◌<◌, length, refl, ap, take, arith}
 use Rattle.lab.proofs.Talking.{read-none, read-more, read-all}
 use Rattle.lab.proofs.talk.live.Goals as goal
 

@@ -5,5 +5,5 @@ pub returns-clause-ok : goal.returns-clause-ok
 returns-clause-ok g c = (
   c.in_ok-scenario.scenario,
   c.in_ok-scenario.ensures.spells,
-  same-texts c.in_ok-scenario.scenario c.experiments.result.now c.in-Ok.texts.items c.experiments.ensures.value c.in-Ok.ensures,
+  same-texts c.in_ok-scenario.scenario c.experiments.result.now c.in-Ok.reports.items c.experiments.ensures.value c.in-Ok.ensures,
 )

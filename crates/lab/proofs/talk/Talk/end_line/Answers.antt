@@ -9,7 +9,7 @@ use Rattle.lab.proofs.Talking.{said-line}
 use Rattle.lab.proofs.talk.Talk.end_line.Goals as goal
 
 pub returns-then-not-self-clause-hears : goal.returns-then-not-self-clause-hears
-returns-then-not-self-clause-hears c =
+returns-then-not-self-clause-hears g c =
     let part = c.self.inside.part in
     let none : part.items ≡ [] = nil_from_length part.items (sym part.ok.0 ∙ (Decides-eqb part.len 0).0 (sym c.if-is_empty.ensures)) in
     let now : KeptTalk = c.answer.new.self in

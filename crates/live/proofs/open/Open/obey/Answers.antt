@@ -1,9 +1,15 @@
-use Rattle.std.proofs.Common.{◌≡◌, ◌++◌, [], refl, ap, ◌∙◌, subst}
+use Rattle.std.proofs.Common.{false, sym, ◌≡◌, ◌++◌, [], refl, ap, ◌∙◌, subst}
 use Rattle.live.specs.declared.open.Phase.TheVariants.{Going}
 use Rattle.live.specs.Opens.{KeptOpen, IsOpen, Tells, Takes}
 use Rattle.live.specs.contracts.open.Open.{the_view}
 use Rattle.live.proofs.OpenFacts.{passed, took}
+use Rattle.std.specs.Prelude.{Option, Some, None, is_some}
+use Rattle.live.specs.Runs.{KeptRun, IsQuiet}
 use Rattle.live.proofs.RunFacts.{can_write_at}
+use Rattle.live.specs.declared.fates.Stop.TheVariants.{Moment}
+use Rattle.live.specs.Stops.{StopsAt}
+use Rattle.live.specs.Effects.{Commanded}
+use Rattle.live.proofs.OpenFacts.{settled-done}
 use Rattle.live.proofs.open.Open.obey.Goals as goal
 
 pub settle-requires-clause-writes : goal.settle-requires-clause-writes
@@ -20,7 +26,7 @@ settle-requires-2-clause-housed c =
     let phase : inside.phase ≡ Going = ap (λ (o : KeptOpen). o.phase) c.self.view_is ∙ c.requires.going in
     let inv : IsOpen Going inside.reached inside.run inside.is_closed = subst (λ p. IsOpen p inside.reached inside.run inside.is_closed) phase c.self.invariant in
     let told = c.in_ok-self-inside.ensures.goes.tells inv.3 inv.4 in
-    (c.in_ok-taken.ensures.after c.in_ok-self-inside.field-0 (inv.3 ++ told.0) told.1 c.in_ok-self-inside.ensures.between.1).housed
+    (c.in_ok-taken.ensures.takes.after c.in_ok-self-inside.field-0 (inv.3 ++ told.0) told.1 c.in_ok-self-inside.ensures.between.1).housed
 
 pub returns-then-is_some-clause-told : goal.returns-then-is_some-clause-told
 returns-then-is_some-clause-told c =
@@ -44,5 +50,33 @@ returns-clause-told c =
       h.1,
       subst (λ (o : KeptOpen). Takes c.args.command.now h.0 o c.settle-2.new.self) c.self.view_is
           (took c.ended_runs_are_reports.ensures (the_view inside) _ c.settle-2.new.self c.pass.new.self c.in_ok-self-inside.field-0 c.args.command.now h.0 h.2 phase refl inv.2 inv.1
-          c.in_ok-self-inside.ensures.goes c.in_ok-self-inside.ensures.between.1 c.in_ok-taken.ensures refl),
+          c.in_ok-self-inside.ensures.goes c.in_ok-self-inside.ensures.between.1 c.in_ok-taken.ensures.takes refl),
+    )
+
+is_none : {A : Type 0} (o : Option A) → is_some o ≡ false → o ≡ None
+is_none None e = refl
+is_none (Some x) e = absurd (cc)
+
+pub returns-clause-comes : goal.returns-clause-comes
+returns-clause-comes c =
+    let inside = c.self.inside in
+    let phase : inside.phase ≡ Going = ap (λ (o : KeptOpen). o.phase) c.self.view_is ∙ c.requires.going in
+    let inv : IsOpen Going inside.reached inside.run inside.is_closed = subst (λ p. IsOpen p inside.reached inside.run inside.is_closed) phase c.self.invariant in
+    let before : KeptRun = c.pass.new.self in
+    let passed = c.in_ok-self-inside.ensures in
+    let none : before.experiment.ending ≡ None =
+    is_none before.experiment.ending (sym (ap is_some c.ending.ensures) ∙ sym c.is_some.ensures ∙ c.if-is_some.false) in
+    let all = passed.whole none refl in
+    let h = c.in_ok-settle-2.ensures in (
+      h.0,
+      h.1,
+      subst (λ (o : KeptOpen). Commanded c.args.command.now c.in_ok-taken.taken h.0 o c.settle-2.new.self) c.self.view_is
+          (settled-done (the_view inside) _ c.settle-2.new.self h.0 c.args.command.now c.in_ok-taken.taken before h.2 refl inv.1
+          (subst (λ u. StopsAt Moment inside.reached c.args.command.now.moment u inside.run before) all passed.stops)
+          (record {
+            quiet = subst (λ u. IsQuiet u before) all (passed.quiet none);
+            takes = c.in_ok-taken.ensures.takes;
+            marks = c.in_ok-taken.ensures.marked;
+            taken = c.in_ok-taken.ensures.taken;
+          }) refl),
     )

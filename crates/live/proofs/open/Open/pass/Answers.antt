@@ -4,7 +4,8 @@ use Rattle.live.specs.Opens.{KeptOpen, IsOpen, Tells}
 use Rattle.live.specs.contracts.open.Open.{the_view}
 use Rattle.std.specs.Prelude.{Result, Ok, Err, OnOk}
 use Rattle.live.proofs.RunFacts.{can_write_at}
-use Rattle.live.proofs.OpenFacts.{passed}
+use Rattle.live.specs.Effects.{IsPassed}
+use Rattle.live.proofs.OpenFacts.{passed, settled-passed}
 use Rattle.live.proofs.open.Open.pass.Goals as goal
 
 pub settle-requires-clause-writes : goal.settle-requires-clause-writes
@@ -30,5 +31,20 @@ returns-clause-told c =
       h.1,
       subst (λ (o : KeptOpen). Tells [] h.0 o c.settle.new.self) c.self.view_is
           (passed c.spent_runs_are_reports.ensures (the_view inside) _ c.settle.new.self h.0 h.2 phase refl inv.2 inv.1 c.in_ok-self-inside.ensures.goes),
+    ))
+    c.settle.ensures
+
+pub returns-clause-passes : goal.returns-clause-passes
+returns-clause-passes c =
+    let inside = c.self.inside in
+    let phase : inside.phase ≡ Going = ap (λ (o : KeptOpen). o.phase) c.self.view_is ∙ c.requires.going in
+    let inv : IsOpen Going inside.reached inside.run inside.is_closed = subst (λ p. IsOpen p inside.reached inside.run inside.is_closed) phase c.self.invariant in
+    let went = c.in_ok-self-inside.ensures in
+    on_ok _ _ c.settle.result
+    (λ h. (
+      h.0,
+      h.1,
+      subst (λ (o : KeptOpen). IsPassed c.args.limit c.args.stop h.0 o c.settle.new.self) c.self.view_is
+          (settled-passed (the_view inside) _ c.settle.new.self h.0 c.args.limit c.args.stop h.2 refl inv.1 refl went.stops went.quiet went.whole),
     ))
     c.settle.ensures

@@ -6,6 +6,9 @@ use Rattle.std.specs.Prelude.{MatchOption}
 use Rattle.live.specs.declared.open.Phase.TheVariants.{Going, Over, Lost}
 use Rattle.live.specs.Opens.{KeptOpen, Tells, Takes}
 use Rattle.live.proofs.OpenFacts.{ended-by}
+use Rattle.std.proofs.Common.{ℕ, List, ◌++◌, false}
+use Rattle.std.specs.Prelude.{IfSome}
+use Rattle.live.specs.Effects.{Commanded, ObeysIn}
 use Rattle.live.proofs.open.Open.take.Goals as goal
 
 is_over : (p : Phase) → true ≡ sameb the_type p Over → p ≡ Over
@@ -24,4 +27,23 @@ returns-then-eq-clause-told c =
           (subst (λ t. MatchOption t (Tells [] h.0 c.args.self.now c.obey.new.self) (λ x. Takes c.args.command.now h.0 c.args.self.now c.obey.new.self)) c.in-Some.is h.2)
           (sym (ap (λ (o : KeptOpen). o.phase) c.self-2.view_is) ∙ over) over
           (ap (λ (o : KeptOpen). o.name) c.self-2.view_is) (ap (λ (o : KeptOpen). o.run) c.self-2.view_is),
+    )
+
+not_over : (p : Phase) → false ≡ sameb the_type p Over → p ≡ Over → ⊥
+not_over Going e is = absurd (cc)
+not_over Over e is = absurd (cc)
+not_over Lost e is = absurd (cc)
+
+pub returns-clause-obeys : goal.returns-clause-obeys
+returns-clause-obeys c fine =
+    let t = c.in-Some.taken in
+    let command = c.args.command.now in
+    let phase : c.args.self.now.phase ≡ Going = sym (ap (λ (o : KeptOpen). o.phase) c.self.view_is) ∙ c.in-Going.is in
+    let h = subst (λ o. IfSome o (λ k. (bytes : List ℕ) × (c.obey.new.out.items ≡ c.args.out.now.items ++ bytes) × Commanded command k bytes c.args.self.now c.obey.new.self)) c.in-Some.is c.in_ok-taken.ensures.comes in (
+      h.0,
+      h.1,
+      subst (λ p. ObeysIn p command h.0 c.answer_of.result c.args.self.now c.obey.new.self) (sym phase) (record {
+        over = λ over. absurd (not_over c.self-2.inside.phase c.if-eq.ensures (ap (λ (o : KeptOpen). o.phase) c.self-2.view_is ∙ over));
+        done = λ going. (t, h.2, c.answer_of.ensures.value);
+      }),
     )

@@ -1,5 +1,9 @@
-use Rattle.std.proofs.Common.{◌-◌, ◌≤◌}
+use Rattle.std.proofs.Common.{List, ◌≡◌, ◌-◌, ◌≤◌}
+use Rattle.live.specs.declared.fates.Stop.TheVariants.{Moment}
+use Rattle.emu_model.specs.declared.records.Record.{Record}
 use Rattle.live.specs.Runs.{Goes}
+use Rattle.live.specs.Stops.{way_of}
+use Rattle.live.proofs.StopFacts.{Leads}
 use Rattle.live.proofs.run.Run.pass.Given as goal
 
 abbrev pub invariant-loop-self : goal.invariant-loop-self
@@ -8,6 +12,8 @@ invariant-loop-self l = record {
   since : l.from ≤ l.reached;
   on : l.reached ≤ l.last;
   within : l.last ≤ l.limit;
+  leads : (earlier : List Record) → Leads (way_of l.initial.self.mine l.fn.stop l.from l.limit) l.initial.self (way_of l.self.mine l.until l.reached l.last) l.self earlier;
+  whole : l.fn.stop ≡ Moment → (l.until ≡ Moment) × (l.last ≡ l.limit);
 }
 
 abbrev pub decreases-loop-self : goal.decreases-loop-self

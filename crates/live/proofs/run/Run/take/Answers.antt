@@ -1,15 +1,20 @@
-use Rattle.std.proofs.Common.{◌∷◌, ◌++◌, [], sym, ap, ◌∙◌, subst}
+use Rattle.std.specs.Prelude.{option_map, slice_get}
+use Rattle.std.proofs.Common.{◌≡◌, List, length, ◌∷◌, ◌++◌, [], sym, ap, ◌∙◌, subst}
 use Rattle.packet_store.specs.Own.{own_pocket}
 use Rattle.experiment.specs.Kept.{KeptExperiment}
-use Rattle.live.specs.Runs.{KeptRun, IsAt}
+use Rattle.emu_model.specs.declared.commands.Command.{Command}
+use Rattle.emu_model.specs.declared.records.Record.{Record}
+use Rattle.experiment.specs.Kept.{IsHousedIn}
+use Rattle.live.specs.Fates.{MarkedBy, refusal_in, taken_by}
+use Rattle.live.specs.Runs.{KeptRun, IsAt, made_of}
 use Rattle.live.specs.contracts.run.Run.{the_view}
-use Rattle.live.proofs.RunFacts.{takes-all}
+use Rattle.live.proofs.RunFacts.{takes-all, read-at}
 use Rattle.live.proofs.run.Run.take.Goals as goal
 
-pub returns : goal.returns
-returns c =
+pub returns-clause-takes : goal.returns-clause-takes
+returns-clause-takes c =
     let before : KeptRun = the_view c.self.inside in
-    let after : KeptRun = record before { experiment = c.obey.new.experiment; shelf = c.obey.new.shelf } in
+    let after : KeptRun = record before { experiment = c.obey.new.experiment; shelf = c.obey.new.shelf; mine = c.mark_injected.new.mine } in
     takes-all c.waits_begin.ensures c.args.command.now c.args.self.now after
     (c.in_ok-obey.ensures.spec ∙ ap (λ (e : KeptExperiment). e.spec) c.in-Ok.ensures.ok ∙ ap (λ (r : KeptRun). r.experiment.spec) c.self.view_is)
     (c.in_ok-obey.ensures.consumed ∙ ap (λ (e : KeptExperiment). e.consumed) c.in-Ok.ensures.ok ∙ ap (λ (r : KeptRun). r.experiment.consumed ++ c.args.command.now ∷ []) c.self.view_is)
@@ -24,3 +29,29 @@ returns c =
       alone = c.in_ok-obey.ensures.after earlier (c.in-Ok.ensures.waited t earlier (own_pocket before.shelf) up at.waits);
     })
     c.in_ok-obey.ensures.done
+
+pub returns-clause-marked : goal.returns-clause-marked
+returns-clause-marked c =
+    let before : KeptRun = the_view c.self.inside in
+    let command : Command = c.args.command.now.command in
+    let housed : IsHousedIn (own_pocket before.shelf) before.experiment =
+    subst (λ (r : KeptRun). IsHousedIn (own_pocket r.shelf) r.experiment) (sym c.self.view_is) c.requires.at.2.housed in
+    let made : c.made-number.result ≡ made_of before = c.made-number.ensures (own_pocket before.shelf) housed in
+    subst (λ (r : KeptRun). MarkedBy command (made_of r) r.mine c.mark_injected.new.mine) c.self.view_is
+    (subst (λ n. MarkedBy command n before.mine c.mark_injected.new.mine) made c.in_ok-mark_injected.ensures)
+
+pub returns-clause-taken : goal.returns-clause-taken
+returns-clause-taken c =
+    let before : KeptRun = the_view c.self.inside in
+    let command : Command = c.args.command.now.command in
+    let housed : IsHousedIn (own_pocket before.shelf) before.experiment =
+    subst (λ (r : KeptRun). IsHousedIn (own_pocket r.shelf) r.experiment) (sym c.self.view_is) c.requires.at.2.housed in
+    let made : c.made-number.result ≡ made_of c.args.self.now = c.made-number.ensures (own_pocket before.shelf) housed ∙ ap made_of c.self.view_is in
+    let records : List Record = c.obey.new.experiment.net.log.records in
+    let seen : length c.records-seen.result.now ≡ length c.args.self.now.experiment.net.log.records =
+    ap length (c.records-seen.ensures ∙ ap (λ (r : KeptRun). r.experiment.net.log.records) c.self.view_is) in
+    c.taken_by.ensures
+    ∙ ap (λ n. taken_by command n (refusal_in (option_map (λ r. r.now) c.get.result))) made
+    ∙ ap (λ o. taken_by command (made_of c.args.self.now) (refusal_in o))
+    (read-at (λ r. r.now) c.get.result c.records.result.now (length c.records-seen.result.now) c.get.ensures.lookup.0 c.get.ensures.lookup.1
+    ∙ ap (λ (l : List Record). slice_get l (length c.records-seen.result.now)) c.records.ensures ∙ ap (λ n. slice_get records n) seen)

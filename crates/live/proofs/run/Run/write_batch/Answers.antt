@@ -1,6 +1,7 @@
 use Rattle.std.specs.Prelude.{Result, Ok, Err, OnOk}
 use Rattle.live.specs.Runs.{Forgets}
 use Rattle.live.proofs.RunFacts.{goes-written}
+use Rattle.live.proofs.StopFacts.{keeps-same, keeps-written}
 use Rattle.live.proofs.run.Run.write_batch.Goals as goal
 
 on_ok : {T E : Type 0} (P Q : Type 0) (r : Result T E) → (P → Q) → OnOk r P → OnOk r Q
@@ -11,3 +12,9 @@ pub returns-clause-goes : goal.returns-clause-goes
 returns-clause-goes c =
     on_ok (Forgets c.args.self.now c.write.new.self) _ c.write.result
     (λ f t u was g. goes-written t u was c.args.self.now c.write.new.self g f) c.write.ensures
+
+pub returns-then-records-lt-BATCH-clause-keeps : goal.returns-then-records-lt-BATCH-clause-keeps
+returns-then-records-lt-BATCH-clause-keeps c = keeps-same c.args.self.now
+
+pub returns-clause-keeps : goal.returns-clause-keeps
+returns-clause-keeps c = on_ok (Forgets c.args.self.now c.write.new.self) _ c.write.result (λ f. keeps-written c.args.self.now c.write.new.self f) c.write.ensures

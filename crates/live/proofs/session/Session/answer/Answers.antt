@@ -1,11 +1,7 @@
-use Rattle.live.proofs.SessionFacts.{helped, asked-told}
+use Rattle.live.specs.Requests.{view_request}
+use Rattle.live.proofs.SessionFacts.{if_ok}
 use Rattle.live.proofs.session.Session.answer.Goals as goal
 
-pub returns-in_ok-extend_from_slice-in-Ok-Help : goal.returns-in_ok-extend_from_slice-in-Ok-Help
-returns-in_ok-extend_from_slice-in-Ok-Help c =
-    let h = helped c.args.self.now c.args.out.now.items _ c.in_ok-extend_from_slice-in-Ok-Help.ensures.items in
-    (h.0, h.1, λ fine plain other. h.2)
-
-pub returns-in-Ok : goal.returns-in-Ok
-returns-in-Ok c =
-    asked-told c.args.self.now c.ask.new.self c.args.asked.now c.args.out.now.items c.ask.new.out.items c.in-Ok.request c.ask.result c.in-Ok.ensures.mine c.ask.ensures
+pub returns-in-Ok-clause-obeys : goal.returns-in-Ok-clause-obeys
+returns-in-Ok-clause-obeys c =
+    if_ok _ _ c.obey.result (λ a h fine. let t = h fine in (t.0, t.1, (view_request c.in-Ok.request, c.in-Ok.ensures.value, t.2))) c.obey.ensures.obeys

@@ -1,13 +1,16 @@
-use Rattle.std.proofs.Common.{◌≡◌, ◌++◌, ◌∷◌, [], ◌∙◌, subst}
+use Rattle.std.proofs.Common.{◌++◌, ◌∷◌, [], ◌∙◌, subst}
 use Rattle.report.specs.Lines.{heading_of}
 use Rattle.control.specs.Scenario.{begun}
 use Rattle.live.specs.Sessions.{KeptSession, Grows}
 use Rattle.live.specs.contracts.session.Session.{the_view}
 use Rattle.live.proofs.SessionFacts.{grows-begun}
+use Rattle.std.proofs.Common.{refl}
+use Rattle.live.specs.declared.answer.Answer.TheVariants.{Done}
+use Rattle.live.specs.Effects.{IsBegun}
 use Rattle.live.proofs.session.Session.begin.Goals as goal
 
-pub returns : goal.returns
-returns c =
+pub returns-clause-grows : goal.returns-clause-grows
+returns-clause-grows c =
     let name = c.args.name.now in
     let h = c.in_ok-begun.ensures in
     let old : KeptSession = the_view c.self.inside in
@@ -17,4 +20,25 @@ returns c =
       λ fine. subst (λ (s : KeptSession). Grows (λ es. es ++ begun name c.args.spec ∷ []) (heading_of name) s new) c.self.view_is
           (grows-begun old new c.in_ok-begun.begun (heading_of name) (begun name c.args.spec) c.in_ok-push.ensures.items (c.len-self-inside.ensures ∙ c.self.inside.open.ok.0)
           (record { name = h.given.0; spec = h.given.1; told = h.told.1 })),
+    )
+
+pub returns-clause-begins : goal.returns-clause-begins
+returns-clause-begins c =
+    let name = c.args.name.now in
+    let h = c.in_ok-begun.ensures in
+    let old : KeptSession = the_view c.self.inside in
+    let new : KeptSession = record { opened = c.push.new.self.items; current = c.len-self-inside.result } in
+    λ fine. (
+      heading_of name,
+      h.told.0,
+      subst (λ (s : KeptSession). IsBegun name c.args.spec (heading_of name) Done s new) c.self.view_is (record {
+        opened = c.in_ok-begun.begun;
+        name_is = h.given.0;
+        spec_is = h.given.1;
+        reached = h.given.2;
+        phase = h.given.3;
+        told = refl;
+        answer = refl;
+        is = λ i. record { opened = c.in_ok-push.ensures.items i; current = (c.len-self-inside.ensures ∙ c.self.inside.open.ok.0) i };
+      }),
     )

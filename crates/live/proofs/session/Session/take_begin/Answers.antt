@@ -1,7 +1,27 @@
-use Rattle.std.proofs.Common.{◌++◌, ◌∷◌, []}
+use Rattle.std.proofs.Common.{ℕ, List, sym, ap, ◌∙◌, ◌++◌, ◌∷◌, []}
 use Rattle.control.specs.Scenario.{begun}
-use Rattle.live.proofs.SessionFacts.{answered-grows}
+use Rattle.live.specs.Faults.{begin_fault}
+use Rattle.live.proofs.SessionFacts.{answered-grows, fault-said, if_ok, said-all, no-fault}
+use Rattle.live.proofs.SessionFacts.{does-said}
+use Rattle.live.specs.Effects.{IsBegun}
 use Rattle.live.proofs.session.Session.take_begin.Goals as goal
 
-pub returns : goal.returns
-returns c = answered-grows c.args.self.now c.begin.new.self c.in_ok-answer.answer (λ es. es ++ begun c.args.name.now c.args.spec ∷ []) _ _ _ c.put_answer.result c.in_ok-answer.ensures c.put_answer.ensures
+pub returns-clause-grows : goal.returns-clause-grows
+returns-clause-grows c =
+    if_ok _ _ c.say.result
+    (λ f h none.
+    answered-grows c.args.self.now c.begin.new.self c.in_ok-answer.answer (λ es. es ++ begun c.args.name.now c.args.spec ∷ []) _ _ _ c.in_ok-answer.ensures.grows (h.1 ∙ ap (λ (l : List ℕ). c.begin.new.out.items ++ l) (said-all c.in_ok-answer.answer (sym h.0 ∙ none)))
+    (no-fault c.in_ok-answer.answer (sym h.0 ∙ none)))
+    c.say.ensures
+
+pub returns-clause-fault : goal.returns-clause-fault
+returns-clause-fault c =
+    if_ok _ _ c.say.result
+    (λ f h. fault-said (begin_fault c.args.self.now.opened c.args.name.now) f c.in_ok-answer.answer c.args.self.now c.begin.new.self c.args.out.now.items c.begin.new.out.items _ c.in_ok-answer.ensures.fault h.0 h.1)
+    c.say.ensures
+
+pub returns-clause-does : goal.returns-clause-does
+returns-clause-does c =
+    if_ok _ _ c.say.result
+    (λ f h. does-said f c.in_ok-answer.answer c.args.out.now.items c.begin.new.out.items _ (λ bytes a. IsBegun c.args.name.now c.args.spec bytes a c.args.self.now c.begin.new.self) c.in_ok-answer.ensures.begins h.0 h.1)
+    c.say.ensures

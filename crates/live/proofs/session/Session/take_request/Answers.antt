@@ -1,7 +1,30 @@
-use Rattle.live.proofs.SessionFacts.{requested}
+use Rattle.std.proofs.Common.{ℕ, List, sym, ap, ◌∙◌, ◌++◌}
+use Rattle.live.specs.Faults.{asked_fault}
+use Rattle.live.specs.Requests.{request_of}
+use Rattle.live.proofs.SessionFacts.{requested, fault-said, if_ok, said-all, no-fault}
+use Rattle.live.proofs.SessionFacts.{does-said}
+use Rattle.std.proofs.Common.{◌≡◌}
+use Rattle.std.specs.Prelude.{Ok}
+use Rattle.live.specs.Requests.{Asked}
+use Rattle.live.specs.Effects.{Obeys}
 use Rattle.live.proofs.session.Session.take_request.Goals as goal
 
-pub returns : goal.returns
-returns c =
-    requested c.args.self.now c.answer.new.self c.in_ok-answer.answer c.args.asked.now c.args.out.now.items c.answer.new.out.items c.put_answer.new.out.items
-    c.put_answer.result c.in_ok-answer.ensures c.put_answer.ensures
+pub returns-clause-grows : goal.returns-clause-grows
+returns-clause-grows c =
+    if_ok _ _ c.say.result
+    (λ f h none.
+    requested c.args.self.now c.answer.new.self c.in_ok-answer.answer c.args.asked.now c.args.out.now.items c.answer.new.out.items _ c.in_ok-answer.ensures.grows (h.1 ∙ ap (λ (l : List ℕ). c.answer.new.out.items ++ l) (said-all c.in_ok-answer.answer (sym h.0 ∙ none)))
+    (no-fault c.in_ok-answer.answer (sym h.0 ∙ none)))
+    c.say.ensures
+
+pub returns-clause-fault : goal.returns-clause-fault
+returns-clause-fault c =
+    if_ok _ _ c.say.result
+    (λ f h. fault-said (asked_fault c.args.self.now (request_of c.args.asked.now)) f c.in_ok-answer.answer c.args.self.now c.answer.new.self c.args.out.now.items c.answer.new.out.items _ c.in_ok-answer.ensures.fault h.0 h.1)
+    c.say.ensures
+
+pub returns-clause-does : goal.returns-clause-does
+returns-clause-does c =
+    if_ok _ _ c.say.result
+    (λ f h. does-said f c.in_ok-answer.answer c.args.out.now.items c.answer.new.out.items _ (λ bytes a. (q : Asked) × (request_of c.args.asked.now ≡ Ok q) × Obeys q bytes a c.args.self.now c.answer.new.self) c.in_ok-answer.ensures.obeys h.0 h.1)
+    c.say.ensures

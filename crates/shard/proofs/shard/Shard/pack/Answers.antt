@@ -109,5 +109,6 @@ returns-clause-ok g c =
         was = seat_is (pocket_of s.store) s.slots.items c.args.self.now.seats k r (ap (λ (x : Seating _). x.seats) c.self.view_is) is;
         same = c.leave.ensures.same;
         others = ap (λ (o : Option (Resident _)). seats_of (pocket_of c.leave.new.store) (set s.slots.items k o)) c.replace.ensures.after ∙ h.seats ∙ ap (λ (x : Seating _). set x.seats k None) c.self.view_is;
+        clock = c.clear_owner.ensures.time ∙ ap (λ (x : Seating _). x.clock) c.self.view_is;
       },
     )

@@ -70,5 +70,6 @@ returns-clause-ok g c =
         same = ap (λ o. standing (after o) t) is ∙ stands;
         there = seat_is after (set s.slots.items k (Some t)) (seats_of after (set s.slots.items k (Some t))) k t refl (get_or-set_same s.slots.items k (Some t) None found.0);
         others = h.seats ∙ ap (λ (x : Seating _). set x.seats k (seat_of after (Some t))) c.self.view_is;
+        clock = c.enter.ensures.time ∙ ap (λ (x : Seating _). x.clock) c.self.view_is;
       },
     )

@@ -7,7 +7,7 @@ use Rattle.shard.specs.Turns.{AreTurns, LeavesOff}
 use Rattle.shard.proofs.CallerLemmas.{turns_name}
 use Rattle.shard.proofs.SlotChanges.{seat_is, all_parked}
 use Rattle.shard.proofs.FirstFacts.{first}
-use Rattle.shard.proofs.RunFacts.{ran_on, entry_if_next}
+use Rattle.shard.proofs.RunFacts.{ran_on, entry_if_next, heard_ran, said_left}
 use Rattle.shard.proofs.TurnFacts.{ended, ran}
 use Rattle.shard.proofs.TurnsNow.{inside, found, called, ending, taken_out}
 use Rattle.shard.proofs.shard.Shard.turns_now.Goals as goal
@@ -68,7 +68,7 @@ returns-then-eq g c =
     let h = ran g.M.Mail.seen (pocket_of s.store) after _ _ _ _ _ s.slots.items e.owner r t c.self.invariant a run.time on.1 on.2 in (
       run.runs.0,
       r.name,
-      run.runs.1,
+      heard_ran g.M.Mail.seen g.W.Watch.hears c.run-event.result r.name run.runs.0 c.args.watch.now c.run-event.new.watch (sym c.eq.ensures ∙ c.if-eq.true) run.runs.1,
       refl,
       (
         on.0.some,
@@ -157,7 +157,7 @@ returns g c =
     let left = x.left in (
       run.runs.0,
       r.name,
-      run.runs.1,
+      said_left g.M.Mail.seen g.W.Watch.hears c.run-event.result r.name run.runs.0 c.args.watch.now c.run-event.new.watch (sym c.eq.ensures ∙ c.if-eq.false) run.runs.1,
       ap (λ (d : Final _). d.name) out.dossier.rest ∙ left.leaving.name ∙ turns_name g.M.Mail.seen run.runs.0 _ _ left.turns,
       (
         left.few,

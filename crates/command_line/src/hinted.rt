@@ -1,0 +1,43 @@
+//! What `--explain` says of a line of a session that isn't taken.
+
+use control::{Cause, Fault};
+use explain_text::faults_text;
+use lab::Hints;
+use std::alloc::{AllocError, Global};
+
+/// What is expected of a line that asks.
+const REQUEST: &[u8] = b"  expected: a request that `#> help` lists\n";
+
+const RANGE: &[u8] = b"  expected: a moment up to 10^15 ns, and a time of 1 ns at least\n";
+
+/// Hints for lines at fault, if they are wanted.
+#[derive(Clone, Copy)]
+pub struct LineHints {
+    pub wanted: bool,
+}
+
+// The hint for the words of a line that asks. To a scenario it is a comment, of which `explain` knows nothing.
+fn hint_for_request(line: &[u8], cause: Cause) -> Option<&'static [u8]> {
+    if !line.starts_with(b"#>") {
+        return None;
+    }
+    match cause {
+        Cause::BadWord => Some(REQUEST),
+        Cause::OutOfRange => Some(RANGE),
+        _ => None,
+    }
+}
+
+impl Hints for LineHints {
+    fn hint(&self, alloc: Global, line: &[u8], cause: Cause) -> Result<Vec<u8>, AllocError> {
+        if !self.wanted {
+            return Ok(Vec::new(alloc));
+        }
+        if let Some(hint) = hint_for_request(line, cause) {
+            return Vec::from_slice(alloc, hint);
+        }
+        let mut text = Vec::from_slice(alloc, line)?;
+        text.push(b'\n')?;
+        faults_text(alloc, text.as_slice(), &Fault { line: 1, cause })
+    }
+}

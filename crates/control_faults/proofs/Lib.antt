@@ -1,0 +1,16 @@
+pub mod Steps
+pub mod Samples
+pub mod Stops
+pub mod Few
+pub mod Ranged
+pub mod Headers
+pub mod Rules
+pub mod Packets
+pub mod Flows
+pub mod Masks
+pub mod Times
+pub mod Pipes
+pub mod Lines
+pub mod Faults
+pub mod Refused
+pub mod Taken

@@ -1,7 +1,0 @@
-use Rattle.report_writer.proofs.CallerLemmas.{written-more}
-use Rattle.lab.proofs.alone.write_batch.Goals as goal
-
-pub returns-clause-written : goal.returns-clause-written
-returns-clause-written c = λ head p h.
-    written-more head c.args.report.now c.write.new.self p c.args.experiment.now c.write.new.experiment h
-    (λ rs. c.in_ok-write.ensures.writes head rs) (λ earlier. c.in_ok-write.ensures.after earlier p)

@@ -1,0 +1,45 @@
+//! As many experiments as a scenario may have, no two of them alike: each has its own report, to the last one.
+
+use super::workers::ran;
+use super::*;
+use shard::MOST_RESIDENTS;
+use std::alloc::AllocError;
+
+// An experiment for each number, which ends at that moment.
+fn scenario(alloc: Global) -> Result<String, AllocError> {
+    let mut text = String::new(alloc);
+    for k in 0..MOST_RESIDENTS {
+        let lines = format!(in alloc; "experiment e{k} seed 0 budget 1\n@{k} end\n")?;
+        text.push_str(lines.as_str())?;
+    }
+    Ok(text)
+}
+
+// Their reports.
+fn reports(alloc: Global) -> Result<String, AllocError> {
+    let mut text = String::new(alloc);
+    for k in 0..MOST_RESIDENTS {
+        let lines = format!(in alloc;
+            "experiment e{k}\n{k} ok 0\ncounters 0 0 0 0 0 0 0 0 0 0 0\n"
+        )?;
+        text.push_str(lines.as_str())?;
+    }
+    Ok(text)
+}
+
+#[test]
+fn each_experiment_is_its_own(rt: HostRuntime) -> Result<(), Fail> {
+    let text = scenario(rt.alloc())?;
+    let wanted = reports(rt.alloc())?;
+    for (workers, moves) in [(1, 0), (2, 1), (3, 64)] {
+        let plan = Plan::new(workers, moves).ok_or("a plan")?;
+        let (outcome, written) = ran(&rt, rt.alloc(), text.as_str(), plan, &OpenGate);
+        assert!(rt; outcome == Ok(()), "{workers} {moves}");
+        assert!(rt;
+            written.as_slice() == wanted.as_bytes(),
+            "{workers} {moves}"
+        );
+    }
+    writes(&rt, text.as_str(), wanted.as_str());
+    Ok(())
+}

@@ -1,0 +1,109 @@
+-- Records in sixteen bytes each. What doesn't fit so, or comes seldom, stands whole beside them (our choice).
+use Rattle.std.specs.Prelude.{ℕ, zero, suc, ◌+◌, ◌*◌, ◌/◌, ◌%◌, ◌^◌, ◌<◌, List, length, slice_index_or}
+use Rattle.emu_model.specs.declared.packets.Load.TheVariants.{Plain, Seg, Ack}
+use Rattle.emu_model.specs.declared.records.DropCause.{DropCause}
+use Rattle.emu_model.specs.declared.records.DropCause.TheVariants.{Denied, NoPipe, NoInstance, Lost, Full, Codel, Deleted, Budget}
+use Rattle.emu_model.specs.declared.records.Record.{Record}
+use Rattle.emu_model.specs.declared.records.Record.TheVariants.{CommandDone, PacketArrived, PacketFinished, PacketDelivered, PacketPassed, PacketDropped, AckTaken, TimerExpired, StepsSpent}
+use Rattle.report.specs.declared.packed.Kind.{Kind}
+use Rattle.report.specs.declared.packed.Kind.TheVariants.{Whole, Done, Arrived, Finished, Delivered, Segment, Acknowledged, Passed, Dropped, Window, Expired}
+use Rattle.report.specs.declared.packed.Parts.{Parts}
+use Rattle.report.specs.declared.packed.Packed.{Packed}
+
+abbrev pub rank : Kind → ℕ
+rank Whole = 0
+rank Done = 1
+rank Arrived = 2
+rank Finished = 3
+rank Delivered = 4
+rank Segment = 5
+rank Acknowledged = 6
+rank Passed = 7
+rank Dropped = 8
+rank Window = 9
+rank Expired = 10
+
+abbrev pub kind_at : ℕ → Kind
+kind_at zero = Whole
+kind_at (suc zero) = Done
+kind_at (suc (suc zero)) = Arrived
+kind_at (suc (suc (suc zero))) = Finished
+kind_at (suc (suc (suc (suc zero)))) = Delivered
+kind_at (suc (suc (suc (suc (suc zero))))) = Segment
+kind_at (suc (suc (suc (suc (suc (suc zero)))))) = Acknowledged
+kind_at (suc (suc (suc (suc (suc (suc (suc zero))))))) = Passed
+kind_at (suc (suc (suc (suc (suc (suc (suc (suc zero)))))))) = Dropped
+kind_at (suc (suc (suc (suc (suc (suc (suc (suc (suc zero))))))))) = Window
+kind_at (suc (suc (suc (suc (suc (suc (suc (suc (suc (suc n)))))))))) = Expired
+
+abbrev pub cause_at : ℕ → DropCause
+cause_at zero = Denied
+cause_at (suc zero) = Denied
+cause_at (suc (suc zero)) = NoPipe
+cause_at (suc (suc (suc zero))) = NoInstance
+cause_at (suc (suc (suc (suc zero)))) = Lost
+cause_at (suc (suc (suc (suc (suc zero))))) = Full
+cause_at (suc (suc (suc (suc (suc (suc zero)))))) = Codel
+cause_at (suc (suc (suc (suc (suc (suc (suc zero))))))) = Deleted
+cause_at (suc (suc (suc (suc (suc (suc (suc (suc n)))))))) = Budget
+
+-- parts in two words: the tag and the moment, from the lowest bits on; the kind, the packet and the number
+abbrev pub words_of : Parts → Packed
+words_of p = record { high = p.moment * 2 ^ 16 + p.tag; low = p.number * 2 ^ 30 + (p.packet * 2 ^ 4 + rank p.kind) }
+
+-- the parts of two words
+abbrev pub parts_in : Packed → Parts
+parts_in w = record {
+  kind = kind_at (w.low % 2 ^ 4);
+  moment = w.high / 2 ^ 16;
+  tag = w.high % 2 ^ 16;
+  packet = w.low / 2 ^ 4 % 2 ^ 26;
+  number = w.low / 2 ^ 30;
+}
+
+-- the record of a kind
+abbrev pub record_of_kind : Kind → ℕ → ℕ → ℕ → ℕ → Record
+record_of_kind Whole moment tag packet number = StepsSpent moment
+record_of_kind Done moment tag packet number = CommandDone moment number
+record_of_kind Arrived moment tag packet number = PacketArrived moment packet tag number
+record_of_kind Finished moment tag packet number = PacketFinished moment packet tag number
+record_of_kind Delivered moment tag packet number = PacketDelivered moment packet Plain
+record_of_kind Segment moment tag packet number = PacketDelivered moment packet (Seg tag number)
+record_of_kind Acknowledged moment tag packet number = PacketDelivered moment packet (Ack tag number)
+record_of_kind Passed moment tag packet number = PacketPassed moment packet tag number
+record_of_kind Dropped moment tag packet number = PacketDropped moment packet Plain (cause_at tag)
+record_of_kind Window moment tag packet number = AckTaken moment tag packet number
+record_of_kind Expired moment tag packet number = TimerExpired moment tag packet number
+
+abbrev pub record_of : Parts → Record
+record_of p = record_of_kind p.kind p.moment p.tag p.packet p.number
+
+-- flows and pipes are numbered from 1 on, and instances up to 255
+abbrev pub Names : Kind → ℕ → ℕ → Type 0
+Names Whole tag number = ⊥
+Names Done tag number = Unit {0}
+Names Arrived tag number = (0 < tag) × (number < 256)
+Names Finished tag number = (0 < tag) × (number < 256)
+Names Delivered tag number = Unit {0}
+Names Segment tag number = 0 < tag
+Names Acknowledged tag number = 0 < tag
+Names Passed tag number = (0 < tag) × (number < 256)
+Names Dropped tag number = Unit {0}
+Names Window tag number = 0 < tag
+Names Expired tag number = 0 < tag
+
+-- the record of two words, or the one that stands whole at their place
+abbrev pub entry_of_kind : Kind → List Record → Packed → Record
+entry_of_kind Whole others w = slice_index_or others w.high (StepsSpent 0)
+entry_of_kind kind others w = record_of (parts_in w)
+
+abbrev pub entry_of : List Record → Packed → Record
+entry_of others w = entry_of_kind (parts_in w).kind others w
+
+-- it names what there is, or stands whole where something stands
+abbrev pub IsEntryOfKind : Kind → List Record → Packed → Type 0
+IsEntryOfKind Whole others w = w.high < length others
+IsEntryOfKind kind others w = Names kind (parts_in w).tag (parts_in w).number
+
+abbrev pub IsEntry : List Record → Packed → Type 0
+IsEntry others w = IsEntryOfKind (parts_in w).kind others w

@@ -1,0 +1,168 @@
+//! The records of an experiment in sixteen bytes each, for as long as a report isn't written (our choice).
+
+ghost use Rattle.std.specs.Prelude.{◌≡◌, ◌+◌, ◌<◌, ◌≤◌, ◌∷◌, ◌++◌, [], length, map, slice_index_or, take, vec_len, vec_capacity, ℕ, OnOk, OnErr};
+ghost use Rattle.std.specs.List.{All};
+ghost use Rattle.report.specs.Archive.{entry_of, IsEntry};
+ghost use Rattle.report.specs.Room.{spare};
+ghost use Rattle.emu_model.specs.declared.records.Record.TheVariants.{StepsSpent};
+
+use crate::clock::Clock;
+use crate::events::put_parts;
+use crate::packed::{Kind, Packed, pack, parts_of, record_of, unpack, whole};
+use crate::source::Source;
+use emu_model::Record;
+use std::alloc::{AllocError, Global};
+use std::marker::Model;
+
+/// Records in their order. A contract sees their list.
+#[derive(Drop)]
+pub struct Archive {
+    words: Vec<Packed>,
+    // What doesn't fit into a word, or comes seldom.
+    others: Vec<Record>,
+}
+
+impl Model for Archive {
+    ghost use Rattle.std.specs.Prelude.{List, map};
+    ghost use Rattle.std.specs.List.{All};
+    ghost use Rattle.emu_model.specs.declared.records.Record.{Record};
+    ghost use Rattle.report.specs.Archive.{entry_of, IsEntry};
+
+    ghost Value = { List Record };
+
+    ghost view = { λ a. map (entry_of a.others.items) a.words.items };
+
+    ghost invariant = { λ a. All (IsEntry a.others.items) a.words.items };
+}
+
+// One thing more at the end of a list that has room for it.
+#[tactic(auto, unfolding(crate::specs::Room::spare))]
+fn put<T: Copy>(list: &mut Vec<T>, value: &T)
+    requires { vec_len list.old < vec_capacity list.old }
+    ensures items { list.new.items ≡ list.old.items ++ value.now ∷ [] }
+    ensures room { spare list.old ≤ spare list.new + 1 }
+{
+    list.push_reserved(*value);
+}
+
+// One record more, for whose word there is room; `AllocError` changes nothing.
+#[tactic(auto, unfolding(crate::specs::Room::spare))]
+#[inline(always)]
+fn note(words: &mut Vec<Packed>, others: &mut Vec<Record>, entry: &Record) -> Result<(), AllocError>
+    requires room { vec_len words.old < vec_capacity words.old }
+    requires sound { All (IsEntry others.old.items) words.old.items }
+    ensures ok { OnOk result (map (entry_of others.new.items) words.new.items
+        ≡ map (entry_of others.old.items) words.old.items ++ entry.now ∷ []) }
+    ensures err { OnErr result
+        ((words.new.items ≡ words.old.items) × (others.new.items ≡ others.old.items)) }
+    ensures sound { All (IsEntry others.new.items) words.new.items }
+    ensures room { spare words.old ≤ spare words.new + 1 }
+{
+    if let Some(parts) = parts_of(entry) {
+        if let Some(word) = pack(parts) {
+            words.push_reserved(word);
+            return Ok(());
+        }
+    }
+    note_whole(words, others, entry)
+}
+
+// The same of one that stands whole.
+#[tactic(auto, unfolding(crate::specs::Room::spare))]
+#[inline(never)]
+fn note_whole(
+    words: &mut Vec<Packed>,
+    others: &mut Vec<Record>,
+    entry: &Record,
+) -> Result<(), AllocError>
+    requires room { vec_len words.old < vec_capacity words.old }
+    requires sound { All (IsEntry others.old.items) words.old.items }
+    ensures ok { OnOk result (map (entry_of others.new.items) words.new.items
+        ≡ map (entry_of others.old.items) words.old.items ++ entry.now ∷ []) }
+    ensures err { OnErr result
+        ((words.new.items ≡ words.old.items) × (others.new.items ≡ others.old.items)) }
+    ensures sound { All (IsEntry others.new.items) words.new.items }
+    ensures room { spare words.old ≤ spare words.new + 1 }
+{
+    others.reserve(1)?;
+    words.push_reserved(whole(others.len()));
+    put(others, entry);
+    Ok(())
+}
+
+// Records more, for whose words there is room; `AllocError` leaves of them what was appended by then.
+#[tactic(auto, unfolding(crate::specs::Room::spare))]
+fn note_all(
+    words: &mut Vec<Packed>,
+    others: &mut Vec<Record>,
+    records: &[Record],
+) -> Result<(), AllocError>
+    requires room { length records.now ≤ spare words.old }
+    requires sound { All (IsEntry others.old.items) words.old.items }
+    ensures ok { OnOk result (map (entry_of others.new.items) words.new.items
+        ≡ map (entry_of others.old.items) words.old.items ++ records.now) }
+    ensures err { OnErr result ((k : ℕ) × (map (entry_of others.new.items) words.new.items
+        ≡ map (entry_of others.old.items) words.old.items ++ take k records.now)) }
+    ensures sound { All (IsEntry others.new.items) words.new.items }
+{
+    let mut done = 0;
+    while done < records.len() {
+        note(words, others, &records[done])?;
+        done += 1;
+    }
+    Ok(())
+}
+
+impl Archive {
+    /// No records. Takes no memory.
+    pub fn new(alloc: Global) -> Self
+        ensures { result ≡ [] }
+    {
+        Archive {
+            words: Vec::new(alloc),
+            others: Vec::new(alloc),
+        }
+    }
+
+    /// Appends records; `AllocError` leaves of them what was appended by then.
+    #[tactic(auto, unfolding(crate::specs::Room::spare))]
+    pub fn append(&mut self, records: &[Record]) -> Result<(), AllocError>
+        ensures ok { OnOk result (self.new ≡ self.old ++ records.now) }
+        ensures err { OnErr result ((k : ℕ) × (self.new ≡ self.old ++ take k records.now)) }
+    {
+        self.words.reserve(records.len())?;
+        note_all(&mut self.words, &mut self.others, records)
+    }
+}
+
+impl Source for Archive {
+    ghost use Rattle.std.specs.Prelude.{true};
+
+    ghost list = { λ a. a };
+
+    ghost leaves = { λ r. true };
+
+    #[inline(always)]
+    fn len(&self) -> usize {
+        self.words.len()
+    }
+
+    #[inline(always)]
+    fn record(&self, place: usize) -> Record {
+        let word = self.words[place];
+        let parts = unpack(word);
+        match parts.kind {
+            Kind::Whole => self.others[word.high as usize],
+            _ => record_of(parts),
+        }
+    }
+
+    #[inline(always)]
+    fn put(&self, clock: &mut Clock, text: &mut [u8], at: usize, place: usize) -> Option<usize> {
+        let parts = unpack(self.words[place]);
+        if let Kind::Whole = parts.kind {
+            return None;
+        }
+        Some(put_parts(clock, text, at, parts))
+    }
+}

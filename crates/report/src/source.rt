@@ -1,0 +1,68 @@
+//! Where the records of a report stand.
+
+ghost use Rattle.std.specs.Prelude.{◌≡◌, ◌+◌, ◌<◌, ◌≤◌, ◌++◌, Bool, List, None, true, length, take, slice_index_or, IfSome};
+ghost use Rattle.emu_model.specs.declared.records.Record.{Record};
+ghost use Rattle.emu_model.specs.declared.records.Record.TheVariants.{StepsSpent};
+ghost use Rattle.report.specs.Lines.{line_of};
+
+use crate::clock::Clock;
+use crate::events::put_line;
+use emu_model::Record;
+
+/// Where records stand in their order.
+pub trait Source {
+    /// The records.
+    ghost list: { Self → List Record };
+
+    /// Whether it may leave a record's line to its caller.
+    ghost leaves: { Record → Bool };
+
+    /// How many.
+    fn len(&self) -> usize
+        ensures { result ≡ length (list self.now) };
+
+    /// The record at a place.
+    fn record(&self, place: usize) -> Record
+        requires { place < length (list self.now) }
+        ensures { result ≡ slice_index_or (list self.now) place (StepsSpent 0) };
+
+    /// Puts the line of the record at a place, and returns where it ends; `None` where it leaves the line.
+    fn put(&self, clock: &mut Clock, text: &mut [u8], at: usize, place: usize) -> Option<usize>
+        requires room { at + 256 ≤ length text.old }
+        requires inside { place < length (list self.now) }
+        ensures some { let line = slice_index_or (list self.now) place (StepsSpent 0) in
+            IfSome result (λ end. (at ≤ end) × (end ≤ at + 128)
+            × (take end text.new ≡ take at text.old ++ line_of line)) }
+        ensures none { let line = slice_index_or (list self.now) place (StepsSpent 0) in
+            result ≡ None → (leaves line ≡ true) × (text.new ≡ text.old) };
+}
+
+/// Records in a list.
+#[derive(Drop)]
+pub(crate) struct Listed<'a> {
+    pub(crate) records: &'a [Record],
+}
+
+impl<'a> Source for Listed<'a> {
+    ghost use Rattle.std.specs.Prelude.{not};
+    ghost use Rattle.report.specs.Lines.{is_event};
+
+    ghost list = { λ l. l.records.now };
+
+    ghost leaves = { λ r. not (is_event r) };
+
+    #[inline(always)]
+    fn len(&self) -> usize {
+        self.records.len()
+    }
+
+    #[inline(always)]
+    fn record(&self, place: usize) -> Record {
+        self.records[place]
+    }
+
+    #[inline(always)]
+    fn put(&self, clock: &mut Clock, text: &mut [u8], at: usize, place: usize) -> Option<usize> {
+        put_line(clock, text, at, &self.records[place])
+    }
+}

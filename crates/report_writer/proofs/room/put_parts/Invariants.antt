@@ -1,0 +1,15 @@
+use Rattle.std.proofs.Common.{◌≡◌, ◌-◌, ◌≤◌, length, take}
+use Rattle.std.specs.Prelude.{flat_map}
+use Rattle.report.specs.Lines.{line_of}
+use Rattle.report_writer.specs.Rooms.{IsPutAt}
+use Rattle.report_writer.proofs.room.put_parts.Given as goal
+
+abbrev pub invariant-loop-done : goal.invariant-loop-done
+invariant-loop-done l = record {
+  done : l.done ≤ length l.parts;
+  put : IsPutAt (flat_map (λ p. p) (take l.done l.parts)) l.at l.initial.room l.room l.end;
+  room : length l.room ≡ length l.initial.room;
+}
+
+abbrev pub decreases-loop-done : goal.decreases-loop-done
+decreases-loop-done l = length l.parts - l.done

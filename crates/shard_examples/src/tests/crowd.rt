@@ -1,0 +1,88 @@
+//! A full shard, whose residents have numbers chosen by hand: each call is about the slot that it names, to the last one.
+
+use super::turns::{Lists, Was, consumed, parcel, put, turned};
+use shard::{MOST_RESIDENTS, PackError, Polled};
+use std::alloc::Global;
+use std::process::Abort;
+use std::test::Fail;
+
+/// The name of the resident of slot 0; the others follow.
+const FIRST: u32 = 1_000;
+
+// The name of a slot's resident.
+fn name_at(slot: usize) -> u32 {
+    FIRST.saturating_add(u32::try_from(slot).unwrap_or(0))
+}
+
+// Fills a shard; None where memory was refused.
+fn fill(rt: &impl Abort, alloc: Global, shard: &mut Lists) -> Option<()> {
+    for slot in 0..MOST_RESIDENTS {
+        let parcel = parcel(alloc, name_at(slot))?;
+        assert_eq!(rt; shard.take_in(parcel).ok()?, slot);
+    }
+    Some(())
+}
+
+// Gives each resident one command, of which the last slot's comes first.
+fn posts_to_each(rt: &impl Abort, shard: &mut Lists) {
+    for slot in 0..MOST_RESIDENTS {
+        assert_eq!(rt; shard.slot_of(name_at(slot)), Some(slot));
+        assert_eq!(rt; consumed(shard, slot), Some(0));
+        assert_eq!(rt; shard.poll(slot), Polled::Empty(name_at(slot)));
+        let moment = u16::try_from(MOST_RESIDENTS - slot).unwrap_or(0);
+        assert!(rt; put(shard, slot, moment).is_ok());
+    }
+    for slot in 0..MOST_RESIDENTS {
+        assert_eq!(rt; shard.poll(slot), Polled::Took(name_at(slot)));
+        assert_eq!(rt; shard.poll(slot), Polled::Held(name_at(slot)));
+        assert_eq!(rt; consumed(shard, slot), Some(1));
+    }
+}
+
+// How many records the resident of a slot has.
+fn recorded(shard: &Lists, slot: usize) -> usize {
+    shard.records(slot).map_or(0, |records| records.len())
+}
+
+// Each turn is of the slot whose command comes next, and of no other.
+fn turns_each(rt: &impl Abort, shard: &mut Lists) {
+    for before in 0..MOST_RESIDENTS {
+        let slot = MOST_RESIDENTS - 1 - before;
+        assert_eq!(rt; recorded(shard, slot), 0);
+        assert_eq!(rt; turned(shard), Was::Ran(name_at(slot)));
+        assert_eq!(rt; recorded(shard, slot), 1);
+        assert!(rt; matches!(shard.read(slot), Ok(Some(_))));
+        assert!(rt; matches!(shard.read(slot), Ok(None)));
+    }
+    assert_eq!(rt; turned(shard), Was::Idle);
+}
+
+// Each resident is packed by its own slot, and comes back to it: it alone is vacant.
+fn moves_each(rt: &impl Abort, shard: &mut Lists) {
+    for slot in 0..MOST_RESIDENTS {
+        let Ok(parcel) = shard.pack(slot) else {
+            // One allocation was refused, and no more.
+            continue;
+        };
+        assert_eq!(rt; parcel.name(), name_at(slot));
+        assert!(rt; matches!(shard.pack(slot).err(), Some(PackError::Vacant)));
+        assert_eq!(rt; shard.slot_of(name_at(slot)), None);
+        assert_eq!(rt; shard.take_in(parcel).ok(), Some(slot));
+        assert_eq!(rt; shard.slot_of(name_at(slot)), Some(slot));
+        assert_eq!(rt; recorded(shard, slot), 1);
+    }
+}
+
+#[test]
+fn each_slot_is_its_own(rt: HostRuntime) -> Result<(), Fail> {
+    let mut shard = Lists::new(rt.alloc())?;
+    let filled = fill(&rt, rt.alloc(), &mut shard);
+    if filled.is_some() {
+        posts_to_each(&rt, &mut shard);
+        turns_each(&rt, &mut shard);
+        moves_each(&rt, &mut shard);
+    }
+    drop(shard);
+    filled.ok_or("memory")?;
+    Ok(())
+}
