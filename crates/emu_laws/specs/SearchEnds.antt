@@ -41,7 +41,8 @@ pub record HasAddresses (p : Packet) : Type 0 where
   pub src : p.src < 2 ^ 32
   pub dst : p.dst < 2 ^ 32
 
--- in every state of every run a search is decided, from the first rule on and behind the place of any, but of the default
+-- in every state of every run a search is decided, from the first rule on and behind the place of any but the default;
+-- a packet's place is that of a rule that sent it into a pipe
 abbrev pub SearchesAreDecided : Type 0
 SearchesAreDecided = (spec : Spec) (c : List Timed) (n : ℕ) (p : Packet) (place : Place) → HasAddresses p →
     place.number < 65535 →
