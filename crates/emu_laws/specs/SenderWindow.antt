@@ -47,7 +47,10 @@ SequenceIsInOrder = (spec : Spec) (c : List Timed) (n : ℕ) →
     AllByRecursion (λ f. (f.sender.snd_una ≤ f.sender.snd_nxt) × (f.sender.snd_nxt ≤ f.sender.snd_max)
     × (f.sender.snd_max ≤ total_bytes f.flow)) (alone spec c n).net.flows
 
+abbrev pub IsTooSmall : FlowState → Type 0
+IsTooSmall f = f.flow.rwnd < f.flow.smss
+
 -- a flow whose segments are larger than the receiver's window never sends
 abbrev pub TooSmallWindowSendsNothing : Type 0
 TooSmallWindowSendsNothing = (spec : Spec) (c : List Timed) (n : ℕ) →
-    AllByRecursion (λ f. f.flow.rwnd < f.flow.smss → f.sender.snd_max ≡ 0) (alone spec c n).net.flows
+    AllByRecursion (λ f. IsTooSmall f → f.sender.snd_max ≡ 0) (alone spec c n).net.flows

@@ -29,9 +29,10 @@ pub fn dropping_ends_in_time()
     ensures { DroppingEndsInTime }
 {}
 
-/// The bounds of `held_within_budget`, `records_are_bounded` (in a step), `flight_fits_window`,
-/// `new_data_fits_windows`, `rate_is_kept` and `wait_is_bounded` are met, each by an example: so none of
-/// them holds with a lesser one (our choice).
+/// The bounds of ten laws are met by examples, so none of them holds with another one: of
+/// `held_within_budget`, `records_are_bounded` (in a step), `flight_fits_window`, `new_data_fits_windows`,
+/// `too_small_window_sends_nothing`, `rate_is_kept`, `wait_is_bounded`, `deliveries_wait`,
+/// `codel_drops_by_control` and `drops_after_interval` (our choice).
 pub fn bounds_are_met()
     ensures { BoundsAreMet }
 {}
