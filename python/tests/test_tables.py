@@ -106,6 +106,40 @@ def test_one_pipe_for_both_directions(alone) -> None:
     assert rows["flow 1"]["completion"] == 2000001
 
 
+IDLE = b"""experiment idle seed 0 budget 9
+@0 pipe 1 config bw 8Mbit/s delay 10
+@0 add 100 pipe 1 tcp from 10.0.0.1 to 10.0.0.2
+@0 add 200 allow tcp from 10.0.0.2 to 10.0.0.1
+@0 flow 1 10.0.0.1 1000 10.0.0.2 80 smss 960 segments 1
+@0 flow 2 10.0.0.3 1000 10.0.0.2 80 smss 960 segments 1
+@900000000 end
+"""
+# No rule lets the segment of flow 2 pass, and before the timer's second the experiment has ended.
+IDLE_REPORT = b"""experiment idle
+0 ok 0
+0 ok 1
+0 ok 2
+0 ok 3
+0 ok 4
+0 drop 1 data 2 0 denied
+1000000 finish 0 1.0
+11000000 deliver 0 data 1 0
+11000001 deliver 2 ack 1 960
+11000001 ack 1 4800 65535
+900000000 ok 5
+counters 3 2 0 1 0 0 0 0 0 0 0
+"""
+
+
+def test_a_flow_that_gets_nothing_counts_in_jain(alone) -> None:
+    """One of two flows has all: (x + 0)^2 / (2 * (x^2 + 0^2)) is a half."""
+    assert alone(IDLE) == IDLE_REPORT
+    rows = rows_of(View(next(report.read(IDLE_REPORT)), scenario.read(IDLE)["idle"]))
+    assert (rows["flow 1"]["goodput"], rows["flow 2"]["goodput"]) == (960 * 8 * 10**9 // 11000000, None)
+    assert (rows["flow 1"]["completion"], rows["flow 2"]["completion"]) == (11000000, None)
+    assert rows["there"]["jain"] == rows["all"]["jain"] == 0.5
+
+
 def test_windows() -> None:
     view = View(next(report.read(BOTH_REPORT)), scenario.read(BOTH)["both"])
     rows = [row for row in windows(view, 2000001) if row["of"] == "flow 1"]

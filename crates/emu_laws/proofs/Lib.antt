@@ -1,6 +1,7 @@
 mod AckedCame
 mod AcksAnswer
 mod AcksCounted
+mod BooksKept
 mod CodelCauses
 mod Counts
 mod DropCauses
@@ -33,6 +34,7 @@ mod QueueInTurn
 mod QueuesKept
 mod RecordsBounded
 mod RecordsInOrder
+mod SearchesDecided
 mod SenderWindow
 mod ServiceOnTime
 mod StandingAfter

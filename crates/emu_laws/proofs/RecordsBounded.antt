@@ -368,4 +368,9 @@ alone-sum spec c (suc n) = omega (arith, alone-sum spec c n, step-sum (alone spe
 
 pub records_are_bounded : RecordsAreBounded
 unfolding sum_of
-records_are_bounded spec c n = omega (arith, alone-sum spec c n, held_is (alone spec c n).net)
+records_are_bounded = record {
+  in_a_step = λ spec c n.
+      let s : State = alone spec c n in
+      omega (arith, step-sum s, held_is s.net, held_is (step s).net);
+  in_all = λ spec c n. omega (arith, alone-sum spec c n, held_is (alone spec c n).net);
+}

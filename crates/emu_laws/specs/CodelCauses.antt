@@ -4,11 +4,18 @@ use Rattle.emu_model.specs.declared.packets.Packet.{Packet}
 use Rattle.emu_model.specs.DropTail.{Waiting, bytes_of}
 use Rattle.emu_model.specs.Codel.{Times, CodelState, initial_control, maxpacket, codel_dequeue}
 
+-- a packet that is dropped had at least this sojourn, and more bytes than these behind it
+abbrev pub least_sojourn : Times → ℕ
+least_sojourn times = times.target
+
+abbrev pub most_left : ℕ
+most_left = maxpacket
+
 -- A packet may be dropped: its sojourn is at the target or above, more than a greatest packet waits behind it, the
 -- moment that was set as the sojourn went above has come; and so has that of the next drop, where CoDel drops.
 pub record MayBeDropped (times : Times) (now : ℕ) (c : CodelState) (w : Waiting Packet) (behind : List (Waiting Packet)) : Type 0 where
-  pub late : times.target ≤ now - w.stamp
-  pub more_waits : maxpacket < bytes_of behind
+  pub late : least_sojourn times ≤ now - w.stamp
+  pub more_waits : most_left < bytes_of behind
   pub went_above : 0 < c.first_above_time
   pub stayed_above : c.first_above_time ≤ now
   pub due : c.dropping ≡ true → c.drop_next ≤ now
@@ -46,10 +53,13 @@ LateSince times start [] = ⊥
 LateSince times start (x ∷ earlier) =
     GivesLate times (control_after times earlier) x × ((x.moment ≡ start) ⊎ LateSince times start earlier)
 
+abbrev pub least_time : Times → ℕ
+least_time times = times.interval
+
 -- each dequeue of an interval or more gave one
 pub record IsLateForInterval (times : Times) (now : ℕ) (xs : List Taking) : Type 0 where
   pub start : ℕ
-  pub interval : start + times.interval ≤ now
+  pub interval : start + least_time times ≤ now
   pub since : LateSince times start xs
 
 -- CoDel drops only there

@@ -29,10 +29,14 @@ WaitsInPipe pipe time records (PacketFinished at number p k) =
     p ≡ pipe → AllByRecursion (DeliversFrom (at + time) number) records
 WaitsInPipe pipe time records _ = Unit {0}
 
+-- after a delay of so many milliseconds a packet leaves, after 1 ns at least
+abbrev pub least_delay : ℕ → ℕ
+least_delay delay = max (milliseconds delay) 1
+
 -- where the moments of the commands don't fall, and each command that configures a pipe gives it so many milliseconds
 -- at least, what a `deliver` line says of a packet comes no sooner than what its `finish` line says, and the delay
 abbrev pub DeliveriesWait : Type 0
 DeliveriesWait = (spec : Spec) (c : List Timed) (n pipe delay : ℕ) → AreRising 0 c →
     AllByRecursion (λ t. ConfiguresPipe t.command) c → AllByRecursion (λ t. DelaysPipe pipe delay t.command) c →
     let records = (alone spec c n).net.records in
-    AllByRecursion (WaitsInPipe pipe (max (milliseconds delay) 1) records) records
+    AllByRecursion (WaitsInPipe pipe (least_delay delay) records) records

@@ -20,6 +20,7 @@ pub mod QueueTurn
 pub mod RecordOrder
 pub mod RunHistories
 pub mod RunCauses
+pub mod SearchEnds
 pub mod SenderWindow
 pub mod ServiceMoments
 pub mod Strangers

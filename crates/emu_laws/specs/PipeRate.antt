@@ -10,10 +10,14 @@ bytes_between from to (f ∷ fs) [] = 0
 bytes_between from to (f ∷ fs) (z ∷ zs) =
     (if nat_le from f && nat_le f to then z else 0) + bytes_between from to fs zs
 
--- in a busy period the bits that finish in any stretch of time are at most those that the rate allows, with one
--- nanosecond more (finishes are rounded up) and one packet more (the first one to finish may have begun before)
+-- the bits that a rate allows from one moment to another, in parts of 8 * 10^9: with one nanosecond more (finishes are
+-- rounded up) and one packet more (the first one to finish may have begun before)
+abbrev pub most_bits : ℕ → ℕ → ℕ → ℕ → ℕ
+most_bits bw from to largest = bw * (to - from + 1) + 8 * 10 ^ 9 * largest
+
+-- in a busy period fewer bits finish in any stretch of time
 abbrev pub RateIsKept : Type 0
 RateIsKept = (bw start from to largest : ℕ) (sizes : List ℕ) → 0 < bw →
     AllByRecursion (λ z. z ≤ largest) sizes →
     8 * 10 ^ 9 * bytes_between from to (finishes bw start 0 sizes) sizes
-    < bw * (to - from + 1) + 8 * 10 ^ 9 * largest
+    < most_bits bw from to largest

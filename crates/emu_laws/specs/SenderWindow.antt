@@ -11,20 +11,27 @@ use Rattle.emu_model.specs.Dues.{flow_dues}
 use Rattle.emu_model.specs.Step.{next_event}
 use Rattle.emu_model.specs.Alone.{alone}
 
+abbrev pub most_flight : FlowState → ℕ
+most_flight f = f.flow.rwnd
+
 -- in every state what a flow has sent and is not acknowledged is at most the receiver's window
 abbrev pub FlightFitsWindow : Type 0
 FlightFitsWindow = (spec : Spec) (c : List Timed) (n : ℕ) →
-    AllByRecursion (λ f. flight_size f.sender ≤ f.flow.rwnd) (alone spec c n).net.flows
+    AllByRecursion (λ f. flight_size f.sender ≤ most_flight f) (alone spec c n).net.flows
 
--- where the next event is a flow's segment of new data, it ends within the lesser of both windows, counted from the
--- first byte that is not acknowledged; what is sent again (`resend`) goes without regard to them
+-- the end of the lesser of both windows, counted from the first byte that is not acknowledged
+abbrev pub window_end : FlowState → ℕ
+window_end f = f.sender.snd_una + min f.sender.cwnd f.flow.rwnd
+
+-- where the next event is a flow's segment of new data, it ends there at the latest; what is sent again
+-- (`resend`) goes without regard to the windows
 abbrev pub NewDataFitsWindows : Type 0
 NewDataFitsWindows = (spec : Spec) (c : List Timed) (n : ℕ) (t : Timed) (f : FlowState) →
     let s = alone spec c n in
     let source = (next_event s t).source in
     source.class ≡ Emission → find_train source.number s.net ≡ None → find_flow source.number s.net ≡ Some f →
     f.sender.resend ≡ false →
-    f.sender.snd_nxt + f.flow.smss ≤ f.sender.snd_una + min f.sender.cwnd f.flow.rwnd
+    f.sender.snd_nxt + f.flow.smss ≤ window_end f
 
 -- in every state a flow that is stopped, or whose every byte is acknowledged, has no segment due
 abbrev pub DoneFlowsAreSilent : Type 0
@@ -40,7 +47,10 @@ SequenceIsInOrder = (spec : Spec) (c : List Timed) (n : ℕ) →
     AllByRecursion (λ f. (f.sender.snd_una ≤ f.sender.snd_nxt) × (f.sender.snd_nxt ≤ f.sender.snd_max)
     × (f.sender.snd_max ≤ total_bytes f.flow)) (alone spec c n).net.flows
 
+abbrev pub IsTooSmall : FlowState → Type 0
+IsTooSmall f = f.flow.rwnd < f.flow.smss
+
 -- a flow whose segments are larger than the receiver's window never sends
 abbrev pub TooSmallWindowSendsNothing : Type 0
 TooSmallWindowSendsNothing = (spec : Spec) (c : List Timed) (n : ℕ) →
-    AllByRecursion (λ f. f.flow.rwnd < f.flow.smss → f.sender.snd_max ≡ 0) (alone spec c n).net.flows
+    AllByRecursion (λ f. IsTooSmall f → f.sender.snd_max ≡ 0) (alone spec c n).net.flows

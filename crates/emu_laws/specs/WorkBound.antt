@@ -5,11 +5,15 @@ use Rattle.emu_model.specs.declared.records.Record.TheVariants.{RuleLine, PipeLi
 use Rattle.emu_model.specs.declared.commands.Spec.{Spec}
 use Rattle.emu_model.specs.declared.commands.Timed.{Timed}
 use Rattle.emu_model.specs.Net.{held}
+use Rattle.emu_model.specs.Step.{step}
 use Rattle.emu_model.specs.Alone.{alone}
+
+abbrev pub most_held : Spec → ℕ
+most_held spec = spec.budget.packets
 
 -- no more packets wait, are in service or are under way than the budget allows
 abbrev pub HeldWithinBudget : Type 0
-HeldWithinBudget = (spec : Spec) (c : List Timed) (n : ℕ) → held (alone spec c n).net ≤ spec.budget.packets
+HeldWithinBudget = (spec : Spec) (c : List Timed) (n : ℕ) → held (alone spec c n).net ≤ most_held spec
 
 -- a line of `show` or `pipe show`, of which there are as many as rules, pipes and instances
 abbrev pub is_listing : Record → Bool
@@ -22,8 +26,14 @@ is_listing _ = false
 abbrev pub told : List Record → ℕ
 told records = count_by (λ r. not (is_listing r)) records
 
--- A step makes at most six of these for itself, and a drop for each packet that it no longer holds: so after n steps
--- there are at most 6 * n with the packets that are held.
-abbrev pub RecordsAreBounded : Type 0
-RecordsAreBounded = (spec : Spec) (c : List Timed) (n : ℕ) →
-    told (alone spec c n).net.records + held (alone spec c n).net ≤ 6 * n
+-- how many of these a step makes for itself; besides it makes a drop for each packet that it no longer holds
+abbrev pub most_told : ℕ
+most_told = 6
+
+-- with the packets that are held, a step makes no more of them, and so n steps no more than 6 * n
+pub record RecordsAreBounded : Type 0 where
+  pub in_a_step : (spec : Spec) (c : List Timed) (n : ℕ) →
+      let s = alone spec c n in
+      told (step s).net.records + held (step s).net ≤ told s.net.records + held s.net + most_told
+  pub in_all : (spec : Spec) (c : List Timed) (n : ℕ) →
+      told (alone spec c n).net.records + held (alone spec c n).net ≤ most_told * n

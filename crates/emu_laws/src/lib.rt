@@ -8,6 +8,7 @@ mod losses;
 mod making;
 mod queues;
 mod runs;
+mod searches;
 mod senders;
 mod single_states;
 mod strangers;
@@ -22,13 +23,14 @@ pub use losses::{
 pub use making::{acks_answer_segments, acks_match_segments, ends_were_held};
 pub use queues::{never_idle, queue_is_served_in_turn, queues_are_bounded, wait_is_bounded};
 pub use runs::{deliveries_wait, moments_are_their_own, records_are_in_order};
+pub use searches::searches_are_decided;
 pub use senders::{
     acked_has_arrived, done_flows_are_silent, flight_fits_window, new_data_fits_windows,
     sequence_is_in_order, too_small_window_sends_nothing,
 };
 pub use single_states::{
     bounds_are_met, dropping_ends_in_time, least_due_is_least, missing_is_least,
-    numbers_count_identifiers,
+    numbers_count_identifiers, search_goes_all_ways,
 };
 pub use strangers::{
     exits_are_told, instances_are_strangers, runs_are_histories, same_happenings_change_alike,

@@ -4,7 +4,7 @@ ghost use Rattle.emu_laws.specs.Missing.{MissingIsLeast};
 ghost use Rattle.emu_laws.specs.InstanceNumbers.{NumbersCountIdentifiers};
 ghost use Rattle.emu_laws.specs.LeastDue.{LeastDueIsLeast};
 ghost use Rattle.emu_laws.specs.CodelRuns.{DroppingEndsInTime};
-ghost use Rattle.emu_laws.specs.BoundsMet.{BoundsAreMet};
+ghost use Rattle.emu_laws.specs.BoundsMet.{BoundsAreMet, SearchGoesAllWays};
 
 /// What a receiver acknowledges is the least byte that didn't come, and every whole segment below it
 /// came (RFC 5681, section 4.2: the next byte that is expected).
@@ -29,8 +29,15 @@ pub fn dropping_ends_in_time()
     ensures { DroppingEndsInTime }
 {}
 
-/// The bounds of `held_within_budget`, `flight_fits_window` and `rate_is_kept` are met, each by an example: so none of
-/// them holds with a lesser one (our choice).
+/// The bounds of ten laws are met by examples, so none of them holds with another one: of
+/// `held_within_budget`, `records_are_bounded` (in a step), `flight_fits_window`, `new_data_fits_windows`,
+/// `too_small_window_sends_nothing`, `rate_is_kept`, `wait_is_bounded`, `deliveries_wait`,
+/// `codel_drops_by_control` and `drops_after_interval` (our choice).
 pub fn bounds_are_met()
     ensures { BoundsAreMet }
+{}
+
+/// In one search a rule counts, one jumps, one doesn't match, and one allows, which ends it (ipfw(8)).
+pub fn search_goes_all_ways()
+    ensures { SearchGoesAllWays }
 {}

@@ -8,8 +8,8 @@ pub fn held_within_budget()
     ensures { HeldWithinBudget }
 {}
 
-/// After n steps an experiment has made at most 6 * n records, the packets that it holds counted with
-/// them, and the lines of `show` and `pipe show` left out.
+/// A step makes at most six records, and after n steps an experiment has made at most 6 * n, the packets
+/// that it holds counted with them, and the lines of `show` and `pipe show` left out.
 pub fn records_are_bounded()
     ensures { RecordsAreBounded }
 {}
