@@ -26,24 +26,24 @@ pub same-texts : (es plans : List Experiment) (texts : List (List ℕ)) → plan
 same-texts es plans texts are made = ap (flat_map (λ x. x)) made ∙ texts_alone plans ∙ ap reports are
 
 -- reports within limits
-pub fit_cut : (limits : Limits) (read a b : Option (List ℕ)) (kept bytes : List ℕ) → MakesWithin limits read bytes →
-    kept ≡ [] → Stops a kept b bytes → CallsWithin limits read a b (Err (Fault Write))
-fit_cut limits read a b kept bytes (es, reads, fits, made) none f =
-    (es, reads, fits, subst (IsCut a b) made (cut-all a b kept bytes none f))
+pub fit_cut : (limits : Limits) (read a b : Option (List ℕ)) (kept bytes r : List ℕ) → MakesWithin limits read r →
+    kept ≡ [] → bytes ≡ r → Stops a kept b bytes → CallsWithin limits read a b (Err (Fault Write))
+fit_cut limits read a b kept bytes r (es, reads, fits, made) none is f =
+    (es, reads, fits, subst (IsCut a b) (is ∙ made) (cut-all a b kept bytes none f))
 
-pub fit_cut_after : (limits : Limits) (read a b c : Option (List ℕ)) (kept l bytes : List ℕ) → MakesWithin limits read bytes →
-    kept ≡ [] → Puts a kept b l bytes → Stops b l c [] → CallsWithin limits read a c (Err (Fault Write))
-fit_cut_after limits read a b c kept l bytes made none f g =
-    fit_cut limits read a c kept bytes made none
+pub fit_cut_after : (limits : Limits) (read a b c : Option (List ℕ)) (kept l bytes r : List ℕ) → MakesWithin limits read r →
+    kept ≡ [] → bytes ≡ r → Puts a kept b l bytes → Stops b l c [] → CallsWithin limits read a c (Err (Fault Write))
+fit_cut_after limits read a b c kept l bytes r made none is f g =
+    fit_cut limits read a c kept bytes r made none is
     (subst (Stops a kept c) (append-nil bytes) (stops_behind a b c kept l bytes [] f g))
 
-pub fit_written : (limits : Limits) (read a b c : Option (List ℕ)) (kept l bytes : List ℕ) → MakesWithin limits read bytes →
-    kept ≡ [] → Puts a kept b l bytes → Puts b l c [] [] → CallsWithin limits read a c (Ok tt)
-fit_written limits read a b c kept l bytes (es, reads, fits, made) none f g = (
+pub fit_written : (limits : Limits) (read a b c : Option (List ℕ)) (kept l bytes r : List ℕ) → MakesWithin limits read r →
+    kept ≡ [] → bytes ≡ r → Puts a kept b l bytes → Puts b l c [] [] → CallsWithin limits read a c (Ok tt)
+fit_written limits read a b c kept l bytes r (es, reads, fits, made) none is f g = (
   es,
   reads,
   fits,
-  subst (Appends a c) (append-nil bytes ∙ made)
+  subst (Appends a c) (append-nil bytes ∙ is ∙ made)
       (all-written a c kept (bytes ++ []) none (puts_both a b c kept l [] bytes [] f g)),
 )
 

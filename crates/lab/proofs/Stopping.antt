@@ -1,5 +1,5 @@
 -- Why a call within limits stops, and what that is to a call without them.
-use Rattle.std.proofs.Common.{◌≡◌, ℕ, List, length, map, take, Bool, true, Option, Some, None, Result, Ok, Err, IfErr, refl, sym, ap, subst, ◌∙◌}
+use Rattle.std.proofs.Common.{◌≡◌, ℕ, ◌+◌, List, length, map, take, Bool, true, Option, Some, None, Result, Ok, Err, IfErr, refl, sym, ap, subst, ◌∙◌}
 use Rattle.std.specs.Prelude.{flat_map}
 use Rattle.control.specs.declared.scenario.Experiment.{Experiment}
 use Rattle.lab.specs.declared.fault.RunFault.{RunFault}
@@ -7,10 +7,9 @@ use Rattle.lab.specs.declared.fault.RunFault.TheVariants.{Scenario, Read, Write,
 use Rattle.lab.specs.declared.limits.Limits.{Limits}
 use Rattle.lab.specs.declared.limits.Stop.{Stop}
 use Rattle.lab.specs.declared.limits.Stop.TheVariants.{Fault, Steps, Output}
-use Rattle.lab.specs.Bytes.{TakesFew}
 use Rattle.lab.specs.Gathers.{Follows, IsFollowed}
 use Rattle.lab.specs.Plans.{IsOwnFault, fault_of}
-use Rattle.lab.specs.Reports.{report_alone, reports, Calls, Ends, Reads, ReadsFault, reader_failed}
+use Rattle.lab.specs.Reports.{report_alone, reports, Calls, Reads, ReadsFault}
 use Rattle.lab.specs.Within.{CallsWithin, FailsUnwritten, IsOutputStop, IsOwnStop, IsPast, IsStepsStop, IsStopped, IsUnlimited, IsWithin, MakesWithin, StopsUnwritten, leaves, steps_of}
 use Rattle.lab.proofs.Endings.{same-texts}
 use Rattle.lab.proofs.Writing.{keeps_same}
@@ -91,12 +90,12 @@ stop_calls limits read a (Output bytes) stop = (stop, keeps_same a)
 -- without limits
 pub unlimited_calls : (limits : Limits) (read a b : Option (List ℕ)) (r : Result (Unit {0}) Stop) → limits.steps ≡ None → limits.output ≡ None →
     CallsWithin limits read a b r → IsUnlimited r
-unlimited_calls limits read a b (Ok x) no none calls = tt
-unlimited_calls limits read a b (Err (Fault e)) no none calls = tt
-unlimited_calls limits read a b (Err (Steps number total)) no none ((es, reads, stop), keeps) =
-    subst (λ (o : Option ℕ). IsPast o (steps_of (take (number + 1) es))) no stop.past
-unlimited_calls limits read a b (Err (Output bytes)) no none ((es, reads, stop), keeps) =
-    subst (λ (o : Option ℕ). IsPast o bytes) none stop.output
+unlimited_calls limits read a b (Ok x) nosteps nooutput calls = tt
+unlimited_calls limits read a b (Err (Fault e)) nosteps nooutput calls = tt
+unlimited_calls limits read a b (Err (Steps number total)) nosteps nooutput ((es, reads, stop), keeps) =
+    subst (λ (o : Option ℕ). IsPast o (steps_of (take (number + 1) es))) nosteps stop.past
+unlimited_calls limits read a b (Err (Output bytes)) nosteps nooutput ((es, reads, stop), keeps) =
+    subst (λ (o : Option ℕ). IsPast o bytes) nooutput stop.output
 
 pub calls_same : (limits : Limits) (read a b : Option (List ℕ)) (r : Result (Unit {0}) Stop) → CallsWithin limits read a b r → Calls reports read a b (leaves r)
 calls_same limits read a b (Ok x) (es, reads, fits, all) = (es, reads, all)
@@ -121,7 +120,7 @@ stopped_same read workers (Err (Fault e)) stopped = stopped
 stopped_same read workers (Err (Steps number total)) stopped = tt
 stopped_same read workers (Err (Output bytes)) stopped = tt
 
-err-is : (a b : RunFault) → Err a ≡ Err b → a ≡ b
+err-is : (a b : RunFault) → ◌≡◌ {A = Result (Unit {0}) RunFault} (Err a) (Err b) → a ≡ b
 err-is a b is = cc
 
 pub gate_same : (may_refuse : Bool) (r : Result (Unit {0}) Stop) → (r ≡ Err (Fault Gate) → may_refuse ≡ true) → leaves r ≡ Err Gate → may_refuse ≡ true
@@ -129,16 +128,3 @@ gate_same may_refuse (Ok x) gate is = absurd (cc)
 gate_same may_refuse (Err (Fault e)) gate is = gate (ap (λ (x : RunFault). Err (Fault x)) (err-is e Gate is))
 gate_same may_refuse (Err (Steps number total)) gate is = absurd (cc)
 gate_same may_refuse (Err (Output bytes)) gate is = absurd (cc)
-
--- what such a call leaves
-module _ {X A : Type 0} where
-  pub stop_ends : (limits : Limits) (read unread rest : Option (List ℕ)) (reading writing : Bool) (w : A) (s : Stop) → StopsUnwritten limits read s →
-      TakesFew unread rest → reading ≡ reader_failed {X} (leaves (Err s)) → Ends (leaves (Err s)) unread rest reading writing writing w w
-  stop_ends limits read unread rest reading writing w (Fault (Scenario f)) stop few failed = record { taken = few; read = failed; write = refl; untouched = λ _. refl }
-  stop_ends limits read unread rest reading writing w (Fault Read) stop few failed = record { taken = few; read = failed; write = refl; untouched = λ _. refl }
-  stop_ends limits read unread rest reading writing w (Fault Write) stop few failed = absurd stop
-  stop_ends limits read unread rest reading writing w (Fault Memory) stop few failed = record { taken = few; read = failed; write = refl; untouched = λ _. refl }
-  stop_ends limits read unread rest reading writing w (Fault Strange) stop few failed = record { taken = few; read = failed; write = refl; untouched = λ _. refl }
-  stop_ends limits read unread rest reading writing w (Fault Gate) stop few failed = record { taken = few; read = failed; write = refl; untouched = λ _. refl }
-  stop_ends limits read unread rest reading writing w (Steps number total) stop few failed = record { taken = few; read = failed; write = refl; untouched = λ _. refl }
-  stop_ends limits read unread rest reading writing w (Output bytes) stop few failed = record { taken = few; read = failed; write = refl; untouched = λ _. refl }

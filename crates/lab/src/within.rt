@@ -110,7 +110,7 @@ fn texts_read<H: Threads + Wait + Sync, R: Inlet, G: Gate, P: Progress + Sync>(
 
 /// `run_alone_told` within limits. `Steps` comes before the first step and `Output` before the first byte, just where what
 /// was read goes past that limit. Its faults are those of `run_alone`.
-#[tactic(auto, using(crate::proofs::Endings::fit_cut, crate::proofs::Endings::fit_cut_after, crate::proofs::Endings::fit_written, crate::proofs::Stopping::stop_calls, crate::proofs::Stopping::stop_ends))]
+#[tactic(auto, using(crate::proofs::Stopping::stop_calls))]
 pub fn run_alone_within<R: Inlet, W: Outlet, P: Progress>(
     alloc: Global,
     reader: &mut R,
@@ -138,7 +138,7 @@ pub fn run_alone_within<R: Inlet, W: Outlet, P: Progress>(
 }
 
 /// `run_told` within limits: it stops just where `run_alone_within` does. Its faults are those of `run`.
-#[tactic(auto, using(crate::proofs::Endings::fit_cut, crate::proofs::Endings::fit_cut_after, crate::proofs::Endings::fit_written, crate::proofs::Stopping::stop_calls, crate::proofs::Stopping::stop_ends))]
+#[tactic(auto, using(crate::proofs::Stopping::stop_calls))]
 pub fn run_within<H: Threads + Wait + Sync, R: Inlet, W: Outlet, G: Gate, P: Progress + Sync>(
     rt: &H,
     alloc: Global,
