@@ -14,8 +14,9 @@ _dnlab() {
   case $command:$before in
     run:--workers) words="1 2 4 8 16" ;;
     run:--moves) words="0 1 64 1000" ;;
-    run:*) words="--workers --moves --progress --explain --strict --help" ;;
-    alone:*) words="--progress --explain --strict --help" ;;
+    run:--max-* | alone:--max-*) ;;
+    run:*) words="--workers --moves --max-steps --max-output --progress --explain --strict --help" ;;
+    alone:*) words="--max-steps --max-output --progress --explain --strict --help" ;;
     check:*) words="--explain --help" ;;
     live:*) words="--explain --help" ;;
     help:help) words="alone run check live help" ;;

@@ -2,13 +2,21 @@
 use Rattle.std.specs.Prelude.{ℕ, Result, Ok, Err}
 use Rattle.lab.specs.declared.fault.RunFault.{RunFault}
 use Rattle.lab.specs.declared.fault.RunFault.TheVariants as faults
+use Rattle.lab.specs.declared.limits.Stop.{Stop}
+use Rattle.lab.specs.declared.limits.Stop.TheVariants as stops
 
--- done, a fault of the scenario, a device or memory that failed, and workers that did
-abbrev pub status_after : Result (Unit {0}) RunFault → ℕ
+-- a fault of the scenario, a device or memory that failed, and workers that did
+abbrev pub status_of_fault : RunFault → ℕ
+status_of_fault (faults.Scenario f) = 1
+status_of_fault faults.Read = 3
+status_of_fault faults.Write = 3
+status_of_fault faults.Memory = 3
+status_of_fault faults.Strange = 4
+status_of_fault faults.Gate = 4
+
+-- done, a fault, and a limit that was passed
+abbrev pub status_after : Result (Unit {0}) Stop → ℕ
 status_after (Ok _) = 0
-status_after (Err (faults.Scenario f)) = 1
-status_after (Err faults.Read) = 3
-status_after (Err faults.Write) = 3
-status_after (Err faults.Memory) = 3
-status_after (Err faults.Strange) = 4
-status_after (Err faults.Gate) = 4
+status_after (Err (stops.Fault e)) = status_of_fault e
+status_after (Err (stops.Steps number total)) = 3
+status_after (Err (stops.Output bytes)) = 3

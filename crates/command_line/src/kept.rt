@@ -34,11 +34,6 @@ impl Kept {
         self.text.as_slice()
     }
 
-    /// Whether a copy is wanted.
-    pub fn is_wanted(&self) -> bool {
-        self.is_wanted
-    }
-
     /// Whether memory for the copy was refused.
     pub fn lacks_memory(&self) -> bool {
         self.lacks_memory

@@ -18,7 +18,7 @@ use control::parse_scenario;
 use explain_text::{explained, faults_text, refusals_text, warnings_text};
 use hinted::LineHints;
 use kept::{Keeper, Kept};
-use lab::{Device, OpenGate, Plan, RunFault, check, live, run_alone_told, run_told};
+use lab::{Device, OpenGate, Plan, RunFault, Stop, check, live, run_alone_within, run_within};
 use meter::Meter;
 use std::alloc::{AllocError, Global};
 use std::process::ExitCode;
@@ -26,7 +26,7 @@ use std::rt::{Clock, Env};
 use std::sync::Wait;
 use std::thread::Threads;
 use std::{env, io};
-use tell::{hint_at, print};
+use tell::{hint_at, print, tell_output, tell_steps};
 use watched::{Watched, Watcher};
 use words::{Task, stray_word, task_of};
 
@@ -34,25 +34,38 @@ use words::{Task, stray_word, task_of};
 const NOT_STRICT: u8 = 5;
 
 /// The exit status after a call.
-fn status_of(outcome: &Result<(), RunFault>) -> u8
+fn status_of(outcome: &Result<(), Stop>) -> u8
     ensures { result ≡ status_after outcome.now }
 {
     match outcome {
         Ok(()) => 0,
-        Err(RunFault::Scenario(_)) => 1,
-        Err(RunFault::Read | RunFault::Write | RunFault::Memory) => 3,
-        Err(RunFault::Strange | RunFault::Gate) => 4,
+        Err(Stop::Fault(RunFault::Scenario(_))) => 1,
+        Err(Stop::Fault(RunFault::Read | RunFault::Write | RunFault::Memory)) => 3,
+        Err(Stop::Steps { .. } | Stop::Output(_)) => 3,
+        Err(Stop::Fault(RunFault::Strange | RunFault::Gate)) => 4,
     }
 }
 
-// Says why a call gave no answer, and how the program ends.
-fn end(rt: &impl Eprint, outcome: Result<(), RunFault>) -> ExitCode {
+// Says of what fault a call gave no answer, if of one, and how the program ends.
+fn end(rt: &impl Eprint, outcome: Result<(), Stop>) -> ExitCode {
     let status = status_of(&outcome);
-    if let Err(fault) = outcome {
+    if let Err(Stop::Fault(fault)) = outcome {
         // There is nowhere else to say that this can't be printed.
         let _ = eprintln!(rt; "{fault}");
     }
     ExitCode::from(status)
+}
+
+fn fail(rt: &impl Eprint, fault: RunFault) -> ExitCode {
+    end(rt, Err(Stop::Fault(fault)))
+}
+
+// What a call without limits answers.
+fn unlimited(outcome: Result<(), RunFault>) -> Result<(), Stop> {
+    match outcome {
+        Ok(()) => Ok(()),
+        Err(fault) => Err(Stop::Fault(fault)),
+    }
 }
 
 // What is said behind a call that went well, where that is asked for: which commands were refused, if there was a run,
@@ -62,12 +75,12 @@ fn tell_all(
     alloc: Global,
     kept: &Kept,
     watched: &Watched,
-    has_run: bool,
+    task: &Task,
 ) -> Result<(), AllocError> {
-    if !kept.is_wanted() {
+    if !task.explains() {
         return Ok(());
     }
-    if !has_run {
+    if !task.runs() {
         let said = explained(alloc, kept.text(), None)?;
         print(rt, said.as_slice());
         return Ok(());
@@ -102,26 +115,32 @@ fn end_strictly(rt: &impl Eprint, watched: &Watched) -> ExitCode {
 fn end_with(
     rt: &impl Eprint,
     alloc: Global,
-    outcome: Result<(), RunFault>,
+    outcome: Result<(), Stop>,
     kept: &Kept,
     watched: &Watched,
     task: &Task,
 ) -> ExitCode {
     if kept.lacks_memory() || watched.lacks_memory() {
-        return end(rt, Err(RunFault::Memory));
+        return fail(rt, RunFault::Memory);
     }
     match outcome {
-        Ok(()) if tell_all(rt, alloc, kept, watched, task.runs()).is_err() => {
-            end(rt, Err(RunFault::Memory))
-        }
+        Ok(()) if tell_all(rt, alloc, kept, watched, task).is_err() => fail(rt, RunFault::Memory),
         Ok(()) if task.is_strict() => end_strictly(rt, watched),
-        Err(RunFault::Scenario(fault)) if kept.is_wanted() => {
+        Err(Stop::Fault(RunFault::Scenario(fault))) if task.explains() => {
             let Ok(shown) = faults_text(alloc, kept.text(), &fault) else {
-                return end(rt, Err(RunFault::Memory));
+                return fail(rt, RunFault::Memory);
             };
             let code = end(rt, outcome);
             print(rt, shown.as_slice());
             code
+        }
+        Err(Stop::Steps { number, total }) => {
+            tell_steps(rt, kept.text(), number, total, &task.limits());
+            end(rt, outcome)
+        }
+        Err(Stop::Output(bytes)) => {
+            tell_output(rt, bytes, &task.limits());
+            end(rt, outcome)
         }
         _ => end(rt, outcome),
     }
@@ -130,10 +149,10 @@ fn end_with(
 // Prints what `clap` has to say: a mistake in the words, help or the version; of a word too many also how a text is given.
 fn say<R: Print + Eprint>(rt: &R, error: &Error, words: &[String]) -> ExitCode {
     if error.kind() == ErrorKind::OutOfMemory {
-        return end(rt, Err(RunFault::Memory));
+        return fail(rt, RunFault::Memory);
     }
     if error.print(rt).is_err() {
-        return end(rt, Err(RunFault::Write));
+        return fail(rt, RunFault::Write);
     }
     if error.kind() == ErrorKind::UnknownArgument && words.len() > 1 {
         hint_at(rt, words[1].as_str(), stray_word(words));
@@ -150,7 +169,7 @@ where
     let words = match env::args(rt) {
         Ok(words) => words,
         Err(error) if error.kind() == io::ErrorKind::OutOfMemory => {
-            return end(rt, Err(RunFault::Memory));
+            return fail(rt, RunFault::Memory);
         }
         Err(error) => {
             let _ = eprintln!(rt; "error: {error}");
@@ -158,16 +177,17 @@ where
         }
     };
     let Ok(words) = words.collect::<Vec<String>>(alloc) else {
-        return end(rt, Err(RunFault::Memory));
+        return fail(rt, RunFault::Memory);
     };
     let task = match task_of(alloc, version, words.as_slice()) {
         Ok(task) => task,
         Err(error) => return say(rt, &error, words.as_slice()),
     };
-    let kept = Kept::new(alloc, task.explains());
+    // What goes past a limit of steps is named by its line.
+    let kept = Kept::new(alloc, task.explains() || task.limits().steps.is_some());
     let watched = Watched::new(alloc, task.explains() || task.is_strict());
     if watched.lacks_memory() {
-        return end(rt, Err(RunFault::Memory));
+        return fail(rt, RunFault::Memory);
     }
     let mut reader = Device::new(Keeper::new(rt.reader(), kept));
     let mut writer = Device::new(Watcher::new(io::writer(rt), watched));
@@ -175,6 +195,7 @@ where
         Task::Run {
             workers,
             moves,
+            limits,
             progress,
             ..
         } => {
@@ -183,16 +204,21 @@ where
                 return ExitCode::from(2);
             };
             let meter = Meter::new(rt, progress);
-            run_told(rt, alloc, &mut reader, &mut writer, plan, &OpenGate, &meter)
+            let (from, to) = (&mut reader, &mut writer);
+            run_within(rt, alloc, from, to, &limits, plan, &OpenGate, &meter)
         }
-        Task::Alone { progress, .. } => {
+        Task::Alone {
+            limits,
+            progress,
+            ..
+        } => {
             let meter = Meter::new(rt, progress);
-            run_alone_told(alloc, &mut reader, &mut writer, &meter)
+            run_alone_within(alloc, &mut reader, &mut writer, &limits, &meter)
         }
-        Task::Check { .. } => check(alloc, &mut reader, &mut writer),
+        Task::Check { .. } => unlimited(check(alloc, &mut reader, &mut writer)),
         Task::Live { explain } => {
             let hints = LineHints { wanted: explain };
-            live(alloc, &mut reader, &mut writer, &hints)
+            unlimited(live(alloc, &mut reader, &mut writer, &hints))
         }
     };
     let kept = reader.into_inner().into_kept();

@@ -1,5 +1,8 @@
-//! What is printed on standard error besides the one line of a fault: what is explained, and what is said of a stray word.
+//! What is printed on standard error besides the one line of a fault: what is explained, what goes past a limit, and what
+//! is said of a stray word.
 
+use explain::Text;
+use lab::Limits;
 use std::str;
 
 /// Prints ASCII bytes on standard error.
@@ -32,4 +35,26 @@ pub fn hint_at(rt: &impl Eprint, command: &str, stray: Option<&str>) {
         "FILE"
     };
     let _ = eprintln!(rt; "dnlab reads standard input: dnlab {command} < {file}");
+}
+
+/// Says which experiment of a text, by its number from 0, goes past the limit of steps, and which limit all would need.
+pub fn tell_steps(rt: &impl Eprint, text: &[u8], number: u64, total: u64, limits: &Limits) {
+    let most = limits.steps.unwrap_or(u64::MAX);
+    let mut place = Text::new(text);
+    let Some(stand) = place.seek(number.saturating_add(1), None) else {
+        return;
+    };
+    let line = stand.number;
+    let name = str::from_utf8(stand.experiment).unwrap_or("");
+    let _ = eprintln!(rt;
+        "steps: line {line}: experiment {name} goes past --max-steps {most}; --max-steps {total} lets all run"
+    );
+}
+
+/// Says that the reports go past the limit of output, and which limit they would need.
+pub fn tell_output(rt: &impl Eprint, bytes: u64, limits: &Limits) {
+    let most = limits.output.unwrap_or(u64::MAX);
+    let _ = eprintln!(rt;
+        "output: the reports go past --max-output {most}; --max-output {bytes} lets them out"
+    );
 }

@@ -1,6 +1,7 @@
 //! The words of the command line.
 
-use clap::{Arg, ArgAction, Command, Error};
+use clap::{Arg, ArgAction, ArgMatches, Command, Error};
+use lab::Limits;
 use std::alloc::Global;
 
 /// What the program is asked to do.
@@ -11,12 +12,14 @@ pub enum Task {
     Run {
         workers: usize,
         moves: u32,
+        limits: Limits,
         progress: bool,
         explain: bool,
         strict: bool,
     },
     /// To run each experiment by itself, and to say how far it is.
     Alone {
+        limits: Limits,
         progress: bool,
         explain: bool,
         strict: bool,
@@ -51,6 +54,15 @@ impl Task {
         }
     }
 
+    /// What all experiments may have together.
+    pub fn limits(&self) -> Limits {
+        match self {
+            Task::Run { limits, .. } => *limits,
+            Task::Alone { limits, .. } => *limits,
+            Task::Check { .. } | Task::Live { .. } => Limits::none(),
+        }
+    }
+
     /// Whether experiments are to be run.
     pub fn runs(&self) -> bool {
         match self {
@@ -82,7 +94,7 @@ Exit status:
   0  done
   1  a fault in the scenario (standard error says `line L: CAUSE`)
   2  words that are no command
-  3  memory was refused, or a read or write failed
+  3  memory was refused, a read or write failed, or a limit was passed
   4  the workers lost an experiment (never, unless the program is wrong)
   5  `--strict` found a refused command or spent steps";
 
@@ -103,26 +115,48 @@ fn explain_word<'a>(alloc: Global) -> Arg<'a> {
     Arg::new(alloc, "explain")
         .long("explain")
         .action(ArgAction::SetTrue)
-        .help("Says where faults stand, what is refused, what looks wrong")
+        .help("Says what is at fault, refused or likely wrong")
 }
 
 fn strict_word<'a>(alloc: Global) -> Arg<'a> {
     Arg::new(alloc, "strict")
         .long("strict")
         .action(ArgAction::SetTrue)
-        .help("Ends with status 5 if a command is refused or steps run out")
+        .help("Status 5 if a command is refused or steps run out")
+}
+
+// The words for limits, behind those of a command that runs experiments.
+fn with_limits<'a>(alloc: Global, command: Command<'a>) -> Result<Command<'a>, Error> {
+    let steps = Arg::new(alloc, "max-steps")
+        .long("max-steps")
+        .value_name("N")
+        .help("Runs nothing that may take more steps in all")
+        .value_parser(clap::value_parser!(u64));
+    let output = Arg::new(alloc, "max-output")
+        .long("max-output")
+        .value_name("BYTES")
+        .help("Writes nothing if the reports are longer in all")
+        .value_parser(clap::value_parser!(u64));
+    Ok(command.arg(steps)?.arg(output)?)
+}
+
+fn limits_in(given: &ArgMatches<'_>) -> Limits {
+    Limits {
+        steps: given.get_one::<u64>("max-steps"),
+        output: given.get_one::<u64>("max-output"),
+    }
 }
 
 fn run_command<'a>(alloc: Global) -> Result<Command<'a>, Error> {
     let workers = Arg::new(alloc, "workers")
         .long("workers")
         .value_name("N")
-        .help("Threads that run the experiments, 1 to 16 [default: 2]")
+        .help("Threads that run them, 1 to 16 [default: 2]")
         .value_parser(clap::value_parser!(u64).range(1..=16));
     let moves = Arg::new(alloc, "moves")
         .long("moves")
         .value_name("M")
-        .help("Turns between offers to others, 0: never [default: 64]")
+        .help("Turns between offers, 0: never [default: 64]")
         .value_parser(clap::value_parser!(u32).range(..=1_000_000));
     let run = Command::new(alloc, "run")
         .about("Runs the experiments by many threads: the same bytes as `alone`")
@@ -131,7 +165,7 @@ fn run_command<'a>(alloc: Global) -> Result<Command<'a>, Error> {
         .arg(progress_word(alloc))?
         .arg(explain_word(alloc))?
         .arg(strict_word(alloc))?;
-    Ok(run)
+    with_limits(alloc, run)
 }
 
 fn command<'a>(alloc: Global, version: &'a str) -> Result<Command<'a>, Error> {
@@ -158,7 +192,7 @@ fn command<'a>(alloc: Global, version: &'a str) -> Result<Command<'a>, Error> {
         .subcommand_required(true)
         .arg_required_else_help(true)
         .subcommand(run_command(alloc)?)?
-        .subcommand(alone)?
+        .subcommand(with_limits(alloc, alone)?)?
         .subcommand(check)?
         .subcommand(live)?;
     Ok(program)
@@ -172,11 +206,13 @@ pub fn task_of(alloc: Global, version: &str, words: &[String]) -> Result<Task, E
         Some(("run", given)) => Ok(Task::Run {
             workers: given.get_one::<usize>("workers").unwrap_or(WORKERS),
             moves: given.get_one::<u32>("moves").unwrap_or(MOVES),
+            limits: limits_in(given),
             progress: given.get_flag("progress"),
             explain: given.get_flag("explain"),
             strict: given.get_flag("strict"),
         }),
         Some(("alone", given)) => Ok(Task::Alone {
+            limits: limits_in(given),
             progress: given.get_flag("progress"),
             explain: given.get_flag("explain"),
             strict: given.get_flag("strict"),
@@ -192,7 +228,7 @@ pub fn task_of(alloc: Global, version: &str, words: &[String]) -> Result<Task, E
 }
 
 fn has_value(word: &str) -> bool {
-    word == "--workers" || word == "--moves"
+    word == "--workers" || word == "--moves" || word == "--max-steps" || word == "--max-output"
 }
 
 /// The first word behind a command that is neither an option nor its value: most often it is the name of a file.

@@ -1,11 +1,15 @@
 -- How a call ends: what was written, of what the text says.
-use Rattle.std.proofs.Common.{◌≡◌, ℕ, List, [], ◌++◌, map, Option, sym, ap, subst, ◌∙◌, append-nil}
+use Rattle.std.proofs.Common.{◌≡◌, ℕ, List, [], ◌++◌, map, Option, Ok, Err, sym, ap, subst, ◌∙◌, append-nil}
 use Rattle.std.specs.Io.KnownBytes.{Appends, Keeps}
 use Rattle.control.specs.declared.scenario.Experiment.{Experiment}
 use Rattle.lab.specs.Bytes.{IsCut, Puts, Stops}
 use Rattle.std.specs.Prelude.{flat_map}
 use Rattle.lab.specs.declared.whole.Tally.{Tally}
 use Rattle.lab.specs.Reports.{report_alone, reports, tally, tally_of, tally_line, Reads, Writes, WritesCut}
+use Rattle.lab.specs.declared.fault.RunFault.TheVariants.{Write}
+use Rattle.lab.specs.declared.limits.Limits.{Limits}
+use Rattle.lab.specs.declared.limits.Stop.TheVariants.{Fault}
+use Rattle.lab.specs.Within.{CallsWithin, MakesWithin}
 use Rattle.lab.proofs.Writing.{writing_none, writing_done, appends_kept, puts_both, stops_behind}
 use Rattle.lab.proofs.Reporting.{texts_alone}
 
@@ -21,43 +25,24 @@ all-written a b kept bytes none f = writing_done a b bytes (subst (λ k. Puts a 
 pub same-texts : (es plans : List Experiment) (texts : List (List ℕ)) → plans ≡ es → texts ≡ map report_alone plans → flat_map (λ x. x) texts ≡ reports es
 same-texts es plans texts are made = ap (flat_map (λ x. x)) made ∙ texts_alone plans ∙ ap reports are
 
-pub texts_cut : (read a b : Option (List ℕ)) (kept : List ℕ) (es plans : List Experiment) (texts : List (List ℕ)) → Reads read es → kept ≡ [] → plans ≡ es → texts ≡ map report_alone plans →
-    Stops a kept b (flat_map (λ x. x) texts) → WritesCut reports read a b
-texts_cut read a b kept es plans texts reads none are made f =
-    (es, reads, subst (IsCut a b) (same-texts es plans texts are made) (cut-all a b kept (flat_map (λ x. x) texts) none f))
+-- reports within limits
+pub fit_cut : (limits : Limits) (read a b : Option (List ℕ)) (kept bytes r : List ℕ) → MakesWithin limits read r →
+    kept ≡ [] → bytes ≡ r → Stops a kept b bytes → CallsWithin limits read a b (Err (Fault Write))
+fit_cut limits read a b kept bytes r (es, reads, fits, made) none is f =
+    (es, reads, fits, subst (IsCut a b) (is ∙ made) (cut-all a b kept bytes none f))
 
-pub texts_cut_after : (read a b c : Option (List ℕ)) (kept l : List ℕ) (es plans : List Experiment) (texts : List (List ℕ)) → Reads read es → kept ≡ [] → plans ≡ es → texts ≡ map report_alone plans →
-    Puts a kept b l (flat_map (λ x. x) texts) → Stops b l c [] → WritesCut reports read a c
-texts_cut_after read a b c kept l es plans texts reads none are made f g =
-    texts_cut read a c kept es plans texts reads none are made
-    (subst (Stops a kept c) (append-nil (flat_map (λ x. x) texts)) (stops_behind a b c kept l (flat_map (λ x. x) texts) [] f g))
-
-pub texts_written : (read a b c : Option (List ℕ)) (kept l : List ℕ) (es plans : List Experiment) (texts : List (List ℕ)) → Reads read es → kept ≡ [] → plans ≡ es → texts ≡ map report_alone plans →
-    Puts a kept b l (flat_map (λ x. x) texts) → Puts b l c [] [] → Writes reports read a c
-texts_written read a b c kept l es plans texts reads none are made f g = (
-  es,
-  reads,
-  subst (Appends a c) (append-nil (flat_map (λ x. x) texts) ∙ same-texts es plans texts are made)
-      (all-written a c kept (flat_map (λ x. x) texts ++ []) none (puts_both a b c kept l [] (flat_map (λ x. x) texts) [] f g)),
-)
-
--- reports that were made of the text that was read
-pub made_cut : (read a b : Option (List ℕ)) (kept bytes r : List ℕ) → ((es : List Experiment) × Reads read es × (r ≡ reports es)) →
-    kept ≡ [] → bytes ≡ r → Stops a kept b bytes → WritesCut reports read a b
-made_cut read a b kept bytes r (es, reads, made) none is f =
-    (es, reads, subst (IsCut a b) (is ∙ made) (cut-all a b kept bytes none f))
-
-pub made_cut_after : (read a b c : Option (List ℕ)) (kept l bytes r : List ℕ) → ((es : List Experiment) × Reads read es × (r ≡ reports es)) →
-    kept ≡ [] → bytes ≡ r → Puts a kept b l bytes → Stops b l c [] → WritesCut reports read a c
-made_cut_after read a b c kept l bytes r made none is f g =
-    made_cut read a c kept bytes r made none is
+pub fit_cut_after : (limits : Limits) (read a b c : Option (List ℕ)) (kept l bytes r : List ℕ) → MakesWithin limits read r →
+    kept ≡ [] → bytes ≡ r → Puts a kept b l bytes → Stops b l c [] → CallsWithin limits read a c (Err (Fault Write))
+fit_cut_after limits read a b c kept l bytes r made none is f g =
+    fit_cut limits read a c kept bytes r made none is
     (subst (Stops a kept c) (append-nil bytes) (stops_behind a b c kept l bytes [] f g))
 
-pub made_written : (read a b c : Option (List ℕ)) (kept l bytes r : List ℕ) → ((es : List Experiment) × Reads read es × (r ≡ reports es)) →
-    kept ≡ [] → bytes ≡ r → Puts a kept b l bytes → Puts b l c [] [] → Writes reports read a c
-made_written read a b c kept l bytes r (es, reads, made) none is f g = (
+pub fit_written : (limits : Limits) (read a b c : Option (List ℕ)) (kept l bytes r : List ℕ) → MakesWithin limits read r →
+    kept ≡ [] → bytes ≡ r → Puts a kept b l bytes → Puts b l c [] [] → CallsWithin limits read a c (Ok tt)
+fit_written limits read a b c kept l bytes r (es, reads, fits, made) none is f g = (
   es,
   reads,
+  fits,
   subst (Appends a c) (append-nil bytes ∙ is ∙ made)
       (all-written a c kept (bytes ++ []) none (puts_both a b c kept l [] bytes [] f g)),
 )

@@ -11,6 +11,7 @@ pub mod Servings
 pub mod Settled
 pub mod Settlings
 pub mod ReportTexts
+pub mod Stopping
 pub mod Turns
 pub mod Writing
 pub mod Talking

@@ -34,10 +34,6 @@ read_faults (Some xs) None text f r fault = absurd r.first
 read_faults (Some xs) (Some ys) text f r fault = faulty xs ys text f r fault
 
 -- what is made of the text that was read
-pub read_reports : (old new : Option (List ℕ)) (text r : List ℕ) → IsRead old new text →
-    ((es : List Experiment) × Spells text es × (r ≡ reports es)) → (es : List Experiment) × Reads old es × (r ≡ reports es)
-read_reports old new text r is (es, spells, made) = (es, read_spells old new text es is spells, made)
-
 pub read_tally : (old new : Option (List ℕ)) (text : List ℕ) (t : Tally) → IsRead old new text →
     ((es : List Experiment) × Spells text es × (t ≡ tally_of es)) → (es : List Experiment) × Reads old es × (t ≡ tally_of es)
 read_tally old new text t is (es, spells, made) = (es, read_spells old new text es is spells, made)

@@ -9,3 +9,4 @@ pub mod Joins
 pub mod Gathers
 pub mod Desks
 pub mod Talks
+pub mod Within

@@ -1,58 +1,35 @@
 //! `run_alone`, `run` and `check`: all is read before any step, and all steps are made before anything is written.
 
-ghost use Rattle.std.specs.Prelude.{◌≡◌, ◌≤◌, List, length, sum, map, IfOk, IfErr, Err, true};
+ghost use Rattle.std.specs.Prelude.{◌≡◌, List, IfOk, IfErr, Err, true};
 ghost use Rattle.lab.specs.Bytes.{TakesFew};
 ghost use Rattle.lab.specs.Gathers.{IsFollowed};
 ghost use Rattle.lab.specs.Plans.{IsOwnFault, fault_of};
 ghost use Rattle.control.specs.declared.scenario.Experiment.{Experiment as Script};
 ghost use Rattle.lab.specs.Reports.{reports, tally, tally_of, Calls, Ends, Reads, ReadsFault, reader_failed};
+ghost use Rattle.lab.specs.Within.{IsUnlimited, leaves};
 
 use crate::ends::{Inlet, Outlet, flush_all, write_all};
 use crate::fault::RunFault;
 use crate::input::read_text;
-use crate::output::Buffer;
+use crate::limits::{Limits, Stop};
 use crate::plan::{Gate, Plan};
 use crate::progress::{Progress, Silent};
-use crate::texts::texts_together;
-use crate::together::run_together;
-use crate::whole::{Reports, Tally, check_of, reports_told};
-use control::{ParseError, Scenario, parse_scenario};
+use crate::whole::{Tally, check_of};
+use crate::within::{run_alone_within, run_within};
 use std::alloc::Global;
 use std::sync::Wait;
 use std::thread::Threads;
 
-// Reads a scenario.
-#[tactic(auto, using(crate::proofs::ReadFacts::read_spells, crate::proofs::ReadFacts::read_faults))]
-fn read_scenario<R: Inlet>(alloc: Global, reader: &mut R) -> Result<Scenario, RunFault>
-    ensures read { IfOk result (λ es. Reads (R.remaining reader.old) es) }
-    ensures few { IfOk result (λ es. sum (map (λ e. length e.commands) es) ≤ 16777216) }
-    ensures taken { TakesFew (R.remaining reader.old) (R.remaining reader.new) }
-    ensures fault { IfErr result (λ e. ReadsFault (R.remaining reader.old) e) }
-    ensures failed { R.failed reader.new ≡ reader_failed result }
+// What a call answers that has no limit.
+fn unlimited(outcome: Result<(), Stop>) -> Result<(), RunFault>
+    requires { IsUnlimited outcome }
+    ensures { result ≡ leaves outcome }
 {
-    let text = read_text(alloc, reader)?;
-    match parse_scenario(alloc, text.as_slice()) {
-        Ok(scenario) => Ok(scenario),
-        Err(ParseError::Fault(fault)) => Err(RunFault::Scenario(fault)),
-        Err(ParseError::NoMemory) => Err(RunFault::Memory),
+    match outcome {
+        Ok(()) => Ok(()),
+        Err(Stop::Fault(fault)) => Err(fault),
+        Err(Stop::Steps { .. } | Stop::Output(_)) => unreachable!(),
     }
-}
-
-// The reports of the scenario that is read.
-#[tactic(auto, using(crate::proofs::ReadFacts::read_reports, crate::proofs::ReadFacts::read_text_fault))]
-fn reports_read<R: Inlet, P: Progress>(
-    alloc: Global,
-    reader: &mut R,
-    progress: &P,
-) -> Result<Reports, RunFault>
-    ensures made { IfOk result (λ r.
-        (es : List Script) × Reads (R.remaining reader.old) es × (r ≡ reports es)) }
-    ensures taken { TakesFew (R.remaining reader.old) (R.remaining reader.new) }
-    ensures fault { IfErr result (λ e. ReadsFault (R.remaining reader.old) e) }
-    ensures failed { R.failed reader.new ≡ reader_failed result }
-{
-    let text = read_text(alloc, reader)?;
-    reports_told(alloc, text.as_slice(), progress)
 }
 
 // How many experiments and commands the scenario has that is read.
@@ -86,7 +63,7 @@ pub fn run_alone<R: Inlet, W: Outlet>(
 }
 
 /// `run_alone`, with somebody who is told how far it is.
-#[tactic(auto, using(crate::proofs::Endings::made_written, crate::proofs::Endings::made_cut, crate::proofs::Endings::made_cut_after))]
+#[tactic(auto, using(crate::proofs::Stopping::unlimited_calls, crate::proofs::Stopping::calls_same, crate::proofs::Stopping::own_same))]
 pub fn run_alone_told<R: Inlet, W: Outlet, P: Progress>(
     alloc: Global,
     reader: &mut R,
@@ -99,17 +76,8 @@ pub fn run_alone_told<R: Inlet, W: Outlet, P: Progress>(
         (R.failed reader.new) (W.failed writer.old) (W.failed writer.new) writer.old writer.new }
     ensures own { IfErr result IsOwnFault }
 {
-    let made = reports_read(alloc, reader, progress)?;
-    let Ok(mut buffer) = Buffer::new(alloc) else {
-        return Err(RunFault::Memory);
-    };
-    let Ok(()) = buffer.put_reports(writer, made.each()) else {
-        return Err(RunFault::Write);
-    };
-    let Ok(()) = buffer.finish(writer) else {
-        return Err(RunFault::Write);
-    };
-    Ok(())
+    let limits = Limits::none();
+    unlimited(run_alone_within(alloc, reader, writer, &limits, progress))
 }
 
 /// Reads a scenario and runs its experiments by the workers of a plan, each of which has a thread; then writes their
@@ -135,7 +103,7 @@ pub fn run<H: Threads + Wait + Sync, R: Inlet, W: Outlet, G: Gate>(
 }
 
 /// `run`, with somebody who is told how many experiments have ended.
-#[tactic(auto, using(crate::proofs::Endings::texts_written, crate::proofs::Endings::texts_cut, crate::proofs::Endings::texts_cut_after, crate::proofs::Concludings::fault_followed, crate::proofs::Concludings::run_follows, crate::proofs::Concludings::read_followed))]
+#[tactic(auto, using(crate::proofs::Stopping::unlimited_calls, crate::proofs::Stopping::calls_same, crate::proofs::Stopping::stopped_same, crate::proofs::Stopping::gate_same))]
 pub fn run_told<H: Threads + Wait + Sync, R: Inlet, W: Outlet, G: Gate, P: Progress + Sync>(
     rt: &H,
     alloc: Global,
@@ -152,20 +120,9 @@ pub fn run_told<H: Threads + Wait + Sync, R: Inlet, W: Outlet, G: Gate, P: Progr
     ensures gate { result ≡ Err RunFault.Gate → G.may_refuse ≡ true }
     ensures joins { IsFollowed (R.remaining reader.old) plan.workers (fault_of result) }
 {
-    let scenario = read_scenario(alloc, reader)?;
-    let scripts = scenario.experiments();
-    let left = run_together(rt, alloc, scripts, plan, gate, progress)?;
-    let texts = texts_together(rt, alloc, scripts, left, plan.workers)?;
-    let Ok(mut buffer) = Buffer::new(alloc) else {
-        return Err(RunFault::Memory);
-    };
-    let Ok(()) = buffer.put_texts(writer, texts.as_slice()) else {
-        return Err(RunFault::Write);
-    };
-    let Ok(()) = buffer.finish(writer) else {
-        return Err(RunFault::Write);
-    };
-    Ok(())
+    let limits = Limits::none();
+    let outcome = run_within(rt, alloc, reader, writer, &limits, plan, gate, progress);
+    unlimited(outcome)
 }
 
 /// Reads a scenario and writes `ok`, how many experiments and how many commands it has. The faults are

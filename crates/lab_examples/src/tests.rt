@@ -2,7 +2,10 @@
 
 use control::{Cause, Fault};
 use example_texts as texts;
-use lab::{Device, Gate, Inlet, OpenGate, Outlet, Plan, RunFault, Trouble, check, run, run_alone};
+use lab::{
+    Device, Gate, Inlet, Limits, OpenGate, Outlet, Plan, RunFault, Silent, Stop, Trouble, check,
+    run, run_alone, run_alone_within, run_within,
+};
 use std::alloc::Global;
 use std::io;
 use std::process::Abort;
@@ -13,6 +16,7 @@ use std::thread::Threads;
 mod crowd;
 mod devices;
 mod ends;
+mod limits;
 mod sessions;
 mod workers;
 

@@ -1,0 +1,170 @@
+//! `run_alone` and `run` within limits: all is read before any step, all steps are made before anything is written, and
+//! what goes past a limit stops it before either.
+
+ghost use Rattle.std.specs.Prelude.{◌≡◌, ◌≤◌, List, None, flat_map, length, map, sum, IfOk, IfErr, Err, true};
+ghost use Rattle.control.specs.declared.scenario.Experiment.{Experiment as Script};
+ghost use Rattle.lab.specs.declared.limits.Stop.TheVariants as stops;
+ghost use Rattle.lab.specs.Bytes.{TakesFew};
+ghost use Rattle.lab.specs.Gathers.{Follows};
+ghost use Rattle.lab.specs.Reports.{Ends, Reads, ReadsFault, reader_failed};
+ghost use Rattle.lab.specs.Within.{CallsWithin, IsOwnStop, IsStopped, MakesWithin, StopsUnwritten, leaves};
+
+use crate::alone::run_all;
+use crate::ends::{Inlet, Outlet};
+use crate::fault::RunFault;
+use crate::input::read_text;
+use crate::limits::{Limits, Stop};
+use crate::output::Buffer;
+use crate::plan::{Gate, Plan};
+use crate::progress::Progress;
+use crate::texts::{Text, texts_together};
+use crate::together::run_together;
+use control::{ParseError, Scenario, parse_scenario};
+use report_writer::Report;
+use std::alloc::Global;
+use std::sync::Wait;
+use std::thread::Threads;
+
+// Reads a scenario.
+#[tactic(auto, using(crate::proofs::ReadFacts::read_spells, crate::proofs::ReadFacts::read_faults))]
+fn read_scenario<R: Inlet>(alloc: Global, reader: &mut R) -> Result<Scenario, RunFault>
+    ensures read { IfOk result (λ es. Reads (R.remaining reader.old) es) }
+    ensures few { IfOk result (λ es. sum (map (λ e. length e.commands) es) ≤ 16777216) }
+    ensures taken { TakesFew (R.remaining reader.old) (R.remaining reader.new) }
+    ensures fault { IfErr result (λ e. ReadsFault (R.remaining reader.old) e) }
+    ensures failed { R.failed reader.new ≡ reader_failed result }
+{
+    let text = read_text(alloc, reader)?;
+    match parse_scenario(alloc, text.as_slice()) {
+        Ok(scenario) => Ok(scenario),
+        Err(ParseError::Fault(fault)) => Err(RunFault::Scenario(fault)),
+        Err(ParseError::NoMemory) => Err(RunFault::Memory),
+    }
+}
+
+// The reports of the scenario that is read, each experiment run by itself.
+#[tactic(auto, using(crate::proofs::Stopping::read_stop, crate::proofs::Stopping::read_own, crate::proofs::Stopping::steps_stop, crate::proofs::Stopping::steps_own, crate::proofs::Stopping::output_stop, crate::proofs::Stopping::output_own, crate::proofs::Stopping::made_within))]
+fn reports_read<R: Inlet, P: Progress>(
+    alloc: Global,
+    reader: &mut R,
+    limits: &Limits,
+    progress: &P,
+) -> Result<Vec<Report>, Stop>
+    ensures made { IfOk result (λ rs.
+        MakesWithin limits.now (R.remaining reader.old) (flat_map (λ r. r) rs.items)) }
+    ensures taken { TakesFew (R.remaining reader.old) (R.remaining reader.new) }
+    ensures stop { IfErr result (StopsUnwritten limits.now (R.remaining reader.old)) }
+    ensures own { IfErr result IsOwnStop }
+    ensures failed { R.failed reader.new ≡ reader_failed (leaves result) }
+{
+    let scenario = match read_scenario(alloc, reader) {
+        Ok(scenario) => scenario,
+        Err(fault) => return Err(Stop::Fault(fault)),
+    };
+    let scripts = scenario.experiments();
+    limits.check_steps(scripts)?;
+    let Ok(reports) = run_all(alloc, scripts, progress) else {
+        return Err(Stop::Fault(RunFault::Memory));
+    };
+    limits.check_reports(alloc, reports.as_slice())?;
+    Ok(reports)
+}
+
+// The reports of the scenario that is read, its experiments run by the workers of a plan.
+#[tactic(auto, using(crate::proofs::Stopping::read_stop, crate::proofs::Stopping::steps_stop, crate::proofs::Stopping::output_stop, crate::proofs::Stopping::made_within, crate::proofs::Concludings::fault_followed, crate::proofs::Concludings::run_follows, crate::proofs::Concludings::read_followed))]
+fn texts_read<H: Threads + Wait + Sync, R: Inlet, G: Gate, P: Progress + Sync>(
+    rt: &H,
+    alloc: Global,
+    reader: &mut R,
+    limits: &Limits,
+    plan: Plan,
+    gate: &G,
+    progress: &P,
+) -> Result<Vec<Text>, Stop>
+    ensures made { IfOk result (λ ts.
+        MakesWithin limits.now (R.remaining reader.old) (flat_map (λ t. t) ts.items)) }
+    ensures taken { TakesFew (R.remaining reader.old) (R.remaining reader.new) }
+    ensures stop { IfErr result (StopsUnwritten limits.now (R.remaining reader.old)) }
+    ensures gate { result ≡ Err (stops.Fault RunFault.Gate) → G.may_refuse ≡ true }
+    ensures joins { IfErr result (λ s. IsStopped (R.remaining reader.old) plan.workers (Err s)) }
+    ensures joined { IfOk result (λ ts. Follows (R.remaining reader.old) plan.workers None) }
+    ensures failed { R.failed reader.new ≡ reader_failed (leaves result) }
+{
+    let scenario = match read_scenario(alloc, reader) {
+        Ok(scenario) => scenario,
+        Err(fault) => return Err(Stop::Fault(fault)),
+    };
+    let scripts = scenario.experiments();
+    limits.check_steps(scripts)?;
+    let left = match run_together(rt, alloc, scripts, plan, gate, progress) {
+        Ok(left) => left,
+        Err(fault) => return Err(Stop::Fault(fault)),
+    };
+    let texts = match texts_together(rt, alloc, scripts, left, plan.workers) {
+        Ok(texts) => texts,
+        Err(fault) => return Err(Stop::Fault(fault)),
+    };
+    limits.check_texts(texts.as_slice())?;
+    Ok(texts)
+}
+
+/// `run_alone_told` within limits. `Steps` comes before the first step and `Output` before the first byte, just where what
+/// was read goes past that limit. Its faults are those of `run_alone`.
+#[tactic(auto, using(crate::proofs::Stopping::stop_calls))]
+pub fn run_alone_within<R: Inlet, W: Outlet, P: Progress>(
+    alloc: Global,
+    reader: &mut R,
+    writer: &mut W,
+    limits: &Limits,
+    progress: &P,
+) -> Result<(), Stop>
+    ensures calls { CallsWithin limits.now (R.remaining reader.old) (W.contents writer.old)
+        (W.contents writer.new) result }
+    ensures ends { Ends (leaves result) (R.remaining reader.old) (R.remaining reader.new)
+        (R.failed reader.new) (W.failed writer.old) (W.failed writer.new) writer.old writer.new }
+    ensures own { IfErr result IsOwnStop }
+{
+    let made = reports_read(alloc, reader, limits, progress)?;
+    let Ok(mut buffer) = Buffer::new(alloc) else {
+        return Err(Stop::Fault(RunFault::Memory));
+    };
+    let Ok(()) = buffer.put_reports(writer, made.as_slice()) else {
+        return Err(Stop::Fault(RunFault::Write));
+    };
+    let Ok(()) = buffer.finish(writer) else {
+        return Err(Stop::Fault(RunFault::Write));
+    };
+    Ok(())
+}
+
+/// `run_told` within limits: it stops just where `run_alone_within` does. Its faults are those of `run`.
+#[tactic(auto, using(crate::proofs::Stopping::stop_calls))]
+pub fn run_within<H: Threads + Wait + Sync, R: Inlet, W: Outlet, G: Gate, P: Progress + Sync>(
+    rt: &H,
+    alloc: Global,
+    reader: &mut R,
+    writer: &mut W,
+    limits: &Limits,
+    plan: Plan,
+    gate: &G,
+    progress: &P,
+) -> Result<(), Stop>
+    ensures calls { CallsWithin limits.now (R.remaining reader.old) (W.contents writer.old)
+        (W.contents writer.new) result }
+    ensures ends { Ends (leaves result) (R.remaining reader.old) (R.remaining reader.new)
+        (R.failed reader.new) (W.failed writer.old) (W.failed writer.new) writer.old writer.new }
+    ensures gate { result ≡ Err (stops.Fault RunFault.Gate) → G.may_refuse ≡ true }
+    ensures joins { IsStopped (R.remaining reader.old) plan.workers result }
+{
+    let texts = texts_read(rt, alloc, reader, limits, plan, gate, progress)?;
+    let Ok(mut buffer) = Buffer::new(alloc) else {
+        return Err(Stop::Fault(RunFault::Memory));
+    };
+    let Ok(()) = buffer.put_texts(writer, texts.as_slice()) else {
+        return Err(Stop::Fault(RunFault::Write));
+    };
+    let Ok(()) = buffer.finish(writer) else {
+        return Err(Stop::Fault(RunFault::Write));
+    };
+    Ok(())
+}
