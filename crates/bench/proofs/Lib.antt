@@ -1,3 +1,4 @@
+mod Beginnings
 pub mod Custodies
 pub mod Accounts
 pub mod Equalities

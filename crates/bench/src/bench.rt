@@ -207,6 +207,14 @@ impl Bench {
         self.resident.len()
     }
 
+    /// How many parcels wait on its deque, of which a thief may take some meanwhile; nothing is claimed of the number.
+    pub fn waiting(&mut self) -> usize
+        ensures same { SameBench self.old self.new }
+        ensures peered { self.new.peered ≡ self.old.peered }
+    {
+        self.deque.waiting()
+    }
+
     /// What each resident keeps: it shows the state of running it alone.
     pub fn known(&self)
         ensures { (slot : ℕ) (s : Seat RingMail) →
@@ -221,7 +229,7 @@ impl Bench {
         ensures err { IfErr result (λ e. OfferFails e slot self.old self.new) }
         ensures peered { self.new.peered ≡ self.old.peered }
     {
-        if self.shard.records(slot).is_err() {
+        if self.shard.consumed(slot).is_err() {
             return Err(OfferError::Vacant);
         }
         let Some(out) = self.out.checked_add(1) else {

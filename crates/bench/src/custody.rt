@@ -2,7 +2,7 @@
 
 use crate::hand::Hand;
 use crate::mail::RingMail;
-use crossbeam_deque::protocol::{Outcome, Protocol};
+use crossbeam_deque::protocol::{Lesson, Outcome, Protocol};
 use crossbeam_deque::{Pass, Stealer, Worker};
 use shard::Parcel;
 use std::alloc::Global;
@@ -49,6 +49,13 @@ impl Outcome<Parcel<RingMail>, Hand> for Retaken {
     ghost use Rattle.bench.specs.Custody.{hand, stamps, TookLess};
 
     ghost then = { λ v xs w. (w ≡ hand v.pushed (v.taken ++ stamps xs)) × TookLess w };
+}
+
+/// How many wait there, of which nothing is claimed.
+pub struct Seen;
+
+impl Lesson<Parcel<RingMail>, Hand> for Seen {
+    ghost fact = { λ _ _. Unit {0} };
 }
 
 pub type Owner = Worker<Parcel<RingMail>, Global, Hand, Custody>;

@@ -4,7 +4,7 @@ ghost use Rattle.std.specs.Prelude.{◌≡◌};
 ghost use Rattle.crossbeam_deque.specs.Handles.{IsPassOf, stealer_deque, worker_deque, worker_flavor, worker_port, worker_view};
 ghost use Rattle.bench.specs.Custody.{TookLess};
 
-use crate::custody::{Custody, Owner, Pushed, Retaken, Taken, Thief, ThiefPass};
+use crate::custody::{Custody, Owner, Pushed, Retaken, Seen, Taken, Thief, ThiefPass};
 use crate::mail::RingMail;
 use crossbeam_deque::{Steal, Worker};
 use shard::Parcel;
@@ -63,6 +63,13 @@ impl Deque {
             Ok(()) => return Ok(()),
             Err(parcel) => return Err(parcel),
         }
+    }
+
+    // How many wait there, some of which may be taken meanwhile.
+    pub(crate) fn waiting(&mut self) -> usize
+        ensures { deque_view self.new ≡ deque_view self.old }
+    {
+        self.owner.len_as::<Seen>()
     }
 
     // Takes at the front.

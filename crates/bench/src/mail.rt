@@ -1,6 +1,7 @@
 //! A mail over two rings, whose other ends a tenant has.
 
 use emu_model::{Record, Timed};
+use report::{Archive, Source};
 use rtrb::{Consumer, Producer, Protocol};
 use shard::Mail;
 use std::alloc::Global;
@@ -27,20 +28,30 @@ impl Protocol<Posted> for Moments {
     ghost allows = { λ before p. p.timed.moment ≤ 10 ^ 15 };
 }
 
-/// The experiment's ends of two rings: commands come from the one, and letters go to the other.
+/// The experiment's ends of two rings: commands come from the one, and letters go to the other; and the records that it keeps,
+/// packed.
 #[derive(Drop)]
 pub struct RingMail {
     pub(crate) from: Consumer<Posted, Global, Moments>,
     pub(crate) to: Producer<News>,
+    pub(crate) kept: Archive,
 }
 
 impl RingMail {
-    ghost use Rattle.std.specs.Prelude.{◌≡◌};
+    ghost use Rattle.std.specs.Prelude.{◌≡◌, []};
 
-    pub(crate) fn new(from: Consumer<Posted, Global, Moments>, to: Producer<News>) -> Self
-        ensures { (result.from ≡ from) × (result.to ≡ to) }
+    pub(crate) fn new(
+        alloc: Global,
+        from: Consumer<Posted, Global, Moments>,
+        to: Producer<News>,
+    ) -> Self
+        ensures { (result.from ≡ from) × (result.to ≡ to) × (result.kept ≡ []) }
     {
-        RingMail { from, to }
+        RingMail {
+            from,
+            to,
+            kept: Archive::new(alloc),
+        }
     }
 }
 
@@ -48,6 +59,8 @@ impl Mail for RingMail {
     ghost use Rattle.bench.specs.Rings.{ring_seen};
 
     ghost seen = { ring_seen };
+
+    ghost kept = { λ m. m.kept };
 
     fn take_command(&mut self) -> Option<Timed> {
         match self.from.pop() {
@@ -63,5 +76,23 @@ impl Mail for RingMail {
         }
         self.to.push_reserved(News { letter: news });
         Ok(())
+    }
+
+    #[inline(always)]
+    fn may_take(&mut self) -> bool {
+        !self.to.is_full()
+    }
+
+    fn keep(&mut self, records: &[Record]) -> bool {
+        self.kept.append(records).is_ok()
+    }
+
+    #[inline(always)]
+    fn kept_len(&self) -> usize {
+        self.kept.len()
+    }
+
+    fn kept_record(&self, place: usize) -> Record {
+        self.kept.record(place)
     }
 }

@@ -1,6 +1,6 @@
 //! What a tenant gets in the end.
 
-ghost use Rattle.std.specs.Prelude.{◌≡◌, ◌≤◌, Some};
+ghost use Rattle.std.specs.Prelude.{◌≡◌, ◌≤◌, ◌++◌, slice_get, Some};
 ghost use Rattle.emu_model.specs.Net.{counters_of};
 ghost use Rattle.emu_model.specs.Alone.{alone};
 ghost use Rattle.experiment.specs.Kept.{shown_ending};
@@ -8,6 +8,7 @@ ghost use Rattle.bench.specs.Outcomes.{settled};
 
 use crate::mail::RingMail;
 use emu_model::{Counters, Ending, Record, Spec, Timed};
+use report::Archive;
 use shard::Dossier;
 use std::marker::Model;
 
@@ -53,11 +54,11 @@ impl Outcome {
         self.dossier.consumed()
     }
 
-    /// What was recorded.
-    pub fn records(&self) -> &[Record]
-        ensures { result.now ≡ self.now.records }
+    /// The record at a place; None where there are no more.
+    pub fn record(&self, place: usize) -> Option<Record>
+        ensures { result ≡ slice_get self.now.records place }
     {
-        self.dossier.records()
+        self.dossier.record(place)
     }
 
     /// The packets that were made, delivered, are held, and were dropped by cause.
@@ -81,13 +82,13 @@ impl Outcome {
         self.dossier.events()
     }
 
-    /// What was recorded.
-    pub fn into_records(self) -> Vec<Record>
-        ensures { result.items ≡ self.records }
+    /// What was recorded: what its mail kept, and the records behind.
+    pub fn into_records(self) -> (Archive, Vec<Record>)
+        ensures { result.0 ++ result.1.items ≡ self.records }
     {
         let Outcome { dossier } = self;
-        let (_, records) = dossier.into_lists();
-        records
+        let (_, mail, records) = dossier.into_parts();
+        (mail.kept, records)
     }
 
     /// What every outcome keeps: its records and counters, and how it ended, are those of running it alone.

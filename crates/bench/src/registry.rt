@@ -84,7 +84,7 @@ impl Registry {
         }
         let (to, from) = RingBuffer::with_protocol::<Global, Moments>(alloc, SLOTS)?;
         let (up, down) = RingBuffer::new(alloc, SLOTS)?;
-        let parcel = parcel_of(alloc, name, spec, RingMail::new(from, up))?;
+        let parcel = parcel_of(alloc, name, spec, RingMail::new(alloc, from, up))?;
         let tenant = Tenant::new(alloc, name, parcel.spec(), to, down);
         self.next = name + 1;
         Ok((tenant, parcel))
@@ -100,6 +100,7 @@ fn parcel_of(
 ) -> Result<Parcel<RingMail>, OpenError>
     requires given { (ring_seen mail).given ≡ [] }
     requires letters { (ring_seen mail).letters ≡ [] }
+    requires kept { mail.kept ≡ [] }
     ensures ok { IfOk result (λ p. p ≡ opened_stand name spec mail) }
     ensures err { IfErr result (λ e. e ≡ OpenError.NoMemory) }
 {

@@ -184,7 +184,7 @@ impl Tenant {
         dossier.name() == self.name
             && dossier.spec() == self.spec
             && took(dossier.ending(), self.posted.as_slice(), dossier.consumed())
-            && begins(dossier.records(), self.read.as_slice())
+            && begins(dossier, self.read.as_slice())
     }
 
     /// Takes a dossier for its own: just where name and specification are its own, the dossier's commands are a
@@ -225,11 +225,16 @@ fn starts(all: &[Timed], first: &[Timed]) -> bool
     first.len() <= all.len() && &all[..first.len()] == first
 }
 
-// Whether the first list begins with the second.
-fn begins(all: &[Record], first: &[Record]) -> bool
-    ensures { Decides result (BeginsWith all.now first.now) }
+// Whether the records of a dossier begin with these.
+fn begins(dossier: &Dossier<RingMail>, first: &[Record]) -> bool
+    ensures { Decides result (BeginsWith dossier.now.records first.now) }
 {
-    first.len() <= all.len() && &all[..first.len()] == first
+    for place in 0..first.len() {
+        if dossier.record(place) != Some(first[place]) {
+            return false;
+        }
+    }
+    true
 }
 
 // Whether these commands were taken of the posted ones, as the ending says.

@@ -154,7 +154,7 @@ fn settles<K: Kit>(rt: &impl Abort, tenant: K::Tenant, dossier: K::Dossier) {
     assert!(rt; last.commands == 1);
     assert!(rt; last.events == 1);
     assert!(rt; matches!(last.ending, Ending::Ended));
-    assert!(rt; K::into_records(outcome).len() == 1);
+    assert!(rt; K::given_records(outcome) == 1);
 }
 
 fn strange_dossier_of<K: Kit>(rt: &(impl Abort + AllocGlobal)) {
@@ -168,7 +168,7 @@ fn strange_dossier_of<K: Kit>(rt: &(impl Abort + AllocGlobal)) {
     let of_one = ended::<K>(rt, &mut bench, 1, 1);
     let (zero, of_one) = strangers::<K>(rt, zero, of_one);
     assert!(rt; K::name(&zero) == 0 && K::posted_len(&zero) == 1);
-    assert!(rt; K::ended_name(&of_one) == 1 && K::ended_records(&of_one).len() == 1);
+    assert!(rt; K::ended_name(&of_one) == 1 && has_records::<K>(&of_one, 1));
     settles::<K>(rt, one, of_one);
     settles::<K>(rt, zero, of_zero);
 }
@@ -250,13 +250,20 @@ fn reads<K: Kit>(rt: &impl Abort, guest: &mut Guest<K::Tenant>) -> bool {
     letter.is_some()
 }
 
+// Whether a dossier has just so many records, at least one.
+fn has_records<K: Kit>(dossier: &K::Dossier, count: usize) -> bool {
+    K::ended_record(dossier, count.saturating_sub(1)).is_some()
+        && K::ended_record(dossier, count).is_none()
+}
+
 // The dossier has six records, of which the first five were read.
 fn has_read_five<K: Kit>(rt: &impl Abort, guest: &Guest<K::Tenant>, dossier: &K::Dossier) {
     let read = K::letters(&guest.tenant);
-    let records = K::ended_records(dossier);
     assert!(rt; read.len() == 5);
-    assert!(rt; records.len() == 6);
-    assert!(rt; &records[..5] == read);
+    assert!(rt; has_records::<K>(dossier, 6));
+    for place in 0..read.len() {
+        assert!(rt; K::ended_record(dossier, place) == Some(read[place]));
+    }
 }
 
 fn letters_of<K: Kit>(rt: &(impl Abort + AllocGlobal)) {
@@ -311,10 +318,11 @@ fn unread_of<K: Kit>(rt: &(impl Abort + AllocGlobal)) {
     assert!(rt; admit::<K>(&mut bench, parcel));
     post_all::<K>(rt, &mut guest);
     let dossier = last_of::<K>(rt, &mut bench);
-    assert!(rt; K::ended_records(&dossier).len() == CODEL_RECORDS);
+    assert!(rt; has_records::<K>(&dossier, CODEL_RECORDS));
     assert!(rt; K::letters(&guest.tenant).is_empty());
     let settled = settle::<K>(rt, guest, dossier);
-    assert!(rt; K::records(&settled.outcome).len() == CODEL_RECORDS);
+    assert!(rt; K::record(&settled.outcome, CODEL_RECORDS - 1).is_some());
+    assert!(rt; K::record(&settled.outcome, CODEL_RECORDS).is_none());
     let written = text_of::<K>(rt.alloc(), &settled).expect(rt, "memory");
     assert!(rt; written.as_slice() == settled.wanted());
 }

@@ -5,7 +5,6 @@ ghost use Rattle.control.specs.declared.scenario.Experiment.{Experiment as Scrip
 ghost use Rattle.lab.specs.Within.{steps_of, IsWithin, IsStepsStop, IsOutputStop};
 
 use crate::fault::RunFault;
-use crate::texts::Text;
 use control::Experiment;
 use report_writer::{Report, put_reports};
 use std::alloc::Global;
@@ -115,24 +114,6 @@ impl Limits {
         let Ok(bytes) = put_reports(alloc, reports, &mut room) else {
             return Err(Stop::Fault(RunFault::Memory));
         };
-        self.check_length(bytes)
-    }
-
-    /// Stops reports that were made before, if they have more bytes than the limit.
-    pub(crate) fn check_texts(&self, texts: &[Text]) -> Result<(), Stop>
-        ensures ok { OnOk result
-            (IsWithin self.now.output (length (flat_map (λ t. t) texts.now))) }
-        ensures stop { IfErr result
-            (IsOutputStop self.now.output (length (flat_map (λ t. t) texts.now))) }
-    {
-        let mut bytes = 0usize;
-        for text in texts {
-            // All lie in memory, so that their sum has 64 bits; nothing says so here.
-            let Some(sum) = bytes.checked_add(text.as_bytes().len()) else {
-                return Err(Stop::Fault(RunFault::Memory));
-            };
-            bytes = sum;
-        }
         self.check_length(bytes)
     }
 }

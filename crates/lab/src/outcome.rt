@@ -1,44 +1,52 @@
 //! What an experiment that was run leaves.
 
-ghost use Rattle.std.specs.Prelude.{◌≡◌};
+ghost use Rattle.std.specs.Prelude.{◌≡◌, ◌++◌, IfOk};
+ghost use Rattle.report.specs.Lines.{report_of};
 
 use emu_model::{Counters, Record};
+use report::Archive;
+use report_writer::Report;
+use std::alloc::{AllocError, Global};
 use std::marker::Model;
 
-/// What a run leaves: its records in their order, and its counters.
+/// What a run leaves: its records in their order, of which the first are packed, and its counters.
 #[derive(Drop)]
-pub struct Outcome {
-    records: Vec<Record>,
+pub(crate) struct Outcome {
+    archive: Archive,
+    rest: Vec<Record>,
     counters: Counters,
 }
 
 impl Model for Outcome {
+    ghost use Rattle.std.specs.Prelude.{◌++◌};
     ghost use Rattle.emu_model.specs.Alone.{Trace};
 
     ghost Value = { Trace };
 
-    ghost view = { λ o. record { records = o.records.items; counters = o.counters } };
+    ghost view = { λ o. record { records = o.archive ++ o.rest.items; counters = o.counters } };
 }
 
 impl Outcome {
     /// These records and counters.
-    pub(crate) fn new(records: Vec<Record>, counters: Counters) -> Self
-        ensures { result ≡ record { records = records.items; counters = counters } }
+    pub(crate) fn new(archive: Archive, rest: Vec<Record>, counters: Counters) -> Self
+        ensures { result ≡ record { records = archive ++ rest.items; counters = counters } }
     {
-        Outcome { records, counters }
+        Outcome {
+            archive,
+            rest,
+            counters,
+        }
     }
 
-    /// The records in their order.
-    pub fn records(&self) -> &[Record]
-        ensures { result.now ≡ self.now.records }
+    /// The report of an experiment of this name that left it. `AllocError` where it has no room.
+    pub(crate) fn into_report(self, alloc: Global, name: &[u8]) -> Result<Report, AllocError>
+        ensures { IfOk result (λ r. r ≡ report_of name.now self.records self.counters) }
     {
-        self.records.as_slice()
-    }
-
-    /// The packets that were made, delivered, are held, and were dropped by cause.
-    pub fn counters(&self) -> &Counters
-        ensures { result.now ≡ self.now.counters }
-    {
-        &self.counters
+        let Outcome {
+            archive,
+            rest,
+            counters,
+        } = self;
+        Report::of(alloc, name, archive, rest.as_slice(), &counters)
     }
 }

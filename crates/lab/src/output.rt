@@ -5,7 +5,6 @@ ghost use Rattle.report.specs.Lines.{line_of};
 ghost use Rattle.lab.specs.Bytes.{Puts, Stops};
 
 use crate::ends::{Failed, Outlet, flush_all, write_all};
-use crate::texts::Text;
 use report::{Archive, Moments, Source, write_some};
 use report_writer::{Part, Report};
 use std::alloc::{AllocError, Global};
@@ -79,23 +78,6 @@ impl Buffer {
         let Ok(()) = self.kept.extend_from_slice(bytes) else {
             unreachable!()
         };
-        Ok(())
-    }
-
-    /// Puts reports that were made before, one after the other.
-    #[tactic(auto, using(crate::proofs::Writing::puts_none, crate::proofs::Reporting::texts_puts, crate::proofs::Reporting::texts_stops))]
-    pub fn put_texts<W: Outlet>(&mut self, writer: &mut W, texts: &[Text]) -> Result<(), Failed>
-        ensures ok { OnOk result
-            (Puts (W.contents writer.old) self.old (W.contents writer.new) self.new
-            (flat_map (λ t. t) texts.now)) }
-        ensures cut { OnErr result
-            (Stops (W.contents writer.old) self.old (W.contents writer.new)
-            (flat_map (λ t. t) texts.now)) }
-        ensures failed { OnErr result (W.failed writer.new ≡ true) }
-    {
-        for text in texts {
-            self.put(writer, text.as_bytes())?;
-        }
         Ok(())
     }
 

@@ -179,7 +179,8 @@ fn settle_one(
     outcome.known();
     later_commands_wait();
     let counters = outcome.counters();
-    Ok(Outcome::new(outcome.into_records(), counters))
+    let (archive, rest) = outcome.into_records();
+    Ok(Outcome::new(archive, rest, counters))
 }
 
 /// Settles each tenant with the dossier at its place. `Strange` just where one has none, or one that isn't its own;

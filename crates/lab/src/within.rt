@@ -17,7 +17,7 @@ use crate::limits::{Limits, Stop};
 use crate::output::Buffer;
 use crate::plan::{Gate, Plan};
 use crate::progress::Progress;
-use crate::texts::{Text, texts_together};
+use crate::reports::reports_in_turn;
 use crate::together::run_together;
 use control::{ParseError, Scenario, parse_scenario};
 use report_writer::Report;
@@ -72,7 +72,7 @@ fn reports_read<R: Inlet, P: Progress>(
 
 // The reports of the scenario that is read, its experiments run by the workers of a plan.
 #[tactic(auto, using(crate::proofs::Stopping::read_stop, crate::proofs::Stopping::steps_stop, crate::proofs::Stopping::output_stop, crate::proofs::Stopping::made_within, crate::proofs::Concludings::fault_followed, crate::proofs::Concludings::run_follows, crate::proofs::Concludings::read_followed))]
-fn texts_read<H: Threads + Wait + Sync, R: Inlet, G: Gate, P: Progress + Sync>(
+fn reports_together<H: Threads + Wait + Sync, R: Inlet, G: Gate, P: Progress + Sync>(
     rt: &H,
     alloc: Global,
     reader: &mut R,
@@ -80,7 +80,7 @@ fn texts_read<H: Threads + Wait + Sync, R: Inlet, G: Gate, P: Progress + Sync>(
     plan: Plan,
     gate: &G,
     progress: &P,
-) -> Result<Vec<Text>, Stop>
+) -> Result<Vec<Report>, Stop>
     ensures made { IfOk result (λ ts.
         MakesWithin limits.now (R.remaining reader.old) (flat_map (λ t. t) ts.items)) }
     ensures taken { TakesFew (R.remaining reader.old) (R.remaining reader.new) }
@@ -100,12 +100,12 @@ fn texts_read<H: Threads + Wait + Sync, R: Inlet, G: Gate, P: Progress + Sync>(
         Ok(left) => left,
         Err(fault) => return Err(Stop::Fault(fault)),
     };
-    let texts = match texts_together(rt, alloc, scripts, left, plan.workers) {
-        Ok(texts) => texts,
+    let reports = match reports_in_turn(alloc, scripts, left) {
+        Ok(reports) => reports,
         Err(fault) => return Err(Stop::Fault(fault)),
     };
-    limits.check_texts(texts.as_slice())?;
-    Ok(texts)
+    limits.check_reports(alloc, reports.as_slice())?;
+    Ok(reports)
 }
 
 /// `run_alone_told` within limits. `Steps` comes before the first step and `Output` before the first byte, just where what
@@ -156,11 +156,11 @@ pub fn run_within<H: Threads + Wait + Sync, R: Inlet, W: Outlet, G: Gate, P: Pro
     ensures gate { result ≡ Err (stops.Fault RunFault.Gate) → G.may_refuse ≡ true }
     ensures joins { IsStopped (R.remaining reader.old) plan.workers result }
 {
-    let texts = texts_read(rt, alloc, reader, limits, plan, gate, progress)?;
+    let made = reports_together(rt, alloc, reader, limits, plan, gate, progress)?;
     let Ok(mut buffer) = Buffer::new(alloc) else {
         return Err(Stop::Fault(RunFault::Memory));
     };
-    let Ok(()) = buffer.put_texts(writer, texts.as_slice()) else {
+    let Ok(()) = buffer.put_reports(writer, made.as_slice()) else {
         return Err(Stop::Fault(RunFault::Write));
     };
     let Ok(()) = buffer.finish(writer) else {

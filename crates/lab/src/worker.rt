@@ -114,6 +114,8 @@ struct Desk {
     peer: Option<Peer>,
     dossiers: Vec<Dossier<RingMail>>,
     turns: u32,
+    // The slot that is polled next for one to begin.
+    cursor: usize,
 }
 
 impl Desk {
@@ -206,29 +208,37 @@ impl Desk {
         }
     }
 
-    // Polls each resident. Whether any can make a turn now and could not before.
+    // Polls residents in turn, until one can make a turn and could not before. Whether there is one. So a bench works on one
+    // experiment after the other, and what it turns is at hand.
     #[tactic(auto, using(crate::proofs::Desking::loses_none, crate::proofs::Desking::loses_none_both))]
-    fn poll_all(&mut self) -> Result<bool, RunFault>
+    fn start_next(&mut self) -> Result<bool, RunFault>
         ensures ok { OnOk result (LosesNone self.old self.new) }
         ensures err { IfErr result IsMemory }
     {
-        let mut any = false;
         let mut left = self.bench.residents();
-        for slot in 0..SLOTS {
+        for _ in 0..SLOTS {
             if left == 0 {
-                return Ok(any);
+                return Ok(false);
             }
+            let slot = self.cursor;
+            self.cursor = slot.wrapping_add(1) % SLOTS;
             match self.bench.poll(slot) {
                 Polled::NoMemory(_) => return Err(RunFault::Memory),
                 Polled::Vacant => {}
-                Polled::Took(_) | Polled::Resumed(_) => {
-                    any = true;
-                    left -= 1;
-                }
+                Polled::Took(_) | Polled::Resumed(_) => return Ok(true),
                 _ => left -= 1,
             }
         }
-        Ok(any)
+        Ok(false)
+    }
+
+    // Whether the deque has less than it should: one more waits there where another bench may have nothing to do.
+    #[tactic(auto, using(crate::proofs::Desking::loses_none))]
+    fn runs_low(&mut self) -> bool
+        ensures { LosesNone self.old self.new }
+    {
+        let ahead = if self.peer.is_some() { 1 } else { 0 };
+        self.bench.waiting() <= ahead
     }
 
     // After turns of a resident: it is polled, so that its next command comes and its records are published, and it is
@@ -316,7 +326,7 @@ impl Desk {
         if self.turn(moves, board, gate, progress)? {
             return Ok(true);
         }
-        if self.poll_all()? {
+        if self.runs_low() && self.start_next()? {
             return Ok(true);
         }
         let found = self.fetch()?;
@@ -372,6 +382,7 @@ pub(crate) fn work<G: Gate, R: Wait, P: Progress>(
         peer,
         dossiers: Vec::new(alloc),
         turns: 0,
+        cursor: 0,
     };
     let done = desk.work_all(rt, plan.moves, board, gate, progress);
     if done.is_err() {
@@ -383,6 +394,7 @@ pub(crate) fn work<G: Gate, R: Wait, P: Progress>(
         peer: _,
         dossiers,
         turns: _,
+        cursor: _,
     } = desk;
     let given = Given {
         closing: bench.close(),

@@ -1,9 +1,9 @@
 -- One record more that stands whole changes none of the others.
-use Rattle.std.proofs.Common.{◌≡◌, List, [], ◌∷◌, ◌++◌, length, map, refl, sym, ap, ◌∙◌, subst, arith}
+use Rattle.std.proofs.Common.{◌≡◌, List, [], ◌∷◌, ◌++◌, length, map, take, refl, sym, ap, ◌∙◌, subst, arith}
 use Rattle.std.specs.Prelude.{slice_index_or}
 use Rattle.std.specs.List.{All}
-use Rattle.std.proofs.Math.Seq.{get_or-append_seam}
-use Rattle.std.proofs.lemmas.List.{get_or_append_left, length-append, map-append}
+use Rattle.std.proofs.Math.Seq.{get_or-append_seam, take-append_seam}
+use Rattle.std.proofs.lemmas.List.{get_or_append_left, length-append, length-map, map-append, take-map}
 use Rattle.std.proofs.lemmas.List.Elements.{All-head, All-tail, All-nil, All-cons, All-append}
 use Rattle.emu_model.specs.declared.records.Record.{Record}
 use Rattle.emu_model.specs.declared.records.Record.TheVariants.{StepsSpent}
@@ -63,3 +63,12 @@ module _ (os : List Record) (r : Record) where
     all_are_entries ws all =
         All-append (IsEntry (os ++ r ∷ [])) ws (w ∷ []) (still ws all)
         (All-cons (IsEntry (os ++ r ∷ [])) w [] here (All-nil (IsEntry (os ++ r ∷ []))))
+
+-- what was appended is taken back
+pub taken_back : (os qs : List Record) (olds ws : List Packed) (rs : List Record) → map (entry_of qs) ws ≡ map (entry_of os) olds ++ rs →
+    map (entry_of qs) (take (length olds) ws) ≡ map (entry_of os) olds
+taken_back os qs olds ws rs is =
+    sym (take-map (entry_of qs) (length olds) ws)
+    ∙ ap (take (length olds)) is
+    ∙ ap (λ n. take n (map (entry_of os) olds ++ rs)) (sym (length-map olds (entry_of os)))
+    ∙ take-append_seam (map (entry_of os) olds) rs

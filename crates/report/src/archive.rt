@@ -124,14 +124,19 @@ impl Archive {
         }
     }
 
-    /// Appends records; `AllocError` leaves of them what was appended by then.
+    /// Appends records; `AllocError` changes nothing.
     #[tactic(auto, unfolding(crate::specs::Room::spare))]
     pub fn append(&mut self, records: &[Record]) -> Result<(), AllocError>
         ensures ok { OnOk result (self.new ≡ self.old ++ records.now) }
-        ensures err { OnErr result ((k : ℕ) × (self.new ≡ self.old ++ take k records.now)) }
+        ensures err { OnErr result (self.new ≡ self.old) }
     {
         self.words.reserve(records.len())?;
-        note_all(&mut self.words, &mut self.others, records)
+        let before = self.words.as_slice().len();
+        let Ok(()) = note_all(&mut self.words, &mut self.others, records) else {
+            self.words.truncate(before);
+            return Err(AllocError);
+        };
+        Ok(())
     }
 }
 

@@ -16,7 +16,8 @@ use Rattle.packet_store.specs.Pocket.{Pocket}
 use Rattle.report.specs.Lines.{line_of, heading_of, report_of}
 use Rattle.report.specs.Lines as lines
 use Rattle.experiment.specs.Kept.{KeptExperiment, view, IsAlone, IsAloneAfter, IsWaiting, IsHousedIn}
-use Rattle.report_writer.specs.Written.{Written, Counts, HasWritten, IsWritten, CanWrite, IsCountable, delivered_of, all_drops_of}
+use Rattle.report_writer.specs.declared.counts.RecordCounts.{RecordCounts}
+use Rattle.report_writer.specs.Written.{Written, AreCountsOf, Counts, HasWritten, IsWritten, CanCount, CanWrite, IsCountable, delivered_of, all_drops_of}
 
 -- the counts of two parts of a run add up
 count-both : (p : Record → Bool) (rs qs : List Record) → count_by p (rs ++ qs) ≡ count_by p rs + count_by p qs
@@ -26,9 +27,9 @@ pub delivered-both : (rs qs : List Record) → delivered_of (rs ++ qs) ≡ deliv
 delivered-both rs qs = count-both is_delivery rs qs
 
 -- more was written
-pub counts-more : (rs qs : List Record) (t u : Written) → Counts rs t → u.delivered ≡ t.delivered + delivered_of qs →
-    (all_drops_of rs ≡ t.drops → u.drops ≡ all_drops_of (rs ++ qs)) → Counts (rs ++ qs) u
-counts-more rs qs t u h delivered drops = record {
+pub counts-more : (rs qs : List Record) (c d : RecordCounts) → AreCountsOf rs c → d.delivered ≡ c.delivered + delivered_of qs →
+    (all_drops_of rs ≡ c.drops → d.drops ≡ all_drops_of (rs ++ qs)) → AreCountsOf (rs ++ qs) d
+counts-more rs qs c d h delivered drops = record {
   delivered = delivered ∙ ap (λ n. n + delivered_of qs) h.delivered ∙ sym (delivered-both rs qs);
   drops = drops (sym h.drops);
 }
@@ -93,8 +94,8 @@ module _ (rs qs : List Record) (made kept : ℕ) (few : made < 2 ^ 64)
   few-drops (suc (suc (suc (suc (suc (suc (suc zero))))))) = omega (arith, few, adds, count-both (is_drop_of Budget) rs qs)
   few-drops (suc (suc (suc (suc (suc (suc (suc (suc k)))))))) = omega arith
 
-pub countable : (t : Written) (e : KeptExperiment) → CanWrite t e → e.net.made < 2 ^ 64 → IsCountable t e.net.log.records
-countable t e h few =
+pub countable : (c : RecordCounts) (e : KeptExperiment) → CanCount c e → e.net.made < 2 ^ 64 → IsCountable c e.net.log.records
+countable c e h few =
     let rs : List Record = h.earlier in
     let qs : List Record = e.net.log.records in
     let kept : ℕ = held (view h.pocket e).net in

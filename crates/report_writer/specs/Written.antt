@@ -5,6 +5,7 @@ use Rattle.packet_store.specs.Pocket.{Pocket}
 use Rattle.emu_model.specs.Net.{is_delivery, drops_of, all_causes, counters_of}
 use Rattle.emu_model.specs.RunLaws.{AddsUp, with_earlier}
 use Rattle.report.specs.Lines.{line_of}
+use Rattle.report_writer.specs.declared.counts.RecordCounts.{RecordCounts}
 use Rattle.experiment.specs.Kept.{KeptExperiment, view, IsHousedIn, IsAloneAfter}
 
 -- how many of the records are deliveries, and drops by cause
@@ -21,9 +22,15 @@ pub record Written : Type 0 where
   pub drops : List ℕ
 
 -- the counts are those of these records
-pub record Counts (rs : List Record) (t : Written) : Type 0 where
-  pub delivered : t.delivered ≡ delivered_of rs
-  pub drops : t.drops ≡ all_drops_of rs
+pub record AreCountsOf (rs : List Record) (c : RecordCounts) : Type 0 where
+  pub delivered : c.delivered ≡ delivered_of rs
+  pub drops : c.drops ≡ all_drops_of rs
+
+abbrev pub counts_in : Written → RecordCounts
+counts_in t = record { delivered = t.delivered; drops = t.drops }
+
+abbrev pub Counts : List Record → Written → Type 0
+Counts rs t = AreCountsOf rs (counts_in t)
 
 -- these records were written, behind what stands at the head
 pub record HasWritten (head : List ℕ) (rs : List Record) (t : Written) : Type 0 where
@@ -37,14 +44,17 @@ pub record IsWritten (head : List ℕ) (t : Written) (p : Pocket) (e : KeptExper
   pub after : IsAloneAfter earlier p e
 
 -- an experiment over some owner's packets, of which all was counted but what it has yet: its counters add up
-pub record CanWrite (t : Written) (e : KeptExperiment) : Type 0 where
+pub record CanCount (c : RecordCounts) (e : KeptExperiment) : Type 0 where
   pub pocket : Pocket
   pub housed : IsHousedIn pocket e
   pub earlier : List Record
-  pub counts : Counts earlier t
+  pub counts : AreCountsOf earlier c
   pub adds : AddsUp (counters_of (with_earlier earlier (view pocket e)).net)
 
+abbrev pub CanWrite : Written → KeptExperiment → Type 0
+CanWrite t e = CanCount (counts_in t) e
+
 -- the counts of these records too have room in 64 bits
-pub record IsCountable (t : Written) (rs : List Record) : Type 0 where
-  pub delivered : t.delivered + delivered_of rs < 2 ^ 64
-  pub drops : (k : ℕ) → slice_index_or t.drops k 0 + slice_index_or (all_drops_of rs) k 0 < 2 ^ 64
+pub record IsCountable (c : RecordCounts) (rs : List Record) : Type 0 where
+  pub delivered : c.delivered + delivered_of rs < 2 ^ 64
+  pub drops : (k : ℕ) → slice_index_or c.drops k 0 + slice_index_or (all_drops_of rs) k 0 < 2 ^ 64

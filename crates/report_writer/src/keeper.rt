@@ -4,14 +4,16 @@
 ghost use Rattle.std.specs.Prelude.{◌≡◌, ℕ, ◌++◌, List, [], flat_map, IfOk, OnOk};
 ghost use Rattle.emu_model.specs.declared.records.Record.{Record};
 ghost use Rattle.packet_store.specs.Pocket.{Pocket};
-ghost use Rattle.report.specs.Lines.{heading_of, counters_of, line_of};
+ghost use Rattle.report.specs.Lines.{heading_of, counters_of, line_of, report_of};
 ghost use Rattle.experiment.specs.Kept.{IsHousedIn, IsAloneAfter};
 ghost use Rattle.report_writer.specs.Written.{CanWrite, HasWritten};
 
 use crate::writer::ReportWriter;
 use emu_model::{Counters, Record};
 use experiment::Experiment;
-use report::{Archive, Moments, Source, write_source};
+use report::{
+    Archive, Moments, Source, write_counters, write_heading, write_records, write_source,
+};
 use std::alloc::{AllocError, Global};
 use std::marker::Model;
 use std::mem;
@@ -211,6 +213,27 @@ impl Model for Report {
 }
 
 impl Report {
+    /// The report of records, some of them packed, with these counters behind. `AllocError` where it has no room.
+    pub fn of(
+        alloc: Global,
+        name: &[u8],
+        archive: Archive,
+        rest: &[Record],
+        counters: &Counters,
+    ) -> Result<Report, AllocError>
+        ensures { IfOk result (λ r. r ≡ report_of name.now (archive ++ rest.now) counters.now) }
+    {
+        let mut text = Vec::new(alloc);
+        write_heading(&mut text, name)?;
+        let mut parts = Vec::with_capacity(alloc, 1)?;
+        let mut last = Vec::new(alloc);
+        let mut moments = Moments::new();
+        write_records(&mut last, &mut moments, rest)?;
+        write_counters(&mut last, counters)?;
+        parts.push_reserved(Part { text, archive });
+        Ok(Report { parts, last })
+    }
+
     /// Its parts, and its last line.
     pub fn parts(&self) -> (&[Part], &[u8])
         ensures { flat_map (λ p. p) result.0.now ++ result.1.now ≡ self.now }

@@ -2,10 +2,12 @@
 //! counters needs is counted. Own.
 #![tactic(auto)]
 
+mod counts;
 mod keeper;
 mod room;
 mod writer;
 
+pub use counts::RecordCounts;
 pub use keeper::{Part, Report, ReportKeeper};
 pub use room::put_reports;
 pub use writer::ReportWriter;

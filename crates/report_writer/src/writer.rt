@@ -1,12 +1,13 @@
 //! The report of an experiment while it runs: its records become lines on the way, and are forgotten.
 
-ghost use Rattle.std.specs.Prelude.{◌≡◌, ◌+◌, ◌^◌, ◌<◌, ℕ, ◌++◌, List, [], slice_index_or, flat_map, IfOk, OnOk, OnErr};
+ghost use Rattle.std.specs.Prelude.{◌≡◌, ℕ, ◌++◌, List, [], flat_map, IfOk, OnOk, OnErr};
 ghost use Rattle.emu_model.specs.declared.records.Record.{Record};
 ghost use Rattle.packet_store.specs.Pocket.{Pocket};
 ghost use Rattle.report.specs.Lines.{heading_of, counters_of, line_of};
 ghost use Rattle.experiment.specs.Kept.{IsHousedIn, IsAloneAfter, IsWaiting};
-ghost use Rattle.report_writer.specs.Written.{Counts, CanWrite, HasWritten, all_drops_of};
+ghost use Rattle.report_writer.specs.Written.{Counts, CanWrite, HasWritten};
 
+use crate::counts::RecordCounts;
 use emu_model::{Counters, Record};
 use experiment::Experiment;
 use report::{Moments, write_counters, write_heading, write_record, write_records};
@@ -20,8 +21,7 @@ pub struct ReportWriter {
     text: Vec<u8>,
     // What the lines so far leave of their moments for the next one.
     moments: Moments,
-    delivered: u64,
-    drops: [u64; 8],
+    counts: RecordCounts,
 }
 
 impl Model for ReportWriter {
@@ -29,25 +29,11 @@ impl Model for ReportWriter {
 
     ghost Value = { Written };
 
-    ghost view = { λ t. record { text = t.text.items; delivered = t.delivered; drops = t.drops } };
-}
-
-// The drops of two parts of a run, cause by cause.
-fn sum_of(first: &[u64; 8], second: &[u64; 8]) -> [u64; 8]
-    requires { (k : ℕ) → slice_index_or first.now k 0 + slice_index_or second.now k 0 < 2 ^ 64 }
-    ensures { (rs qs : List Record) → first.now ≡ all_drops_of rs → second.now ≡ all_drops_of qs →
-        result ≡ all_drops_of (rs ++ qs) }
-{
-    [
-        first[0] + second[0],
-        first[1] + second[1],
-        first[2] + second[2],
-        first[3] + second[3],
-        first[4] + second[4],
-        first[5] + second[5],
-        first[6] + second[6],
-        first[7] + second[7],
-    ]
+    ghost view = { λ t. record {
+      text = t.text.items;
+      delivered = t.counts.delivered;
+      drops = t.counts.drops;
+    } };
 }
 
 impl ReportWriter {
@@ -60,8 +46,7 @@ impl ReportWriter {
         Ok(ReportWriter {
             text,
             moments: Moments::new(),
-            delivered: 0,
-            drops: [0; 8],
+            counts: RecordCounts::new(),
         })
     }
 
@@ -119,10 +104,7 @@ impl ReportWriter {
             IsWaiting t earlier p experiment.old →
             IsWaiting t (earlier ++ experiment.old.net.log.records) p experiment.new }
     {
-        let counted = experiment.counters();
-        self.delivered += counted.delivered;
-        self.drops = sum_of(&self.drops, &counted.drops);
-        experiment.forget_records();
+        self.counts.count(experiment);
     }
 
     /// Appends the text so far, which is then empty; the counts stay. `AllocError` where it has no room there: the text
@@ -160,9 +142,9 @@ impl ReportWriter {
     {
         let counters = Counters {
             made: standing.made,
-            delivered: self.delivered,
+            delivered: self.counts.delivered,
             held: standing.held,
-            drops: self.drops,
+            drops: self.counts.drops,
         };
         write_counters(&mut self.text, &counters)
     }

@@ -22,7 +22,7 @@ use Rattle.experiment.specs.Kept.{KeptExperiment, view}
 use Rattle.timer_wheel.specs.declared.Entry.{Entry}
 use Rattle.timer_wheel.specs.Rows.{Row, is_before, source_before}
 use Rattle.shard.specs.Seen.{Seen}
-use Rattle.shard.specs.declared.resident.Resident.{Resident}
+use Rattle.shard.specs.Bodies.{Residence as Resident}
 use Rattle.shard.specs.Stand.{Seat, seat_at}
 use Rattle.shard.specs.Entries.{turn, entries_of, entry_at}
 use Rattle.shard.specs.Kept.{next_kept}

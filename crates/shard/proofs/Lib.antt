@@ -2,6 +2,7 @@ mod Rings
 mod Slots
 mod SlotChanges
 mod RowFacts
+mod BodyFacts
 mod KeptFacts
 mod TurnFacts
 mod TurnsNow

@@ -6,7 +6,7 @@ use Rattle.std.proofs.Math.Seq.{map-set_same}
 use Rattle.packet_store.specs.Pocket.{Pocket}
 use Rattle.timer_wheel.specs.Rows.{Row}
 use Rattle.shard.specs.Seen.{Seen}
-use Rattle.shard.specs.declared.resident.Resident.{Resident}
+use Rattle.shard.specs.Bodies.{Residence as Resident}
 use Rattle.shard.specs.Stand.{Seat, seat_at, stand_in, stands_of}
 use Rattle.shard.specs.Seats.{resident_at, seat, seat_of, seats_of, IsSeated, Fits, IsShard, HasBegun}
 use Rattle.shard.proofs.Slots.{late-later, within_of}

@@ -13,7 +13,7 @@ use Rattle.experiment.specs.declared.experiment.Event.TheVariants.{Ran, Ended, H
 use Rattle.experiment.specs.Kept.{view, shown_ending}
 use Rattle.experiment.specs.Moves.{Makes}
 use Rattle.shard.specs.Seen.{Seen, IsToldMore, IsPublished}
-use Rattle.shard.specs.declared.resident.Resident.{Resident}
+use Rattle.shard.specs.Bodies.{Residence as Resident}
 use Rattle.shard.specs.Stand.{Stand}
 use Rattle.shard.specs.Kept.{IsKept, IsGoing}
 use Rattle.shard.specs.Seats.{standing, IsSeated}
@@ -33,6 +33,11 @@ module _ {M : Type 0} (seen : M → Seen) where
   pub heard_more : {W : Type 0} (hears : ℕ → Bool → W → W → Type 0) (name other n : ℕ) (answer : Bool) (u v w : W) → other ≡ name → SaidYes hears name n u v → hears other answer v w → Heard hears name (n + 1) u w
   heard_more hears name other n answer u v w same h e =
       subst (λ k. Heard hears name k u w) (sym (add-one n)) (v, h, (answer, subst (λ k. hears k answer v w) same e))
+
+  -- all were answered by yes, the last one too
+  pub all_heard : {W : Type 0} (hears : ℕ → Bool → W → W → Type 0) (name n : ℕ) (u w : W) → 1 ≤ n → SaidYes hears name n u w → Heard hears name n u w
+  all_heard hears name zero u w some h = absurd (omega (arith, some))
+  all_heard hears name (suc n) u w some h = (h.0, h.1, (true, h.2))
 
   -- where the resident ended all were answered by yes
   pub heard_at : {W : Type 0} (hears : ℕ → Bool → W → W → Type 0) (event : Event) (name n : ℕ) (u w : W) → sameb the_type event Ran ≡ true → Heard hears name n u w → HeardAt hears event name n u w

@@ -12,7 +12,7 @@ use Rattle.emu_model.specs.Step.{next_event}
 use Rattle.packet_store.specs.Pocket.{empty_pocket}
 use Rattle.experiment.specs.Kept.{KeptExperiment, view}
 use Rattle.shard.specs.Seen.{Seen}
-use Rattle.shard.specs.declared.resident.Resident.{Resident}
+use Rattle.shard.specs.Bodies.{Residence as Resident}
 use Rattle.shard.specs.Stand.{Seat, seat_at, IsTold}
 use Rattle.shard.specs.Kept.{next_kept}
 use Rattle.shard.specs.Entries.{turn, entries_of, row_of}

@@ -7,7 +7,7 @@ use Rattle.emu_model.specs.Moments.{end_of_time}
 use Rattle.packet_store.specs.Pocket.{Pocket}
 use Rattle.timer_wheel.specs.Rows.{Row}
 use Rattle.shard.specs.Seen.{Seen}
-use Rattle.shard.specs.declared.resident.Resident.{Resident}
+use Rattle.shard.specs.Bodies.{Residence as Resident}
 use Rattle.shard.specs.Stand.{Seat, seat_at}
 use Rattle.shard.specs.Seats.{resident_at, seat, seat_of, seats_of, IsSeated, Fits, AreApart, IsShard}
 

@@ -10,7 +10,7 @@ use Rattle.packet_store.specs.Pocket.{Pocket}
 use Rattle.timer_wheel.specs.Rows.{Row, no_dues}
 use Rattle.experiment.specs.Kept.{view, shown_ending}
 use Rattle.shard.specs.Seen.{Seen, IsToldMore, IsPublished}
-use Rattle.shard.specs.declared.resident.Resident.{Resident}
+use Rattle.shard.specs.Bodies.{Residence as Resident}
 use Rattle.shard.specs.Stand.{Final}
 use Rattle.shard.specs.Kept.{next_kept}
 use Rattle.shard.specs.Seats.{IsDossierOf, resident_at, standing, IsSeated, IsShard}

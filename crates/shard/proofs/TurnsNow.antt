@@ -10,7 +10,7 @@ use Rattle.experiment.specs.contracts.experiment.Event.{the_type}
 use Rattle.experiment.specs.declared.experiment.Event.{Event}
 use Rattle.experiment.specs.declared.experiment.Event.TheVariants.{Ran}
 use Rattle.shard.specs.Seen.{Seen}
-use Rattle.shard.specs.declared.resident.Resident.{Resident}
+use Rattle.shard.specs.Bodies.{Residence as Resident}
 use Rattle.shard.specs.Stand.{Seating, Final}
 use Rattle.shard.specs.Kept.{IsKept}
 use Rattle.shard.specs.Seats.{resident_at, seats_of, IsDossierOf, IsShard}

@@ -1,3 +1,4 @@
+pub mod Bodies
 pub mod Seen
 pub mod Stand
 pub mod Entries

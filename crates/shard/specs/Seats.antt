@@ -6,7 +6,7 @@ use Rattle.emu_model.specs.Net.{counters_of}
 use Rattle.packet_store.specs.Pocket.{Pocket}
 use Rattle.timer_wheel.specs.Rows.{Row}
 use Rattle.shard.specs.Seen.{Seen}
-use Rattle.shard.specs.declared.resident.Resident.{Resident}
+use Rattle.shard.specs.Bodies.{Residence as Resident}
 use Rattle.experiment.specs.Kept.{view}
 use Rattle.shard.specs.Stand.{Stand, Seat, Final, seat_at, stands_of}
 use Rattle.shard.specs.Entries.{entries_of}

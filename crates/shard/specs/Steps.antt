@@ -9,7 +9,7 @@ use Rattle.experiment.specs.declared.experiment.Event.{Event}
 use Rattle.experiment.specs.declared.experiment.Event.TheVariants.{Ran, Ended, Halted, Still}
 use Rattle.experiment.specs.Kept.{view}
 use Rattle.shard.specs.Seen.{Seen, IsToldMore, IsPublished}
-use Rattle.shard.specs.declared.resident.Resident.{Resident}
+use Rattle.shard.specs.Bodies.{Residence as Resident}
 use Rattle.shard.specs.Entries.{entries_of, row_at}
 use Rattle.shard.specs.Kept.{IsKept, IsGoing, next_kept}
 use Rattle.shard.specs.Seats.{standing, IsSeated}

@@ -1,6 +1,6 @@
 //! What ended experiments leave.
 
-ghost use Rattle.std.specs.Prelude.{◌≡◌, ◌≤◌, ℕ, List, [], take, Some};
+ghost use Rattle.std.specs.Prelude.{◌≡◌, ◌≤◌, ◌++◌, ℕ, List, [], slice_get, take, Some};
 ghost use Rattle.emu_model.specs.Net.{counters_of};
 ghost use Rattle.emu_model.specs.Alone.{alone};
 ghost use Rattle.experiment.specs.Kept.{shown_ending};
@@ -17,15 +17,17 @@ pub struct Dossier<M: Mail> {
     pub(crate) name: u32,
     pub(crate) spec: Spec,
     pub(crate) commands: Vec<Timed>,
+    // Those behind the ones that the mail keeps.
     pub(crate) records: Vec<Record>,
     pub(crate) counters: Counters,
     pub(crate) ending: Ending,
     pub(crate) events: u64,
     pub(crate) mail: M,
-    pub(crate) published: usize,
+    pub(crate) published: u128,
 }
 
 impl<M: Mail> Model for Dossier<M> {
+    ghost use Rattle.std.specs.Prelude.{◌++◌};
     ghost use Rattle.shard.specs.Stand.{Final};
 
     ghost Value = { Final M };
@@ -36,7 +38,7 @@ impl<M: Mail> Model for Dossier<M> {
       name = d.name;
       spec = d.spec;
       commands = d.commands.items;
-      records = d.records.items;
+      records = M.kept d.mail ++ d.records.items;
       counters = d.counters;
       ending = d.ending;
       events = d.events;
@@ -47,7 +49,7 @@ impl<M: Mail> Model for Dossier<M> {
       name = d.name;
       spec = d.spec;
       commands = d.commands.items;
-      records = d.records.items;
+      records = M.kept d.mail ++ d.records.items;
       counters = d.counters;
       ending = d.ending;
       events = d.events;
@@ -77,11 +79,15 @@ impl<M: Mail> Dossier<M> {
         &self.commands
     }
 
-    /// What was recorded.
-    pub fn records(&self) -> &[Record]
-        ensures { result.now ≡ self.now.records }
+    /// The record at a place; None where there are no more.
+    pub fn record(&self, place: usize) -> Option<Record>
+        ensures { result ≡ slice_get self.now.records place }
     {
-        &self.records
+        let kept = self.mail.kept_len();
+        if place < kept {
+            return Some(self.mail.kept_record(place));
+        }
+        self.records.as_slice().get(place - kept).copied()
     }
 
     /// The packets that were made, delivered, are held, and were dropped by cause.
@@ -112,10 +118,11 @@ impl<M: Mail> Dossier<M> {
         self.events
     }
 
-    /// The commands that came, and what was recorded.
-    pub fn into_lists(self) -> (Vec<Timed>, Vec<Record>)
+    /// The commands that came, its mail, and the records behind those that the mail keeps.
+    pub fn into_parts(self) -> (Vec<Timed>, M, Vec<Record>)
         ensures commands { result.0.items ≡ self.commands }
-        ensures records { result.1.items ≡ self.records }
+        ensures mail { result.1 ≡ self.mail }
+        ensures records { M.kept result.1 ++ result.2.items ≡ self.records }
     {
         let Dossier {
             name: _,
@@ -125,10 +132,10 @@ impl<M: Mail> Dossier<M> {
             counters: _,
             ending: _,
             events: _,
-            mail: _,
+            mail,
             published: _,
         } = self;
-        (commands, records)
+        (commands, mail, records)
     }
 
     /// What every dossier keeps: its records and counters are those of running it alone on the commands that came,
@@ -154,6 +161,13 @@ impl<M: Mail> Dossier<M> {
 impl Dossier<ListMail> {
     ghost use Rattle.std.specs.Prelude.{◌≡◌, ◌≤◌, ◌<◌, ◌^◌, OnOk, IfErr, OnErr, length};
     ghost use Rattle.shard.specs.Posts.{with_command, Reads};
+
+    /// What was recorded.
+    pub fn records(&self) -> &[Record]
+        ensures { result.now ≡ self.now.records }
+    {
+        &self.records
+    }
 
     /// Puts a command into its mail, which nobody takes any more; where 64 wait it comes back. Takes no memory.
     pub fn put(&mut self, timed: Timed) -> Result<(), Timed>

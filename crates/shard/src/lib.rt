@@ -2,6 +2,7 @@
 //! into one owned value and taken in elsewhere. Own.
 #![tactic(auto)]
 
+mod body;
 mod dossier;
 mod list_mail;
 mod mail;

@@ -119,6 +119,8 @@ impl ListMail {
 impl Mail for ListMail {
     ghost seen = { mail_seen };
 
+    ghost kept = { λ _. [] };
+
     fn take_command(&mut self) -> Option<Timed> {
         if self.commands.slots_beside(&mut self.put) == 0 {
             return None;
@@ -134,5 +136,21 @@ impl Mail for ListMail {
         self.news.push_reserved(News { record_of: news });
         self.letters.slots_beside(&mut self.news);
         Ok(())
+    }
+
+    fn may_take(&mut self) -> bool {
+        true
+    }
+
+    fn keep(&mut self, _records: &[Record]) -> bool {
+        false
+    }
+
+    fn kept_len(&self) -> usize {
+        0
+    }
+
+    fn kept_record(&self, _place: usize) -> Record {
+        unreachable!()
     }
 }

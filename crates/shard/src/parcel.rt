@@ -4,6 +4,7 @@ ghost use Rattle.std.specs.Prelude.{◌≡◌, [], IfOk, MatchResult};
 ghost use Rattle.shard.specs.Stand.{IsTold, opened_stand};
 ghost use Rattle.shard.specs.Kept.{IsNew};
 
+use crate::body::Body;
 use crate::list_mail::ListMail;
 use crate::mail::Mail;
 use emu_model::{Record, Spec, Timed};
@@ -16,11 +17,9 @@ use std::marker::Model;
 /// contract sees how it stands.
 #[derive(Drop)]
 pub struct Parcel<M: Mail> {
-    pub(crate) name: u32,
-    pub(crate) experiment: Experiment,
+    // It stays where it is in memory while the parcel moves.
+    pub(crate) body: Box<Body<M>>,
     pub(crate) shelf: OwnShelf,
-    pub(crate) mail: M,
-    pub(crate) published: usize,
 }
 
 /// A mail whose experiment was not opened, for want of memory.
@@ -37,9 +36,11 @@ impl<M: Mail> Model for Parcel<M> {
 
     ghost use Rattle.shard.specs.Kept.{stand_of, IsGoing};
 
-    ghost view = { λ p. stand_of (own_pocket p.shelf) p.name p.experiment p.published p.mail };
+    ghost view = { λ p. stand_of (own_pocket p.shelf) p.body.value.name p.body.value.experiment
+        p.body.value.published p.body.value.mail };
 
-    ghost invariant = { λ p. IsGoing M.seen (own_pocket p.shelf) p.experiment p.published p.mail };
+    ghost invariant = { λ p. IsGoing M.seen (own_pocket p.shelf) p.body.value.experiment
+        p.body.value.published p.body.value.mail };
 }
 
 // An experiment to which no command came.
@@ -51,27 +52,28 @@ fn unused(alloc: Global, spec: Spec) -> Result<Experiment, AllocError>
 }
 
 impl<M: Mail> Parcel<M> {
-    /// An experiment to which no command came, and whose mail gave and took nothing yet. Refused for want of
+    /// An experiment to which no command came, and whose mail gave, took and keeps nothing yet. Refused for want of
     /// memory, the mail comes back.
     pub fn open(alloc: Global, name: u32, spec: Spec, mail: M) -> Result<Self, Unopened<M>>
         requires given { (M.seen mail).given ≡ [] }
         requires letters { (M.seen mail).letters ≡ [] }
+        requires kept { M.kept mail ≡ [] }
         ensures { MatchResult result (λ p. p ≡ opened_stand name spec mail) (λ e. e.mail ≡ mail) }
     {
-        match unused(alloc, spec) {
-            Ok(experiment) => {
-                let packets = experiment.spec().budget.packets;
-                // At least one.
-                let _packets = packets.get();
-                Ok(Parcel {
-                    name,
-                    experiment,
-                    shelf: OwnShelf::new(alloc, packets),
-                    mail,
-                    published: 0,
-                })
-            }
-            Err(_) => Err(Unopened { mail }),
+        let Ok(experiment) = unused(alloc, spec) else {
+            return Err(Unopened { mail });
+        };
+        let packets = experiment.spec().budget.packets;
+        // At least one.
+        let _packets = packets.get();
+        match Box::new(alloc, Body::new(name, experiment, mail)) {
+            Ok(body) => Ok(Parcel {
+                body,
+                shelf: OwnShelf::new(alloc, packets),
+            }),
+            Err(refused) => Err(Unopened {
+                mail: refused.value.into_mail(),
+            }),
         }
     }
 
@@ -79,48 +81,48 @@ impl<M: Mail> Parcel<M> {
     pub fn name(&self) -> u32
         ensures { result ≡ self.now.name }
     {
-        self.name
+        self.body.name()
     }
 
     /// What it was given.
     pub fn spec(&self) -> Spec
         ensures { result ≡ self.now.spec }
     {
-        self.experiment.spec()
-    }
-
-    /// What was recorded.
-    pub fn records(&self) -> &[Record]
-        ensures { result.now ≡ self.now.state.net.records }
-    {
-        self.experiment.records()
+        self.body.spec()
     }
 
     /// The commands that came, the next one among them.
     pub fn consumed(&self) -> &[Timed]
         ensures { result.now ≡ self.now.consumed }
     {
-        self.experiment.consumed()
+        self.body.consumed()
     }
 
     /// How many steps were made.
     pub fn events(&self) -> u64
         ensures { result ≡ self.now.state.steps }
     {
-        self.experiment.events()
+        self.body.events()
     }
 
     /// What every parcel keeps: it shows the state of running it alone.
     pub fn known(&self)
         ensures { IsTold M.seen self.now }
     {
-        let _ = &self.name;
+        let _ = &self.shelf;
     }
 }
 
 impl Parcel<ListMail> {
     ghost use Rattle.std.specs.Prelude.{◌≡◌, ◌≤◌, ◌<◌, ◌^◌, OnOk, IfErr, OnErr, length};
     ghost use Rattle.shard.specs.Posts.{with_command, Reads};
+
+    /// What was recorded.
+    pub fn records(&self) -> &[Record]
+        ensures { result.now ≡ self.now.state.net.records }
+    {
+        self.body.records()
+    }
 
     /// Puts a command into its mail, behind those that wait there; where 64 wait it comes back. Takes no memory.
     pub fn put(&mut self, timed: Timed) -> Result<(), Timed>
@@ -132,7 +134,7 @@ impl Parcel<ListMail> {
         ensures back { IfErr result (λ t. t ≡ timed) }
         ensures full { OnErr result (length self.old.mail.waiting ≡ 64) }
     {
-        match self.mail.put(timed) {
+        match self.body.put(timed) {
             Ok(()) => return Ok(()),
             Err(timed) => return Err(timed),
         }
@@ -143,7 +145,7 @@ impl Parcel<ListMail> {
         ensures reads { Reads result self.old.mail self.new.mail }
         ensures same { self.new ≡ record self.old { mail = self.new.mail } }
     {
-        match self.mail.read() {
+        match self.body.read() {
             Some(news) => return Some(news),
             None => return None,
         }

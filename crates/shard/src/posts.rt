@@ -23,6 +23,13 @@ impl Resident<ListMail> {
     ghost use Rattle.std.specs.Prelude.{◌≡◌, ◌≤◌, ◌<◌, ◌^◌, OnOk, IfErr, OnErr, length};
     ghost use Rattle.shard.specs.Posts.{with_command, Reads};
 
+    // What was recorded.
+    fn records(&self) -> &[Record]
+        ensures { result.now ≡ self.now.experiment.net.log.records }
+    {
+        self.body.records()
+    }
+
     // Puts a command into its mail.
     fn put(&mut self, timed: Timed) -> Result<(), Timed>
         requires { timed.moment ≤ 10 ^ 15 }
@@ -33,7 +40,7 @@ impl Resident<ListMail> {
         ensures back { IfErr result (λ t. t ≡ timed) }
         ensures full { OnErr result (length self.old.mail.waiting ≡ 64) }
     {
-        self.mail.put(timed)
+        self.body.put(timed)
     }
 
     // Reads a letter from its mail.
@@ -41,7 +48,7 @@ impl Resident<ListMail> {
         ensures reads { Reads result self.old.mail self.new.mail }
         ensures same { self.new ≡ record self.old { mail = self.new.mail } }
     {
-        self.mail.read()
+        self.body.read()
     }
 }
 
@@ -87,5 +94,15 @@ impl<A: Agenda> Shard<A, ListMail> {
             return Err(Vacant);
         };
         Ok(resident.read())
+    }
+
+    /// What the resident of a slot recorded; `Vacant` where nobody is.
+    pub fn records(&self, slot: usize) -> Result<&[Record], Vacant>
+        ensures there { IfOk result (λ rs. (s : Seat MailBook) × (seat_at self.now.seats slot ≡ Some s)
+            × (rs.now ≡ s.stand.state.net.records)) }
+        ensures vacant { OnErr result (seat_at self.now.seats slot ≡ None) }
+    {
+        let resident = self.resident(slot)?;
+        Ok(resident.records())
     }
 }

@@ -1,17 +1,18 @@
 //! One resident's part in a shard's calls.
 
-ghost use Rattle.std.specs.Prelude.{◌≡◌, ◌+◌, ◌^◌, ◌<◌, ◌≤◌, length, take};
+ghost use Rattle.std.specs.Prelude.{◌+◌, ◌^◌, ◌<◌, ◌≤◌};
 ghost use Rattle.emu_model.specs.Moments.{end_of_time};
-ghost use Rattle.shard.specs.Seen.{IsToldMore, IsPublished};
 
+use crate::body::Body;
 use crate::dossier::Dossier;
 use crate::mail::Mail;
 use crate::parcel::Parcel;
 use crate::shard::Polled;
 use crate::watch::Watch;
-use emu_model::{Class, Ending, Record, Source};
-use experiment::{ApplyError, Event, Experiment};
+use emu_model::{Class, Due, Source, Spec, Timed};
+use experiment::{ApplyError, Event};
 use packet_store::{OwnShelf, Owner, Shelf, Store};
+use std::marker::Model;
 use timer_wheel::Agenda;
 
 /// The source of a resident's entry: it has one, whatever it does next.
@@ -23,31 +24,27 @@ const TURN: Source = Source {
 /// One that lives in a shard.
 #[derive(Drop)]
 pub(crate) struct Resident<M: Mail> {
-    pub(crate) name: u32,
     pub(crate) owner: Owner,
-    pub(crate) experiment: Experiment,
-    pub(crate) mail: M,
-    pub(crate) published: usize,
+    // It stays where it is in memory while what is around it moves.
+    pub(crate) body: Box<Body<M>>,
     // What is added to the moment of its next event in the agenda (ns); None where it is parked, and has no entry
     // there.
     pub(crate) offset: Option<u64>,
 }
 
-// Publishes records while the mail takes them, and answers how many are published.
-fn publish<M: Mail>(mail: &mut M, records: &[Record], published: usize) -> usize
-    requires told { (M.seen mail.old).letters ≡ take published records.now }
-    requires short { published ≤ length records.now }
-    ensures told { (M.seen mail.new).letters ≡ take result records.now }
-    ensures short { result ≤ length records.now }
-    ensures published { IsPublished M.seen records.now mail.new }
-    ensures same { IsToldMore M.seen mail.old mail.new }
-{
-    for next in published..records.len() {
-        let Ok(()) = mail.letter(records[next]) else {
-            return next;
-        };
-    }
-    records.len()
+impl<M: Mail> Model for Resident<M> {
+    ghost use Rattle.shard.specs.Bodies.{Residence};
+
+    ghost Value = { Residence M };
+
+    ghost view = { λ r. record {
+      name = r.body.value.name;
+      owner = r.owner;
+      experiment = r.body.value.experiment;
+      mail = r.body.value.mail;
+      published = r.body.value.published;
+      offset = r.offset;
+    } };
 }
 
 // An offset by which a moment that isn't before its experiment's clock isn't before the agenda's: the one
@@ -67,18 +64,79 @@ fn offset_from(clock: u64, own: u64, moment: u64, offset: u64) -> u64
 }
 
 impl<M: Mail> Resident<M> {
-    ghost use Rattle.std.specs.Prelude.{◌≡◌, ◌≢◌, ◌≤◌, ◌<◌, ◌+◌, ◌-◌, ◌*◌, ◌^◌, ℕ, IsSome, IfSome, Some, None, length};
+    ghost use Rattle.std.specs.Prelude.{◌≡◌, ◌≢◌, ◌≤◌, ◌<◌, ◌+◌, ◌-◌, ◌*◌, ◌^◌, ℕ, IsSome, IfSome, Some, None, is_some, length};
     ghost use Rattle.timer_wheel.specs.Rows.{no_dues};
     ghost use Rattle.packet_store.specs.Books.{pocket_of};
     ghost use Rattle.packet_store.specs.Pocket.{empty_pocket};
     ghost use Rattle.packet_store.specs.Own.{own_pocket, own_room};
     ghost use Rattle.network.specs.Kept.{net_keys};
     ghost use Rattle.packet_store.specs.Pocket.{Pocket};
+    ghost use Rattle.experiment.specs.Dues.{next_due_in};
     ghost use Rattle.experiment.specs.Kept.{view, IsAlone};
     ghost use Rattle.shard.specs.Kept.{IsKept, IsGoing};
+    ghost use Rattle.shard.specs.Seen.{IsPublished};
     ghost use Rattle.shard.specs.Seats.{IsDossierOf, IsSeated, standing, seat};
     ghost use Rattle.shard.specs.Turns.{Polls};
     ghost use Rattle.shard.specs.Steps.{IsLeast, IsStale, Advances, HeardAt, RunsOn, Runs};
+
+    // Its name.
+    pub(crate) fn name(&self) -> u32
+        ensures { result ≡ self.now.name }
+    {
+        self.body.name()
+    }
+
+    // Whose packets are its own.
+    pub(crate) fn owner(&self) -> Owner
+        ensures { result ≡ self.now.owner }
+    {
+        self.owner
+    }
+
+    // What it was given.
+    pub(crate) fn spec(&self) -> Spec
+        ensures { result ≡ self.now.experiment.spec }
+    {
+        self.body.spec()
+    }
+
+    // What is added to the moment of its next event (ns), if it has an entry.
+    fn offset(&self) -> Option<u64>
+        ensures { result ≡ self.now.offset }
+    {
+        self.offset
+    }
+
+    // The moment of the last event (ns), 0 before the first.
+    fn clock(&self) -> u64
+        ensures { result ≡ self.now.experiment.clock }
+    {
+        self.body.clock()
+    }
+
+    // Whether a command is the next one.
+    fn has_next(&self) -> bool
+        ensures { result ≡ is_some self.now.experiment.next }
+    {
+        self.body.has_next()
+    }
+
+    // What comes next, and when (ns); None without a next command.
+    fn next_due(&self) -> Option<Due>
+        ensures due { (p : Pocket) → result ≡ next_due_in (view p self.now.experiment) }
+        ensures early { IfSome result (λ d. d.moment ≤ 10 ^ 15) }
+        ensures ahead { (p : Pocket) → IsAlone p self.now.experiment →
+            IfSome result (λ d. self.now.experiment.clock ≤ d.moment) }
+    {
+        self.body.next_due()
+    }
+
+    // The commands that came, the next one among them.
+    pub(crate) fn consumed(&self) -> &[Timed]
+        ensures { result.now ≡ self.now.experiment.consumed }
+    {
+        self.body.consumed()
+    }
 
     // Sets its entry anew, from the agenda's clock on. Parked where it has no next command, or where memory is
     // refused.
@@ -94,12 +152,14 @@ impl<M: Mail> Resident<M> {
         ensures others { (o : ℕ) → o ≢ slot → A.entries agenda.new o ≡ A.entries agenda.old o }
         ensures time { A.time agenda.new ≡ A.time agenda.old }
     {
+        let next = self.next_due();
+        let own = self.clock();
         self.offset = None;
         agenda.clear_owner(slot);
-        let Some(due) = self.experiment.next_due() else {
+        let Some(due) = next else {
             return;
         };
-        let offset = agenda.clock().saturating_sub(self.experiment.clock());
+        let offset = agenda.clock().saturating_sub(own);
         let Ok(()) = agenda.set(slot, TURN, due.moment + offset) else {
             return;
         };
@@ -120,7 +180,7 @@ impl<M: Mail> Resident<M> {
         ensures others { (o : ℕ) → o ≢ slot → A.entries agenda.new o ≡ A.entries agenda.old o }
         ensures time { A.time agenda.new ≡ 0 }
     {
-        if self.offset.is_none() {
+        if self.offset().is_none() {
             self.enter(agenda, slot);
             return;
         }
@@ -129,6 +189,7 @@ impl<M: Mail> Resident<M> {
     }
 
     // Makes one step, and leaves its entry as it was.
+    #[inline(always)]
     fn advance(&mut self, store: &mut Store) -> Event
         requires going { IsGoing M.seen
             (pocket_of store.old self.old.owner) self.old.experiment self.old.published
@@ -141,9 +202,8 @@ impl<M: Mail> Resident<M> {
         ensures others { (o : ℕ) → o ≢ self.old.owner →
             pocket_of store.new o ≡ pocket_of store.old o }
     {
-        let event = self.experiment.event(store, self.owner);
-        self.published = publish(&mut self.mail, self.experiment.records(), self.published);
-        event
+        let owner = self.owner;
+        self.body.event(store, owner)
     }
 
     // Makes one step and at most `more` others, and leaves its entry as it was.
@@ -161,20 +221,16 @@ impl<M: Mail> Resident<M> {
         ensures others { (o : ℕ) → o ≢ self.old.owner →
             pocket_of store.new o ≡ pocket_of store.old o }
     {
-        for made in 0..more {
+        for made in 0..u64::from(more) + 1 {
             let event = self.advance(store);
             if event != Event::Ran {
                 return event;
             }
-            if !watch.ran(self.name) || !self.experiment.has_next() {
+            if !watch.ran(self.name()) || !self.has_next() {
                 return Event::Ran;
             }
         }
-        let event = self.advance(store);
-        if event == Event::Ran {
-            let _ = watch.ran(self.name);
-        }
-        event
+        Event::Ran
     }
 
     // Makes one step and at most `more` others while it has a next command, it doesn't end and `watch` says yes. Its
@@ -219,9 +275,9 @@ impl<M: Mail> Resident<M> {
         ensures others { (o : ℕ) → o ≢ slot → A.entries agenda.new o ≡ A.entries agenda.old o }
         ensures time { A.time agenda.new ≡ A.time agenda.old }
     {
-        let name = self.name;
-        self.published = publish(&mut self.mail, self.experiment.records(), self.published);
-        if self.experiment.has_next() {
+        let name = self.body.name();
+        self.body.publish();
+        if self.body.has_next() {
             if self.offset.is_some() {
                 return Polled::Held(name);
             }
@@ -231,13 +287,13 @@ impl<M: Mail> Resident<M> {
             }
             return Polled::NoMemory(name);
         }
-        let Ok(()) = self.experiment.apply_ready() else {
+        let Ok(()) = self.body.apply_ready() else {
             return Polled::NoMemory(name);
         };
-        let Some(timed) = self.mail.take_command() else {
+        let Some(timed) = self.body.take_command() else {
             return Polled::Empty(name);
         };
-        match self.experiment.apply(&timed) {
+        match self.body.apply(&timed) {
             Ok(()) => {
                 self.enter(agenda, slot);
                 return Polled::Took(name);
@@ -257,21 +313,15 @@ impl<M: Mail> Resident<M> {
         ensures others { (o : ℕ) → o ≢ owner → pocket_of store.new o ≡ pocket_of store.old o }
     {
         let Parcel {
-            name,
-            mut experiment,
+            mut body,
             mut shelf,
-            mail,
-            published,
         } = parcel;
         // What it holds is within its budget.
         let _held = shelf.count(0);
-        experiment.rehouse(&mut shelf, 0, store, owner);
+        body.rehouse(&mut shelf, 0, store, owner);
         Resident {
-            name,
             owner,
-            experiment,
-            mail,
-            published,
+            body,
             offset: None,
         }
     }
@@ -289,22 +339,13 @@ impl<M: Mail> Resident<M> {
         ensures others { (o : ℕ) → o ≢ self.owner → pocket_of store.new o ≡ pocket_of store.old o }
     {
         let Resident {
-            name,
             owner,
-            mut experiment,
-            mail,
-            published,
+            mut body,
             offset: _,
         } = self;
-        experiment.rehouse(store, owner, &mut shelf, 0);
+        body.rehouse(store, owner, &mut shelf, 0);
         store.dismiss(owner);
-        Parcel {
-            name,
-            experiment,
-            shelf,
-            mail,
-            published,
-        }
+        Parcel { body, shelf }
     }
 
     // What is left of a resident that has ended. What it held is dropped.
@@ -317,21 +358,19 @@ impl<M: Mail> Resident<M> {
         ensures others { (o : ℕ) → o ≢ self.owner → pocket_of store.new o ≡ pocket_of store.old o }
     {
         let Resident {
-            name,
             owner,
-            experiment,
-            mail,
-            published,
+            body,
             offset: _,
         } = self;
-        let Some(ending) = experiment.ending() else {
+        let body = Box::into_inner(body);
+        let Some(ending) = body.ending() else {
             unreachable!();
         };
+        let spec = body.spec();
+        let counters = body.counters();
+        let events = body.events();
         store.dismiss(owner);
-        let spec = experiment.spec();
-        let counters = experiment.counters();
-        let events = experiment.events();
-        let (commands, records) = experiment.into_lists();
+        let (name, commands, mail, records, published) = body.into_parts();
         Dossier {
             name,
             spec,
@@ -357,15 +396,16 @@ impl<M: Mail> Resident<M> {
         ensures others { (o : ℕ) → o ≢ slot → A.entries agenda.new o ≡ A.entries agenda.old o }
         ensures time { A.time agenda.new ≡ A.time agenda.old }
     {
-        let Some(offset) = self.offset else {
+        let Some(offset) = self.offset() else {
             unreachable!();
         };
-        let Some(due) = self.experiment.next_due() else {
+        let own = self.clock();
+        let Some(due) = self.next_due() else {
             self.offset = None;
             agenda.clear_owner(slot);
             return;
         };
-        let later = offset_from(agenda.clock(), self.experiment.clock(), due.moment, offset);
+        let later = offset_from(agenda.clock(), own, due.moment, offset);
         self.offset = Some(later);
         let Ok(()) = agenda.set(slot, TURN, due.moment + later) else {
             unreachable!();

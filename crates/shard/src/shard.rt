@@ -13,7 +13,7 @@ use crate::parcel::Parcel;
 use crate::posts::Vacant;
 use crate::resident::Resident;
 use crate::watch::{Unwatched, Watch};
-use emu_model::{Record, Timed};
+use emu_model::Timed;
 use experiment::Event;
 use packet_store::{OwnShelf, Shelf, Store};
 use std::alloc::{AllocError, Global};
@@ -161,7 +161,7 @@ impl<A: Agenda, M: Mail> Shard<A, M> {
             unreachable!();
         };
         self.turned = slot;
-        let name = resident.name;
+        let name = resident.name();
         let event = resident.run(&mut self.store, &mut self.agenda, slot, more, watch);
         if event == Event::Ran {
             return Turned::Ran(name);
@@ -220,8 +220,8 @@ impl<A: Agenda, M: Mail> Shard<A, M> {
         let Some(resident) = &self.slots[slot] else {
             return Err(PackError::Vacant);
         };
-        let mut shelf = OwnShelf::new(self.alloc, resident.experiment.spec().budget.packets);
-        let Ok(()) = shelf.reserve(self.store.count(resident.owner)) else {
+        let mut shelf = OwnShelf::new(self.alloc, resident.spec().budget.packets);
+        let Ok(()) = shelf.reserve(self.store.count(resident.owner())) else {
             return Err(PackError::NoMemory);
         };
         let Some(gone) = mem::replace(&mut self.slots[slot], None) else {
@@ -273,11 +273,11 @@ impl<A: Agenda, M: Mail> Shard<A, M> {
         let Some(resident) = &self.slots[slot] else {
             return false;
         };
-        resident.name == name
+        resident.name() == name
     }
 
     // The resident of a slot, with what its experiment recorded and consumed.
-    fn resident(&self, slot: usize) -> Result<&Resident<M>, Vacant>
+    pub(crate) fn resident(&self, slot: usize) -> Result<&Resident<M>, Vacant>
         ensures there { IfOk result (λ r. (s : Seat M) × (seat_at self.now.seats slot ≡ Some s)
             × (r.now.experiment.net.log.records ≡ s.stand.state.net.records)
             × (r.now.experiment.consumed ≡ s.stand.consumed)) }
@@ -292,16 +292,6 @@ impl<A: Agenda, M: Mail> Shard<A, M> {
         Ok(resident)
     }
 
-    /// What the resident of a slot recorded; `Vacant` where nobody is.
-    pub fn records(&self, slot: usize) -> Result<&[Record], Vacant>
-        ensures there { IfOk result (λ rs. (s : Seat M) × (seat_at self.now.seats slot ≡ Some s)
-            × (rs.now ≡ s.stand.state.net.records)) }
-        ensures vacant { OnErr result (seat_at self.now.seats slot ≡ None) }
-    {
-        let resident = self.resident(slot)?;
-        Ok(resident.experiment.records())
-    }
-
     /// The commands that came to the resident of a slot, the next one among them; `Vacant` where nobody is.
     pub fn consumed(&self, slot: usize) -> Result<&[Timed], Vacant>
         ensures there { IfOk result (λ cs. (s : Seat M) × (seat_at self.now.seats slot ≡ Some s)
@@ -309,7 +299,7 @@ impl<A: Agenda, M: Mail> Shard<A, M> {
         ensures vacant { OnErr result (seat_at self.now.seats slot ≡ None) }
     {
         let resident = self.resident(slot)?;
-        Ok(resident.experiment.consumed())
+        Ok(resident.consumed())
     }
 
     /// What each resident keeps: it shows the state of running it alone.

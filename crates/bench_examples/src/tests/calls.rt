@@ -6,6 +6,7 @@ use bench::{
     RetakeError, RingMail, Strange, Tenant,
 };
 use emu_model::{Counters, Ending, Record, Spec, Timed};
+use report::Source;
 use shard::{Dossier, Parcel, Polled, TakeInError, Turned};
 use std::alloc::{AllocError, Global};
 
@@ -56,7 +57,6 @@ pub struct Shape {
     pub spec: Spec,
     pub events: u64,
     pub consumed: usize,
-    pub records: usize,
 }
 
 /// What shows of an outcome, but for its records.
@@ -111,13 +111,14 @@ pub trait Kit {
 
     fn ended_name(dossier: &Self::Dossier) -> u32;
 
-    fn ended_records(dossier: &Self::Dossier) -> &[Record];
+    fn ended_record(dossier: &Self::Dossier, place: usize) -> Option<Record>;
 
     fn last(outcome: &Self::Outcome) -> Final;
 
-    fn records(outcome: &Self::Outcome) -> &[Record];
+    fn record(outcome: &Self::Outcome, place: usize) -> Option<Record>;
 
-    fn into_records(outcome: Self::Outcome) -> Vec<Record>;
+    /// How many records it gives.
+    fn given_records(outcome: Self::Outcome) -> usize;
 
     /// A bench, and the thief's end of its deque.
     fn with_peer(alloc: Global) -> Result<(Self::Bench, Self::Peer), AllocError>;
@@ -211,7 +212,6 @@ impl Kit for Real {
             spec: parcel.spec(),
             events: parcel.events(),
             consumed: parcel.consumed().len(),
-            records: parcel.records().len(),
         }
     }
 
@@ -219,8 +219,8 @@ impl Kit for Real {
         dossier.name()
     }
 
-    fn ended_records(dossier: &Dossier<RingMail>) -> &[Record] {
-        dossier.records()
+    fn ended_record(dossier: &Dossier<RingMail>, place: usize) -> Option<Record> {
+        dossier.record(place)
     }
 
     fn last(outcome: &Outcome) -> Final {
@@ -234,12 +234,13 @@ impl Kit for Real {
         }
     }
 
-    fn records(outcome: &Outcome) -> &[Record] {
-        outcome.records()
+    fn record(outcome: &Outcome, place: usize) -> Option<Record> {
+        outcome.record(place)
     }
 
-    fn into_records(outcome: Outcome) -> Vec<Record> {
-        outcome.into_records()
+    fn given_records(outcome: Outcome) -> usize {
+        let (kept, rest) = outcome.into_records();
+        kept.len().saturating_add(rest.len())
     }
 
     fn with_peer(alloc: Global) -> Result<(Bench, Peer), AllocError> {

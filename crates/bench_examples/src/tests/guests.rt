@@ -97,6 +97,9 @@ pub fn settle<K: Kit>(
     }
 }
 
+/// No outcome here has as many records.
+const MOST_RECORDS: usize = 100_000;
+
 /// The report of an outcome.
 pub fn text_of<K: Kit>(
     alloc: Global,
@@ -104,7 +107,14 @@ pub fn text_of<K: Kit>(
 ) -> Result<Vec<u8>, AllocError> {
     let name = settled.plan.name.as_bytes();
     let counters = K::last(&settled.outcome).counters;
-    report_text(alloc, name, K::records(&settled.outcome), &counters)
+    let mut records = Vec::new(alloc);
+    for place in 0..MOST_RECORDS {
+        let Some(record) = K::record(&settled.outcome, place) else {
+            break;
+        };
+        records.push(record)?;
+    }
+    report_text(alloc, name, records.as_slice(), &counters)
 }
 
 impl<O> Settled<O> {

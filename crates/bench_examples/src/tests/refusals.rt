@@ -22,7 +22,6 @@ fn has_shape(rt: &impl Abort, now: &Shape, shape: &Shape) {
     assert!(rt; now.spec == shape.spec);
     assert!(rt; now.events == shape.events);
     assert!(rt; now.consumed == shape.consumed);
-    assert!(rt; now.records == shape.records);
 }
 
 // The parcel that comes back for want of memory, if one does.

@@ -1,30 +1,36 @@
-use Rattle.std.proofs.Common.{◌<◌, [], sym, ap, ◌∙◌, subst, length, take, arith, refl}
-use Rattle.emu_model.specs.declared.commands.Spec.{Spec}
-use Rattle.shard.specs.Seen.{Seen, IsPublished}
-use Rattle.shard.specs.Stand.{heard_from}
+use Rattle.std.proofs.Common.{IsSome, sym, ap, ◌∙◌, subst, refl}
 use Rattle.packet_store.specs.Books.{pocket_of}
-use Rattle.experiment.specs.Kept.{KeptExperiment}
-use Rattle.shard.specs.Kept.{IsKept}
+use Rattle.experiment.specs.Moves.{Makes}
+use Rattle.shard.specs.Seen.{IsToldMore}
+use Rattle.shard.specs.Bodies.{Moved, Residence as Resident}
+use Rattle.shard.specs.Kept.{IsGoing}
+use Rattle.shard.specs.Steps.{Advances}
 use Rattle.shard.proofs.RunFacts.{advanced}
 use Rattle.shard.proofs.resident.Resident.advance.Goals as goal
 
 pub returns-clause-advances : goal.returns-clause-advances
 returns-clause-advances g c =
-    let r = c.args.self.now in
-    let k = c.requires.going.kept in
-    let p = pocket_of c.args.store.now r.owner in
-    let q = pocket_of c.event-event.new.shelf r.owner in
-    let was = c.event-event.ensures in
-    let e : KeptExperiment = c.event-event.new.self in
-    let kept : IsKept g.M.Mail.seen q e c.publish-self.result c.publish-self.new.mail = record {
-      housed = was.housed;
-      budget = was.budget ∙ k.budget ∙ ap (λ s. s.budget.packets) (sym was.spec);
-      some = subst (λ (s : Spec). 0 < s.budget.packets) (sym was.spec) k.some;
-      alone = was.alone k.alone;
-      told = c.publish-self.ensures.told ∙ ap (take c.publish-self.result) c.records.ensures;
-      short = omega (arith, c.publish-self.ensures.short, ap length c.records.ensures);
-      heard = was.consumed ∙ k.heard ∙ ap (λ (x : Seen). heard_from [] x.given) (sym c.publish-self.ensures.same);
-      few = was.steps;
-    } in
-    advanced g.M.Mail.seen c.event-event.result p q r _ c.requires.going c.requires.next kept was.makes
-    (record { name = refl; owner = refl; spec = was.spec; consumed = was.consumed; mail = c.publish-self.ensures.same; published = subst (λ rs. IsPublished g.M.Mail.seen rs c.publish-self.new.mail) c.records.ensures c.publish-self.ensures.published })
+    let s = c.self.inside in
+    let v = s.body.value in
+    let n = c.event.new.self in
+    let a = c.event.result in
+    let p = pocket_of c.args.store.now s.owner in
+    let q = pocket_of c.event.new.store s.owner in
+    let is = c.event.ensures in
+    let was = c.deref_mut.ensures.value in
+    let old : Resident _ = record { name = v.name; owner = s.owner; experiment = v.experiment; mail = v.mail; published = v.published; offset = s.offset } in
+    let new : Resident _ = record { name = n.name; owner = s.owner; experiment = n.experiment; mail = n.mail; published = n.published; offset = s.offset } in
+    subst (λ (r : Resident _). Advances g.M.Mail.seen a (pocket_of c.args.store.now r.owner) r (pocket_of c.event.new.store r.owner) new) c.self.view_is
+    (advanced g.M.Mail.seen a p q old new
+    (subst (λ (r : Resident _). IsGoing g.M.Mail.seen (pocket_of c.args.store.now r.owner) r.experiment r.published r.mail) (sym c.self.view_is) c.requires.going)
+    (subst (λ (r : Resident _). IsSome r.experiment.next) (sym c.self.view_is) c.requires.next)
+    is.kept
+    (subst (λ (b : Moved _). Makes a p b.experiment q n.experiment) was is.makes)
+    (record {
+      name = is.name ∙ ap (λ (b : Moved _). b.name) was;
+      owner = refl;
+      spec = is.spec ∙ ap (λ (b : Moved _). b.experiment.spec) was;
+      consumed = is.consumed ∙ ap (λ (b : Moved _). b.experiment.consumed) was;
+      mail = subst (λ (b : Moved _). IsToldMore g.M.Mail.seen b.mail n.mail) was is.mail;
+      published = is.published;
+    }))

@@ -1,5 +1,5 @@
-use Rattle.std.proofs.Common.{◌≡◌, ◌≤◌, ◌<◌, sym, ap, ◌∙◌, arith, Option, Some, None, length}
-use Rattle.std.specs.Prelude.{unwrap_or}
+use Rattle.std.proofs.Common.{◌≡◌, ◌≤◌, ◌<◌, sym, ap, ◌∙◌, arith, subst, Option, Some, None, length}
+use Rattle.std.specs.Prelude.{unwrap_or, ◌==◌, IsTrue, IsFalse}
 use Rattle.std.proofs.lemmas.List.{get_or_read, get_or_past}
 use Rattle.packet_store.specs.Books.{pocket_of}
 use Rattle.shard.specs.Stand.{Seat, Seating, seat_at}
@@ -29,7 +29,7 @@ returns-clause-yes g c = λ h.
     let r = c.in-Some.resident in
     let within : c.args.slot < length s.slots.items = omega (arith, s.slots.ok.0) in
     let is : resident_at s.slots.items c.args.slot ≡ Some r = read_at s.slots.items c.args.slot c.index.result.now r within c.index.ensures (sym c.in-Some.is) in
-    (seat (pocket_of s.store r.owner) r, seat_is (pocket_of s.store) s.slots.items c.args.self.now.seats c.args.slot r (ap (λ (v : Seating _). v.seats) c.self.view_is) is, is_equal r.name c.args.name h)
+    (seat (pocket_of s.store r.owner) r, seat_is (pocket_of s.store) s.slots.items c.args.self.now.seats c.args.slot r (ap (λ (v : Seating _). v.seats) c.self.view_is) is, is_equal r.name c.args.name (subst (λ n. IsTrue (n == c.args.name)) c.name.ensures h))
 
 pub returns-clause-no : goal.returns-clause-no
 returns-clause-no g c = λ f x h n.
@@ -38,4 +38,4 @@ returns-clause-no g c = λ f x h n.
     let within : c.args.slot < length s.slots.items = omega (arith, s.slots.ok.0) in
     let is : resident_at s.slots.items c.args.slot ≡ Some r = read_at s.slots.items c.args.slot c.index.result.now r within c.index.ensures (sym c.in-Some.is) in
     let here : Some (seat (pocket_of s.store r.owner) r) ≡ Some x = sym (seat_is (pocket_of s.store) s.slots.items c.args.self.now.seats c.args.slot r (ap (λ (v : Seating _). v.seats) c.self.view_is) is) ∙ h in
-    is_other r.name c.args.name f (ap (λ (o : Option (Seat _)). (unwrap_or o x).stand.name) here ∙ n)
+    is_other r.name c.args.name (subst (λ n. IsFalse (n == c.args.name)) c.name.ensures f) (ap (λ (o : Option (Seat _)). (unwrap_or o x).stand.name) here ∙ n)

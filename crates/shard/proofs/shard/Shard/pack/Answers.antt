@@ -5,7 +5,7 @@ use Rattle.std.proofs.lemmas.List.{get_or_read, get_or_past}
 use Rattle.packet_store.specs.Books.{pocket_of}
 use Rattle.packet_store.specs.Pocket.{Pocket}
 use Rattle.packet_store.specs.Own.{own_pocket}
-use Rattle.shard.specs.declared.resident.Resident.{Resident}
+use Rattle.shard.specs.Bodies.{Residence as Resident}
 use Rattle.shard.specs.Stand.{Seating}
 use Rattle.shard.specs.Seats.{resident_at, seat, seats_of, IsShard}
 use Rattle.shard.proofs.SlotChanges.{read_at, seated_at, seat_is, vacant_seat, IsAloneAt, GoesOn, leaves}
@@ -51,8 +51,8 @@ leave-requires-clause-room g c =
     let was : resident_at s.slots.items k ≡ Some first = read_at s.slots.items k c.index.result.now first within c.index.ensures (sym c.in-Some.is) in
     let same : first ≡ r = ap (λ (o : Option (Resident _)). unwrap_or o r) (sym was ∙ is) in
     let kept = (seated_at g.M.Mail.seen (pocket_of s.store) (g.A.Agenda.entries s.agenda) (g.A.Agenda.time s.agenda) s.slots.items k r c.self.invariant is).going.kept in
-    let count : c.count.result ≡ (pocket_of s.store r.owner).count = c.count.ensures.value ∙ ap (λ (x : Resident _). (pocket_of s.store x.owner).count) same in
-    let few : c.count.result ≤ (pocket_of s.store r.owner).budget = subst (λ (x : Resident _). c.count.result ≤ (pocket_of s.store x.owner).budget) same c.count.ensures.within in
+    let count : c.count.result ≡ (pocket_of s.store r.owner).count = c.count.ensures.value ∙ ap (λ (o : ℕ). (pocket_of s.store o).count) c.owner.ensures ∙ ap (λ (x : Resident _). (pocket_of s.store x.owner).count) same in
+    let few : c.count.result ≤ (pocket_of s.store r.owner).budget = subst (λ (x : Resident _). c.count.result ≤ (pocket_of s.store x.owner).budget) same (subst (λ (o : ℕ). c.count.result ≤ (pocket_of s.store o).budget) c.owner.ensures c.count.ensures.within) in
     let own : (own_pocket c.new-shelf.result).budget ≡ r.experiment.spec.budget.packets = ap (λ (x : Pocket). x.budget) c.new-shelf.ensures.own ∙ ap (λ (x : Spec). x.budget.packets) c.spec.ensures ∙ ap (λ (x : Resident _). x.experiment.spec.budget.packets) same in
     let none : (own_pocket c.new-shelf.result).count ≡ 0 = ap (λ (x : Pocket). x.count) c.new-shelf.ensures.own in
     elim c.in-Ok.ensures.ok [
@@ -71,8 +71,8 @@ leave-requires-clause-fits g c =
     let was : resident_at s.slots.items k ≡ Some first = read_at s.slots.items k c.index.result.now first within c.index.ensures (sym c.in-Some.is) in
     let same : first ≡ r = ap (λ (o : Option (Resident _)). unwrap_or o r) (sym was ∙ is) in
     let kept = (seated_at g.M.Mail.seen (pocket_of s.store) (g.A.Agenda.entries s.agenda) (g.A.Agenda.time s.agenda) s.slots.items k r c.self.invariant is).going.kept in
-    let count : c.count.result ≡ (pocket_of s.store r.owner).count = c.count.ensures.value ∙ ap (λ (x : Resident _). (pocket_of s.store x.owner).count) same in
-    let few : c.count.result ≤ (pocket_of s.store r.owner).budget = subst (λ (x : Resident _). c.count.result ≤ (pocket_of s.store x.owner).budget) same c.count.ensures.within in
+    let count : c.count.result ≡ (pocket_of s.store r.owner).count = c.count.ensures.value ∙ ap (λ (o : ℕ). (pocket_of s.store o).count) c.owner.ensures ∙ ap (λ (x : Resident _). (pocket_of s.store x.owner).count) same in
+    let few : c.count.result ≤ (pocket_of s.store r.owner).budget = subst (λ (x : Resident _). c.count.result ≤ (pocket_of s.store x.owner).budget) same (subst (λ (o : ℕ). c.count.result ≤ (pocket_of s.store o).budget) c.owner.ensures c.count.ensures.within) in
     omega (arith, few, count, kept.budget, kept.housed.housed.count)
 
 pub invariant_of-self : goal.invariant_of-self

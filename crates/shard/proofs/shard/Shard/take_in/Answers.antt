@@ -2,7 +2,7 @@ use Rattle.std.proofs.Common.{◌≡◌, ℕ, ◌<◌, List, length, set, Option
 use Rattle.std.proofs.lemmas.List.{get_or-set_same}
 use Rattle.packet_store.specs.Books.{pocket_of}
 use Rattle.packet_store.specs.Pocket.{Pocket}
-use Rattle.shard.specs.declared.resident.Resident.{Resident}
+use Rattle.shard.specs.Bodies.{Residence as Resident}
 use Rattle.shard.specs.Stand.{Seating}
 use Rattle.shard.specs.Seats.{resident_at, standing, seat, seat_of, seats_of, IsShard}
 use Rattle.shard.proofs.SlotChanges.{seat_is, vacant_seat, filled_seat, comes}

@@ -69,7 +69,7 @@ returns-then-eq g c =
       run.runs.0,
       r.name,
       heard_ran g.M.Mail.seen g.W.Watch.hears c.run-event.result r.name run.runs.0 c.args.watch.now c.run-event.new.watch (sym c.eq.ensures ∙ c.if-eq.true) run.runs.1,
-      refl,
+      c.name-name.ensures,
       (
         on.0.some,
         on.0.few,
@@ -80,7 +80,7 @@ returns-then-eq g c =
           subst (λ o. LeavesOff g.W.Watch.may_refuse c.args.more run.runs.0 (standing (after o) t)) (sym on.2) on.0.left_off,
           record {
             was = seat_is (pocket_of s.store) s.slots.items c.args.self.now.seats e.owner r (ap (λ (x : Seating _). x.seats) c.self.view_is) f.is;
-            name_is = refl;
+            name_is = sym c.name-name.ensures;
             ready = f.least.ready;
             first = first g.M.Mail.seen (pocket_of s.store) (g.A.Agenda.entries s.agenda) (g.A.Agenda.time s.agenda) s.slots.items c.args.self.now.seats e r c.self.invariant (ap (λ (x : Seating _). x.seats) c.self.view_is) f.is was.was was.least;
             turns = subst (λ o. AreTurns g.M.Mail.seen run.runs.0 (standing (pocket_of s.store r.owner) r) (standing (after o) t)) (sym on.2) on.0.turns;

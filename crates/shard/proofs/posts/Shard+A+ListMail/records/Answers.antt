@@ -1,5 +1,5 @@
 use Rattle.std.proofs.Common.{◌∙◌}
-use Rattle.shard.proofs.shard.Shard.records.Goals as goal
+use Rattle.shard.proofs.posts.Shard+A+ListMail.records.Goals as goal
 
 pub returns-clause-there : goal.returns-clause-there
 returns-clause-there g c =

@@ -1,0 +1,51 @@
+//! The reports of experiments that were run by workers.
+
+ghost use Rattle.std.specs.Prelude.{◌≡◌, map, IfOk, IfErr};
+ghost use Rattle.lab.specs.Plans.{IsMemory};
+ghost use Rattle.lab.specs.Reports.{trace_alone, report_alone};
+
+use crate::fault::RunFault;
+use crate::outcome::Outcome;
+use control::Experiment;
+use report_writer::Report;
+use std::alloc::Global;
+
+// The report of an experiment, from what it left.
+fn report_of_one(
+    alloc: Global,
+    script: &Experiment,
+    outcome: Outcome,
+) -> Result<Report, RunFault>
+    requires { outcome ≡ trace_alone script.now }
+    ensures ok { IfOk result (λ report. report ≡ report_alone script.now) }
+    ensures err { IfErr result IsMemory }
+{
+    let Ok(report) = outcome.into_report(alloc, script.name.as_bytes()) else {
+        return Err(RunFault::Memory);
+    };
+    Ok(report)
+}
+
+/// The report of each experiment from what it left, in their order. `Memory` where memory was refused.
+pub(crate) fn reports_in_turn(
+    alloc: Global,
+    scripts: &[Experiment],
+    outcomes: Vec<Outcome>,
+) -> Result<Vec<Report>, RunFault>
+    requires { outcomes.items ≡ map trace_alone scripts.now }
+    ensures ok { IfOk result (λ reports. reports.items ≡ map report_alone scripts.now) }
+    ensures err { IfErr result IsMemory }
+{
+    let mut reports = Vec::new(alloc);
+    let Ok(()) = reports.reserve(scripts.len()) else {
+        return Err(RunFault::Memory);
+    };
+    for outcome in outcomes {
+        let Some(script) = scripts.get(reports.len()) else {
+            unreachable!()
+        };
+        let report = report_of_one(alloc, script, outcome)?;
+        reports.push_reserved(report);
+    }
+    Ok(reports)
+}

@@ -1,0 +1,432 @@
+//! What moves as one: an experiment, and its mail, which may keep the records that the experiment has forgotten.
+
+ghost use Rattle.std.specs.Prelude.{◌≡◌, ◌≤◌, ◌<◌, ◌++◌, length, take, slice_index_or, option_copied, slice_get};
+ghost use Rattle.emu_model.specs.declared.records.Record.TheVariants.{StepsSpent};
+ghost use Rattle.packet_store.specs.Pocket.{Pocket};
+ghost use Rattle.experiment.specs.Kept.{IsAloneAfter, IsHousedIn};
+ghost use Rattle.report_writer.specs.Written.{AreCountsOf};
+ghost use Rattle.shard.specs.Seen.{IsToldMore, IsPublished};
+
+use crate::list_mail::ListMail;
+use crate::mail::Mail;
+use emu_model::{
+    Counters, Due, Ending, Record, Spec, Timed, dues_stay_ahead, packets_add_up,
+    records_are_not_read, records_grow,
+};
+use experiment::{ApplyError, Event, Experiment};
+use packet_store::{Owner, Shelf, Store};
+use report_writer::RecordCounts;
+use std::alloc::AllocError;
+use std::marker::Model;
+
+/// So many records are kept at a time: they stay where they were recorded a moment before.
+const BATCH: usize = 256;
+
+/// An experiment and its mail. A contract sees the experiment with all its records.
+#[derive(Drop)]
+pub(crate) struct Body<M: Mail> {
+    name: u32,
+    experiment: Experiment,
+    mail: M,
+    published: u128,
+    // Of the records that the mail keeps.
+    counts: RecordCounts,
+}
+
+impl<M: Mail> Model for Body<M> {
+    ghost use Rattle.emu_model.specs.DueLaws.{AreRising};
+    ghost use Rattle.report_writer.specs.Written.{AreCountsOf};
+    ghost use Rattle.shard.specs.Bodies.{Moved, behind};
+
+    ghost Value = { Moved M };
+
+    ghost view = { λ b. record {
+      name = b.name;
+      experiment = behind (M.kept b.mail) b.experiment;
+      mail = b.mail;
+      published = b.published;
+    } };
+
+    ghost invariant = { λ b. AreCountsOf (M.kept b.mail) b.counts
+        × AreRising 0 b.experiment.consumed };
+}
+
+// The record at a place: those that the mail keeps come first.
+fn record_at<M: Mail>(mail: &M, fresh: &[Record], place: u128) -> Record
+    requires { place < length (M.kept mail.now ++ fresh.now) }
+    ensures { result ≡ slice_index_or (M.kept mail.now ++ fresh.now) place (StepsSpent 0) }
+{
+    let kept = mail.kept_len() as u128;
+    if place < kept {
+        return mail.kept_record(place as usize);
+    }
+    fresh[(place - kept) as usize]
+}
+
+// Publishes records while the mail takes them, and answers how many are published.
+#[inline(never)]
+fn publish_more<M: Mail>(mail: &mut M, fresh: &[Record], published: u128) -> u128
+    requires told { (M.seen mail.old).letters ≡ take published (M.kept mail.old ++ fresh.now) }
+    requires short { published ≤ length (M.kept mail.old ++ fresh.now) }
+    ensures told { (M.seen mail.new).letters ≡ take result (M.kept mail.old ++ fresh.now) }
+    ensures short { result ≤ length (M.kept mail.old ++ fresh.now) }
+    ensures published { IsPublished M.seen (M.kept mail.old ++ fresh.now) mail.new }
+    ensures same { IsToldMore M.seen mail.old mail.new }
+    ensures kept { M.kept mail.new ≡ M.kept mail.old }
+{
+    let count = mail.kept_len() as u128 + fresh.len() as u128;
+    let mut next = published;
+    while next < count {
+        let record = record_at(mail, fresh, next);
+        let Ok(()) = mail.letter(record) else {
+            return next;
+        };
+        next += 1;
+    }
+    count
+}
+
+// The same. Asked first, since mostly nobody reads and no letter is taken.
+#[inline(always)]
+fn publish<M: Mail>(mail: &mut M, fresh: &[Record], published: u128) -> u128
+    requires told { (M.seen mail.old).letters ≡ take published (M.kept mail.old ++ fresh.now) }
+    requires short { published ≤ length (M.kept mail.old ++ fresh.now) }
+    ensures told { (M.seen mail.new).letters ≡ take result (M.kept mail.old ++ fresh.now) }
+    ensures short { result ≤ length (M.kept mail.old ++ fresh.now) }
+    ensures published { IsPublished M.seen (M.kept mail.old ++ fresh.now) mail.new }
+    ensures same { IsToldMore M.seen mail.old mail.new }
+    ensures kept { M.kept mail.new ≡ M.kept mail.old }
+{
+    if !mail.may_take() {
+        return published;
+    }
+    publish_more(mail, fresh, published)
+}
+
+// Has the mail keep what was recorded, which the experiment forgets then.
+#[inline(never)]
+fn keep<M: Mail>(experiment: &mut Experiment, mail: &mut M, counts: &mut RecordCounts)
+    requires counts { AreCountsOf (M.kept mail.old) counts.old }
+    requires alone { (p : Pocket) × IsHousedIn p experiment.old
+        × IsAloneAfter (M.kept mail.old) p experiment.old }
+    ensures counts { AreCountsOf (M.kept mail.new) counts.new }
+    ensures rest { experiment.new ≡ record experiment.old {
+      net = record experiment.old.net { log = experiment.new.net.log };
+    } }
+    ensures records { M.kept mail.new ++ experiment.new.net.log.records
+        ≡ M.kept mail.old ++ experiment.old.net.log.records }
+    ensures seen { M.seen mail.new ≡ M.seen mail.old }
+    ensures housed { (p : Pocket) → IsHousedIn p experiment.old → IsHousedIn p experiment.new }
+{
+    if mail.keep(experiment.records()) {
+        packets_add_up();
+        counts.count(experiment);
+    }
+}
+
+impl<M: Mail> Body<M> {
+    ghost use Rattle.std.specs.Prelude.{◌≡◌, ◌≢◌, ◌≤◌, ◌<◌, ◌^◌, ◌++◌, ◌∷◌, [], ℕ, List, Some, None, Err, true, IsSome, IfSome, IfNone, OnOk, OnErr, is_some, length, take};
+    ghost use Rattle.emu_model.specs.Net.{counters_of};
+    ghost use Rattle.packet_store.specs.Books.{pocket_of};
+    ghost use Rattle.packet_store.specs.Pocket.{Pocket, empty_pocket, OthersStay};
+    ghost use Rattle.network.specs.Kept.{net_keys};
+    ghost use Rattle.experiment.specs.Dues.{next_due_in};
+    ghost use Rattle.experiment.specs.Kept.{view, IsAlone, IsHousedIn, last_moment};
+    ghost use Rattle.experiment.specs.Moves.{Makes};
+    ghost use Rattle.shard.specs.Kept.{IsKept, IsGoing};
+    ghost use Rattle.shard.specs.Seen.{IsToldMore, IsPublished};
+
+    /// An experiment whose records are all its own, and a mail that keeps none.
+    pub(crate) fn new(name: u32, experiment: Experiment, mail: M) -> Self
+        requires kept { M.kept mail ≡ [] }
+        requires new { experiment.consumed ≡ [] }
+        ensures { result ≡ record {
+          name = name;
+          experiment = experiment;
+          mail = mail;
+          published = 0;
+        } }
+    {
+        Body {
+            name,
+            experiment,
+            mail,
+            published: 0,
+            counts: RecordCounts::new(),
+        }
+    }
+
+    /// Its name.
+    pub(crate) fn name(&self) -> u32
+        ensures { result ≡ self.now.name }
+    {
+        self.name
+    }
+
+    /// What it was given.
+    pub(crate) fn spec(&self) -> Spec
+        ensures { result ≡ self.now.experiment.spec }
+    {
+        self.experiment.spec()
+    }
+
+    /// The commands that came, the next one among them.
+    pub(crate) fn consumed(&self) -> &[Timed]
+        ensures { result.now ≡ self.now.experiment.consumed }
+    {
+        self.experiment.consumed()
+    }
+
+    /// How many steps were made.
+    pub(crate) fn events(&self) -> u64
+        ensures { result ≡ self.now.experiment.steps }
+    {
+        self.experiment.events()
+    }
+
+    /// The moment of the last event (ns), 0 before the first.
+    pub(crate) fn clock(&self) -> u64
+        ensures { result ≡ self.now.experiment.clock }
+    {
+        self.experiment.clock()
+    }
+
+    /// Whether a command is the next one.
+    pub(crate) fn has_next(&self) -> bool
+        ensures { result ≡ is_some self.now.experiment.next }
+    {
+        self.experiment.has_next()
+    }
+
+    /// How it ended, if it has.
+    pub(crate) fn ending(&self) -> Option<Ending>
+        ensures { result ≡ self.now.experiment.ending }
+    {
+        self.experiment.ending()
+    }
+
+    /// What comes next, and when (ns); None without a next command.
+    pub(crate) fn next_due(&self) -> Option<Due>
+        ensures due { (p : Pocket) → result ≡ next_due_in (view p self.now.experiment) }
+        ensures early { IfSome result (λ d. d.moment ≤ 10 ^ 15) }
+        ensures ahead { (p : Pocket) → IsAlone p self.now.experiment →
+            IfSome result (λ d. self.now.experiment.clock ≤ d.moment) }
+    {
+        dues_stay_ahead();
+        self.experiment.next_due()
+    }
+
+    /// Publishes records while the mail takes them.
+    #[inline(always)]
+    pub(crate) fn publish(&mut self)
+        requires told { (M.seen self.old.mail).letters
+            ≡ take self.old.published self.old.experiment.net.log.records }
+        requires short { self.old.published ≤ length self.old.experiment.net.log.records }
+        ensures told { (M.seen self.new.mail).letters
+            ≡ take self.new.published self.old.experiment.net.log.records }
+        ensures short { self.new.published ≤ length self.old.experiment.net.log.records }
+        ensures published { IsPublished M.seen self.old.experiment.net.log.records self.new.mail }
+        ensures mail { IsToldMore M.seen self.old.mail self.new.mail }
+        ensures rest { self.new
+            ≡ record self.old { mail = self.new.mail; published = self.new.published } }
+    {
+        self.published = publish(&mut self.mail, self.experiment.records(), self.published);
+    }
+
+    /// Makes the next event, and publishes records while the mail takes them. The mail keeps what it records, a batch at a
+    /// time, and all of it in the end.
+    #[inline(always)]
+    pub(crate) fn event(&mut self, store: &mut Store, owner: Owner) -> Event
+        requires going { IsGoing M.seen (pocket_of store.old owner) self.old.experiment
+            self.old.published self.old.mail }
+        requires next { IsSome self.old.experiment.next }
+        ensures kept { IsKept M.seen (pocket_of store.new owner) self.new.experiment
+            self.new.published self.new.mail }
+        ensures makes { Makes result (pocket_of store.old owner) self.old.experiment
+            (pocket_of store.new owner) self.new.experiment }
+        ensures name { self.new.name ≡ self.old.name }
+        ensures spec { self.new.experiment.spec ≡ self.old.experiment.spec }
+        ensures consumed { self.new.experiment.consumed ≡ self.old.experiment.consumed }
+        ensures mail { IsToldMore M.seen self.old.mail self.new.mail }
+        ensures published { IsPublished M.seen self.new.experiment.net.log.records self.new.mail }
+        ensures others { OthersStay owner (pocket_of store.old) (pocket_of store.new) }
+    {
+        records_grow();
+        records_are_not_read();
+        let event = self.experiment.event(store, owner);
+        self.published = publish(&mut self.mail, self.experiment.records(), self.published);
+        if event != Event::Ran || self.experiment.records().len() >= BATCH {
+            keep(&mut self.experiment, &mut self.mail, &mut self.counts);
+        }
+        event
+    }
+
+    /// Makes room for one command more, and changes nothing else: the next `apply` needs no memory then.
+    pub(crate) fn apply_ready(&mut self) -> Result<(), AllocError>
+        ensures ready { OnOk result (0 < self.new.experiment.spare) }
+        ensures same { self.new ≡ record self.old {
+          experiment = record self.old.experiment { spare = self.new.experiment.spare };
+        } }
+    {
+        self.experiment.apply_ready()
+    }
+
+    /// Takes the next command out of the mail, if one is known to wait there.
+    pub(crate) fn take_command(&mut self) -> Option<Timed>
+        ensures some { IfSome result
+            (λ t. M.seen self.new.mail ≡ record (M.seen self.old.mail) {
+              given = (M.seen self.old.mail).given ++ t ∷ [];
+              dry = (M.seen self.new.mail).dry;
+            }) }
+        ensures moment { IfSome result (λ t. t.moment ≤ 10 ^ 15) }
+        ensures none { IfNone result
+            (M.seen self.new.mail ≡ record (M.seen self.old.mail) { dry = true }) }
+        ensures rest { self.new ≡ record self.old { mail = self.new.mail } }
+    {
+        self.mail.take_command()
+    }
+
+    /// Makes a command the next one, as `Experiment::apply` does.
+    pub(crate) fn apply(&mut self, command: &Timed) -> Result<(), ApplyError>
+        requires { command.now.moment ≤ 10 ^ 15 }
+        ensures rest { self.new ≡ record self.old { experiment = self.new.experiment } }
+        ensures ok { OnOk result
+            (self.new.experiment
+            ≡ record self.old.experiment {
+              next = Some command.now;
+              consumed = self.old.experiment.consumed
+                  ++ command.now ∷ [];
+              spare = self.new.experiment.spare;
+            }) }
+        ensures free { OnOk result
+            ((self.old.experiment.ending ≡ None) × (self.old.experiment.next ≡ None)
+            × (last_moment 0 self.old.experiment.consumed ≤ command.now.moment)) }
+        ensures err { OnErr result (self.new ≡ self.old) }
+        ensures housed { (p : Pocket) → IsHousedIn p self.old.experiment →
+            IsHousedIn p self.new.experiment }
+        ensures alone { (p : Pocket) → IsAlone p self.old.experiment →
+            IsAlone p self.new.experiment }
+        ensures over { result ≡ Err ApplyError.Over → IsSome self.old.experiment.ending }
+        ensures busy { result ≡ Err ApplyError.Busy →
+            (self.old.experiment.ending ≡ None) × IsSome self.old.experiment.next }
+        ensures backward { result ≡ Err ApplyError.Backward →
+            (self.old.experiment.ending ≡ None) × (self.old.experiment.next ≡ None)
+            × (command.now.moment < last_moment 0 self.old.experiment.consumed) }
+        ensures memory { result ≡ Err ApplyError.NoMemory →
+            (self.old.experiment.ending ≡ None) × (self.old.experiment.next ≡ None)
+            × (last_moment 0 self.old.experiment.consumed ≤ command.now.moment)
+            × (self.old.experiment.spare ≡ 0) }
+    {
+        self.experiment.apply(command)
+    }
+
+    /// Moves all packets from one shelf to another, as `Experiment::rehouse` does.
+    pub(crate) fn rehouse<S: Shelf, T: Shelf>(
+        &mut self,
+        from: &mut S,
+        owner: Owner,
+        to: &mut T,
+        other: Owner,
+    )
+        requires housed { IsHousedIn (S.pocket from.old owner) self.old.experiment }
+        requires empty { T.pocket to.old other ≡ empty_pocket (T.pocket to.old other).budget }
+        requires room { length (net_keys self.old.experiment.net) ≤ T.room to.old other }
+        requires budget { length (net_keys self.old.experiment.net)
+            ≤ (T.pocket to.old other).budget }
+        requires fits { self.old.experiment.spec.budget.packets ≤ (T.pocket to.old other).budget }
+        ensures view { view (T.pocket to.new other) self.new.experiment
+            ≡ view (S.pocket from.old owner) self.old.experiment }
+        ensures housed { IsHousedIn (T.pocket to.new other) self.new.experiment }
+        ensures alone { IsAlone (S.pocket from.old owner) self.old.experiment →
+            IsAlone (T.pocket to.new other) self.new.experiment }
+        ensures rest { self.new ≡ record self.old {
+          experiment = record self.old.experiment { net = self.new.experiment.net };
+        } }
+        ensures records { self.new.experiment.net.log.records
+            ≡ self.old.experiment.net.log.records }
+        ensures count { (T.pocket to.new other).count ≡ (S.pocket from.old owner).count }
+        ensures budget { (T.pocket to.new other).budget ≡ (T.pocket to.old other).budget }
+        ensures gone { S.pocket from.new owner ≡ empty_pocket (S.pocket from.old owner).budget }
+        ensures others_from { OthersStay owner (S.pocket from.old) (S.pocket from.new) }
+        ensures others_to { OthersStay other (T.pocket to.old) (T.pocket to.new) }
+    {
+        self.experiment.rehouse(from, owner, to, other);
+    }
+
+    /// The packets that were made, delivered, are held, and were dropped by cause.
+    pub(crate) fn counters(&self) -> Counters
+        requires { (p : Pocket) × IsHousedIn p self.now.experiment × IsAlone p self.now.experiment }
+        ensures { (p : Pocket) → IsHousedIn p self.now.experiment →
+            result ≡ counters_of (view p self.now.experiment).net }
+    {
+        packets_add_up();
+        self.counts.counters(&self.experiment)
+    }
+
+    /// Its mail alone.
+    pub(crate) fn into_mail(self) -> M
+        ensures { result ≡ self.mail }
+    {
+        let Body {
+            name: _,
+            experiment: _,
+            mail,
+            published: _,
+            counts: _,
+        } = self;
+        mail
+    }
+
+    /// Its parts: the name, the commands that came, the mail, the records behind those that it keeps, and how many records
+    /// were published.
+    pub(crate) fn into_parts(self) -> (u32, Vec<Timed>, M, Vec<Record>, u128)
+        ensures name { result.0 ≡ self.name }
+        ensures commands { result.1.items ≡ self.experiment.consumed }
+        ensures mail { result.2 ≡ self.mail }
+        ensures records { M.kept result.2 ++ result.3.items ≡ self.experiment.net.log.records }
+        ensures published { result.4 ≡ self.published }
+    {
+        let Body {
+            name,
+            experiment,
+            mail,
+            published,
+            counts: _,
+        } = self;
+        let (commands, records) = experiment.into_lists();
+        (name, commands, mail, records, published)
+    }
+}
+
+impl Body<ListMail> {
+    ghost use Rattle.std.specs.Prelude.{◌≡◌, ◌≤◌, ◌<◌, ◌^◌, OnOk, IfErr, OnErr, length};
+    ghost use Rattle.shard.specs.Posts.{with_command, Reads};
+
+    /// What was recorded.
+    pub(crate) fn records(&self) -> &[Record]
+        ensures { result.now ≡ self.now.experiment.net.log.records }
+    {
+        self.experiment.records()
+    }
+
+    /// Puts a command into its mail; where 64 wait it comes back.
+    pub(crate) fn put(&mut self, timed: Timed) -> Result<(), Timed>
+        requires { timed.moment ≤ 10 ^ 15 }
+        ensures ok { OnOk result
+            (self.new ≡ record self.old { mail = with_command self.old.mail timed }) }
+        ensures room { OnOk result (length self.old.mail.waiting < 64) }
+        ensures err { OnErr result (self.new ≡ self.old) }
+        ensures back { IfErr result (λ t. t ≡ timed) }
+        ensures full { OnErr result (length self.old.mail.waiting ≡ 64) }
+    {
+        self.mail.put(timed)
+    }
+
+    /// Reads a letter from its mail.
+    pub(crate) fn read(&mut self) -> Option<Record>
+        ensures reads { Reads result self.old.mail self.new.mail }
+        ensures same { self.new ≡ record self.old { mail = self.new.mail } }
+    {
+        self.mail.read()
+    }
+}
