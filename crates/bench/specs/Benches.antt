@@ -4,7 +4,7 @@ use Rattle.shard.specs.declared.shard.Turned.{Turned}
 use Rattle.shard.specs.declared.shard.Turned.TheVariants.{Ran, Ended, Idle}
 use Rattle.shard.specs.declared.shard.TakeInError.{TakeInError}
 use Rattle.shard.specs.Stand.{Stand, Seat, Seating, seat_at}
-use Rattle.shard.specs.Turns.{TakenIn, PackedAt, ComesBack}
+use Rattle.shard.specs.Turns.{TakenIn, PackedAt, ComesBack, HasVacancy}
 use Rattle.bench.specs.declared.mail.RingMail.{RingMail}
 use Rattle.bench.specs.declared.hand.Hand.{Hand}
 use Rattle.bench.specs.declared.bench.Bench.{Bench}
@@ -103,6 +103,12 @@ RetakeFails (retake.Refused e) a b =
     (p : Stand RingMail) × ComesBack p (bench_seating a) e × (bench_seating b ≡ bench_seating a) × Takes p (bench_view a) (bench_view b)
     × Notes [] [] [] (p.name ∷ []) a b
 
+-- a slot was vacant if memory was refused for what was retaken
+abbrev pub RetakeVacancy : RetakeError → Bench → Type 0
+RetakeVacancy retake.Empty a = Unit {0}
+RetakeVacancy retake.NoMemory a = Unit {0}
+RetakeVacancy (retake.Refused e) a = HasVacancy (bench_seating a) e
+
 -- what the peer's pass took sits here
 abbrev pub Adopts : Hand → Hand → Bench → Bench → Type 0
 Adopts v w a b = (p : Stand RingMail) × Sits p a b × Takes p v w × (bench_view b ≡ bench_view a) × Notes [] (p.name ∷ []) [] [] a b
@@ -115,3 +121,10 @@ AdoptFails adopt.NoMemory v w a b = (w ≡ v) × SameBench a b
 AdoptFails (adopt.Refused e) v w a b =
     (p : Stand RingMail) × ComesBack p (bench_seating a) e × (bench_seating b ≡ bench_seating a) × Takes p v w × (bench_view b ≡ bench_view a)
     × Notes [] (p.name ∷ []) [] (p.name ∷ []) a b
+
+-- a slot was vacant if memory was refused for what was adopted
+abbrev pub AdoptVacancy : AdoptError → Bench → Type 0
+AdoptVacancy adopt.Empty a = Unit {0}
+AdoptVacancy adopt.Retry a = Unit {0}
+AdoptVacancy adopt.NoMemory a = Unit {0}
+AdoptVacancy (adopt.Refused e) a = HasVacancy (bench_seating a) e

@@ -74,7 +74,7 @@ impl Bench {
     ghost use Rattle.bench.specs.Rings.{ring_seen};
     ghost use Rattle.bench.specs.Custody.{hand, times, named, seated};
     ghost use Rattle.bench.specs.Ends.{peer_view};
-    ghost use Rattle.bench.specs.Benches.{bench_seating, bench_view, IsNewBench, SameBench, SameLists, HasRoom, NotesEnd, Admits, AdmitFails, Offers, OfferFails, Retakes, RetakeFails, Adopts, AdoptFails};
+    ghost use Rattle.bench.specs.Benches.{bench_seating, bench_view, IsNewBench, SameBench, SameLists, HasRoom, NotesEnd, Admits, AdmitFails, Offers, OfferFails, Retakes, RetakeFails, RetakeVacancy, Adopts, AdoptFails, AdoptVacancy};
 
     /// A bench without residents, whose deque is empty.
     pub fn new(alloc: Global) -> Result<Bench, AllocError>
@@ -264,6 +264,7 @@ impl Bench {
     pub fn retake(&mut self) -> Result<(), RetakeError>
         ensures ok { OnOk result (Retakes self.old self.new) }
         ensures err { IfErr result (λ e. RetakeFails e self.old self.new) }
+        ensures vacancy { IfErr result (λ e. RetakeVacancy e self.old) }
         ensures peered { self.new.peered ≡ self.old.peered }
     {
         if self.make_room().is_err() {
@@ -292,6 +293,7 @@ impl Bench {
             (Adopts (peer_view peer.old) (peer_view peer.new) self.old self.new) }
         ensures err { IfErr result
             (λ e. AdoptFails e (peer_view peer.old) (peer_view peer.new) self.old self.new) }
+        ensures vacancy { IfErr result (λ e. AdoptVacancy e self.old) }
         ensures peered { self.new.peered ≡ self.old.peered }
     {
         if self.make_room().is_err() {

@@ -76,13 +76,18 @@ pub lines_stops : (a b c : Option (List ℕ)) (k l : List ℕ) (rs : List Record
     Puts a k b l (flat_map line_of (take i rs)) → Stops b l c [] → Stops a k c (flat_map line_of rs)
 lines_stops = pieces_cut line_of
 
--- two pieces of one
-module _ (first second whole : List ℕ) (is : first ++ second ≡ whole) where
-  pub both_put : (a b c : Option (List ℕ)) (k l m : List ℕ) → Puts a k b l first → Puts b l c m second → Puts a k c m whole
-  both_put a b c k l m f g = subst (Puts a k c m) is (puts_both a b c k l m first second f g)
+-- three pieces of one
+module _ (first second third whole : List ℕ) (is : first ++ (second ++ third) ≡ whole) where
+  pub three_put : (a b c d : Option (List ℕ)) (k l m n : List ℕ) → Puts a k b l first → Puts b l c m second → Puts c m d n third → Puts a k d n whole
+  three_put a b c d k l m n f g h = subst (Puts a k d n) is (puts_both a b d k l n first (second ++ third) f (puts_both b c d l m n second third g h))
 
   pub first_stops : (a b : Option (List ℕ)) (k : List ℕ) → Stops a k b first → Stops a k b whole
-  first_stops a b k f = subst (Stops a k b) is (stops_before a b k first second f)
+  first_stops a b k f = subst (Stops a k b) is (stops_before a b k first (second ++ third) f)
 
   pub second_stops : (a b c : Option (List ℕ)) (k l : List ℕ) → Puts a k b l first → Stops b l c second → Stops a k c whole
-  second_stops a b c k l f g = subst (Stops a k c) is (stops_behind a b c k l first second f g)
+  second_stops a b c k l f g =
+      subst (Stops a k c) is (stops_behind a b c k l first (second ++ third) f (stops_before b c l second third g))
+
+  pub third_stops : (a b c d : Option (List ℕ)) (k l m : List ℕ) → Puts a k b l first → Puts b l c m second → Stops c m d third → Stops a k d whole
+  third_stops a b c d k l m f g h =
+      subst (Stops a k d) is (stops_behind a b d k l first (second ++ third) f (stops_behind b c d l m second third g h))

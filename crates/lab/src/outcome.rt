@@ -43,10 +43,11 @@ impl Outcome {
         ensures { IfOk result (λ r. r ≡ report_of name.now self.records self.counters) }
     {
         let Outcome {
-            archive,
+            mut archive,
             rest,
             counters,
         } = self;
-        Report::of(alloc, name, archive, rest.as_slice(), &counters)
+        archive.append(rest.as_slice())?;
+        Report::of(alloc, name, archive, &counters)
     }
 }

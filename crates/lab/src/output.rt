@@ -6,7 +6,7 @@ ghost use Rattle.lab.specs.Bytes.{Puts, Stops};
 
 use crate::ends::{Failed, Outlet, flush_all, write_all};
 use report::{Archive, Moments, Source, write_some};
-use report_writer::{Part, Report};
+use report_writer::Report;
 use std::alloc::{AllocError, Global};
 use std::marker::Model;
 
@@ -104,7 +104,7 @@ impl Buffer {
     }
 
     // Puts a report.
-    #[tactic(auto, using(crate::proofs::Reporting::both_put, crate::proofs::Reporting::first_stops, crate::proofs::Reporting::second_stops))]
+    #[tactic(auto, using(crate::proofs::Reporting::three_put, crate::proofs::Reporting::first_stops, crate::proofs::Reporting::second_stops, crate::proofs::Reporting::third_stops))]
     fn put_report<W: Outlet>(
         &mut self,
         writer: &mut W,
@@ -117,50 +117,10 @@ impl Buffer {
             (Stops (W.contents writer.old) self.old (W.contents writer.new) report.now) }
         ensures failed { OnErr result (W.failed writer.new ≡ true) }
     {
-        let (parts, last) = report.parts();
-        self.put_parts(writer, moments, parts)?;
+        let (heading, records, last) = report.parts();
+        self.put(writer, heading)?;
+        self.put_lines(writer, moments, records)?;
         self.put(writer, last)
-    }
-
-    // Puts the parts of a report, one after the other.
-    #[tactic(auto, using(crate::proofs::Writing::puts_none, crate::proofs::Reporting::texts_puts, crate::proofs::Reporting::texts_stops))]
-    fn put_parts<W: Outlet>(
-        &mut self,
-        writer: &mut W,
-        moments: &mut Moments,
-        parts: &[Part],
-    ) -> Result<(), Failed>
-        ensures ok { OnOk result
-            (Puts (W.contents writer.old) self.old (W.contents writer.new) self.new
-            (flat_map (λ p. p) parts.now)) }
-        ensures cut { OnErr result
-            (Stops (W.contents writer.old) self.old (W.contents writer.new)
-            (flat_map (λ p. p) parts.now)) }
-        ensures failed { OnErr result (W.failed writer.new ≡ true) }
-    {
-        for part in parts {
-            self.put_part(writer, moments, part)?;
-        }
-        Ok(())
-    }
-
-    // Puts a part of a report.
-    #[tactic(auto, using(crate::proofs::Reporting::both_put, crate::proofs::Reporting::first_stops, crate::proofs::Reporting::second_stops))]
-    fn put_part<W: Outlet>(
-        &mut self,
-        writer: &mut W,
-        moments: &mut Moments,
-        part: &Part,
-    ) -> Result<(), Failed>
-        ensures ok { OnOk result
-            (Puts (W.contents writer.old) self.old (W.contents writer.new) self.new part.now) }
-        ensures cut { OnErr result
-            (Stops (W.contents writer.old) self.old (W.contents writer.new) part.now) }
-        ensures failed { OnErr result (W.failed writer.new ≡ true) }
-    {
-        let (lines, records) = part.halves();
-        self.put(writer, lines)?;
-        self.put_lines(writer, moments, records)
     }
 
     // Puts the lines of records.

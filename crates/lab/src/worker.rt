@@ -9,15 +9,12 @@ use crate::fault::RunFault;
 use crate::plan::{Gate, Plan};
 use crate::progress::Progress;
 use bench::{AdoptError, Bench, Closing, OfferError, Peer, RetakeError, RingMail};
-use shard::{Dossier, Parcel, Polled, TakeInError, Turned, Watch};
+use shard::{Dossier, MOST_RESIDENTS, Parcel, Polled, TakeInError, Turned, Watch};
 use std::alloc::Global;
 use std::marker::PhantomData;
 use std::sync::Wait;
 use std::sync::atomic::{AtomicBool, AtomicU64, Ordering};
 use std::thread;
-
-/// How many slots a bench has.
-const SLOTS: usize = 256;
 
 /// How many turns one experiment makes before another's: what it holds is at hand then.
 const AT_ONCE: u32 = 1024;
@@ -216,12 +213,12 @@ impl Desk {
         ensures err { IfErr result IsMemory }
     {
         let mut left = self.bench.residents();
-        for _ in 0..SLOTS {
+        for _ in 0..MOST_RESIDENTS {
             if left == 0 {
                 return Ok(false);
             }
             let slot = self.cursor;
-            self.cursor = slot.wrapping_add(1) % SLOTS;
+            self.cursor = slot.wrapping_add(1) % MOST_RESIDENTS;
             match self.bench.poll(slot) {
                 Polled::NoMemory(_) => return Err(RunFault::Memory),
                 Polled::Vacant => {}

@@ -1,6 +1,6 @@
 //! The records of an experiment in sixteen bytes each, for as long as a report isn't written (our choice).
 
-ghost use Rattle.std.specs.Prelude.{◌≡◌, ◌+◌, ◌<◌, ◌≤◌, ◌∷◌, ◌++◌, [], length, map, slice_index_or, take, vec_len, vec_capacity, ℕ, OnOk, OnErr};
+ghost use Rattle.std.specs.Prelude.{◌≡◌, ◌+◌, ◌<◌, ◌≤◌, ◌∷◌, ◌++◌, [], length, map, slice_index_or, take, vec_len, vec_capacity, ℕ, IfSome, OnOk, OnErr};
 ghost use Rattle.std.specs.List.{All};
 ghost use Rattle.report.specs.Archive.{entry_of, IsEntry};
 ghost use Rattle.report.specs.Room.{spare};
@@ -20,6 +20,28 @@ pub struct Archive {
     words: Vec<Packed>,
     // What doesn't fit into a word, or comes seldom.
     others: Vec<Record>,
+    listings: Listings,
+}
+
+// The last two listings: where their words begin, and where those of the last one end. Most lines of a listing say what the
+// one before it said, and then have its words: so `show` a thousand times takes the memory of one (our choice).
+#[derive(Clone, Copy)]
+struct Listings {
+    before: usize,
+    last: usize,
+    end: usize,
+}
+
+impl Listings {
+    // The place where the listing before has the line that comes next.
+    fn advance(&mut self, place: usize) -> usize {
+        if place != self.end {
+            self.before = self.last;
+            self.last = place;
+        }
+        self.end = place.wrapping_add(1);
+        self.before.wrapping_add(place.wrapping_sub(self.last))
+    }
 }
 
 impl Model for Archive {
@@ -45,10 +67,39 @@ fn put<T: Copy>(list: &mut Vec<T>, value: &T)
     list.push_reserved(*value);
 }
 
+// Whether it is a line of a listing.
+fn is_listed(entry: &Record) -> bool {
+    match entry {
+        Record::RuleLine { .. } | Record::PipeLine { .. } | Record::InstanceLine { .. } => true,
+        _ => false,
+    }
+}
+
+// The word at a place, if it stands for the same record as this one, whole.
+fn same_at(words: &[Packed], others: &[Record], place: usize, entry: &Record) -> Option<Packed>
+    requires sound { All (IsEntry others.now) words.now }
+    ensures { IfSome result
+        (λ w. (entry_of others.now w ≡ entry.now) × IsEntry others.now w) }
+{
+    let word = *words.get(place)?;
+    let Kind::Whole = unpack(word).kind else {
+        return None;
+    };
+    if others[word.high as usize] != *entry {
+        return None;
+    }
+    Some(word)
+}
+
 // One record more, for whose word there is room; `AllocError` changes nothing.
 #[tactic(auto, unfolding(crate::specs::Room::spare))]
 #[inline(always)]
-fn note(words: &mut Vec<Packed>, others: &mut Vec<Record>, entry: &Record) -> Result<(), AllocError>
+fn note(
+    words: &mut Vec<Packed>,
+    others: &mut Vec<Record>,
+    listings: &mut Listings,
+    entry: &Record,
+) -> Result<(), AllocError>
     requires room { vec_len words.old < vec_capacity words.old }
     requires sound { All (IsEntry others.old.items) words.old.items }
     ensures ok { OnOk result (map (entry_of others.new.items) words.new.items
@@ -64,7 +115,7 @@ fn note(words: &mut Vec<Packed>, others: &mut Vec<Record>, entry: &Record) -> Re
             return Ok(());
         }
     }
-    note_whole(words, others, entry)
+    note_whole(words, others, listings, entry)
 }
 
 // The same of one that stands whole.
@@ -73,6 +124,7 @@ fn note(words: &mut Vec<Packed>, others: &mut Vec<Record>, entry: &Record) -> Re
 fn note_whole(
     words: &mut Vec<Packed>,
     others: &mut Vec<Record>,
+    listings: &mut Listings,
     entry: &Record,
 ) -> Result<(), AllocError>
     requires room { vec_len words.old < vec_capacity words.old }
@@ -84,6 +136,13 @@ fn note_whole(
     ensures sound { All (IsEntry others.new.items) words.new.items }
     ensures room { spare words.old ≤ spare words.new + 1 }
 {
+    if is_listed(entry) {
+        let place = listings.advance(words.len());
+        if let Some(word) = same_at(words.as_slice(), others.as_slice(), place, entry) {
+            words.push_reserved(word);
+            return Ok(());
+        }
+    }
     others.reserve(1)?;
     words.push_reserved(whole(others.len()));
     put(others, entry);
@@ -95,6 +154,7 @@ fn note_whole(
 fn note_all(
     words: &mut Vec<Packed>,
     others: &mut Vec<Record>,
+    listings: &mut Listings,
     records: &[Record],
 ) -> Result<(), AllocError>
     requires room { length records.now ≤ spare words.old }
@@ -107,7 +167,7 @@ fn note_all(
 {
     let mut done = 0;
     while done < records.len() {
-        note(words, others, &records[done])?;
+        note(words, others, listings, &records[done])?;
         done += 1;
     }
     Ok(())
@@ -121,6 +181,11 @@ impl Archive {
         Archive {
             words: Vec::new(alloc),
             others: Vec::new(alloc),
+            listings: Listings {
+                before: 0,
+                last: 0,
+                end: 0,
+            },
         }
     }
 
@@ -132,7 +197,7 @@ impl Archive {
     {
         self.words.reserve(records.len())?;
         let before = self.words.as_slice().len();
-        let Ok(()) = note_all(&mut self.words, &mut self.others, records) else {
+        let Ok(()) = note_all(&mut self.words, &mut self.others, &mut self.listings, records) else {
             self.words.truncate(before);
             return Err(AllocError);
         };

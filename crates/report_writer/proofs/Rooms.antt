@@ -21,6 +21,11 @@ put_both first second whole is at middle end a b c f g = record {
   room = g.room ∙ f.room;
 }
 
+pub put_three : (first second third whole : List ℕ) → first ++ (second ++ third) ≡ whole → (at one two end : ℕ) (a b c d : List ℕ) →
+    IsPutAt first at a b one → IsPutAt second one b c two → IsPutAt third two c d end → IsPutAt whole at a d end
+put_three first second third whole is at one two end a b c d f g h =
+    put_both first (second ++ third) whole is at one end a b d f (put_both second third (second ++ third) refl one two end b c d g h)
+
 module _ {A : Type 0} (f : A → List ℕ) where
   further : (rs : List A) (i n : ℕ) → flat_map f (take i rs) ++ flat_map f (take n (drop i rs)) ≡ flat_map f (take (i + n) rs)
   further rs i n = flat_map_further f [] rs i n

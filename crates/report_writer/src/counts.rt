@@ -70,6 +70,21 @@ impl RecordCounts {
         experiment.forget_records();
     }
 
+    /// Counters of an experiment as it stands, with these counts of deliveries and drops.
+    pub fn among(&self, standing: &Counters) -> Counters
+        ensures { result ≡ record standing.now {
+          delivered = self.now.delivered;
+          drops = self.now.drops;
+        } }
+    {
+        Counters {
+            made: standing.made,
+            delivered: self.delivered,
+            held: standing.held,
+            drops: self.drops,
+        }
+    }
+
     /// The counters of an experiment, those records among what it counts that it has forgotten.
     pub fn counters(&self, experiment: &Experiment) -> Counters
         requires { CanCount self.now experiment.now }

@@ -8,6 +8,6 @@ mod room;
 mod writer;
 
 pub use counts::RecordCounts;
-pub use keeper::{Part, Report, ReportKeeper};
+pub use keeper::{Report, ReportKeeper};
 pub use room::put_reports;
 pub use writer::ReportWriter;

@@ -4,7 +4,7 @@ ghost use Rattle.std.specs.Prelude.{◌≡◌, ◌+◌, ◌<◌, ◌≤◌, flat
 ghost use Rattle.report.specs.Lines.{line_of};
 ghost use Rattle.report_writer.specs.Rooms.{IsPutAt};
 
-use crate::keeper::{Part, Report};
+use crate::keeper::Report;
 use report::{Archive, Moments, Source, write_some};
 use std::alloc::{AllocError, Global};
 
@@ -66,46 +66,8 @@ fn put_lines(
     Ok(end)
 }
 
-// Puts a part of a report, and returns where it ends.
-#[tactic(auto, using(crate::proofs::Rooms::put_both))]
-fn put_part(
-    room: &mut [u8],
-    at: usize,
-    sheet: &mut Vec<u8>,
-    moments: &mut Moments,
-    part: &Part,
-) -> Result<usize, AllocError>
-    ensures put { IfOk result (IsPutAt part.now at room.old room.new) }
-    ensures room { length room.new ≡ length room.old }
-{
-    let (lines, records) = part.halves();
-    let end = put_bytes(room, at, lines)?;
-    put_lines(room, end, sheet, moments, records)
-}
-
-// Puts parts, one after the other, and returns where they end.
-#[tactic(auto, using(crate::proofs::Rooms::put_none, crate::proofs::Rooms::put_piece))]
-fn put_parts(
-    room: &mut [u8],
-    at: usize,
-    sheet: &mut Vec<u8>,
-    moments: &mut Moments,
-    parts: &[Part],
-) -> Result<usize, AllocError>
-    ensures put { IfOk result (IsPutAt (flat_map (λ p. p) parts.now) at room.old room.new) }
-    ensures room { length room.new ≡ length room.old }
-{
-    let mut done = 0;
-    let mut end = at;
-    while done < parts.len() {
-        end = put_part(room, end, sheet, moments, &parts[done])?;
-        done += 1;
-    }
-    Ok(end)
-}
-
 // Puts a report, and returns where it ends.
-#[tactic(auto, using(crate::proofs::Rooms::put_both))]
+#[tactic(auto, using(crate::proofs::Rooms::put_three))]
 fn put_report(
     room: &mut [u8],
     at: usize,
@@ -116,8 +78,9 @@ fn put_report(
     ensures put { IfOk result (IsPutAt report.now at room.old room.new) }
     ensures room { length room.new ≡ length room.old }
 {
-    let (parts, last) = report.parts();
-    let end = put_parts(room, at, sheet, moments, parts)?;
+    let (heading, records, last) = report.parts();
+    let first = put_bytes(room, at, heading)?;
+    let end = put_lines(room, first, sheet, moments, records)?;
     put_bytes(room, end, last)
 }
 

@@ -13,7 +13,6 @@ use experiment::Experiment;
 use report::{Moments, write_counters, write_heading, write_record, write_records};
 use std::alloc::{AllocError, Global};
 use std::marker::Model;
-use std::mem;
 
 /// The lines so far, behind that of the name, and how many deliveries and drops, by cause, are among them.
 #[derive(Drop)]
@@ -121,14 +120,6 @@ impl ReportWriter {
         Ok(())
     }
 
-    /// The text so far, which is then empty; the counts stay. Takes no memory.
-    pub fn take_text(&mut self, alloc: Global) -> Vec<u8>
-        ensures text { result.items ≡ self.old.text }
-        ensures rest { self.new ≡ record self.old { text = [] } }
-    {
-        mem::replace(&mut self.text, Vec::new(alloc))
-    }
-
     /// Appends the line of the counters, of which some are those of the experiment as it stands. `AllocError` leaves what
     /// was written of it.
     pub fn write_counters(&mut self, standing: &Counters) -> Result<(), AllocError>
@@ -140,24 +131,7 @@ impl ReportWriter {
               });
             }) }
     {
-        let counters = Counters {
-            made: standing.made,
-            delivered: self.counts.delivered,
-            held: standing.held,
-            drops: self.counts.drops,
-        };
+        let counters = self.counts.among(standing);
         write_counters(&mut self.text, &counters)
-    }
-
-    /// The report: the line of the counters comes last, of which some are those of the experiment as it stands.
-    pub fn into_report(self, standing: &Counters) -> Result<Vec<u8>, AllocError>
-        ensures { IfOk result (λ text. text.items ≡ self.text ++ counters_of (record standing.now {
-          delivered = self.delivered;
-          drops = self.drops;
-        })) }
-    {
-        let mut report = self;
-        report.write_counters(standing)?;
-        Ok(report.text)
     }
 }
