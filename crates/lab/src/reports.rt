@@ -11,11 +11,7 @@ use report_writer::Report;
 use std::alloc::Global;
 
 // The report of an experiment, from what it left.
-fn report_of_one(
-    alloc: Global,
-    script: &Experiment,
-    outcome: Outcome,
-) -> Result<Report, RunFault>
+fn report_of_one(alloc: Global, script: &Experiment, outcome: Outcome) -> Result<Report, RunFault>
     requires { outcome ≡ trace_alone script.now }
     ensures ok { IfOk result (λ report. report ≡ report_alone script.now) }
     ensures err { IfErr result IsMemory }

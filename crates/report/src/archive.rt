@@ -197,7 +197,12 @@ impl Archive {
     {
         self.words.reserve(records.len())?;
         let before = self.words.as_slice().len();
-        let Ok(()) = note_all(&mut self.words, &mut self.others, &mut self.listings, records) else {
+        let Ok(()) = note_all(
+            &mut self.words,
+            &mut self.others,
+            &mut self.listings,
+            records,
+        ) else {
             self.words.truncate(before);
             return Err(AllocError);
         };

@@ -142,11 +142,7 @@ impl Report {
     pub fn parts(&self) -> (&[u8], &Archive, &[u8])
         ensures { result.0.now ++ (flat_map line_of result.1.now ++ result.2.now) ≡ self.now }
     {
-        (
-            self.heading.as_slice(),
-            &self.archive,
-            self.last.as_slice(),
-        )
+        (self.heading.as_slice(), &self.archive, self.last.as_slice())
     }
 
     /// Its text. `AllocError` where it has no room.

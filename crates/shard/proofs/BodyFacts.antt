@@ -53,6 +53,7 @@ grown law a p q old new next going was is spec consumed m = by a m
               ∙ g.1
               ∙ ap (λ (s : State). s.net.records ++ g.0) (sym was),
         )
+
     by : (a : Event) → Makes a p old q new → IsExtendedBy old.net.log.records new.net.log.records
     by Ran m = more m.0.counted
     by Ended m = more m.0.counted
@@ -119,6 +120,7 @@ comes_ahead law p e d rising is same =
   where
     ahead : IsAhead (view p e)
     ahead = subst IsAhead (sym is) (law e.spec e.consumed e.steps rising)
+
     by : (n : Option Timed) → e.next ≡ n → IfSome (next_due_in (view p e)) (λ x. e.clock ≤ x.moment)
     by None none = subst (λ (n : Option Timed). IfSome (first_due (option_to_list n) (view p e)) (λ x. e.clock ≤ x.moment)) (sym none) tt
     by (Some c) some =
