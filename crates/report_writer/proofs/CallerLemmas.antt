@@ -34,9 +34,9 @@ counts-more rs qs c d h delivered drops = record {
   drops = drops (sym h.drops);
 }
 
-pub writes-more : (head : List ℕ) (rs qs : List Record) (t u : Written) → HasWritten head rs t → u.text ≡ t.text ++ flat_map line_of qs →
+pub writes_more : (head : List ℕ) (rs qs : List Record) (t u : Written) → HasWritten head rs t → u.text ≡ t.text ++ flat_map line_of qs →
     Counts (rs ++ qs) u → HasWritten head (rs ++ qs) u
-writes-more head rs qs t u h text counts = record {
+writes_more head rs qs t u h text counts = record {
   text = text ∙ ap (λ (l : List ℕ). l ++ flat_map line_of qs) h.text ∙ append_assoc head (flat_map line_of rs) (flat_map line_of qs)
       ∙ ap (λ (l : List ℕ). head ++ l) (sym (flat_map-append line_of rs qs));
   counts = counts;

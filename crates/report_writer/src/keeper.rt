@@ -55,7 +55,7 @@ impl ReportKeeper {
     }
 
     /// Keeps what an experiment has recorded, which it forgets. `AllocError` where it has no room.
-    #[tactic(auto, using(crate::proofs::CallerLemmas::writes-more))]
+    #[tactic(auto, using(crate::proofs::CallerLemmas::writes_more))]
     pub fn keep(&mut self, experiment: &mut Experiment) -> Result<(), AllocError>
         requires { CanWrite self.old experiment.old }
         ensures writes { OnOk result ((head : List ℕ) (rs : List Record) →
