@@ -1,5 +1,5 @@
-//! Worked examples of texts: all of it is tests. Scenarios that are read, their faults, and reports that are written. Our
-//! choice.
+//! Worked examples of texts: all of it is tests. Scenarios that are read, their faults and what `--explain` says of them,
+//! and reports that are written. Our choice.
 #![tactic(auto)]
 
 #[cfg(test)]

@@ -1,4 +1,4 @@
-//! What is read and what is written.
+//! The tests, by what they are about.
 
-mod reports;
-mod scenarios;
+mod explained;
+mod texts;

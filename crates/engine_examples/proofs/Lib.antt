@@ -1,0 +1,2 @@
+mod BenchFacts
+mod Standing

@@ -1,5 +1,0 @@
-use Rattle.network_examples.proofs.Standing.{housed_new}
-use Rattle.network_examples.proofs.tests.steps_are_spent.Goals as goal
-
-pub obeys-requires-clause-housed : goal.obeys-requires-clause-housed
-obeys-requires-clause-housed g c = housed_new _ _ _ c.new-shelf.ensures.own c.in-Some.ensures.keys

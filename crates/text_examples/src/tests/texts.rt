@@ -1,0 +1,4 @@
+//! What is read and what is written.
+
+mod reports;
+mod scenarios;
