@@ -1,7 +1,6 @@
 mod Beginnings
 pub mod Custodies
 pub mod Accounts
-pub mod Equalities
 pub mod Postings
 pub mod Seatings
 pub mod Moves

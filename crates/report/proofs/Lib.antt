@@ -6,5 +6,6 @@ pub mod Behind
 pub mod Short
 pub mod Kept
 pub mod Taken
+pub mod Equalities
 mod Packing
 mod WholeRecords

@@ -78,8 +78,8 @@ fn is_listed(entry: &Record) -> bool {
 // The word at a place, if it stands for the same record as this one, whole.
 fn same_at(words: &[Packed], others: &[Record], place: usize, entry: &Record) -> Option<Packed>
     requires sound { All (IsEntry others.now) words.now }
-    ensures { IfSome result
-        (λ w. (entry_of others.now w ≡ entry.now) × IsEntry others.now w) }
+    ensures same { IfSome result (λ w. entry_of others.now w ≡ entry.now) }
+    ensures stands { IfSome result (IsEntry others.now) }
 {
     let word = *words.get(place)?;
     let Kind::Whole = unpack(word).kind else {

@@ -1,5 +1,5 @@
 use Rattle.std.proofs.lemmas.Slice.Eq.{slice_eq-Decides}
-use Rattle.bench.proofs.Equalities.{timed_decides}
+use Rattle.report.proofs.Equalities.{timed_decides}
 use Rattle.bench.proofs.tenant.took.Goals as goal
 
 pub returns-in-Ended : goal.returns-in-Ended
