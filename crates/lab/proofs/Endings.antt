@@ -1,15 +1,17 @@
 -- How a call ends: what was written, of what the text says.
-use Rattle.std.proofs.Common.{◌≡◌, ℕ, List, [], ◌++◌, map, Option, Ok, Err, sym, ap, subst, ◌∙◌, append-nil}
+use Rattle.std.proofs.Common.{◌≡◌, ◌≢◌, ℕ, Bool, false, List, [], ◌++◌, map, Option, None, Result, Ok, Err, refl, sym, ap, subst, ◌∙◌, append-nil}
 use Rattle.std.specs.Io.KnownBytes.{Appends, Keeps}
 use Rattle.control.specs.declared.scenario.Experiment.{Experiment}
-use Rattle.lab.specs.Bytes.{IsCut, Puts, Stops}
-use Rattle.std.specs.Prelude.{flat_map}
+use Rattle.lab.specs.Bytes.{IsCut, Puts, Stops, TakesFew}
+use Rattle.std.specs.Prelude.{flat_map, IfErr}
 use Rattle.lab.specs.declared.whole.Tally.{Tally}
-use Rattle.lab.specs.Reports.{report_alone, reports, tally, tally_of, tally_line, Reads, Writes, WritesCut}
-use Rattle.lab.specs.declared.fault.RunFault.TheVariants.{Write}
+use Rattle.lab.specs.Reports.{report_alone, reports, tally, tally_of, tally_line, Reads, Writes, WritesCut, Ends, writer_failed}
+use Rattle.lab.specs.declared.fault.RunFault.TheVariants.{Scenario, Read, Write, Memory, Strange, Gate}
 use Rattle.lab.specs.declared.limits.Limits.{Limits}
-use Rattle.lab.specs.declared.limits.Stop.TheVariants.{Fault}
-use Rattle.lab.specs.Within.{CallsWithin, MakesWithin}
+use Rattle.lab.specs.declared.limits.Stop.{Stop}
+use Rattle.lab.specs.declared.limits.Stop.TheVariants.{Fault, Steps, Output}
+use Rattle.lab.specs.Gathers.{Follows}
+use Rattle.lab.specs.Within.{CallsWithin, IsOwnStop, IsStopped, MakesWithin, WritesOut, leaves}
 use Rattle.lab.proofs.Writing.{writing_none, writing_done, appends_kept, puts_both, stops_behind}
 use Rattle.lab.proofs.Reporting.{texts_alone}
 
@@ -25,27 +27,74 @@ all-written a b kept bytes none f = writing_done a b bytes (subst (λ k. Puts a 
 pub same-texts : (es plans : List Experiment) (texts : List (List ℕ)) → plans ≡ es → texts ≡ map report_alone plans → flat_map (λ x. x) texts ≡ reports es
 same-texts es plans texts are made = ap (flat_map (λ x. x)) made ∙ texts_alone plans ∙ ap reports are
 
--- reports within limits
-pub fit_cut : (limits : Limits) (read a b : Option (List ℕ)) (kept bytes r : List ℕ) → MakesWithin limits read r →
-    kept ≡ [] → bytes ≡ r → Stops a kept b bytes → CallsWithin limits read a b (Err (Fault Write))
-fit_cut limits read a b kept bytes r (es, reads, fits, made) none is f =
-    (es, reads, fits, subst (IsCut a b) (is ∙ made) (cut-all a b kept bytes none f))
+-- what is written out by way of a buffer
+pub out_cut : (a b : Option (List ℕ)) (kept bytes text : List ℕ) → kept ≡ [] → bytes ≡ text → Stops a kept b bytes → WritesOut a b text (Err (Fault Write))
+out_cut a b kept bytes text none is f = subst (IsCut a b) is (cut-all a b kept bytes none f)
 
-pub fit_cut_after : (limits : Limits) (read a b c : Option (List ℕ)) (kept l bytes r : List ℕ) → MakesWithin limits read r →
-    kept ≡ [] → bytes ≡ r → Puts a kept b l bytes → Stops b l c [] → CallsWithin limits read a c (Err (Fault Write))
-fit_cut_after limits read a b c kept l bytes r made none is f g =
-    fit_cut limits read a c kept bytes r made none is
-    (subst (Stops a kept c) (append-nil bytes) (stops_behind a b c kept l bytes [] f g))
+pub out_cut_after : (a b c : Option (List ℕ)) (kept l bytes text : List ℕ) → kept ≡ [] → bytes ≡ text → Puts a kept b l bytes → Stops b l c [] →
+    WritesOut a c text (Err (Fault Write))
+out_cut_after a b c kept l bytes text none is f g =
+    out_cut a c kept bytes text none is (subst (Stops a kept c) (append-nil bytes) (stops_behind a b c kept l bytes [] f g))
 
-pub fit_written : (limits : Limits) (read a b c : Option (List ℕ)) (kept l bytes r : List ℕ) → MakesWithin limits read r →
-    kept ≡ [] → bytes ≡ r → Puts a kept b l bytes → Puts b l c [] [] → CallsWithin limits read a c (Ok tt)
-fit_written limits read a b c kept l bytes r (es, reads, fits, made) none is f g = (
-  es,
-  reads,
-  fits,
-  subst (Appends a c) (append-nil bytes ∙ is ∙ made)
-      (all-written a c kept (bytes ++ []) none (puts_both a b c kept l [] bytes [] f g)),
-)
+pub out_written : (a b c : Option (List ℕ)) (kept l bytes text : List ℕ) → kept ≡ [] → bytes ≡ text → Puts a kept b l bytes → Puts b l c [] [] →
+    WritesOut a c text (Ok tt)
+out_written a b c kept l bytes text none is f g =
+    subst (Appends a c) (append-nil bytes ∙ is) (all-written a c kept (bytes ++ []) none (puts_both a b c kept l [] bytes [] f g))
+
+-- a call that writes out reports within limits
+pub out_calls : (limits : Limits) (read a b : Option (List ℕ)) (made text : List ℕ) (result : Result (Unit {0}) Stop) →
+    MakesWithin limits read made → text ≡ made → WritesOut a b text result → CallsWithin limits read a b result
+out_calls limits read a b made text (Ok x) (es, reads, fits, are) is out = (es, reads, fits, subst (Appends a b) (is ∙ are) out)
+out_calls limits read a b made text (Err (Fault (Scenario f))) makes is out = absurd out
+out_calls limits read a b made text (Err (Fault Read)) makes is out = absurd out
+out_calls limits read a b made text (Err (Fault Write)) (es, reads, fits, are) is out = (es, reads, fits, subst (IsCut a b) (is ∙ are) out)
+out_calls limits read a b made text (Err (Fault Memory)) makes is out = (tt, out)
+out_calls limits read a b made text (Err (Fault Strange)) makes is out = absurd out
+out_calls limits read a b made text (Err (Fault Gate)) makes is out = absurd out
+out_calls limits read a b made text (Err (Steps number total)) makes is out = absurd out
+out_calls limits read a b made text (Err (Output bytes)) makes is out = absurd out
+
+pub out_ends : {A : Type 0} (result : Result (Unit {0}) Stop) (unread rest a b : Option (List ℕ)) (text : List ℕ) (reading writing written : Bool) (before after : A) →
+    WritesOut a b text result → TakesFew unread rest → reading ≡ false → written ≡ writer_failed writing (leaves result) →
+    IfErr result (λ s. s ≢ Fault Write → after ≡ before) → Ends (leaves result) unread rest reading writing written before after
+out_ends (Ok x) unread rest a b text reading writing written before after out taken read write untouched =
+    record { taken = taken; read = read; write = write; untouched = tt }
+out_ends (Err (Fault (Scenario f))) unread rest a b text reading writing written before after out taken read write untouched = absurd out
+out_ends (Err (Fault Read)) unread rest a b text reading writing written before after out taken read write untouched = absurd out
+out_ends (Err (Fault Write)) unread rest a b text reading writing written before after out taken read write untouched =
+    record { taken = taken; read = read; write = write; untouched = λ not. absurd (not refl) }
+out_ends (Err (Fault Memory)) unread rest a b text reading writing written before after out taken read write untouched =
+    record { taken = taken; read = read; write = write; untouched = λ not. untouched (λ is. cc) }
+out_ends (Err (Fault Strange)) unread rest a b text reading writing written before after out taken read write untouched = absurd out
+out_ends (Err (Fault Gate)) unread rest a b text reading writing written before after out taken read write untouched = absurd out
+out_ends (Err (Steps number total)) unread rest a b text reading writing written before after out taken read write untouched = absurd out
+out_ends (Err (Output bytes)) unread rest a b text reading writing written before after out taken read write untouched = absurd out
+
+pub out_own : (a b : Option (List ℕ)) (text : List ℕ) (result : Result (Unit {0}) Stop) → WritesOut a b text result → IfErr result IsOwnStop
+out_own a b text (Ok x) out = tt
+out_own a b text (Err (Fault (Scenario f))) out = absurd out
+out_own a b text (Err (Fault Read)) out = absurd out
+out_own a b text (Err (Fault Write)) out = tt
+out_own a b text (Err (Fault Memory)) out = tt
+out_own a b text (Err (Fault Strange)) out = absurd out
+out_own a b text (Err (Fault Gate)) out = absurd out
+out_own a b text (Err (Steps number total)) out = tt
+out_own a b text (Err (Output bytes)) out = tt
+
+pub out_stopped : (a b read : Option (List ℕ)) (text : List ℕ) (workers : ℕ) (result : Result (Unit {0}) Stop) → WritesOut a b text result →
+    Follows read workers None → IsStopped read workers result
+out_stopped a b read text workers (Ok x) out follows = follows
+out_stopped a b read text workers (Err (Fault (Scenario f))) out follows = absurd out
+out_stopped a b read text workers (Err (Fault Read)) out follows = absurd out
+out_stopped a b read text workers (Err (Fault Write)) out follows = follows
+out_stopped a b read text workers (Err (Fault Memory)) out follows = tt
+out_stopped a b read text workers (Err (Fault Strange)) out follows = absurd out
+out_stopped a b read text workers (Err (Fault Gate)) out follows = absurd out
+out_stopped a b read text workers (Err (Steps number total)) out follows = absurd out
+out_stopped a b read text workers (Err (Output bytes)) out follows = absurd out
+
+pub out_not_gate : (a b : Option (List ℕ)) (text : List ℕ) (result : Result (Unit {0}) Stop) → WritesOut a b text result → result ≡ Err (Fault Gate) → ⊥
+out_not_gate a b text result out is = subst (WritesOut a b text) is out
 
 -- the line of `check`
 pub written : (read a b c : Option (List ℕ)) (line : List ℕ) (t : Tally) → ((es : List Experiment) × Reads read es × (t ≡ tally_of es)) → line ≡ tally_line t → Appends a b line → Keeps b c → Writes tally read a c

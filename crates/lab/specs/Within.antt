@@ -82,6 +82,13 @@ abbrev pub CallsWithin : Limits → Option (List ℕ) → Option (List ℕ) → 
 CallsWithin limits read old new (Ok _) = (es : List Experiment) × Reads read es × Fits limits es × Appends old new (reports es)
 CallsWithin limits read old new (Err s) = StopsWithin limits read old new s
 
+-- a text was written; its beginning, if the writer fails; and nothing, if memory was refused
+abbrev pub WritesOut : Option (List ℕ) → Option (List ℕ) → List ℕ → Result (Unit {0}) Stop → Type 0
+WritesOut old new text (Ok _) = Appends old new text
+WritesOut old new text (Err (stops.Fault faults.Write)) = IsCut old new text
+WritesOut old new text (Err (stops.Fault faults.Memory)) = Keeps old new
+WritesOut old new text (Err _) = ⊥
+
 -- no limit stopped it
 abbrev pub IsUnlimited : Result (Unit {0}) Stop → Type 0
 IsUnlimited (Ok _) = Unit {0}

@@ -1,13 +1,13 @@
 //! `run_alone` and `run` within limits: all is read before any step, all steps are made before anything is written, and
 //! what goes past a limit stops it before either.
 
-ghost use Rattle.std.specs.Prelude.{◌≡◌, ◌≤◌, List, None, flat_map, length, map, sum, IfOk, IfErr, Err, true};
+ghost use Rattle.std.specs.Prelude.{◌≡◌, ◌≢◌, ◌≤◌, List, None, flat_map, length, map, sum, IfOk, IfErr, Err, true};
 ghost use Rattle.control.specs.declared.scenario.Experiment.{Experiment as Script};
 ghost use Rattle.lab.specs.declared.limits.Stop.TheVariants as stops;
 ghost use Rattle.lab.specs.Bytes.{TakesFew};
 ghost use Rattle.lab.specs.Gathers.{Follows};
-ghost use Rattle.lab.specs.Reports.{Ends, Reads, ReadsFault, reader_failed};
-ghost use Rattle.lab.specs.Within.{CallsWithin, IsOwnStop, IsStopped, MakesWithin, StopsUnwritten, leaves};
+ghost use Rattle.lab.specs.Reports.{Ends, Reads, ReadsFault, reader_failed, writer_failed};
+ghost use Rattle.lab.specs.Within.{CallsWithin, IsOwnStop, IsStopped, MakesWithin, StopsUnwritten, WritesOut, leaves};
 
 use crate::alone::run_all;
 use crate::ends::{Inlet, Outlet};
@@ -108,9 +108,29 @@ fn reports_together<H: Threads + Wait + Sync, R: Inlet, G: Gate, P: Progress + S
     Ok(reports)
 }
 
+// Writes reports, by way of a buffer that is there before the first byte.
+fn write_reports<W: Outlet>(alloc: Global, writer: &mut W, reports: &[Report]) -> Result<(), Stop>
+    ensures written { WritesOut (W.contents writer.old) (W.contents writer.new)
+        (flat_map (λ r. r) reports.now) result }
+    ensures failed { W.failed writer.new ≡ writer_failed (W.failed writer.old) (leaves result) }
+    ensures untouched { IfErr result (λ s. s ≢ stops.Fault RunFault.Write →
+        writer.new ≡ writer.old) }
+{
+    let Ok(mut buffer) = Buffer::new(alloc) else {
+        return Err(Stop::Fault(RunFault::Memory));
+    };
+    let Ok(()) = buffer.put_reports(writer, reports) else {
+        return Err(Stop::Fault(RunFault::Write));
+    };
+    let Ok(()) = buffer.finish(writer) else {
+        return Err(Stop::Fault(RunFault::Write));
+    };
+    Ok(())
+}
+
 /// `run_alone_told` within limits. `Steps` comes before the first step and `Output` before the first byte, just where what
 /// was read goes past that limit. Its faults are those of `run_alone`.
-#[tactic(auto, using(crate::proofs::Stopping::stop_calls))]
+#[tactic(auto, using(crate::proofs::Stopping::stop_calls, crate::proofs::Endings::out_own))]
 pub fn run_alone_within<R: Inlet, W: Outlet, P: Progress>(
     alloc: Global,
     reader: &mut R,
@@ -125,16 +145,7 @@ pub fn run_alone_within<R: Inlet, W: Outlet, P: Progress>(
     ensures own { IfErr result IsOwnStop }
 {
     let made = reports_read(alloc, reader, limits, progress)?;
-    let Ok(mut buffer) = Buffer::new(alloc) else {
-        return Err(Stop::Fault(RunFault::Memory));
-    };
-    let Ok(()) = buffer.put_reports(writer, made.as_slice()) else {
-        return Err(Stop::Fault(RunFault::Write));
-    };
-    let Ok(()) = buffer.finish(writer) else {
-        return Err(Stop::Fault(RunFault::Write));
-    };
-    Ok(())
+    write_reports(alloc, writer, made.as_slice())
 }
 
 /// `run_told` within limits: it stops just where `run_alone_within` does. Its faults are those of `run`.
@@ -157,14 +168,5 @@ pub fn run_within<H: Threads + Wait + Sync, R: Inlet, W: Outlet, G: Gate, P: Pro
     ensures joins { IsStopped (R.remaining reader.old) plan.workers result }
 {
     let made = reports_together(rt, alloc, reader, limits, plan, gate, progress)?;
-    let Ok(mut buffer) = Buffer::new(alloc) else {
-        return Err(Stop::Fault(RunFault::Memory));
-    };
-    let Ok(()) = buffer.put_reports(writer, made.as_slice()) else {
-        return Err(Stop::Fault(RunFault::Write));
-    };
-    let Ok(()) = buffer.finish(writer) else {
-        return Err(Stop::Fault(RunFault::Write));
-    };
-    Ok(())
+    write_reports(alloc, writer, made.as_slice())
 }
