@@ -41,35 +41,7 @@ pub out_written : (a b c : Option (List ℕ)) (kept l bytes text : List ℕ) →
 out_written a b c kept l bytes text none is f g =
     subst (Appends a c) (append-nil bytes ∙ is) (all-written a c kept (bytes ++ []) none (puts_both a b c kept l [] bytes [] f g))
 
--- a call that writes out reports within limits
-pub out_calls : (limits : Limits) (read a b : Option (List ℕ)) (made text : List ℕ) (result : Result (Unit {0}) Stop) →
-    MakesWithin limits read made → text ≡ made → WritesOut a b text result → CallsWithin limits read a b result
-out_calls limits read a b made text (Ok x) (es, reads, fits, are) is out = (es, reads, fits, subst (Appends a b) (is ∙ are) out)
-out_calls limits read a b made text (Err (Fault (Scenario f))) makes is out = absurd out
-out_calls limits read a b made text (Err (Fault Read)) makes is out = absurd out
-out_calls limits read a b made text (Err (Fault Write)) (es, reads, fits, are) is out = (es, reads, fits, subst (IsCut a b) (is ∙ are) out)
-out_calls limits read a b made text (Err (Fault Memory)) makes is out = (tt, out)
-out_calls limits read a b made text (Err (Fault Strange)) makes is out = absurd out
-out_calls limits read a b made text (Err (Fault Gate)) makes is out = absurd out
-out_calls limits read a b made text (Err (Steps number total)) makes is out = absurd out
-out_calls limits read a b made text (Err (Output bytes)) makes is out = absurd out
-
-pub out_ends : {A : Type 0} (result : Result (Unit {0}) Stop) (unread rest a b : Option (List ℕ)) (text : List ℕ) (reading writing written : Bool) (before after : A) →
-    WritesOut a b text result → TakesFew unread rest → reading ≡ false → written ≡ writer_failed writing (leaves result) →
-    IfErr result (λ s. s ≢ Fault Write → after ≡ before) → Ends (leaves result) unread rest reading writing written before after
-out_ends (Ok x) unread rest a b text reading writing written before after out taken read write untouched =
-    record { taken = taken; read = read; write = write; untouched = tt }
-out_ends (Err (Fault (Scenario f))) unread rest a b text reading writing written before after out taken read write untouched = absurd out
-out_ends (Err (Fault Read)) unread rest a b text reading writing written before after out taken read write untouched = absurd out
-out_ends (Err (Fault Write)) unread rest a b text reading writing written before after out taken read write untouched =
-    record { taken = taken; read = read; write = write; untouched = λ not. absurd (not refl) }
-out_ends (Err (Fault Memory)) unread rest a b text reading writing written before after out taken read write untouched =
-    record { taken = taken; read = read; write = write; untouched = λ not. untouched (λ is. cc) }
-out_ends (Err (Fault Strange)) unread rest a b text reading writing written before after out taken read write untouched = absurd out
-out_ends (Err (Fault Gate)) unread rest a b text reading writing written before after out taken read write untouched = absurd out
-out_ends (Err (Steps number total)) unread rest a b text reading writing written before after out taken read write untouched = absurd out
-out_ends (Err (Output bytes)) unread rest a b text reading writing written before after out taken read write untouched = absurd out
-
+-- how a call ends that writes out reports
 pub out_own : (a b : Option (List ℕ)) (text : List ℕ) (result : Result (Unit {0}) Stop) → WritesOut a b text result → IfErr result IsOwnStop
 out_own a b text (Ok x) out = tt
 out_own a b text (Err (Fault (Scenario f))) out = absurd out

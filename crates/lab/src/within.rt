@@ -149,7 +149,7 @@ pub fn run_alone_within<R: Inlet, W: Outlet, P: Progress>(
 }
 
 /// `run_told` within limits: it stops just where `run_alone_within` does. Its faults are those of `run`.
-#[tactic(auto, using(crate::proofs::Stopping::stop_calls))]
+#[tactic(auto, using(crate::proofs::Stopping::stop_calls, crate::proofs::Endings::out_stopped, crate::proofs::Endings::out_not_gate))]
 pub fn run_within<H: Threads + Wait + Sync, R: Inlet, W: Outlet, G: Gate, P: Progress + Sync>(
     rt: &H,
     alloc: Global,
