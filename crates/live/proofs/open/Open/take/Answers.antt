@@ -9,8 +9,9 @@ use Rattle.emu_model.specs.Commands.{is_end}
 use Rattle.live.specs.declared.answer.Answer.TheVariants as answers
 use Rattle.live.proofs.OpenFacts.{ended-by, obeyed-late, obeyed-over, obeyed-going}
 use Rattle.std.proofs.Common.{ℕ, ◌≤◌, List, ◌++◌, false}
-use Rattle.std.specs.Prelude.{IfSome}
-use Rattle.live.specs.Effects.{Commanded, ObeysIn}
+use Rattle.std.specs.Prelude.{IfNone, IfSome}
+use Rattle.live.specs.declared.fates.Stop.TheVariants.{Moment}
+use Rattle.live.specs.Effects.{IsPassed, Commanded, ObeysIn}
 use Rattle.live.proofs.open.Open.take.Goals as goal
 
 is_over : (p : Phase) → true ≡ sameb the_type p Over → p ≡ Over
@@ -67,4 +68,17 @@ returns-then-eq-clause-obeys c fine =
       subst (λ p. ObeysIn p command h.0 (answers.Over inside.reached) c.args.self.now _) (sym phase)
           (obeyed-over command t h.0 (answers.Over inside.reached) c.args.self.now c.obey.new.self _ h.2 (sym (ap (λ (o : KeptOpen). o.phase) c.self-2.view_is) ∙ over)
           (λ i. record (c.self-2.view_is i) { reached = same i; is_closed = is_end command.command }) (ap answers.Over same)),
+    )
+
+pub returns-in_default-clause-obeys : goal.returns-in_default-clause-obeys
+returns-in_default-clause-obeys c fine =
+    let command = c.args.command.now in
+    let phase : c.args.self.now.phase ≡ Going = sym (ap (λ (o : KeptOpen). o.phase) c.self.view_is) ∙ c.in-Going.is in
+    let h = subst (λ o. IfNone o ((c.obey.new.self.phase ≡ Over) × (bytes : List ℕ) × (c.obey.new.out.items ≡ c.args.out.now.items ++ bytes) × IsPassed command.moment Moment bytes c.args.self.now c.obey.new.self)) c.in_default.is c.in_ok-taken.ensures.late in
+    let after = c.pass_by-in_default.new.self in
+    let said = c.pass_by-in_default.result in (
+      h.1,
+      h.2,
+      subst (λ p. ObeysIn p command h.1 said c.args.self.now after) (sym phase)
+          (obeyed-late command h.1 said c.args.self.now c.obey.new.self after h.3 h.0 c.pass_by-in_default.ensures.is c.pass_by-in_default.ensures.answer),
     )

@@ -1,4 +1,4 @@
-use Rattle.std.proofs.Common.{◌≡◌, ◌≤◌, arith, subst, sym, ap, ◌∙◌}
+use Rattle.std.proofs.Common.{◌≡◌, arith, refl, subst, ap, ◌∙◌}
 use Rattle.packet_store.specs.Own.{own_pocket}
 use Rattle.live.specs.Runs.{KeptRun, IsQuiet, first_moment}
 use Rattle.live.specs.contracts.run.Run.{the_view}
@@ -17,3 +17,7 @@ returns-then-moment-ge-PAST_ALL-clause-none c none =
     let first = c.in_some-moment.ensures.some (own_pocket inside.shelf) in
     let past = c.if-moment-ge-PAST_ALL.true in
     subst (λ (r : KeptRun). IsQuiet 2000000000000000 r) c.self.view_is (quiet-past 2000000000000000 (the_view inside) (omega (arith, first, past)))
+
+pub returns-in_none-moment-clause-none : goal.returns-in_none-moment-clause-none
+returns-in_none-moment-clause-none c none =
+    subst (λ (r : KeptRun). IsQuiet 2000000000000000 r) c.self.view_is (c.in_none-moment.ensures.none refl (own_pocket c.self.inside.shelf))
