@@ -1,5 +1,6 @@
 use Rattle.std.proofs.Common.{◌≡◌, [], true, refl, ap, ◌∙◌, subst, sym}
 use denote.Enum.Bare.{sameb}
+use Rattle.live.specs.contracts.open.Open.{the_view}
 use Rattle.live.specs.contracts.open.Phase.{the_type}
 use Rattle.live.specs.declared.open.Phase.{Phase}
 use Rattle.std.specs.Prelude.{MatchOption}
@@ -62,12 +63,13 @@ returns-then-eq-clause-obeys c fine =
     let h = subst (λ o. IfSome o (λ k. (bytes : List ℕ) × (c.obey.new.out.items ≡ c.args.out.now.items ++ bytes) × Commanded command k bytes c.args.self.now c.obey.new.self)) c.in-Some.is c.in_ok-taken.ensures.comes in
     let reached : c.obey.new.self.reached ≡ command.moment =
     subst (λ o. MatchOption o (c.obey.new.self.reached ≤ command.moment) (λ x. c.obey.new.self.reached ≡ command.moment)) c.in-Some.is c.in_ok-taken.ensures.reached in
-    let same : inside.reached ≡ command.moment = ap (λ (o : KeptOpen). o.reached) c.self-2.view_is ∙ reached in (
+    let same : inside.reached ≡ command.moment = ap (λ (o : KeptOpen). o.reached) c.self-2.view_is ∙ reached in
+    let after : KeptOpen = record (the_view inside) { is_closed = c.is_end-self-inside.result } in (
       h.0,
       h.1,
-      subst (λ p. ObeysIn p command h.0 (answers.Over inside.reached) c.args.self.now _) (sym phase)
-          (obeyed-over command t h.0 (answers.Over inside.reached) c.args.self.now c.obey.new.self _ h.2 (sym (ap (λ (o : KeptOpen). o.phase) c.self-2.view_is) ∙ over)
-          (λ i. record (c.self-2.view_is i) { reached = same i; is_closed = is_end command.command }) (ap answers.Over same)),
+      subst (λ p. ObeysIn p command h.0 (answers.Over inside.reached) c.args.self.now after) (sym phase)
+          (obeyed-over command t h.0 (answers.Over inside.reached) c.args.self.now c.obey.new.self after h.2 (sym (ap (λ (o : KeptOpen). o.phase) c.self-2.view_is) ∙ over)
+          (λ i. record (c.self-2.view_is i) { reached = same i; is_closed = c.is_end-self-inside.ensures i }) (ap answers.Over same)),
     )
 
 pub returns-in_default-clause-obeys : goal.returns-in_default-clause-obeys
