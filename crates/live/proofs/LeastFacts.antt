@@ -1,10 +1,8 @@
 -- A command below the moment that is told of an experiment whose steps are spent would have come in place of the last event.
-use Rattle.std.proofs.Common.{◌≡◌, None, ℕ, ◌+◌, max, ◌≤◌, ◌<◌, List, [], ◌∷◌, Bool, true, false, refl, sym, ◌∙◌, ap, arith, subst, inl, inr, ◌⊎◌}
+use Rattle.std.proofs.Common.{◌≡◌, None, ℕ, ◌+◌, ◌≤◌, ◌<◌, List, [], ◌∷◌, Bool, true, false, refl, sym, ◌∙◌, ap, arith, subst, inl, inr, ◌⊎◌}
 use Rattle.std.specs.Prelude.{if◌then◌else◌, is_some, nat_lt, ◌==◌, ◌&&◌, ◌||◌}
 use Rattle.std.specs.List.{best_of}
 use Rattle.std.proofs.lemmas.Bool.{ltb-true, ltb-false, eqb-true, and_parts, or_cases, or_parts}
-use Rattle.emu_model.specs.declared.commands.Timed.{Timed}
-use Rattle.emu_model.specs.declared.records.Record.{Record}
 use Rattle.emu_model.specs.declared.sources.Class.{Class}
 use Rattle.emu_model.specs.declared.sources.Class.TheVariants.{NextCommand, Exit, Finish, Expiry, Emission}
 use Rattle.emu_model.specs.declared.sources.Due.{Due}
@@ -13,7 +11,7 @@ use Rattle.emu_model.specs.Step.{State, take_event, count_step, spend, is_last_s
 use Rattle.emu_model.specs.RunLaws.{RecordsAreNotRead}
 use Rattle.session_laws.specs.Waits.{event_of_class, event_at, step_before, CommandsGoOn, WaitsSettle}
 use Rattle.experiment.specs.Kept.{shown_ending}
-use Rattle.live.specs.Runs.{KeptRun, IsAt, IsQuiet, state_of}
+use Rattle.live.specs.Runs.{KeptRun, IsQuiet, state_of}
 use Rattle.live.specs.RunLaws.{EarlierCommandsCome}
 use Rattle.live.proofs.RunFacts.{comes-next}
 

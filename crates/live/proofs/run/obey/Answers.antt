@@ -1,6 +1,4 @@
-use Rattle.std.proofs.Common.{◌≡◌, List, sym, ap, ◌∙◌}
-use Rattle.std.specs.Prelude.{is_some}
-use Rattle.emu_model.specs.declared.records.Record.{Record}
+use Rattle.std.proofs.Common.{sym, ap, ◌∙◌}
 use Rattle.emu_model.specs.Step.{step}
 use Rattle.packet_store.specs.Own.{own_pocket}
 use Rattle.experiment.specs.Kept.{view}

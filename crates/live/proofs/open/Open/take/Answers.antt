@@ -6,7 +6,6 @@ use Rattle.live.specs.declared.open.Phase.{Phase}
 use Rattle.std.specs.Prelude.{MatchOption}
 use Rattle.live.specs.declared.open.Phase.TheVariants.{Going, Over, Lost}
 use Rattle.live.specs.Opens.{KeptOpen, Tells, Takes}
-use Rattle.emu_model.specs.Commands.{is_end}
 use Rattle.live.specs.declared.answer.Answer.TheVariants as answers
 use Rattle.live.proofs.OpenFacts.{ended-by, obeyed-late, obeyed-over, obeyed-going}
 use Rattle.std.proofs.Common.{ℕ, ◌≤◌, List, ◌++◌, false}
