@@ -19,7 +19,7 @@ use Rattle.live.specs.declared.fates.Stop.TheVariants.{Moment}
 use Rattle.live.specs.Stops.{StopsAt}
 use Rattle.live.specs.declared.answer.Answer.{Answer}
 use Rattle.live.specs.declared.answer.Answer.TheVariants as answers
-use Rattle.live.specs.Effects.{IsNext, IsPassed, Comes, Commanded, IsObeyed, answer_of, phase_of, closing_in, closes_in, said_in}
+use Rattle.live.specs.Effects.{IsNext, ShowsSame, IsPassed, Comes, Commanded, IsObeyed, answer_of, phase_of, closing_in, closes_in, said_in}
 use Rattle.live.specs.declared.fates.Taken.{Taken}
 use Rattle.live.specs.RunLaws.{IsDone, told_of, report_of_commands, EndedRunsAreReports, SpentRunsAreReports}
 use Rattle.live.specs.Opens.{KeptOpen, IsGoing, IsOver, IsWhole, IsToldIn, IsTakenIn, Tells, Takes, Settles}
@@ -225,16 +225,17 @@ settled-phase a b bytes s proper =
 -- time passed
 pub settled-passed : (was a b : KeptOpen) (bytes : List ℕ) (limit : ℕ) (stop : Stop) (s : Settles a b bytes) →
     record a { reached = was.reached; phase = was.phase; run = was.run } ≡ was → was.run.report.text ≡ [] → a.is_closed ≡ was.is_closed →
-    StopsAt stop was.reached limit a.reached was.run a.run →
+    StopsAt stop was.reached limit a.reached was.run a.run → Goes was.reached a.reached was.run a.run →
     (a.run.experiment.ending ≡ None → IsQuiet a.reached a.run) → (a.run.experiment.ending ≡ None → stop ≡ Moment → a.reached ≡ limit) →
     IsProper a.run.experiment → IsPassed limit stop bytes was b
-settled-passed was a b bytes limit stop s from clean closed stops quiet whole proper =
+settled-passed was a b bytes limit stop s from clean closed stops goes quiet whole proper =
     let reached : b.reached ≡ a.reached = ap (λ (o : KeptOpen). o.reached) s.is in
     let handed : KeptRun = record s.written { report = record s.written.report { text = [] } } in
     record {
       clean = clean;
       ran = a.run;
       stopped = subst (λ u. StopsAt stop was.reached limit u was.run a.run) (sym reached) stops;
+      same = record { shows = goes.shows; mine = goes.mine };
       phase = settled-phase a b bytes s proper;
       wrote = s.written;
       forgets = s.forgets;
@@ -247,14 +248,15 @@ settled-passed was a b bytes limit stop s from clean closed stops quiet whole pr
 -- and then a command came
 pub settled-done : (was a b : KeptOpen) (bytes : List ℕ) (c : Timed) (t : Taken) (before : KeptRun) (s : Settles a b bytes) →
     record a { reached = was.reached; phase = was.phase; run = was.run } ≡ was → was.run.report.text ≡ [] →
-    StopsAt Moment was.reached c.moment c.moment was.run before → Comes c t before a.run → a.reached ≡ c.moment →
+    StopsAt Moment was.reached c.moment c.moment was.run before → ShowsSame was.run before → Comes c t before a.run → a.reached ≡ c.moment →
     IsProper a.run.experiment → Commanded c t bytes was b
-settled-done was a b bytes c t before s from clean stops comes reached proper =
+settled-done was a b bytes c t before s from clean stops same comes reached proper =
     let handed : KeptRun = record s.written { report = record s.written.report { text = [] } } in
     record {
       clean = clean;
       before = before;
       stopped = stops;
+      same = same;
       after = a.run;
       comes = comes;
       phase = settled-phase a b bytes s proper;

@@ -53,11 +53,17 @@ closing_in phases.Going r = []
 closing_in phases.Over r = closing_of r
 closing_in phases.Lost r = []
 
+-- which records are told stays, and which packets were injected
+pub record ShowsSame (old new : KeptRun) : Type 0 where
+  pub shows : new.shows_all ≡ old.shows_all
+  pub mine : new.mine ≡ old.mine
+
 -- time passes in one that goes on: to where it stops, and nothing is due below that moment; what was recorded is told
 pub record IsPassed (limit : ℕ) (stop : Stop) (bytes : List ℕ) (o p : KeptOpen) : Type 0 where
   pub clean : o.run.report.text ≡ []
   pub ran : KeptRun
   pub stopped : StopsAt stop o.reached limit p.reached o.run ran
+  pub same : ShowsSame o.run ran
   pub phase : p.phase ≡ phase_of (state_of ran).ending
   pub wrote : KeptRun
   pub forgets : Forgets ran wrote
@@ -71,6 +77,7 @@ pub record Commanded (c : Timed) (t : Taken) (bytes : List ℕ) (o p : KeptOpen)
   pub clean : o.run.report.text ≡ []
   pub before : KeptRun
   pub stopped : StopsAt stops.Moment o.reached c.moment c.moment o.run before
+  pub same : ShowsSame o.run before
   pub after : KeptRun
   pub comes : Comes c t before after
   pub phase : p.phase ≡ phase_of (state_of after).ending

@@ -76,6 +76,7 @@ returns-clause-comes c =
       subst (λ (o : KeptOpen). Commanded c.args.command.now c.in_ok-taken.taken h.0 o c.settle-2.new.self) c.self.view_is
           (settled-done (the_view inside) _ c.settle-2.new.self h.0 c.args.command.now c.in_ok-taken.taken before h.2 refl inv.1
           (subst (λ u. StopsAt Moment inside.reached c.args.command.now.moment u inside.run before) all passed.stops)
+          (record { shows = passed.goes.shows; mine = passed.goes.mine })
           (record {
             going = ap shown_ending none;
             quiet = quiet;
@@ -99,6 +100,6 @@ returns-then-is_some-clause-late c =
       h.0,
       h.1,
       subst (λ (o : KeptOpen). IsPassed c.args.command.now.moment Moment h.0 o c.settle.new.self) c.self.view_is
-          (settled-passed (the_view inside) _ c.settle.new.self h.0 c.args.command.now.moment Moment h.2 refl inv.1 refl went.stops went.quiet went.whole
+          (settled-passed (the_view inside) _ c.settle.new.self h.0 c.args.command.now.moment Moment h.2 refl inv.1 refl went.stops went.goes went.quiet went.whole
           (went.goes.tells inv.3 inv.4).1.proper),
     )
