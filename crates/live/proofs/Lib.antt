@@ -2,6 +2,7 @@ mod MarkFacts
 mod CommentFacts
 mod RunFacts
 mod StopFacts
+mod LeastFacts
 mod Reporting
 mod OpenFacts
 mod SessionFacts

@@ -1,21 +1,25 @@
 -- What was told of an experiment of a session, from one call to the next.
-use Rattle.std.proofs.Common.{◌≡◌, ℕ, ◌≤◌, Bool, List, [], ◌∷◌, ◌++◌, Option, Some, None, true, false, refl, sym, ap, ◌∙◌, subst, append_assoc, append-nil}
+use Rattle.std.proofs.Common.{◌≡◌, ℕ, ◌≤◌, ◌<◌, ◌*◌, ◌^◌, Bool, List, [], ◌∷◌, ◌++◌, Option, Some, None, inl, inr, true, false, refl, sym, ap, ◌∙◌, subst, append_assoc, append-nil}
 use Rattle.std.specs.Prelude.{flat_map, IsSome, IfSome}
 use Rattle.std.proofs.lemmas.List.Concat.{flat_map-append}
 use Rattle.emu_model.specs.declared.commands.Timed.{Timed}
 use Rattle.emu_model.specs.declared.records.Record.{Record}
 use Rattle.emu_model.specs.declared.records.Ending.{Ending}
-use Rattle.experiment.specs.Kept.{KeptExperiment}
+use Rattle.emu_model.specs.declared.records.Ending.TheVariants.{Ended, Spent, Halted}
+use Rattle.emu_model.specs.Commands.{is_end}
+use Rattle.experiment.specs.Kept.{KeptExperiment, shown_ending}
 use Rattle.report.specs.Lines.{heading_of, line_of}
 use Rattle.live.specs.declared.open.Phase.TheVariants.{Going, Over, Lost}
 use Rattle.live.specs.declared.open.Phase.{Phase}
-use Rattle.live.specs.Runs.{KeptRun, IsAt, IsAfter, IsQuiet, first_moment, Forgets, Goes, closing_of}
+use Rattle.live.specs.Runs.{KeptRun, IsProper, IsAt, IsAfter, IsQuiet, state_of, first_moment, Forgets, Goes, closing_of}
 use Rattle.live.specs.Runs as runs
 use Rattle.report_writer.specs.Written.{Written}
 use Rattle.live.specs.declared.fates.Stop.{Stop}
 use Rattle.live.specs.declared.fates.Stop.TheVariants.{Moment}
 use Rattle.live.specs.Stops.{StopsAt}
-use Rattle.live.specs.Effects.{IsNext, IsPassed, Comes, Commanded, closing_in}
+use Rattle.live.specs.declared.answer.Answer.{Answer}
+use Rattle.live.specs.declared.answer.Answer.TheVariants as answers
+use Rattle.live.specs.Effects.{IsNext, ShowsSame, IsPassed, Comes, Commanded, IsObeyed, answer_of, phase_of, closing_in, closes_in, said_in}
 use Rattle.live.specs.declared.fates.Taken.{Taken}
 use Rattle.live.specs.RunLaws.{IsDone, told_of, report_of_commands, EndedRunsAreReports, SpentRunsAreReports}
 use Rattle.live.specs.Opens.{KeptOpen, IsGoing, IsOver, IsWhole, IsToldIn, IsTakenIn, Tells, Takes, Settles}
@@ -206,19 +210,33 @@ told-by a b bytes s Going is = (s.going is).1 ∙ sym (append-nil s.written.repo
 told-by a b bytes s Over is = (s.over is).1
 told-by a b bytes s Lost is = absurd (settled a b bytes s is)
 
+-- one that has ended wasn't halted
+phase-by : (e : Option Ending) (p : Phase) → (e ≡ None → p ≡ Going) → (IsSome e → p ≡ Over) → (IsSome e → IsSome (shown_ending e)) → p ≡ phase_of (shown_ending e)
+phase-by None p goes ends shown = goes refl
+phase-by (Some Ended) p goes ends shown = ends refl
+phase-by (Some Spent) p goes ends shown = ends refl
+phase-by (Some Halted) p goes ends shown = absurd (let h = shown refl in cc)
+
+settled-phase : (a b : KeptOpen) (bytes : List ℕ) (s : Settles a b bytes) → IsProper a.run.experiment → b.phase ≡ phase_of (state_of a.run).ending
+settled-phase a b bytes s proper =
+    let same : s.written.experiment.ending ≡ a.run.experiment.ending = ap (λ (e : KeptExperiment). e.ending) s.forgets.experiment in
+    phase-by a.run.experiment.ending b.phase (λ none. s.goes_on (same ∙ none)) (λ some. s.ends (subst IsSome (sym same) some)) proper.ends
+
 -- time passed
 pub settled-passed : (was a b : KeptOpen) (bytes : List ℕ) (limit : ℕ) (stop : Stop) (s : Settles a b bytes) →
     record a { reached = was.reached; phase = was.phase; run = was.run } ≡ was → was.run.report.text ≡ [] → a.is_closed ≡ was.is_closed →
-    StopsAt stop was.reached limit a.reached was.run a.run →
+    StopsAt stop was.reached limit a.reached was.run a.run → Goes was.reached a.reached was.run a.run →
     (a.run.experiment.ending ≡ None → IsQuiet a.reached a.run) → (a.run.experiment.ending ≡ None → stop ≡ Moment → a.reached ≡ limit) →
-    IsPassed limit stop bytes was b
-settled-passed was a b bytes limit stop s from clean closed stops quiet whole =
+    IsProper a.run.experiment → IsPassed limit stop bytes was b
+settled-passed was a b bytes limit stop s from clean closed stops goes quiet whole proper =
     let reached : b.reached ≡ a.reached = ap (λ (o : KeptOpen). o.reached) s.is in
     let handed : KeptRun = record s.written { report = record s.written.report { text = [] } } in
     record {
       clean = clean;
       ran = a.run;
       stopped = subst (λ u. StopsAt stop was.reached limit u was.run a.run) (sym reached) stops;
+      same = record { shows = goes.shows; mine = goes.mine };
+      phase = settled-phase a b bytes s proper;
       wrote = s.written;
       forgets = s.forgets;
       is = s.is ∙ (λ i. record (from i) { reached = sym reached i; phase = b.phase; run = handed });
@@ -230,21 +248,49 @@ settled-passed was a b bytes limit stop s from clean closed stops quiet whole =
 -- and then a command came
 pub settled-done : (was a b : KeptOpen) (bytes : List ℕ) (c : Timed) (t : Taken) (before : KeptRun) (s : Settles a b bytes) →
     record a { reached = was.reached; phase = was.phase; run = was.run } ≡ was → was.run.report.text ≡ [] →
-    StopsAt Moment was.reached c.moment c.moment was.run before → Comes c t before a.run → a.reached ≡ c.moment → Commanded c t bytes was b
-settled-done was a b bytes c t before s from clean stops comes reached =
+    StopsAt Moment was.reached c.moment c.moment was.run before → ShowsSame was.run before → Comes c t before a.run → a.reached ≡ c.moment →
+    IsProper a.run.experiment → Commanded c t bytes was b
+settled-done was a b bytes c t before s from clean stops same comes reached proper =
     let handed : KeptRun = record s.written { report = record s.written.report { text = [] } } in
     record {
       clean = clean;
       before = before;
       stopped = stops;
+      same = same;
       after = a.run;
       comes = comes;
+      phase = settled-phase a b bytes s proper;
       wrote = s.written;
       forgets = s.forgets;
       is = s.is ∙ (λ i. record (from i) { reached = reached i; phase = b.phase; run = handed });
       told = told-by a b bytes s b.phase refl;
     }
 
-pub next-is : (o : KeptOpen) (m : Option ℕ) → IfSome m (λ n. n ≡ first_moment o.run) → (m ≡ None → IsQuiet 2000000000000000 o.run) → IsNext o m
+-- ---- what a command does
+-- it was over before
+pub obeyed-late : (c : Timed) (bytes : List ℕ) (a : Answer) (o q p : KeptOpen) → IsPassed c.moment Moment bytes o q → q.phase ≡ Over →
+    p ≡ record q { reached = c.moment; is_closed = is_end c.command } → a ≡ answers.Over c.moment → IsObeyed c bytes a o p
+obeyed-late c bytes a o q p h over is said =
+    (q, is ∙ (λ i. record q { reached = c.moment; is_closed = closes_in (sym over i) c }), inl (h, over, said))
+
+-- the command ended it
+pub obeyed-over : (c : Timed) (t : Taken) (bytes : List ℕ) (a : Answer) (o q p : KeptOpen) → Commanded c t bytes o q → q.phase ≡ Over →
+    p ≡ record q { reached = c.moment; is_closed = is_end c.command } → a ≡ answers.Over c.moment → IsObeyed c bytes a o p
+obeyed-over c t bytes a o q p h over is said =
+    (q, is ∙ (λ i. record q { reached = c.moment; is_closed = closes_in (sym over i) c }), inr (t, h, said ∙ sym (ap (λ x. said_in x c t) over)))
+
+still-going : (p : Phase) (e : Option Ending) → p ≡ phase_of e → (p ≡ Over → ⊥) → p ≡ Going
+still-going p None is never = is
+still-going p (Some e) is never = absurd (never is)
+
+-- it goes on
+pub obeyed-going : (c : Timed) (t : Taken) (bytes : List ℕ) (a : Answer) (o p : KeptOpen) → Commanded c t bytes o p → (p.phase ≡ Over → ⊥) →
+    p.reached ≡ c.moment → p.is_closed ≡ false → a ≡ answer_of t → IsObeyed c bytes a o p
+obeyed-going c t bytes a o p h never reached unclosed said =
+    let going : p.phase ≡ Going = still-going p.phase (state_of h.after).ending h.phase never in
+    let closed : p.is_closed ≡ closes_in p.phase c = unclosed ∙ sym (ap (λ x. closes_in x c) going) in
+    (p, (λ i. record p { reached = reached i; is_closed = closed i }), inr (t, h, said ∙ sym (ap (λ x. said_in x c t) going)))
+
+pub next-is : (o : KeptOpen) (m : Option ℕ) → IfSome m (λ n. (n ≡ first_moment o.run) × (n < 2 * 10 ^ 15)) → (m ≡ None → IsQuiet (2 * 10 ^ 15) o.run) → IsNext o m
 next-is o None some none = none refl
 next-is o (Some n) some none = some

@@ -1,6 +1,6 @@
 -- What was told of an experiment whose commands come one by one.
 use Rattle.std.proofs.Common.{◌≡◌, ℕ, ◌≤◌, Bool, true, false, length, List, [], ◌∷◌, ◌++◌, Option, Some, None, ◌⊎◌, inl, inr, refl, sym, ap, ◌∙◌, subst, append_assoc, append-nil, arith}
-use Rattle.std.specs.Prelude.{flat_map, IfSome, is_some, option_map, get_or, slice_get, ltb}
+use Rattle.std.specs.Prelude.{flat_map, IfSome, is_some, option_map, option_to_list, get_or, slice_get, ltb}
 use Rattle.std.proofs.lemmas.Bool.{ltb-true, ltb-false}
 use Rattle.std.proofs.lemmas.Option.{slice_get_past, slice_get_read}
 use Rattle.std.proofs.lemmas.List.Concat.{flat_map-append}
@@ -8,9 +8,9 @@ use Rattle.std.proofs.lemmas.List.Elements.{filter-append}
 use Rattle.emu_model.specs.declared.commands.Timed.{Timed}
 use Rattle.emu_model.specs.declared.records.Record.{Record}
 use Rattle.emu_model.specs.declared.records.Ending.{Ending}
-use Rattle.emu_model.specs.Step.{State}
-use Rattle.emu_model.specs.RunLaws.{PacketsAddUp}
-use Rattle.session_laws.specs.Waits.{IsAloneUntil, WaitsBegin, IsSettled}
+use Rattle.emu_model.specs.Step.{State, step}
+use Rattle.emu_model.specs.RunLaws.{PacketsAddUp, RecordsAreNotRead, with_earlier, with_more}
+use Rattle.session_laws.specs.Waits.{IsAloneUntil, WaitsBegin, CommandsGoOn, GoesOn, IsSettled}
 use Rattle.packet_store.specs.Pocket.{Pocket}
 use Rattle.packet_store.specs.Own.{Own, own_pocket}
 use Rattle.experiment.specs.Kept.{KeptExperiment, view, IsHousedIn, IsWaiting, IsAloneAfter, last_moment}
@@ -26,7 +26,7 @@ use Rattle.live.specs.Marking.{Marks}
 use Rattle.live.specs.Fates.{concerns, first_hold}
 use Rattle.live.specs.declared.fates.Stop.{Stop}
 use Rattle.live.specs.declared.fates.Stop.TheVariants.{Moment}
-use Rattle.live.specs.Runs.{KeptRun, IsProper, IsAt, IsAfter, IsQuiet, IsQuietAfter, Goes, Takes, Tells, Forgets, picked, chosen}
+use Rattle.live.specs.Runs.{KeptRun, IsProper, IsAt, IsAfter, IsQuiet, IsQuietAfter, state_of, Goes, Takes, Tells, Forgets, picked, chosen}
 
 -- ---- what is written of records
 picked-both : (all : Bool) (mine : Marks) (rs more : List Record) → picked all mine (rs ++ more) ≡ picked all mine rs ++ picked all mine more
@@ -202,6 +202,41 @@ takes-all begins c was new spec consumed shows report after rests = record {
         proper = now.proper;
       };
 }
+
+-- ---- a command is the next step
+-- it was given to one without a next command
+pub applied-is : (p : Pocket) (old new : KeptExperiment) (c : Timed) → old.next ≡ None →
+    new ≡ record old { next = Some c; consumed = old.consumed ++ c ∷ []; spare = new.spare } → view p new ≡ with_more (c ∷ []) (view p old)
+applied-is p old new c none is = ap (view p) is ∙ (λ i. record (view p old) { left = option_to_list (sym none i) ++ c ∷ [] })
+
+-- where nothing is due before it, no command is left behind that step
+pub comes-next : CommandsGoOn → RecordsAreNotRead → (t : ℕ) (earlier : List Record) (r : KeptRun) (c : Timed) → IsAt t earlier r →
+    r.experiment.ending ≡ None → t ≤ c.moment → IsQuiet c.moment r → (step (with_more (c ∷ []) (state_of r))).left ≡ []
+comes-next goes unread t earlier r c at going up quiet =
+    let s : State = state_of r in
+    let on : GoesOn r.experiment.spec r.experiment.consumed c (step (with_more (c ∷ []) (with_earlier earlier s))) =
+    goes t r.experiment.spec r.experiment.consumed (with_earlier earlier s) c (ap option_to_list at.waits.none) (ap shown_ending going) up quiet at.waits.alone in
+    sym (ap (λ (x : State). x.left) (unread earlier (with_more (c ∷ []) s))) ∙ on.none
+
+-- where that step leaves none, a next command is none that stands after it
+pub none-next : (p : Pocket) (e : KeptExperiment) (s : State) → view p e ≡ s → s.left ≡ [] → is_some e.next ≡ true → ⊥
+none-next p e s is none some = by e.next (ap (λ (x : State). x.left) is ∙ none) some
+  where
+    by : (o : Option Timed) → option_to_list o ≡ [] → is_some o ≡ true → ⊥
+    by None l some = absurd (cc)
+    by (Some x) l some = absurd (cc)
+
+-- and one that has a next command, and goes on, doesn't stand still
+pub no-still : (p q : Pocket) (e f : KeptExperiment) → view p e ≡ view q f → IsProper e → f.ending ≡ None → IsSome f.next → (e.next ≡ None) ⊎ IsSome e.ending → ⊥
+no-still p q e f same proper going some (inl none) = by f.next (sym (ap (λ (x : State). x.left) same) ∙ ap option_to_list none) some
+  where
+    by : (o : Option Timed) → option_to_list o ≡ [] → is_some o ≡ true → ⊥
+    by None l some = absurd (cc)
+    by (Some x) l some = absurd (cc)
+no-still p q e f same proper going some (inr ended) =
+    let shown : is_some (shown_ending e.ending) ≡ true = proper.ends ended in
+    let none : shown_ending e.ending ≡ None = ap (λ (x : State). x.ending) same ∙ ap shown_ending going in
+    cc
 
 -- what was recorded since is told too
 pub at-written : (t : ℕ) (earlier : List Record) (old new : KeptRun) → IsAt t earlier old → Forgets old new → IsAt t (earlier ++ old.experiment.net.log.records) new

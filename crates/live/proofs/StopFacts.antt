@@ -12,7 +12,7 @@ use Rattle.packet_store.specs.Pocket.{Pocket}
 use Rattle.experiment.specs.Kept.{view, shown_ending}
 use Rattle.experiment.specs.Moves.{Passes, IsPassed}
 use Rattle.experiment.specs.declared.experiment.Event.TheVariants as events
-use Rattle.report_writer.specs.Written.{Written}
+use Rattle.report_writer.specs.Written.{Written, Counts}
 use Rattle.live.specs.declared.fates.Stop.{Stop}
 use Rattle.live.specs.declared.fates.Stop.TheVariants.{Moment}
 use Rattle.live.specs.Marking.{Marks}
@@ -41,6 +41,7 @@ pub keeps-same : (r : KeptRun) → Keeps r r
 keeps-same r = record {
   told = [];
   tells = tells-none r r refl;
+  counts = λ rs h. subst (λ (l : List Record). Counts l r.report) (sym (append-nil rs)) h;
   stays = λ earlier. ap (λ (l : List Record). shown_behind l r) (append-nil earlier);
   shows = refl;
   mine = refl;
@@ -50,6 +51,7 @@ pub keeps-written : (old new : KeptRun) → Forgets old new → Keeps old new
 keeps-written old new f = record {
   told = old.experiment.net.log.records;
   tells = f.tells;
+  counts = f.counts;
   stays = λ earlier.
       let all : List Record = earlier ++ old.experiment.net.log.records in
       let p : Pocket = own_pocket old.shelf in
@@ -67,6 +69,7 @@ keeps-written old new f = record {
 pub record Leads (v : Way) (old : KeptRun) (w : Way) (new : KeptRun) (earlier : List Record) : Type 0 where
   pub told : List Record
   pub tells : Tells told old new
+  pub counts : Counts earlier old.report → Counts (earlier ++ told) new.report
   pub shows : new.shows_all ≡ old.shows_all
   pub mine : new.mine ≡ old.mine
   pub goes : (n u : ℕ) (t : State) → Stops n w (shown_behind (earlier ++ told) new) u t → (k : ℕ) × Stops k v (shown_behind earlier old) u t
@@ -75,6 +78,7 @@ pub leads-none : (w : Way) (r : KeptRun) (earlier : List Record) → Leads w r w
 leads-none w r earlier = record {
   told = [];
   tells = tells-none r r refl;
+  counts = λ h. subst (λ (l : List Record). Counts l r.report) (sym (append-nil earlier)) h;
   shows = refl;
   mine = refl;
   goes = λ n u t h. (n, subst (λ (l : List Record). Stops n w (shown_behind l r) u t) (append-nil earlier) h);
@@ -84,6 +88,7 @@ pub leads-kept : (v : Way) (old : KeptRun) (w : Way) (mid new : KeptRun) (earlie
 leads-kept v old w mid new earlier l k = record {
   told = l.told ++ k.told;
   tells = tells-both old mid new l.told k.told l.tells k.tells l.shows l.mine;
+  counts = λ h. subst (λ (a : List Record). Counts a new.report) (append_assoc earlier l.told k.told) (k.counts (earlier ++ l.told) (l.counts h));
   shows = k.shows ∙ l.shows;
   mine = k.mine ∙ l.mine;
   goes = λ n u t h. l.goes n u t (subst (λ (s : State). Stops n w s u t)
@@ -92,6 +97,9 @@ leads-kept v old w mid new earlier l k = record {
 
 tells-made : (old mid new : KeptRun) (told : List Record) → Tells told old mid → new.report ≡ mid.report → Tells told old new
 tells-made old mid new told tells same = ap (λ (w : Written). w.text) same ∙ tells
+
+counts-made : (rs : List Record) (mid new : KeptRun) → new.report ≡ mid.report → Counts rs mid.report → Counts rs new.report
+counts-made rs mid new same = subst (Counts rs) (sym same)
 
 -- of an event, those records are new that are new without what was recorded before
 fresh-is : (earlier : List Record) (old new : KeptRun) → drop (length (shown_behind earlier old).net.records) (shown_behind earlier new).net.records ≡ drop (length old.experiment.net.log.records) new.experiment.net.log.records
@@ -105,6 +113,7 @@ pub leads-event : (v : Way) (old : KeptRun) (w now : Way) (mid new : KeptRun) (e
 leads-event v old w now mid new earlier l made none is = record {
   told = l.told;
   tells = tells-made old mid new l.told l.tells made.report;
+  counts = λ h. counts-made (earlier ++ l.told) mid new made.report (l.counts h);
   shows = made.shows ∙ l.shows;
   mine = made.mine ∙ l.mine;
   goes = λ n u t h.
@@ -123,15 +132,15 @@ quiet-shown earlier r limit (inr quiet) = inr quiet
 
 -- at the end
 pub leads-end : (v : Way) (old : KeptRun) (w : Way) (mid new : KeptRun) (earlier : List Record) (u : ℕ) → Leads v old w mid earlier → IsEvent w.reached w.last (false, u) mid new →
-    (told : List Record) × Tells told old new × (n : ℕ) × Stops n v (shown_behind earlier old) u (shown_behind (earlier ++ told) new)
+    (told : List Record) × Tells told old new × (Counts earlier old.report → Counts (earlier ++ told) new.report) × (n : ℕ) × Stops n v (shown_behind earlier old) u (shown_behind (earlier ++ told) new)
 leads-end v old w mid new earlier u l (inl (still, is, quiet)) =
     let before : List Record = earlier ++ l.told in
     let h = l.goes 0 u (shown_behind before new) (still.stays before, is, quiet-shown before mid w.last quiet) in
-    (l.told, tells-made old mid new l.told l.tells still.report, h.0, h.1)
+    (l.told, tells-made old mid new l.told l.tells still.report, λ k. counts-made before mid new still.report (l.counts k), h.0, h.1)
 leads-end v old w mid new earlier u l (inr (made, over, is)) =
     let before : List Record = earlier ++ l.told in
     let h = l.goes 1 u (shown_behind before new) (stop-over zero w (shown_behind before mid) (shown_behind before new) u refl (sym (made.stepped before)) over is) in
-    (l.told, tells-made old mid new l.told l.tells made.report, h.0, h.1)
+    (l.told, tells-made old mid new l.told l.tells made.report, λ k. counts-made before mid new made.report (l.counts k), h.0, h.1)
 
 -- ---- an event
 pub made-by : WaitsReadNoRecords → (limit : ℕ) (old new : KeptRun) → old.experiment.next ≡ None → IsPassed limit (own_pocket old.shelf) old.experiment (own_pocket new.shelf) new.experiment →

@@ -1,10 +1,14 @@
 -- What a line does in a session that takes it (our choice).
-use Rattle.std.specs.Prelude.{◌≡◌, ℕ, ◌*◌, ◌^◌, List, [], ◌∷◌, ◌++◌, length, Option, Some, None, Ok, set, slice_get, codes, MatchOption, ◌⊎◌}
+use Rattle.std.specs.Prelude.{◌≡◌, ℕ, ◌<◌, ◌*◌, ◌^◌, Bool, true, false, List, [], ◌∷◌, ◌++◌, length, Option, Some, None, Ok, set, slice_get, codes, MatchOption, ◌⊎◌}
 use Rattle.emu_model.specs.declared.commands.Spec.{Spec}
 use Rattle.emu_model.specs.declared.commands.Timed.{Timed}
+use Rattle.emu_model.specs.declared.records.Ending.{Ending}
 use Rattle.emu_model.specs.Commands.{is_end}
+use Rattle.emu_model.specs.Step.{initial_state, step}
+use Rattle.emu_model.specs.RunLaws.{with_more}
 use Rattle.control_lines.specs.Entries.{Entry, Nothing, Begins, Does, IsEntry}
 use Rattle.report.specs.Lines.{heading_of}
+use Rattle.report_writer.specs.Written.{Counts}
 use Rattle.live.specs.declared.answer.Answer.{Answer}
 use Rattle.live.specs.declared.answer.Answer.TheVariants as answers
 use Rattle.live.specs.declared.open.Phase.{Phase}
@@ -14,7 +18,7 @@ use Rattle.live.specs.declared.fates.Stop.TheVariants as stops
 use Rattle.live.specs.declared.fates.Taken.{Taken}
 use Rattle.live.specs.declared.fates.Taken.TheVariants as taken
 use Rattle.live.specs.Fates.{refusal_in, taken_by, MarkedBy}
-use Rattle.live.specs.Runs.{KeptRun, Forgets, Takes, IsQuiet, made_of, closing_of, first_moment}
+use Rattle.live.specs.Runs.{KeptRun, Forgets, Takes, IsQuiet, state_of, made_of, closing_of, first_moment}
 use Rattle.live.specs.Stops.{StopsAt}
 use Rattle.live.specs.Opens.{KeptOpen, stand_of}
 use Rattle.live.specs.Lines.{answer_line, help_lines}
@@ -29,12 +33,19 @@ answer_of (taken.Packet number) = answers.Packet number
 answer_of (taken.Refused code) = answers.Refused code
 
 -- ---- an experiment of the session
--- a command comes to a run, behind all that is due below its moment
+-- a command comes to a run that goes on, behind all that is due below its moment: it is the next step
 pub record Comes (c : Timed) (t : Taken) (before after : KeptRun) : Type 0 where
+  pub going : (state_of before).ending ≡ None
   pub quiet : IsQuiet c.moment before
   pub takes : Takes c before after
+  pub steps : state_of after ≡ step (with_more (c ∷ []) (state_of before))
   pub marks : MarkedBy c.command (made_of before) before.mine after.mine
   pub taken : t ≡ taken_by c.command (made_of before) (refusal_in (slice_get after.experiment.net.log.records (length before.experiment.net.log.records)))
+
+-- how it stands by its ending
+abbrev pub phase_of : Option Ending → Phase
+phase_of None = phases.Going
+phase_of (Some e) = phases.Over
 
 -- with the counters where it has ended
 abbrev pub closing_in : Phase → KeptRun → List ℕ
@@ -42,33 +53,18 @@ closing_in phases.Going r = []
 closing_in phases.Over r = closing_of r
 closing_in phases.Lost r = []
 
--- a command came to one that goes on, once time had come to its moment; what was recorded is told
-pub record Commanded (c : Timed) (t : Taken) (bytes : List ℕ) (o p : KeptOpen) : Type 0 where
-  pub clean : o.run.report.text ≡ []
-  pub before : KeptRun
-  pub stopped : StopsAt stops.Moment o.reached c.moment c.moment o.run before
-  pub after : KeptRun
-  pub comes : Comes c t before after
-  pub wrote : KeptRun
-  pub forgets : Forgets after wrote
-  pub is : p ≡ record o { reached = c.moment; phase = p.phase; run = record wrote { report = record wrote.report { text = [] } } }
-  pub told : bytes ≡ wrote.report.text ++ closing_in p.phase wrote
-
--- it is over then, or the answer says what became of the command
-pub record IsObeyed (c : Timed) (bytes : List ℕ) (a : Answer) (o p : KeptOpen) : Type 0 where
-  pub over : p.phase ≡ phases.Over → a ≡ answers.Over c.moment
-  pub done : p.phase ≡ phases.Going → (t : Taken) × Commanded c t bytes o p × (a ≡ answer_of t)
-
-abbrev pub ObeysIn : Phase → Timed → List ℕ → Answer → KeptOpen → KeptOpen → Type 0
-ObeysIn phases.Going c bytes a o p = IsObeyed c bytes a o p
-ObeysIn phases.Over c bytes a o p = (p ≡ record o { reached = c.moment; is_closed = is_end c.command }) × (bytes ≡ []) × (a ≡ answers.Over c.moment)
-ObeysIn phases.Lost c bytes a o p = ⊥
+-- which records are told stays, and which packets were injected
+pub record ShowsSame (old new : KeptRun) : Type 0 where
+  pub shows : new.shows_all ≡ old.shows_all
+  pub mine : new.mine ≡ old.mine
 
 -- time passes in one that goes on: to where it stops, and nothing is due below that moment; what was recorded is told
 pub record IsPassed (limit : ℕ) (stop : Stop) (bytes : List ℕ) (o p : KeptOpen) : Type 0 where
   pub clean : o.run.report.text ≡ []
   pub ran : KeptRun
   pub stopped : StopsAt stop o.reached limit p.reached o.run ran
+  pub same : ShowsSame o.run ran
+  pub phase : p.phase ≡ phase_of (state_of ran).ending
   pub wrote : KeptRun
   pub forgets : Forgets ran wrote
   pub is : p ≡ record o { reached = p.reached; phase = p.phase; run = record wrote { report = record wrote.report { text = [] } } }
@@ -76,15 +72,51 @@ pub record IsPassed (limit : ℕ) (stop : Stop) (bytes : List ℕ) (o p : KeptOp
   pub quiet : p.phase ≡ phases.Going → IsQuiet p.reached p.run
   pub whole : p.phase ≡ phases.Going → stop ≡ stops.Moment → p.reached ≡ limit
 
+-- a command came to one that goes on, once time had come to its moment; what was recorded is told
+pub record Commanded (c : Timed) (t : Taken) (bytes : List ℕ) (o p : KeptOpen) : Type 0 where
+  pub clean : o.run.report.text ≡ []
+  pub before : KeptRun
+  pub stopped : StopsAt stops.Moment o.reached c.moment c.moment o.run before
+  pub same : ShowsSame o.run before
+  pub after : KeptRun
+  pub comes : Comes c t before after
+  pub phase : p.phase ≡ phase_of (state_of after).ending
+  pub wrote : KeptRun
+  pub forgets : Forgets after wrote
+  pub is : p ≡ record o { reached = c.moment; phase = p.phase; run = record wrote { report = record wrote.report { text = [] } } }
+  pub told : bytes ≡ wrote.report.text ++ closing_in p.phase wrote
+
+-- whether its `end` came, and what is said, by how it stands behind the command
+abbrev pub closes_in : Phase → Timed → Bool
+closes_in phases.Going c = false
+closes_in phases.Over c = is_end c.command
+closes_in phases.Lost c = false
+
+abbrev pub said_in : Phase → Timed → Taken → Answer
+said_in phases.Going c t = answer_of t
+said_in phases.Over c t = answers.Over c.moment
+said_in phases.Lost c t = answers.Over c.moment
+
+-- it was over before the command's moment, or the command came
+abbrev pub IsObeyed : Timed → List ℕ → Answer → KeptOpen → KeptOpen → Type 0
+IsObeyed c bytes a o p = (q : KeptOpen) × (p ≡ record q { reached = c.moment; is_closed = closes_in q.phase c }) × (
+    (IsPassed c.moment stops.Moment bytes o q × (q.phase ≡ phases.Over) × (a ≡ answers.Over c.moment))
+    ⊎ ((t : Taken) × Commanded c t bytes o q × (a ≡ said_in q.phase c t)))
+
+abbrev pub ObeysIn : Phase → Timed → List ℕ → Answer → KeptOpen → KeptOpen → Type 0
+ObeysIn phases.Going c bytes a o p = IsObeyed c bytes a o p
+ObeysIn phases.Over c bytes a o p = (p ≡ record o { reached = c.moment; is_closed = is_end c.command }) × (bytes ≡ []) × (a ≡ answers.Over c.moment)
+ObeysIn phases.Lost c bytes a o p = ⊥
+
 -- the answer says how it stands then
 abbrev pub PassesIn : Phase → ℕ → Stop → List ℕ → Answer → KeptOpen → KeptOpen → Type 0
 PassesIn phases.Going limit stop bytes a o p = (a ≡ stand_of p) × IsPassed limit stop bytes o p
 PassesIn phases.Over limit stop bytes a o p = (a ≡ answers.Over o.reached) × (p ≡ o) × (bytes ≡ [])
 PassesIn phases.Lost limit stop bytes a o p = ⊥
 
--- when the next event is due, if one is
+-- when the next event is due, if one is: every due lies below 2 * 10^15 ns
 abbrev pub IsNext : KeptOpen → Option ℕ → Type 0
-IsNext o m = MatchOption m (IsQuiet (2 * 10 ^ 15) o.run) (λ n. n ≡ first_moment o.run)
+IsNext o m = MatchOption m (IsQuiet (2 * 10 ^ 15) o.run) (λ n. (n ≡ first_moment o.run) × (n < 2 * 10 ^ 15))
 
 abbrev pub NextIn : Phase → Answer → KeptOpen → Type 0
 NextIn phases.Going a o = (m : Option ℕ) × (a ≡ answers.Next m) × IsNext o m
@@ -110,11 +142,16 @@ Obeys (Show all) bytes a old new = (bytes ≡ []) × Moves (λ a o p. (p ≡ rec
 Obeys (Use name) bytes a old new = (place : ℕ) × (place_named name old.opened ≡ Some place) × (new ≡ record old { current = place }) × (bytes ≡ codes "#: " ++ name ++ codes "\n") × (a ≡ answers.Done)
 Obeys Help bytes a old new = (new ≡ old) × (bytes ≡ help_lines) × (a ≡ answers.Done)
 
--- an experiment begins
+-- an experiment begins: nothing has happened, and all will be told
 pub record IsBegun (name : List ℕ) (spec : Spec) (bytes : List ℕ) (a : Answer) (old new : KeptSession) : Type 0 where
   pub opened : KeptOpen
   pub name_is : opened.name ≡ name
   pub spec_is : opened.run.experiment.spec ≡ spec
+  pub state : state_of opened.run ≡ initial_state spec []
+  pub counts : Counts [] opened.run.report
+  pub shows : opened.run.shows_all ≡ true
+  pub mine : opened.run.mine ≡ []
+  pub unclosed : opened.is_closed ≡ false
   pub reached : opened.reached ≡ 0
   pub phase : opened.phase ≡ phases.Going
   pub told : bytes ≡ heading_of name

@@ -1,12 +1,15 @@
 -- What a session tells of an experiment that has ended (our choice).
-use Rattle.std.specs.Prelude.{◌≡◌, ℕ, ◌≤◌, IsSome, List, [], ◌∷◌, ◌++◌, flat_map}
+use Rattle.std.specs.Prelude.{◌≡◌, ℕ, ◌+◌, max, ◌≤◌, ◌<◌, IsSome, None, List, [], ◌∷◌, ◌++◌, flat_map}
 use Rattle.emu_model.specs.declared.commands.Spec.{Spec}
 use Rattle.emu_model.specs.declared.commands.Timed.{Timed}
 use Rattle.emu_model.specs.declared.records.Record.{Record}
 use Rattle.emu_model.specs.Alone.{Trace, alone, trace_of}
+use Rattle.emu_model.specs.Step.{step}
+use Rattle.emu_model.specs.RunLaws.{with_more}
+use Rattle.session_laws.specs.Waits.{step_before}
 use Rattle.experiment.specs.Kept.{shown_ending}
 use Rattle.report.specs.Lines.{heading_of, line_of, report_of}
-use Rattle.live.specs.Runs.{KeptRun, IsAt, IsAfter, closing_of}
+use Rattle.live.specs.Runs.{KeptRun, IsAt, IsAfter, state_of, closing_of}
 
 -- the report of an experiment that runs by itself on these commands
 abbrev pub report_of_commands : List ℕ → Spec → List Timed → List ℕ
@@ -31,3 +34,9 @@ EndedRunsAreReports = (name : List ℕ) (earlier : List Record) (r : KeptRun) (r
 abbrev pub SpentRunsAreReports : Type 0
 SpentRunsAreReports = (name : List ℕ) (t : ℕ) (earlier : List Record) (r : KeptRun) (c : Timed) (rest : List Timed) → IsAt t earlier r → IsDone r →
     t ≤ c.moment → told_of name earlier r ≡ report_of_commands name r.experiment.spec (r.experiment.consumed ++ c ∷ rest)
+
+-- that moment is the least: a command below one past the last event, to whose moment time hadn't come, is taken in that event's place
+abbrev pub EarlierCommandsCome : Type 0
+EarlierCommandsCome = (t limit : ℕ) (earlier : List Record) (r : KeptRun) (c : Timed) → IsAt t earlier r → r.experiment.ending ≡ None →
+    t ≤ c.moment → c.moment ≤ limit → c.moment < max t ((step_before limit (state_of r)).clock + 1) →
+    (step (with_more (c ∷ []) (state_of r))).left ≡ []

@@ -92,6 +92,10 @@ pub record Takes (c : Timed) (old new : KeptRun) : Type 0 where
   pub at : (t : ℕ) (earlier : List Record) → IsAt t earlier old → t ≤ c.moment → new.experiment.ending ≡ None →
       IsAt c.moment earlier new
 
+-- the state that is shown
+abbrev pub state_of : KeptRun → State
+state_of r = view (own_pocket r.shelf) r.experiment
+
 -- the line of the counters
 abbrev pub closing_of : KeptRun → List ℕ
 closing_of r = lines.counters_of (record (counters_of (view (own_pocket r.shelf) r.experiment).net) {
@@ -102,16 +106,16 @@ closing_of r = lines.counters_of (record (counters_of (view (own_pocket r.shelf)
 -- when the event is due that is due first; every due lies below 2 * 10^15 ns
 abbrev pub first_moment : KeptRun → ℕ
 first_moment r =
-    let s : State = view (own_pocket r.shelf) r.experiment in
+    let s : State = state_of r in
     (least_due (2 * 10 ^ 15) (dues_of s.clock s.net)).moment
 
 -- how many packets were made
 abbrev pub made_of : KeptRun → ℕ
-made_of r = (view (own_pocket r.shelf) r.experiment).net.made
+made_of r = (state_of r).net.made
 
 -- nothing is due below a moment
 abbrev pub IsQuiet : ℕ → KeptRun → Type 0
-IsQuiet t r = IsSettled t (view (own_pocket r.shelf) r.experiment)
+IsQuiet t r = IsSettled t (state_of r)
 
 -- no event was made that it goes on after: it has ended, or nothing is due below the moment to which time has come
 abbrev pub IsQuietAfter : ℕ → (Bool × ℕ) → KeptRun → Type 0

@@ -7,6 +7,7 @@ use Rattle.emu_model.specs.Step.{State}
 use Rattle.session_laws.specs.Waits.{step_before, IsSettled}
 use Rattle.packet_store.specs.Own.{own_pocket}
 use Rattle.experiment.specs.Kept.{view, shown_ending}
+use Rattle.report_writer.specs.Written.{Counts}
 use Rattle.live.specs.declared.fates.Stop.{Stop}
 use Rattle.live.specs.declared.fates.Stop.TheVariants.{Moment}
 use Rattle.live.specs.Marking.{Marks}
@@ -48,9 +49,10 @@ shown_behind earlier r = with_earlier earlier (view (own_pocket r.shelf) r.exper
 abbrev pub way_of : Marks → Stop → ℕ → ℕ → Way
 way_of mine stop reached last = record { mine = mine; stop = stop; reached = reached; last = last }
 
--- from one moment on, to another at most, time came to this one; these records were told on the way
+-- from one moment on, to another at most, time came to this one; these records were told on the way, and counted
 abbrev pub StopsAt : Stop → ℕ → ℕ → ℕ → KeptRun → KeptRun → Type 0
-StopsAt stop from limit u old new = (earlier : List Record) → (told : List Record) × Tells told old new × (n : ℕ)
+StopsAt stop from limit u old new = (earlier : List Record) → (told : List Record) × Tells told old new
+    × (Counts earlier old.report → Counts (earlier ++ told) new.report) × (n : ℕ)
     × Stops n (way_of old.mine stop from limit) (shown_behind earlier old) u (shown_behind (earlier ++ told) new)
 
 -- ---- on the way
@@ -77,6 +79,7 @@ IsEvent reached limit (false, u) old new =
 pub record Keeps (old new : KeptRun) : Type 0 where
   pub told : List Record
   pub tells : Tells told old new
+  pub counts : (rs : List Record) → Counts rs old.report → Counts (rs ++ told) new.report
   pub stays : (earlier : List Record) → shown_behind (earlier ++ told) new ≡ shown_behind earlier old
   pub shows : new.shows_all ≡ old.shows_all
   pub mine : new.mine ≡ old.mine

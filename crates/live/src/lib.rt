@@ -14,5 +14,5 @@ mod session;
 pub use answer::{Answer, put_answer, put_comment};
 pub use fates::{Stop, Taken};
 pub use run::Run;
-pub use run_laws::{ended_runs_are_reports, spent_runs_are_reports};
+pub use run_laws::{earlier_commands_come, ended_runs_are_reports, spent_runs_are_reports};
 pub use session::{MAX_LINE, Session};

@@ -8,8 +8,9 @@ ghost use Rattle.emu_model.specs.declared.records.Record.{Record};
 ghost use Rattle.packet_store.specs.Own.{own_pocket};
 ghost use Rattle.experiment.specs.Kept.{IsHousedIn};
 ghost use Rattle.report.specs.Lines.{heading_of};
-ghost use Rattle.report_writer.specs.Written.{CanWrite};
-ghost use Rattle.live.specs.Runs.{IsAt};
+ghost use Rattle.emu_model.specs.Step.{initial_state};
+ghost use Rattle.report_writer.specs.Written.{CanWrite, Counts};
+ghost use Rattle.live.specs.Runs.{IsAt, state_of};
 ghost use Rattle.live.specs.Faults.{Answers, command_fault, time_fault};
 ghost use Rattle.live.specs.Opens.{IsTold, Tells, Takes, Settles, IsSame, IsFault, stand_of};
 ghost use Rattle.live.specs.declared.answer.Answer.TheVariants as answers;
@@ -97,6 +98,8 @@ impl Open {
             × IsTold [] (heading_of name.now) o) }
         ensures given { IfOk result (λ o. (o.name ≡ name.now) × (o.run.experiment.spec ≡ spec)
             × (o.reached ≡ 0) × (o.phase ≡ Going) × (o.is_closed ≡ false)) }
+        ensures begins { IfOk result (λ o. (state_of o.run ≡ initial_state spec [])
+            × Counts [] o.run.report × (o.run.shows_all ≡ true) × (o.run.mine ≡ [])) }
     {
         let mut run = Run::new(alloc, name, spec)?;
         run.hand_out(out)?;
@@ -182,7 +185,9 @@ impl Open {
         ensures told { IfOk result (λ t. (bytes : List ℕ) × (out.new.items ≡ out.old.items ++ bytes)
             × MatchOption t (Tells [] bytes self.old self.new)
             (λ _. Takes command.now bytes self.old self.new)) }
-        ensures over { IfOk result (λ t. IfNone t (self.new.phase ≡ Over)) }
+        ensures late { IfOk result (λ t. IfNone t ((self.new.phase ≡ Over) × (bytes : List ℕ)
+            × (out.new.items ≡ out.old.items ++ bytes)
+            × IsPassed command.now.moment Moment bytes self.old self.new)) }
         ensures comes { IfOk result (λ t. IfSome t (λ k. (bytes : List ℕ)
             × (out.new.items ≡ out.old.items ++ bytes)
             × Commanded command.now k bytes self.old self.new)) }

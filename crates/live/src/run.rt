@@ -1,30 +1,34 @@
 //! An experiment whose commands come one by one: time passes as far as it is asked to, and what happens is written.
 
-ghost use Rattle.std.specs.Prelude.{◌≡◌, ℕ, ◌+◌, ◌*◌, ◌^◌, ◌≤◌, ◌++◌, [], List, None, IfOk, IfSome, OnOk, OnErr, Bool, true, false, length, flat_map, slice_get, drop};
+ghost use Rattle.std.specs.Prelude.{◌≡◌, ℕ, ◌+◌, ◌*◌, ◌^◌, ◌≤◌, ◌<◌, ◌++◌, ◌∷◌, [], List, None, IsSome, IfOk, IfSome, OnOk, OnErr, Bool, true, false, length, flat_map, slice_get, drop};
 ghost use Rattle.std.specs.List.{filter};
 ghost use Rattle.live.specs.Fates.{concerns, first_hold, refusal_in, taken_by, MarkedBy};
 ghost use Rattle.emu_model.specs.declared.records.Record.{Record};
 ghost use Rattle.report.specs.Lines.{heading_of, line_of};
 ghost use Rattle.report_writer.specs.Written.{CanWrite};
-ghost use Rattle.live.specs.Runs.{KeptRun, IsAt, IsProper, Forgets, Goes, Takes, IsQuiet, IsQuietAfter, made_of, closing_of, first_moment};
+ghost use Rattle.live.specs.Runs.{KeptRun, IsAt, IsProper, Forgets, Goes, Takes, IsQuiet, IsQuietAfter, state_of, made_of, closing_of, first_moment};
 ghost use Rattle.live.specs.Stops.{StopsAt, IsEvent, Keeps};
 ghost use Rattle.packet_store.specs.Own.{own_pocket};
-ghost use Rattle.session_laws.specs.Waits.{IsSettled};
+ghost use Rattle.emu_model.specs.Step.{initial_state, step};
+ghost use Rattle.emu_model.specs.RunLaws.{with_more};
 ghost use Rattle.experiment.specs.Kept.{view, IsHousedIn, IsAloneAfter};
 ghost use Rattle.live.specs.declared.fates.Stop.TheVariants.{Moment};
 
 use crate::fates::{Stop, Taken, concerns, first_hold, mark_injected, taken_by};
 use crate::marks::Marks;
-use emu_model::{Ending, Record, Spec, Timed, packets_add_up};
+use emu_model::{Ending, Record, Spec, Timed, packets_add_up, records_are_not_read};
 use experiment::{ApplyError, Event, Experiment};
 use packet_store::OwnShelf;
 use report_writer::ReportWriter;
-use session_laws::{waits_begin, waits_read_no_records};
+use session_laws::{commands_go_on, waits_begin, waits_read_no_records};
 use std::alloc::{AllocError, Global};
 use std::marker::Model;
 
 /// So many records are written together.
 const BATCH: usize = 256;
+
+/// What every due lies below (ns).
+const PAST_ALL: u64 = 2_000_000_000_000_000;
 
 /// An experiment with its packets, and the lines that were written of it and not yet handed out.
 #[derive(Drop)]
@@ -77,6 +81,10 @@ fn obey(experiment: &mut Experiment, shelf: &mut OwnShelf) -> Result<(), AllocEr
     ensures spec { OnOk result (experiment.new.spec ≡ experiment.old.spec) }
     ensures consumed { OnOk result (experiment.new.consumed ≡ experiment.old.consumed) }
     ensures done { OnOk result (experiment.new.ending ≡ None → experiment.new.next ≡ None) }
+    ensures once { OnOk result (experiment.old.ending ≡ None → IsSome experiment.old.next →
+        (step (view (own_pocket shelf.old) experiment.old)).left ≡ [] →
+        view (own_pocket shelf.new) experiment.new
+        ≡ step (view (own_pocket shelf.old) experiment.old)) }
 {
     loop {
         match experiment.event(shelf, 0) {
@@ -100,6 +108,7 @@ impl Run {
             × (r.experiment.ending ≡ None) × (r.shows_all ≡ true)
             × (r.mine ≡ [])
             × (r.report.text ≡ heading_of name.now)) }
+        ensures begins { IfOk result (λ r. state_of r ≡ initial_state spec []) }
     {
         waits_begin();
         Ok(Run {
@@ -236,6 +245,8 @@ impl Run {
         requires going { self.old.experiment.ending ≡ None }
         requires early { command.now.moment ≤ 10 ^ 15 }
         ensures takes { OnOk result (Takes command.now self.old self.new) }
+        ensures steps { OnOk result (IsQuiet command.now.moment self.old →
+            state_of self.new ≡ step (with_more (command.now ∷ []) (state_of self.old))) }
         ensures marked { OnOk result
             (MarkedBy command.now.command (made_of self.old) self.old.mine self.new.mine) }
         ensures taken { IfOk result (λ t. t ≡ taken_by command.now.command (made_of self.old)
@@ -243,6 +254,8 @@ impl Run {
             (length self.old.experiment.net.log.records)))) }
     {
         waits_begin();
+        commands_go_on();
+        records_are_not_read();
         let number = self.experiment.made();
         let seen = self.experiment.records().len();
         mark_injected(&mut self.mine, &command.command, number)?;
@@ -284,10 +297,14 @@ impl Run {
 
     /// When the event is due (ns) that is due first, if there is one.
     pub fn next_moment(&self) -> Option<u64>
-        ensures some { IfSome result (λ m. m ≡ first_moment self.now) }
-        ensures none { result ≡ None → IsSettled (2 * 10 ^ 15)
-            (view (own_pocket self.now.shelf) self.now.experiment) }
+        ensures some { IfSome result (λ m. (m ≡ first_moment self.now) × (m < 2 * 10 ^ 15)) }
+        ensures none { result ≡ None → IsQuiet (2 * 10 ^ 15) self.now }
     {
-        self.experiment.next_moment()
+        let moment = self.experiment.next_moment()?;
+        // `next_moment` doesn't promise that it is below.
+        if moment >= PAST_ALL {
+            return None;
+        }
+        Some(moment)
     }
 }

@@ -1,10 +1,10 @@
 //! What a session tells of an experiment that has ended is the report of running it alone: the contracts of functions that
 //! do nothing.
 
-ghost use Rattle.live.specs.RunLaws.{EndedRunsAreReports, SpentRunsAreReports};
+ghost use Rattle.live.specs.RunLaws.{EndedRunsAreReports, SpentRunsAreReports, EarlierCommandsCome};
 
-use emu_model::later_commands_wait;
-use session_laws::ended_states_are_whole;
+use emu_model::{later_commands_wait, records_are_not_read};
+use session_laws::{commands_go_on, ended_states_are_whole, waits_settle};
 
 /// Of one that a command ended, or spent the steps of, it is that of the commands that came, whatever comes after them.
 pub fn ended_runs_are_reports()
@@ -19,4 +19,14 @@ pub fn spent_runs_are_reports()
     ensures { SpentRunsAreReports }
 {
     ended_states_are_whole();
+}
+
+/// Of one that spends its last step on an event, a command at that event's moment or before is taken in its place: the
+/// moment past it is the least at which commands change nothing.
+pub fn earlier_commands_come()
+    ensures { EarlierCommandsCome }
+{
+    commands_go_on();
+    records_are_not_read();
+    waits_settle();
 }

@@ -1,4 +1,4 @@
-use Rattle.std.proofs.Common.{false, sym, ◌≡◌, ◌++◌, [], refl, ap, ◌∙◌, subst}
+use Rattle.std.proofs.Common.{true, false, sym, ◌≡◌, ◌++◌, [], refl, ap, ◌∙◌, subst}
 use Rattle.live.specs.declared.open.Phase.TheVariants.{Going}
 use Rattle.live.specs.Opens.{KeptOpen, IsOpen, Tells, Takes}
 use Rattle.live.specs.contracts.open.Open.{the_view}
@@ -8,8 +8,9 @@ use Rattle.live.specs.Runs.{KeptRun, IsQuiet}
 use Rattle.live.proofs.RunFacts.{can_write_at}
 use Rattle.live.specs.declared.fates.Stop.TheVariants.{Moment}
 use Rattle.live.specs.Stops.{StopsAt}
-use Rattle.live.specs.Effects.{Commanded}
-use Rattle.live.proofs.OpenFacts.{settled-done}
+use Rattle.experiment.specs.Kept.{KeptExperiment, shown_ending}
+use Rattle.live.specs.Effects.{IsPassed, Commanded}
+use Rattle.live.proofs.OpenFacts.{settled-passed, settled-done}
 use Rattle.live.proofs.open.Open.obey.Goals as goal
 
 pub settle-requires-clause-writes : goal.settle-requires-clause-writes
@@ -67,16 +68,38 @@ returns-clause-comes c =
     let none : before.experiment.ending ≡ None =
     is_none before.experiment.ending (sym (ap is_some c.ending.ensures) ∙ sym c.is_some.ensures ∙ c.if-is_some.false) in
     let all = passed.whole none refl in
+    let told = passed.goes.tells inv.3 inv.4 in
+    let quiet : IsQuiet c.args.command.now.moment before = subst (λ u. IsQuiet u before) all (passed.quiet none) in
     let h = c.in_ok-settle-2.ensures in (
       h.0,
       h.1,
       subst (λ (o : KeptOpen). Commanded c.args.command.now c.in_ok-taken.taken h.0 o c.settle-2.new.self) c.self.view_is
           (settled-done (the_view inside) _ c.settle-2.new.self h.0 c.args.command.now c.in_ok-taken.taken before h.2 refl inv.1
           (subst (λ u. StopsAt Moment inside.reached c.args.command.now.moment u inside.run before) all passed.stops)
+          (record { shows = passed.goes.shows; mine = passed.goes.mine })
           (record {
-            quiet = subst (λ u. IsQuiet u before) all (passed.quiet none);
+            going = ap shown_ending none;
+            quiet = quiet;
+            steps = c.in_ok-taken.ensures.steps quiet;
             takes = c.in_ok-taken.ensures.takes;
             marks = c.in_ok-taken.ensures.marked;
             taken = c.in_ok-taken.ensures.taken;
-          }) refl),
+          }) refl (c.in_ok-taken.ensures.takes.after c.in_ok-self-inside.field-0 (inv.3 ++ told.0) told.1 c.in_ok-self-inside.ensures.between.1).proper),
+    )
+
+pub returns-then-is_some-clause-late : goal.returns-then-is_some-clause-late
+returns-then-is_some-clause-late c =
+    let inside = c.self.inside in
+    let phase : inside.phase ≡ Going = ap (λ (o : KeptOpen). o.phase) c.self.view_is ∙ c.requires.going in
+    let inv : IsOpen Going inside.reached inside.run inside.is_closed = subst (λ p. IsOpen p inside.reached inside.run inside.is_closed) phase c.self.invariant in
+    let before : KeptRun = c.pass.new.self in
+    let went = c.in_ok-self-inside.ensures in
+    let some : is_some before.experiment.ending ≡ true = sym (ap is_some c.ending.ensures) ∙ sym c.is_some.ensures ∙ c.if-is_some.true in
+    let h = c.in_ok-settle.ensures in (
+      h.2.ends (ap (λ (e : KeptExperiment). is_some e.ending) h.2.forgets.experiment ∙ some),
+      h.0,
+      h.1,
+      subst (λ (o : KeptOpen). IsPassed c.args.command.now.moment Moment h.0 o c.settle.new.self) c.self.view_is
+          (settled-passed (the_view inside) _ c.settle.new.self h.0 c.args.command.now.moment Moment h.2 refl inv.1 refl went.stops went.goes went.quiet went.whole
+          (went.goes.tells inv.3 inv.4).1.proper),
     )

@@ -45,6 +45,6 @@ returns-clause-passes c =
       h.0,
       h.1,
       subst (λ (o : KeptOpen). IsPassed c.args.limit c.args.stop h.0 o c.settle.new.self) c.self.view_is
-          (settled-passed (the_view inside) _ c.settle.new.self h.0 c.args.limit c.args.stop h.2 refl inv.1 refl went.stops went.quiet went.whole),
+          (settled-passed (the_view inside) _ c.settle.new.self h.0 c.args.limit c.args.stop h.2 refl inv.1 refl went.stops went.goes went.quiet went.whole (went.goes.tells inv.3 inv.4).1.proper),
     ))
     c.settle.ensures

@@ -16,3 +16,6 @@ returns-clause-at c =
       latest = let same = ap (last_moment 0) given.2 in omega (arith, same);
       proper = record { few = let none = given.3 in omega (arith, none); ends = not_ended e given.4 };
     }
+
+pub returns-clause-begins : goal.returns-clause-begins
+returns-clause-begins c = c.in_ok-new.ensures.opening (own_pocket c.new-2.result)

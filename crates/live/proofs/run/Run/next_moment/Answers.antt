@@ -1,21 +1,23 @@
-use Rattle.std.proofs.Common.{◌≡◌, ℕ, Option, Some, None, subst, ap, ◌∙◌}
-use Rattle.std.specs.Prelude.{IfSome}
+use Rattle.std.proofs.Common.{◌≡◌, arith, refl, subst, ap, ◌∙◌}
 use Rattle.packet_store.specs.Own.{own_pocket}
-use Rattle.session_laws.specs.Waits.{IsSettled}
-use Rattle.experiment.specs.Kept.{view}
-use Rattle.live.specs.Runs.{KeptRun, first_moment}
+use Rattle.live.specs.Runs.{KeptRun, IsQuiet, first_moment}
+use Rattle.live.specs.contracts.run.Run.{the_view}
+use Rattle.live.proofs.LeastFacts.{quiet-past}
 use Rattle.live.proofs.run.Run.next_moment.Goals as goal
-
-if_some : (P Q : ℕ → Type 0) (o : Option ℕ) → ((x : ℕ) → P x → Q x) → IfSome o P → IfSome o Q
-if_some P Q None f h = tt
-if_some P Q (Some x) f h = f x h
 
 pub returns-clause-some : goal.returns-clause-some
 returns-clause-some c =
-    if_some _ (λ m. m ≡ first_moment c.args.self.now) c.next_moment.result
-    (λ m h. h (own_pocket c.self.inside.shelf) ∙ ap first_moment c.self.view_is) c.next_moment.ensures.some
+    let inside = c.self.inside in
+    let first : c.in_ok-moment.moment ≡ first_moment c.args.self.now = c.in_ok-moment.ensures.some (own_pocket inside.shelf) ∙ ap first_moment c.self.view_is in
+    (first, let below = c.if-moment-ge-PAST_ALL.false in omega (arith, below))
 
-pub returns-clause-none : goal.returns-clause-none
-returns-clause-none c = λ none.
-    subst (λ (r : KeptRun). IsSettled 2000000000000000 (view (own_pocket r.shelf) r.experiment)) c.self.view_is
-    (c.next_moment.ensures.none none (own_pocket c.self.inside.shelf))
+pub returns-then-moment-ge-PAST_ALL-clause-none : goal.returns-then-moment-ge-PAST_ALL-clause-none
+returns-then-moment-ge-PAST_ALL-clause-none c none =
+    let inside = c.self.inside in
+    let first = c.in_ok-moment.ensures.some (own_pocket inside.shelf) in
+    let past = c.if-moment-ge-PAST_ALL.true in
+    subst (λ (r : KeptRun). IsQuiet 2000000000000000 r) c.self.view_is (quiet-past 2000000000000000 (the_view inside) (omega (arith, first, past)))
+
+pub returns-in_err-moment-clause-none : goal.returns-in_err-moment-clause-none
+returns-in_err-moment-clause-none c none =
+    subst (λ (r : KeptRun). IsQuiet 2000000000000000 r) c.self.view_is (c.in_err-moment.ensures.none refl (own_pocket c.self.inside.shelf))

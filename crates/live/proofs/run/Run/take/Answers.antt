@@ -1,14 +1,16 @@
-use Rattle.std.specs.Prelude.{option_map, slice_get}
+use Rattle.std.specs.Prelude.{is_some, option_map, slice_get, None}
 use Rattle.std.proofs.Common.{◌≡◌, List, length, ◌∷◌, ◌++◌, [], sym, ap, ◌∙◌, subst}
 use Rattle.packet_store.specs.Own.{own_pocket}
 use Rattle.experiment.specs.Kept.{KeptExperiment}
 use Rattle.emu_model.specs.declared.commands.Command.{Command}
 use Rattle.emu_model.specs.declared.records.Record.{Record}
-use Rattle.experiment.specs.Kept.{IsHousedIn}
+use Rattle.experiment.specs.Kept.{view, IsHousedIn}
 use Rattle.live.specs.Fates.{MarkedBy, refusal_in, taken_by}
-use Rattle.live.specs.Runs.{KeptRun, IsAt, made_of}
+use Rattle.emu_model.specs.Step.{State, step}
+use Rattle.emu_model.specs.RunLaws.{with_more}
+use Rattle.live.specs.Runs.{KeptRun, IsAt, state_of, made_of}
 use Rattle.live.specs.contracts.run.Run.{the_view}
-use Rattle.live.proofs.RunFacts.{takes-all, read-at}
+use Rattle.live.proofs.RunFacts.{takes-all, applied-is, comes-next, read-at}
 use Rattle.live.proofs.run.Run.take.Goals as goal
 
 pub returns-clause-takes : goal.returns-clause-takes
@@ -29,6 +31,24 @@ returns-clause-takes c =
       alone = c.in_ok-obey.ensures.after earlier (c.in-Ok.ensures.waited t earlier (own_pocket before.shelf) up at.waits);
     })
     c.in_ok-obey.ensures.done
+
+pub returns-clause-steps : goal.returns-clause-steps
+returns-clause-steps c quiet =
+    let before : KeptRun = the_view c.self.inside in
+    let command = c.args.command.now in
+    let at = c.requires.at in
+    let ready : KeptExperiment = c.apply.new.self in
+    let none : before.experiment.next ≡ None = ap (λ (r : KeptRun). r.experiment.next) c.self.view_is ∙ at.2.waits.none in
+    let given : view (own_pocket before.shelf) ready ≡ with_more (command ∷ []) (state_of c.args.self.now) =
+    applied-is (own_pocket before.shelf) before.experiment ready command none c.in-Ok.ensures.ok
+    ∙ ap (λ (r : KeptRun). with_more (command ∷ []) (state_of r)) c.self.view_is in
+    let left : (step (view (own_pocket before.shelf) ready)).left ≡ [] =
+    ap (λ (s : State). (step s).left) given
+    ∙ comes-next c.commands_go_on.ensures c.records_are_not_read.ensures at.0 at.1 c.args.self.now command at.2 c.requires.going at.3 quiet in
+    c.in_ok-obey.ensures.once
+    (ap (λ (e : KeptExperiment). e.ending) c.in-Ok.ensures.ok ∙ ap (λ (r : KeptRun). r.experiment.ending) c.self.view_is ∙ c.requires.going)
+    (ap (λ (e : KeptExperiment). is_some e.next) c.in-Ok.ensures.ok) left
+    ∙ ap step given
 
 pub returns-clause-marked : goal.returns-clause-marked
 returns-clause-marked c =

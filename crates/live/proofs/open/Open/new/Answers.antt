@@ -1,0 +1,14 @@
+use Rattle.std.proofs.Common.{[], sym, ap, ◌∙◌, subst}
+use Rattle.report_writer.specs.Written.{Counts}
+use Rattle.live.specs.Runs.{KeptRun, state_of}
+use Rattle.live.proofs.open.Open.new.Goals as goal
+
+pub returns-clause-begins : goal.returns-clause-begins
+returns-clause-begins c =
+    let handed = c.in_ok-hand_out.ensures.ok.1 in
+    let begun = c.in_ok-run.ensures in (
+      ap state_of handed ∙ begun.begins,
+      subst (λ (r : KeptRun). Counts [] r.report) (sym handed) (record { delivered = begun.at.counts.delivered; drops = begun.at.counts.drops }),
+      ap (λ (r : KeptRun). r.shows_all) handed ∙ begun.given.3,
+      ap (λ (r : KeptRun). r.mine) handed ∙ begun.given.4,
+    )
