@@ -53,7 +53,7 @@ closing_in phases.Going r = []
 closing_in phases.Over r = closing_of r
 closing_in phases.Lost r = []
 
--- which records are told stays, and which packets were injected
+-- whether all records are told, and which packets were injected, stay as they were
 pub record ShowsSame (old new : KeptRun) : Type 0 where
   pub shows : new.shows_all ≡ old.shows_all
   pub mine : new.mine ≡ old.mine

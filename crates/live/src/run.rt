@@ -301,7 +301,7 @@ impl Run {
         ensures none { result ≡ None → IsQuiet (2 * 10 ^ 15) self.now }
     {
         let moment = self.experiment.next_moment()?;
-        // `next_moment` doesn't promise that it is below.
+        // It is below: the experiment's contract doesn't say so.
         if moment >= PAST_ALL {
             return None;
         }
