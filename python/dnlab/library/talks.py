@@ -3,7 +3,7 @@ import ctypes
 import threading
 import weakref
 from types import TracebackType
-from typing import Optional
+from typing import Optional, cast
 
 from dnlab.errors import Failed
 from dnlab.io.scenario_parts import CAUSES
@@ -29,13 +29,14 @@ class Talk:
     """
 
     def __init__(self) -> None:
-        self._calls = bound(library())
+        calls = bound(library())
         self._place, self._answer, self._lock = Place(), Answer(), threading.Lock()
+        self._take, self._at, self._told = calls.dnlab_take, ctypes.byref(self._place), ctypes.byref(self._answer)
         self._room = ctypes.create_string_buffer(FIRST)
-        self._calls.dnlab_open(ctypes.byref(self._place), ctypes.byref(self._answer))
+        calls.dnlab_open(self._at, self._told)
         if self._answer.status != DONE:
             raise Failed(3, "memory")
-        self._forget = weakref.finalize(self, _closed, self._calls, self._place)
+        self._forget = weakref.finalize(self, _closed, calls, self._place)
 
     @property
     def has_ended(self) -> bool:
@@ -45,25 +46,19 @@ class Talk:
     def take(self, line: bytes) -> bytes:
         """What is said to a line, which has no line feed. A line that isn't taken is answered by `#< fault CAUSE`. `Failed` where memory is
         refused, now or before, or where the session is closed."""
-        with self._lock:
-            said = self._taken(line)
-            # All of it is kept for the next call, and an empty line says nothing itself.
-            while said is None:
-                self._room = ctypes.create_string_buffer(self._answer.length)
-                said = self._taken(b"")
-            return said
-
-    def _taken(self, line: bytes) -> Optional[bytes]:
-        """What is said to a line; None where the room is too small for it."""
         answer = self._answer
-        self._calls.dnlab_take(ctypes.byref(self._place), line, len(line), self._room, len(self._room), ctypes.byref(answer))
-        if answer.status == ROOM:
-            return None
+        with self._lock:
+            self._take(self._at, line, len(line), self._room, len(self._room), self._told)
+            while answer.status == ROOM:
+                # All of it is kept for the next call, and an empty line says nothing itself.
+                self._room = ctypes.create_string_buffer(answer.length)
+                self._take(self._at, b"", 0, self._room, len(self._room), self._told)
+            if answer.status == DONE:
+                # (a part of an array of characters is bytes)
+                return cast(bytes, self._room[:answer.length])
         if answer.status == CLOSED:
             raise Failed(0, "the session is closed")
-        if answer.status != DONE:
-            raise Failed(3, "memory")
-        return ctypes.string_at(self._room, answer.length)
+        raise Failed(3, "memory")
 
     def close(self) -> None:
         """Ends it. `FaultIn` where an experiment has no `end`, `Failed` where memory was refused before; it has ended all the same. A second

@@ -162,7 +162,7 @@ def live(dnlab: Optional[str] = None, engine: str = "process") -> Session:
     """Begins a session.
 
     dnlab    the program; else see `dnlab.programs.program`
-    engine   "process" starts the program; "library" calls libdnlab in this process, which takes no program and answers quicker
+    engine   "process" starts the program; "library" calls libdnlab in this process, and takes no program
 
     `Failed` where there is none. To be used as a block: `with dnlab.live() as session: link = session.experiment("mine", seed=1)`.
     """

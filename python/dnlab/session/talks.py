@@ -55,7 +55,7 @@ class Here:
             raise Failed(0, _TORN)
         self._is_torn = True
         for line in data.split(b"\n")[:-1]:
-            for said in self._talk.take(line).split(b"\n")[:-1]:
+            for said in self._talk.take(line).splitlines():
                 take(said)
         self._is_torn = False
 
