@@ -161,6 +161,10 @@ static int talk(const struct bytes *text, struct said *said, size_t room) {
   dnlab_session session = {NULL};
   dnlab_answer answer;
   dnlab_open(&session, &answer);
+  /* What is open is closed before, and the new one has heard nothing. */
+  if (answer.status != DNLAB_DONE || !session.at || !hear(&session, said, (const uint8_t *)"bad", 3, room)) return 0;
+  said->length = 0;
+  dnlab_open(&session, &answer);
   if (answer.status != DNLAB_DONE || !session.at || !hear_all(&session, said, text, room)) return 0;
   dnlab_close(&session, &answer);
   if (answer.status == DNLAB_FAULT && !*said->fault) snprintf(said->fault, sizeof said->fault, "line %llu: %s\n", (unsigned long long)answer.line, causes[answer.cause]);
@@ -269,8 +273,10 @@ static int is_told(const struct bytes *text, struct said *said, const struct sai
   dnlab_answer answer;
   long before = held;
   said->length = 0, said->status = DNLAB_DONE, asked = 0;
-  dnlab_open(&session, &answer);
-  if (answer.status == DNLAB_MEMORY) return !session.at && held == before;
+  for (int k = 0; k < 2; k++) {
+    dnlab_open(&session, &answer);
+    if (answer.status == DNLAB_MEMORY) return !session.at && held == before;
+  }
   if (!hear_all(&session, said, text, said->size)) return 0;
   int is_lost = said->status == DNLAB_MEMORY;
   if (!is_lost && said->status != DNLAB_DONE) return 0;
