@@ -17,21 +17,28 @@
    Moments are nanoseconds, sizes bytes (40 to 1500, headers included). There is no global state: a process can have many
    sessions, each used by one thread at a time. It needs C99 and POSIX (define _POSIX_C_SOURCE 200809L with -std=c99).
 
+   With LIVE_LIBRARY defined the session is in this process, by libdnlab (dnlab.h, -ldnlab): all else stays the same, and what
+   names the program isn't looked at.
+
    Licence: MIT or Apache-2.0, as dnlab. */
 #ifndef DNLAB_LIVE_H
 #define DNLAB_LIVE_H
 #include <errno.h>
-#include <fcntl.h>
 #include <inttypes.h>
-#include <poll.h>
 #include <stdint.h>
 #include <stdio.h>
 #include <stdlib.h>
 #include <string.h>
+#ifdef LIVE_LIBRARY
+#include <dnlab.h>
+#else
+#include <fcntl.h>
+#include <poll.h>
 #include <sys/socket.h>
 #include <sys/types.h>
 #include <sys/wait.h>
 #include <unistd.h>
+#endif
 
 #define LIVE_LATEST UINT64_C(1000000000000000) /* the latest moment */
 #define LIVE_LINE 512                          /* what a line has at most */
@@ -57,8 +64,12 @@ typedef struct live {
   FILE *transcript;     /* gets the scenario that `dnlab alone` runs to the same report */
   FILE *report;         /* gets the report; without it only what concerns the packets that are sent is told */
   /* The header's own. */
+#ifdef LIVE_LIBRARY
+  dnlab_session session;
+#else
   pid_t pid;
   int socket;
+#endif
   char error[LIVE_LINE + 200];
   size_t event_room;
   char *posted;         /* lines that aren't answered yet; those up to `sent` have gone out */
@@ -101,6 +112,19 @@ static inline int live_room(live *l, void *place, size_t *room, size_t want, siz
   return 0;
 }
 
+#ifdef LIVE_LIBRARY
+/* Begins a session in this process; NULL with errno where there is no memory for it. */
+static inline live *live_open(const char *program) {
+  dnlab_answer answer;
+  live *l = (live *)calloc(1, sizeof *l);
+  (void)program;
+  if (l == NULL) return NULL;
+  dnlab_open(&l->session, &answer);
+  if (answer.status != DNLAB_DONE) { free(l); errno = ENOMEM; return NULL; }
+  l->dropped_number = UINT64_MAX;
+  return l;
+}
+#else
 /* Begins a session with a program `dnlab`, by its path or its name on the PATH; NULL with errno where that can't be. */
 static inline live *live_open(const char *program) {
   int ends[2];
@@ -125,6 +149,7 @@ static inline live *live_open(const char *program) {
   l->dropped_number = UINT64_MAX;
   return l;
 }
+#endif
 
 static inline int live_event_add(live *l, uint64_t moment, void *payload, const char *cause) {
   live_event *e;
@@ -207,6 +232,32 @@ static inline int live_answered(live *l, const char *answer) {
   return status;
 }
 
+#ifdef LIVE_LIBRARY
+/* Memory was refused: the session takes no more lines. */
+static inline int live_lost(live *l) {
+  if (!l->is_lost) live_fail(l, "no memory", "");
+  l->is_lost = 1;
+  return -1;
+}
+
+/* Has the session take the next line that was posted. */
+static inline int live_turn(live *l) {
+  const char *line = l->posted + l->sent, *end = (const char *)memchr(line, '\n', l->posted_bytes - l->sent);
+  size_t bytes = end ? (size_t)(end - line) : 0, room = 65536;
+  dnlab_answer answer;
+  do {
+    if (live_room(l, &l->said, &l->said_room, l->said_bytes + room, 1)) return -1;
+    dnlab_take(&l->session, (const uint8_t *)line, bytes, (uint8_t *)l->said + l->said_bytes, l->said_room - l->said_bytes, &answer);
+    /* Where the room is too small the line was taken, and what it said is kept. */
+    l->sent += bytes ? bytes + 1 : 0;
+    bytes = 0;
+    room = (size_t)answer.length;
+  } while (answer.status == DNLAB_ROOM);
+  if (answer.status != DNLAB_DONE) return live_lost(l);
+  l->said_bytes += (size_t)answer.length;
+  return 0;
+}
+#else
 /* The program has ended. */
 static inline int live_lost(live *l) {
   char how[60] = "";
@@ -245,6 +296,7 @@ static inline int live_turn(live *l) {
   l->said_bytes += (size_t)bytes;
   return 0;
 }
+#endif
 
 /* Takes the whole lines that were read. */
 static inline int live_take(live *l) {
@@ -343,15 +395,30 @@ static inline int live_end(live *l) { return live_command(l, "end"); }
 /* Forgets the events that were told. */
 static inline void live_clear(live *l) { l->count = 0; }
 
-/* Ends the program, and frees the session: the program's status, -1 where it gave none. */
-static inline int live_close(live *l) {
+#ifdef LIVE_LIBRARY
+/* Ends the session: 0, or 1 where the experiment has no end, 3 where memory was refused, as the program's status would be. */
+static inline int live_leave(live *l) {
+  dnlab_answer answer;
+  dnlab_close(&l->session, &answer);
+  return (int)answer.status;
+}
+#else
+/* Ends the program: its status, -1 where it gave none. */
+static inline int live_leave(live *l) {
   char rest[4096];
-  int status = -1, ended = 0;
-  if (l == NULL) return -1;
+  int ended = 0;
   shutdown(l->socket, SHUT_WR);
   while (recv(l->socket, rest, sizeof rest, 0) > 0) {}
   close(l->socket);
-  if (!l->is_lost && waitpid(l->pid, &ended, 0) == l->pid && WIFEXITED(ended)) status = WEXITSTATUS(ended);
+  return !l->is_lost && waitpid(l->pid, &ended, 0) == l->pid && WIFEXITED(ended) ? WEXITSTATUS(ended) : -1;
+}
+#endif
+
+/* Ends the program, and frees the session: the program's status, -1 where it gave none. */
+static inline int live_close(live *l) {
+  int status;
+  if (l == NULL) return -1;
+  status = live_leave(l);
   free(l->events);
   free(l->posted);
   free(l->unnamed);

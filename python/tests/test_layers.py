@@ -14,7 +14,7 @@ from dnlab.moved import MOVED
 PACKAGE = ROOT / "python" / "dnlab"
 # What a layer may import besides itself and the modules of the package's own folder, as docs/explanation/architecture.md has it.
 BELOW = {"processes": "", "io": "processes", "analysis": "processes io", "plot": "processes io analysis", "library": "io",
-         "sweeps": "processes io analysis plot library", "session": "processes io", "senders": "session analysis",
+         "sweeps": "processes io analysis plot library", "session": "processes io library", "senders": "session analysis",
          "cli": "processes io analysis plot sweeps session"}
 # An experiment has its figure as a method, as frames of pandas have.
 ASIDE = {("analysis/results.py", "plot")}

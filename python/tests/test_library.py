@@ -94,3 +94,78 @@ def test_without_packages_of_others() -> None:
     words = "from dnlab import library; print(library.check(b''))"
     done = subprocess.run([sys.executable, "-S", "-B", "-c", words], capture_output=True, text=True, check=False, env={**os.environ, "PYTHONPATH": str(ROOT / "python")})
     assert (done.stdout, done.returncode) == ("b'ok 0 0\\n'\n", 0), done.stderr
+
+
+@there
+def test_lines_of_a_session() -> None:
+    with library.Talk() as talk:
+        assert talk.take(b"#> next") == b"#< fault noexperiment\n"
+        assert talk.take(b"experiment a seed 0 budget 9") == b"experiment a\n#< ok\n"
+        assert talk.take(b"") == b""
+        # The rule that stands there alone denies it.
+        assert talk.take(b"@5 inject udp 1.1.1.1 1 1.1.1.2 2 100") == b"5 ok 0\n5 drop 0 plain denied\n#< packet 0\n"
+        with pytest.raises(library.FaultIn, match="line 5: noend"):
+            talk.close()
+    assert talk.has_ended
+    with pytest.raises(dnlab.Failed, match="closed"):
+        talk.take(b"")
+    with pytest.raises(ZeroDivisionError), library.Talk() as talk:
+        print(1 // 0)
+    assert talk.has_ended
+
+
+@there
+def test_what_is_said_is_longer_than_the_first_room() -> None:
+    talk = library.Talk()
+    talk.take(b"experiment a seed 0 budget 9")
+    talk.take(b"@0 train 1 udp 1.1.1.1 1 1.1.1.2 1 100 count 5000 gap 1")
+    said = talk.take(b"@1000000 end")
+    assert len(said) > 1 << 16 and said.count(b" denied\n") == 5000 and said.endswith(b"\n#< over 1000000\n")
+    talk.close()
+    talk.close()
+
+
+@there
+def test_a_session_here_is_one_there(program: str) -> None:
+    """The same answers, transcript and report, and the same faults."""
+    kept = []
+    for words in {"dnlab": program}, {"engine": "library"}:
+        with dnlab.live(**words) as session:
+            links = [session.experiment(name, seed=1, budget=10) for name in "ab"]
+            events = []
+            for link in links:
+                link.command("pipe 1 config bw 1Mbit/s delay 10 queue 2")
+                link.command("add 100 pipe 1 ip from any to any")
+                for _ in range(4):
+                    link.send(("10.0.0.1", 1), ("10.0.0.2", 2), 1000)
+                events += [(it.moment, it.cause, it.number) for it in link.until(10**8)]
+            with pytest.raises(dnlab.NotTaken) as fault:
+                links[0].command("pipe 2 config bw 10Mbps")
+            with pytest.raises(dnlab.CommandRefused) as refused:
+                links[1].command("delete 7")
+            for link in links:
+                link.end()
+            kept.append((events, str(fault.value), str(refused.value), session.transcript(), session.report()))
+        with pytest.raises(dnlab.Failed, match="closed"):
+            session.experiment("c")
+    assert kept[0] == kept[1] and "10Mbit/s" in kept[0][1]
+
+
+@there
+def test_a_session_here_that_was_interrupted(monkeypatch: pytest.MonkeyPatch) -> None:
+    with dnlab.live(engine="library") as session:
+        link = session.experiment("a")
+        with monkeypatch.context() as patch, pytest.raises(KeyboardInterrupt):
+            patch.setattr(link, "answered", lambda *_: (_ for _ in ()).throw(KeyboardInterrupt))
+            link.until(5)
+        with pytest.raises(dnlab.Failed, match="interrupted"):
+            link.until(6)
+        session._talk.kill()
+    assert session._talk.has_ended
+
+
+def test_words_of_a_session_that_do_not_go_together() -> None:
+    with pytest.raises(ValueError, match="no program"):
+        dnlab.live("it", engine="library")
+    with pytest.raises(ValueError, match="'thread'"):
+        dnlab.live(engine="thread")

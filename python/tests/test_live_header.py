@@ -1,4 +1,5 @@
 """live.h: both compilers take it without a warning, and what a small program in C is told was worked out by hand."""
+import os
 import shutil
 import subprocess
 from pathlib import Path
@@ -87,22 +88,35 @@ def built(folder: Path, text: str, compiler: str, *more: str) -> Path:
     if shutil.which(compiler) is None:
         pytest.skip(f"{compiler} is missing (Debian: {compiler})")
     (folder / "it.c").write_text(text)
-    subprocess.run([compiler, *WARNINGS, *more, "-o", folder / "it", folder / "it.c"], check=True, timeout=60)
+    subprocess.run([compiler, *WARNINGS, "-o", folder / "it", folder / "it.c", *more], check=True, timeout=60)
     return folder / "it"
 
 
+def here() -> list[str]:
+    """The words by which a session is in the process itself."""
+    named = os.environ.get("LIBDNLAB")
+    if not named:
+        pytest.skip("no library is named by LIBDNLAB (tools/library makes one)")
+    prefix = Path(named).absolute().parents[1]
+    return ["-DLIVE_LIBRARY", f"-I{prefix}/include", f"-L{prefix}/lib", "-ldnlab", f"-Wl,-rpath,{prefix}/lib"]
+
+
+@pytest.mark.parametrize("engine", ["process", "library"])
 @pytest.mark.parametrize("compiler", ["gcc", "clang"])
-def test_by_hand(compiler: str, program: str, alone: Callable[[bytes], bytes], tmp_path: Path) -> None:
-    called = built(tmp_path, BY_HAND, compiler, *(SANITIZED if compiler == "gcc" else []))
+def test_by_hand(compiler: str, engine: str, program: str, alone: Callable[[bytes], bytes], tmp_path: Path) -> None:
+    words = here() if engine == "library" else []
+    called = built(tmp_path, BY_HAND, compiler, *words, *(SANITIZED if compiler == "gcc" else []))
     done = subprocess.run([called, program, tmp_path / "scenario.txt", tmp_path / "report.txt"], capture_output=True,
                           text=True, timeout=60, check=False)
     assert (done.stderr, done.stdout, done.returncode) == ("", TOLD, 0)
     assert alone((tmp_path / "scenario.txt").read_bytes()) == (tmp_path / "report.txt").read_bytes()
 
 
-def test_more_than_pipes_hold(program: str, tmp_path: Path) -> None:
+@pytest.mark.parametrize("engine", ["process", "library"])
+def test_more_than_pipes_hold(engine: str, program: str, tmp_path: Path) -> None:
     """14 MB go out in four waits, 50 MB come back."""
-    done = subprocess.run([built(tmp_path, MANY, "gcc"), program], capture_output=True, text=True, timeout=60, check=False)
+    words = here() if engine == "library" else []
+    done = subprocess.run([built(tmp_path, MANY, "gcc", *words), program], capture_output=True, text=True, timeout=60, check=False)
     # Of 50000 at one moment, under a budget of 65535, none is dropped.
     assert (done.stdout, done.returncode) == ("200000\n", 0)
 

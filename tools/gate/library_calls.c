@@ -1,8 +1,10 @@
 /* What tools/gate/check_library tries of libdnlab from C. The last line is 'N passed, M failed'.
  *
  *   library_calls examples FOLDER..       each worked example, in a room that just fits, and in one that is a byte too small
- *   library_calls threads TIMES FOLDER..  a thread for each, at once, so many calls
- *   library_calls refused FOLDER..        each allocation refused in its turn (linked with --wrap=malloc, realloc, free)
+ *   library_calls sessions FOLDER..       each as a session, line by line, in rooms that are large enough, and that are too small
+ *   library_calls threads TIMES FOLDER..  a thread for each, at once, so many calls, and so many sessions
+ *   library_calls refused FOLDER..        each allocation refused in its turn (linked with --wrap=malloc, realloc, free), of a
+ *                                         call and of a session
  *   library_calls time TIMES FOLDER       microseconds of a call */
 #define _GNU_SOURCE
 #include <dnlab.h>
@@ -112,6 +114,107 @@ static void try_example(const char *folder) {
   free(room), leave(&one);
 }
 
+/* What a session has said, one answer behind the other, in a room of so many bytes; its last status, and its first fault. */
+struct said { uint8_t *at; size_t length, size; uint32_t status; char fault[64]; };
+
+static struct said said_nothing(size_t size) {
+  struct said said = {malloc(size + GUARD), 0, size, DNLAB_DONE, ""};
+  return said;
+}
+
+/* Has a session hear a line, in a room of so many bytes at first; whether the header is kept. */
+static int hear(dnlab_session *session, struct said *said, const uint8_t *line, size_t length, size_t room) {
+  for (;;) {
+    uint8_t *at = said->at + said->length;
+    dnlab_answer answer;
+    if (room > said->size - said->length) room = said->size - said->length;
+    memset(at, SEEN, room + GUARD), memset(&answer, SEEN, sizeof answer);
+    dnlab_take(session, line, length, at, room, &answer);
+    if (!is_untouched(at + room) || answer.cause || answer.line) return 0;
+    said->status = answer.status;
+    if (answer.status == DNLAB_DONE) said->length += answer.length;
+    if (answer.status != DNLAB_ROOM) return answer.status == DNLAB_DONE ? answer.length <= room : !answer.length;
+    if (answer.length <= room || (room && *at != SEEN)) return 0;
+    /* All of it was kept. An empty line says nothing. */
+    room = answer.length, length = 0;
+  }
+}
+
+/* Has a session hear the whole lines of a text, until one is answered by another status; whether the header is kept. */
+static int hear_all(dnlab_session *session, struct said *said, const struct bytes *text, size_t room) {
+  const uint8_t *line = text->at, *end = text->at + text->length, *feed;
+  unsigned long number = 0;
+  for (; (feed = memchr(line, '\n', (size_t)(end - line))); line = feed + 1) {
+    size_t before = said->length;
+    number++;
+    if (!hear(session, said, line, (size_t)(feed - line), room)) return 0;
+    if (said->status != DNLAB_DONE) return 1;
+    const uint8_t *answer = said->at + before;
+    if (!*said->fault && said->length - before > 9 && !memcmp(answer, "#< fault ", 9))
+      snprintf(said->fault, sizeof said->fault, "line %lu: %.*s", number, (int)(said->length - before - 9), (const char *)answer + 9);
+  }
+  return 1;
+}
+
+/* A session from its beginning to its end; whether the header is kept. */
+static int talk(const struct bytes *text, struct said *said, size_t room) {
+  dnlab_session session = {NULL};
+  dnlab_answer answer;
+  dnlab_open(&session, &answer);
+  /* What is open is closed before, and the new one has heard nothing. */
+  if (answer.status != DNLAB_DONE || !session.at || !hear(&session, said, (const uint8_t *)"bad", 3, room)) return 0;
+  said->length = 0;
+  dnlab_open(&session, &answer);
+  if (answer.status != DNLAB_DONE || !session.at || !hear_all(&session, said, text, room)) return 0;
+  dnlab_close(&session, &answer);
+  if (answer.status == DNLAB_FAULT && !*said->fault) snprintf(said->fault, sizeof said->fault, "line %llu: %s\n", (unsigned long long)answer.line, causes[answer.cause]);
+  if (session.at || answer.length || (answer.status != DNLAB_DONE && (answer.status != DNLAB_FAULT || answer.cause != DNLAB_NOEND))) return 0;
+  dnlab_close(&session, &answer);
+  if (answer.status != DNLAB_CLOSED || session.at) return 0;
+  dnlab_take(&session, text->at, 0, said->at, 0, &answer);
+  return answer.status == DNLAB_CLOSED && !session.at;
+}
+
+/* Leaves out the lines that begin with '#'. */
+static void leave_comments(struct said *said) {
+  uint8_t *to = said->at, *end = said->at + said->length;
+  for (uint8_t *line = said->at, *next; line < end; line = next) {
+    uint8_t *feed = memchr(line, '\n', (size_t)(end - line));
+    next = feed ? feed + 1 : end;
+    if (*line != '#') memmove(to, line, (size_t)(next - line)), to += next - line;
+  }
+  said->length = (size_t)(to - said->at);
+}
+
+/* Whether a session said of a text what `dnlab_alone` puts into a room, or has the same first fault. */
+static int is_as_alone(const struct bytes *text, struct said *said) {
+  char fault[64];
+  uint8_t *room = malloc(said->size);
+  dnlab_answer answer;
+  dnlab_alone(text->at, text->length, room, said->size, &answer);
+  int is_well = 0;
+  if (answer.status == DNLAB_DONE) {
+    leave_comments(said);
+    is_well = !*said->fault && said->length == answer.length && !memcmp(said->at, room, said->length);
+  } else if (answer.status == DNLAB_FAULT) {
+    snprintf(fault, sizeof fault, "line %llu: %s\n", (unsigned long long)answer.line, causes[answer.cause]);
+    /* A session has no bytes that are too many, no half line, and an experiment may have its end behind another's. */
+    is_well = answer.cause == DNLAB_TOOBIG || answer.cause == DNLAB_CUT || answer.cause == DNLAB_NOEND || !strcmp(fault, said->fault);
+  }
+  free(room);
+  return is_well;
+}
+
+static void try_session(const char *folder) {
+  struct example one = read_example(folder);
+  size_t size = (one.report.length + one.text.length + 4096) * 4;
+  struct said said = said_nothing(size), little = said_nothing(size);
+  count(talk(&one.text, &said, size) && talk(&one.text, &little, 5), folder, "a session isn't as the header says");
+  count(said.length == little.length && !memcmp(said.at, little.at, said.length), folder, "in small rooms a session says something else");
+  count(is_as_alone(&one.text, &said), folder, "a session says another report, or another fault");
+  free(said.at), free(little.at), leave(&one);
+}
+
 struct job { const char *folder; long times, wrong; };
 
 static void *work(void *given) {
@@ -119,6 +222,11 @@ static void *work(void *given) {
   struct example one = read_example(job->folder);
   uint8_t *room = malloc(one.report.length + 1);
   for (long k = 0; k < job->times; k++) job->wrong += !is_right(&one, room, call(&one, room, one.report.length));
+  for (long k = 0; k < job->times; k++) {
+    struct said said = said_nothing((one.report.length + one.text.length + 4096) * 4);
+    job->wrong += !talk(&one.text, &said, k % 2 ? said.size : 5) || !is_as_alone(&one.text, &said);
+    free(said.at);
+  }
   free(room), leave(&one);
   return NULL;
 }
@@ -158,6 +266,43 @@ static void try_refused(const char *folder) {
   printf("%s: %ld allocations refused in turn, %ld times 'memory'\n", folder, all, memory);
   free(room), leave(&one);
 }
+
+/* One session, of whose allocations one is refused; whether it is told, what was said before is whole, and no memory is lost. */
+static int is_told(const struct bytes *text, struct said *said, const struct said *whole) {
+  dnlab_session session = {NULL};
+  dnlab_answer answer;
+  long before = held;
+  said->length = 0, said->status = DNLAB_DONE, asked = 0;
+  for (int k = 0; k < 2; k++) {
+    dnlab_open(&session, &answer);
+    if (answer.status == DNLAB_MEMORY) return !session.at && held == before;
+  }
+  if (!hear_all(&session, said, text, said->size)) return 0;
+  int is_lost = said->status == DNLAB_MEMORY;
+  if (!is_lost && said->status != DNLAB_DONE) return 0;
+  if (is_lost && (!hear(&session, said, text->at, 0, 0) || said->status != DNLAB_MEMORY)) return 0;
+  dnlab_close(&session, &answer);
+  if (session.at || (answer.status == DNLAB_MEMORY) != is_lost) return 0;
+  return held == before && (is_lost ? said->length <= whole->length : said->length == whole->length) && !memcmp(said->at, whole->at, said->length);
+}
+
+static void try_refused_session(const char *folder) {
+  struct example one = read_example(folder);
+  size_t size = (one.report.length + one.text.length + 4096) * 4;
+  struct said whole = said_nothing(size), said = said_nothing(size);
+  refused_at = 0;
+  count(is_told(&one.text, &whole, &whole), folder, "a session loses memory");
+  long all = asked, memory = 0;
+  for (long number = 1; number <= all; number++) {
+    refused_at = number;
+    count(is_told(&one.text, &said, &whole), folder, "of a session an allocation was refused, which isn't told well");
+    refused_at = 0;
+    memory += said.status == DNLAB_MEMORY;
+  }
+  count(all > 0 && memory > 0, folder, "of a session no refusal was told");
+  printf("%s: of a session %ld allocations refused in turn\n", folder, all);
+  free(whole.at), free(said.at), leave(&one);
+}
 #endif
 
 static double now(void) {
@@ -179,11 +324,13 @@ int main(int many, char **words) {
   const char *what = many > 1 ? words[1] : "";
   if (!strcmp(what, "examples")) {
     for (int k = 2; k < many; k++) try_example(words[k]);
+  } else if (!strcmp(what, "sessions")) {
+    for (int k = 2; k < many; k++) try_session(words[k]);
   } else if (!strcmp(what, "threads") && many > 3 && many <= 19) {
     try_threads(atol(words[2]), many - 3, words + 3);
 #ifdef WRAPPED
   } else if (!strcmp(what, "refused")) {
-    for (int k = 2; k < many; k++) try_refused(words[k]);
+    for (int k = 2; k < many; k++) try_refused(words[k]), try_refused_session(words[k]);
 #endif
   } else if (!strcmp(what, "time") && many == 4) {
     show_time(atol(words[2]), words[3]);

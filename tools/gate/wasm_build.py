@@ -16,7 +16,7 @@ from kit_build import Unknown
 from work import Work
 
 # What the page calls of the module.
-EXPORTS = [*library_build.CALLS, "malloc", "free"]
+EXPORTS = [*library_build.TEXTS, "malloc", "free"]
 # How the kit compiles for WebAssembly (its words against known faults of LLVM are among them).
 TARGET = "--target=wasm64-unknown-unknown"
 WORDS = [TARGET, "-mcpu=lime1", *"-mllvm -expand-div-rem-bits=64 -mllvm -expand-fp-convert-bits=64 -ffunction-sections -fdata-sections -mllvm"

@@ -1,6 +1,7 @@
 //! What a call answers to a caller that is not Rattle.
 
-ghost use Rattle.std.specs.Prelude.{◌≡◌, flat_map};
+ghost use Rattle.std.specs.Prelude.{◌≡◌, flat_map, length, nat_le, if◌then◌else◌};
+ghost use Rattle.control.specs.declared.fault.Cause.TheVariants.{NoEnd};
 ghost use Rattle.dnlab_c.specs.Answers.{cause_number, IsPut};
 
 use control::{Cause, Fault};
@@ -11,6 +12,8 @@ use std::alloc::Global;
 pub const DONE: u32 = 0;
 /// The scenario has a fault: `line` and `cause` say which.
 pub const FAULT: u32 = 1;
+/// There is no session: it isn't open.
+pub const CLOSED: u32 = 2;
 /// Memory was refused.
 pub const MEMORY: u32 = 3;
 /// The room is too small: `length` says how many bytes are wanted.
@@ -66,6 +69,32 @@ pub fn no_memory() -> Answer
     told(MEMORY, 0)
 }
 
+/// The answer where there is no session.
+pub fn no_session() -> Answer
+    ensures { result.status ≡ 2 }
+{
+    told(CLOSED, 0)
+}
+
+/// The answer where all is well, and nothing is put into a room.
+pub fn all_well() -> Answer
+    ensures { result.status ≡ 0 }
+{
+    told(DONE, 0)
+}
+
+/// The answer where an experiment has no end, as is found at a line.
+pub fn no_end(line: u64) -> Answer
+    ensures status { result.status ≡ 1 }
+    ensures line { result.line ≡ line }
+    ensures cause { result.cause ≡ cause_number NoEnd }
+{
+    faulty(&Fault {
+        line,
+        cause: Cause::NoEnd,
+    })
+}
+
 /// The answer where the text has a fault.
 pub fn faulty(fault: &Fault) -> Answer
     ensures status { result.status ≡ 1 }
@@ -82,7 +111,8 @@ pub fn faulty(fault: &Fault) -> Answer
 
 /// Puts a text into the room, where it has room for all of it.
 pub fn put(text: &[u8], room: &mut [u8]) -> Answer
-    ensures { IsPut text.now room.old room.new result }
+    ensures is { IsPut text.now room.old room.new result }
+    ensures fits { result.status ≡ (if nat_le (length text.now) (length room.old) then 0 else 5) }
 {
     let length = text.len();
     if length > room.len() {

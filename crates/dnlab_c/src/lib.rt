@@ -1,18 +1,27 @@
 //! The calls of the program for callers that are not Rattle: the bytes of a scenario go in, the bytes of its reports
-//! come out, in memory of the caller's. No call keeps anything. `lib/dnlab.h` has them for C. Own.
+//! come out, in memory of the caller's. Nothing is kept but an open session, of which the caller has the place.
+//! `library/dnlab.h` has them for C. Own.
 #![tactic(auto)]
 
 mod answer;
+mod guest;
+mod loose;
+mod place;
 mod version;
 
 ghost use Rattle.lab.specs.Reports.{reports, tally};
 ghost use Rattle.dnlab_c.specs.Answers.{Answers};
+ghost use Rattle.dnlab_c.specs.Guests.{Opens, TakesAt, ClosesAt};
 
 pub use answer::Answer;
-use answer::{faulty, no_memory, put, put_all};
+use answer::{all_well, faulty, no_memory, no_session, put, put_all};
 use explain_text::explained;
+use guest::Guest;
 use lab::{Device, RunFault, check, reports_of};
+use loose::Loose;
+pub use place::{Hidden, Place};
 use std::alloc::Global;
+use std::mem;
 use version::VERSION;
 
 /// Runs the experiments of a scenario, each by itself. Status 0: their reports are the first `length` bytes of the room.
@@ -65,4 +74,60 @@ pub extern "C" fn dnlab_explain(
 #[unsafe(no_mangle)]
 pub extern "C" fn dnlab_version(room: &mut [u8], answer: &mut Answer) {
     *answer = put(VERSION.as_bytes(), room);
+}
+
+/// Opens a session at a place; one that is open there is closed before. Status 0: it is open. 3: memory was refused, and
+/// there is none.
+#[unsafe(no_mangle)]
+pub extern "C" fn dnlab_open(alloc: Global, session: &mut Place, answer: &mut Answer)
+    ensures { Opens session.new.guest answer.new }
+{
+    let before = mem::replace(session, Place::empty());
+    if let Some(loose) = before.into_loose(alloc) {
+        let _gone = loose.into_box();
+    }
+    let Ok(guest) = Box::new(alloc, Guest::new(alloc)) else {
+        *answer = no_memory();
+        return;
+    };
+    *session = Place::of(Loose::of(guest));
+    *answer = all_well();
+}
+
+/// Has the session at a place hear a line, without its line feed. Status 0: what it says is the first `length` bytes of the
+/// room, behind what a smaller room before left. 5: the room is too small, and all of it stays for the next call, which
+/// wants `length` bytes. 2: there is no session. 3: memory was refused, and will be; the session is to be closed.
+#[unsafe(no_mangle)]
+pub extern "C" fn dnlab_take(
+    alloc: Global,
+    session: &mut Place,
+    line: &[u8],
+    room: &mut [u8],
+    answer: &mut Answer,
+)
+    ensures { TakesAt line.now room.old room.new session.old.guest session.new.guest answer.new }
+{
+    let at = mem::replace(session, Place::empty());
+    let Some(loose) = at.into_loose(alloc) else {
+        *answer = no_session();
+        return;
+    };
+    let mut guest = loose.into_box();
+    *answer = guest.take(line, room);
+    *session = Place::of(Loose::of(guest));
+}
+
+/// Closes the session at a place. Status 0: each of its experiments has its end. 1: one has none, as `live` says it of the
+/// line behind the last. 2: there was no session. 3: memory had been refused.
+#[unsafe(no_mangle)]
+pub extern "C" fn dnlab_close(alloc: Global, session: &mut Place, answer: &mut Answer)
+    ensures { ClosesAt session.old.guest session.new.guest answer.new }
+{
+    let at = mem::replace(session, Place::empty());
+    let Some(loose) = at.into_loose(alloc) else {
+        *answer = no_session();
+        return;
+    };
+    let guest = loose.into_box();
+    *answer = guest.end();
 }

@@ -7,13 +7,19 @@ from dnlab.errors import Failed
 from dnlab.io.scenario_parts import CAUSES
 from dnlab.library.places import library
 
-_DONE, _FAULT, _ROOM = 0, 1, 5
+DONE, FAULT, CLOSED, ROOM = 0, 1, 2, 5
 # The first room, in bytes: most reports of short scenarios fit.
-_FIRST = 1 << 16
+FIRST = 1 << 16
 
 
-class _Answer(ctypes.Structure):
+class Answer(ctypes.Structure):
+    """What a call answers."""
     _fields_ = [("status", ctypes.c_uint32), ("cause", ctypes.c_uint32), ("line", ctypes.c_uint64), ("length", ctypes.c_uint64)]
+
+
+class Place(ctypes.Structure):
+    """Where a session is kept; empty where there is none."""
+    _fields_ = [("at", ctypes.c_void_p)]
 
 
 class FaultIn(Failed):
@@ -30,15 +36,18 @@ class FaultIn(Failed):
 
 
 @lru_cache(maxsize=4)
-def _bound(path: str) -> ctypes.CDLL:
+def bound(path: str) -> ctypes.CDLL:
     """The library at a path, with the types of its calls."""
+    text: list[Any] = [ctypes.c_char_p, ctypes.c_size_t]
+    room: list[Any] = [ctypes.c_void_p, ctypes.c_size_t, ctypes.POINTER(Answer)]
+    place: Any = ctypes.POINTER(Place)
+    calls = {"alone": [*text, *room], "check": [*text, *room], "explain": [*text, *text, ctypes.c_bool, *room], "version": room,
+             "open": [place, room[-1]], "take": [place, *text, *room], "close": [place, room[-1]]}
     try:
         found = ctypes.CDLL(path)
-        text: list[Any] = [ctypes.c_char_p, ctypes.c_size_t]
-        room: list[Any] = [ctypes.c_void_p, ctypes.c_size_t, ctypes.POINTER(_Answer)]
-        for call, words in (found.dnlab_alone, [*text, *room]), (found.dnlab_check, [*text, *room]), (found.dnlab_version, room):
+        for name, words in calls.items():
+            call = getattr(found, f"dnlab_{name}")
             call.argtypes, call.restype = words, None
-        found.dnlab_explain.argtypes, found.dnlab_explain.restype = [*text, *text, ctypes.c_bool, *room], None
     except (OSError, AttributeError) as fault:
         raise Failed(3, f"{path} can't be used: {fault} (tools/library makes it, for Linux on x86-64)") from None
     return found
@@ -46,19 +55,19 @@ def _bound(path: str) -> ctypes.CDLL:
 
 def _called(name: str, *given: Union[bytes, int, bool]) -> bytes:
     """What a call puts into its room; the room is made anew where it was too small."""
-    call: Callable[..., None] = getattr(_bound(library()), name)
-    size, answer = _FIRST, _Answer()
+    call: Callable[..., None] = getattr(bound(library()), name)
+    size, answer = FIRST, Answer()
     while True:
         room = bytearray(size)
         held = (ctypes.c_char * size).from_buffer(room)
         call(*given, ctypes.addressof(held), size, ctypes.byref(answer))
         del held
-        if answer.status == _ROOM:
+        if answer.status == ROOM:
             size = answer.length
             continue
-        if answer.status == _FAULT:
+        if answer.status == FAULT:
             raise FaultIn(answer.line, CAUSES[answer.cause - 1])
-        if answer.status != _DONE:
+        if answer.status != DONE:
             raise Failed(3, "memory")
         return bytes(memoryview(room)[:answer.length])
 

@@ -18,24 +18,21 @@ from collections import deque
 from types import TracebackType
 from typing import IO, Literal, Optional
 
-from dnlab.errors import Failed
 from dnlab.io.scenario_parts import STEPS
-from dnlab.processes import children
 from dnlab.programs import program
 from dnlab.session.events import CommandRefused, NotTaken, Packet
 from dnlab.session.links import Link
-from dnlab.session.talks import Talk
+from dnlab.session.talks import Here, Spoken, Talk
 
 # Bytes that are gathered before they are sent though nothing is asked.
 _MOST_GATHERED = 1 << 15
 
 
 class Session:
-    """A running program with experiments, each a `Link`. It ends with its block, also by an exception."""
+    """A running program with experiments, each a `Link`, or the same in this process. It ends with its block, also by an exception."""
 
-    def __init__(self, dnlab: Optional[str] = None) -> None:
-        self._called = program(dnlab)
-        self._talk = Talk(self._called)
+    def __init__(self, dnlab: Optional[str] = None, engine: str = "process") -> None:
+        self._talk = _spoken(dnlab, engine)
         self._lines: list[str] = []
         self._bytes = 0
         self._asked: deque[tuple[Link, str, Optional[Packet]]] = deque()
@@ -128,11 +125,7 @@ class Session:
         """What `check --explain` says of a line, without the line itself; '' where it finds no fault in it alone."""
         before = "" if line.startswith("experiment") else "experiment x seed 0 budget 1\n"
         text = f"{before}{line}\n@{10**15} end\n".encode(errors="replace")
-        try:
-            done = children.run([self._called, "check", "--explain"], text)
-        except (Failed, OSError):
-            return ""
-        said = done.said().split("\n\n")[0].splitlines()[1:]
+        said = self._talk.explained(text).split("\n\n")[0].splitlines()[1:]
         return "".join(f"\n{it}" for it in said if not it.startswith("line "))
 
     def close(self) -> None:
@@ -154,9 +147,23 @@ class Session:
             self._talk.kill()
 
 
-def live(dnlab: Optional[str] = None) -> Session:
-    """Begins a session; `dnlab` names the program, else see `dnlab.programs.program`. `Failed` if there is none.
+def _spoken(dnlab: Optional[str], engine: str) -> Spoken:
+    """Whom a session speaks to."""
+    if engine == "library":
+        if dnlab is not None:
+            raise ValueError('engine="library" takes no program: leave it out, or take engine="process"')
+        return Here()
+    if engine != "process":
+        raise ValueError(f'the engine is "process" or "library", not {engine!r}')
+    return Talk(program(dnlab))
 
-    To be used as a block: `with dnlab.live() as session: link = session.experiment("mine", seed=1)`.
+
+def live(dnlab: Optional[str] = None, engine: str = "process") -> Session:
+    """Begins a session.
+
+    dnlab    the program; else see `dnlab.programs.program`
+    engine   "process" starts the program; "library" calls libdnlab in this process, and takes no program
+
+    `Failed` where there is none. To be used as a block: `with dnlab.live() as session: link = session.experiment("mine", seed=1)`.
     """
-    return Session(dnlab)
+    return Session(dnlab, engine)

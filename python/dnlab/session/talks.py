@@ -1,17 +1,81 @@
-"""A program `dnlab live` that runs, spoken to by lines. Neither side ever waits for a pipe that the other doesn't empty."""
+"""A program `dnlab live` that runs, spoken to by lines, and a session in this process that is spoken to alike. Neither side of the program
+ever waits for a pipe that the other doesn't empty."""
 import os
 import select
 import subprocess
 import tempfile
 from contextlib import suppress
 from functools import partial
-from typing import Callable, Optional
+from typing import Callable, Optional, Protocol
 
+from dnlab import library
 from dnlab.errors import Failed
 from dnlab.processes import children, ending
 
 # Bytes that are read at a time.
 _CHUNK = 1 << 16
+_TORN = "the session was interrupted while it waited for an answer: begin a new one"
+
+
+class Spoken(Protocol):
+    """What a session is spoken to by."""
+
+    @property
+    def has_ended(self) -> bool:
+        """Whether it has ended."""
+
+    def exchange(self, data: bytes, take: Callable[[bytes], bool]) -> None:
+        """Sends whole lines, and gives `take` each line that is said, without its line feed, until that answers False."""
+
+    def explained(self, text: bytes) -> str:
+        """What `check --explain` says of a text."""
+
+    def close(self) -> None:
+        """Ends it. An experiment without its `end` is cut off there."""
+
+    def kill(self) -> None:
+        """Ends it at once."""
+
+
+class Here:
+    """A session in this process, by libdnlab."""
+
+    def __init__(self) -> None:
+        self._talk = library.Talk()
+        self._is_torn = False
+
+    @property
+    def has_ended(self) -> bool:
+        """Whether it is closed."""
+        return self._talk.has_ended
+
+    def exchange(self, data: bytes, take: Callable[[bytes], bool]) -> None:
+        """Takes whole lines, and gives `take` each line that is said. `Failed` where memory is refused."""
+        if self._is_torn and not self.has_ended:
+            raise Failed(0, _TORN)
+        self._is_torn = True
+        for line in data.split(b"\n")[:-1]:
+            for said in self._talk.take(line).splitlines():
+                take(said)
+        self._is_torn = False
+
+    def explained(self, text: bytes) -> str:
+        """What `check --explain` says of a text."""
+        try:
+            library.check(text)
+        except library.FaultIn as fault:
+            return f"{fault.said}\n{library.explain(text)}".strip()
+        return library.explain(text).strip()
+
+    def close(self) -> None:
+        """Ends it. An experiment without its `end` is cut off there."""
+        with suppress(library.FaultIn):
+            self._talk.close()
+
+    def kill(self) -> None:
+        """Ends it, whatever it says."""
+        with suppress(Failed):
+            self._talk.close()
 
 
 class Talk:
@@ -19,6 +83,7 @@ class Talk:
     and it ends with the thread that began it."""
 
     def __init__(self, called: str) -> None:
+        self._called = called
         self._errors = tempfile.TemporaryFile()
         with ending.held():
             self._process = children.begin([called, "live"], stdin=subprocess.PIPE, stdout=subprocess.PIPE,
@@ -60,7 +125,7 @@ class Talk:
         if self.has_ended:
             raise Failed(0, "the session is closed")
         if self._is_torn:
-            raise Failed(0, "the session was interrupted while it waited for an answer: begin a new one")
+            raise Failed(0, _TORN)
 
     def _write(self, data: memoryview) -> memoryview:
         """Writes what there is room for, or waits until something can be read; what is left."""
@@ -121,6 +186,13 @@ class Talk:
         self._release()
         if status not in (0, 1):
             raise Failed(status, said)
+
+    def explained(self, text: bytes) -> str:
+        """What `check --explain` says of a text; '' where the program can't be asked."""
+        try:
+            return children.run([self._called, "check", "--explain"], text).said()
+        except (Failed, OSError):
+            return ""
 
     def kill(self) -> None:
         """Ends the program at once."""
