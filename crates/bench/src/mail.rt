@@ -92,7 +92,10 @@ impl Mail for RingMail {
         self.kept.len()
     }
 
-    fn kept_record(&self, place: usize) -> Record {
-        self.kept.record(place)
+    fn kept_record(&self, place: usize) -> Option<Record> {
+        if place < self.kept.len() {
+            return Some(self.kept.record(place));
+        }
+        None
     }
 }

@@ -58,7 +58,10 @@ fn record_at<M: Mail>(mail: &M, fresh: &[Record], place: u128) -> Record
 {
     let kept = mail.kept_len() as u128;
     if place < kept {
-        return mail.kept_record(place as usize);
+        let Some(record) = mail.kept_record(place as usize) else {
+            unreachable!()
+        };
+        return record;
     }
     fresh[(place - kept) as usize]
 }

@@ -85,7 +85,7 @@ impl<M: Mail> Dossier<M> {
     {
         let kept = self.mail.kept_len();
         if place < kept {
-            return Some(self.mail.kept_record(place));
+            return self.mail.kept_record(place);
         }
         self.records.as_slice().get(place - kept).copied()
     }

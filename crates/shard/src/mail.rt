@@ -1,8 +1,7 @@
 //! Where an experiment's commands come from, and where its records go.
 
-ghost use Rattle.std.specs.Prelude.{◌≡◌, ◌≤◌, ◌<◌, ◌^◌, true, [], ◌∷◌, ◌++◌, length, slice_index_or, List, IfSome, IfNone, OnOk, OnErr, IfErr, IsTrue, IsFalse};
+ghost use Rattle.std.specs.Prelude.{◌≡◌, ◌≤◌, ◌<◌, ◌^◌, true, [], ◌∷◌, ◌++◌, length, slice_get, List, IfSome, IfNone, OnOk, OnErr, IfErr, IsTrue, IsFalse};
 ghost use Rattle.emu_model.specs.declared.records.Record.{Record};
-ghost use Rattle.emu_model.specs.declared.records.Record.TheVariants.{StepsSpent};
 ghost use Rattle.shard.specs.Seen.{Seen};
 
 use emu_model::{Record, Timed};
@@ -58,8 +57,7 @@ pub trait Mail: Drop {
     fn kept_len(&self) -> usize
         ensures { result ≡ length (kept self.now) };
 
-    /// The record at a place of those that it keeps.
-    fn kept_record(&self, place: usize) -> Record
-        requires { place < length (kept self.now) }
-        ensures { result ≡ slice_index_or (kept self.now) place (StepsSpent 0) };
+    /// The record at a place of those that it keeps; None where there are no more.
+    fn kept_record(&self, place: usize) -> Option<Record>
+        ensures { result ≡ slice_get (kept self.now) place };
 }
