@@ -29,10 +29,9 @@ use Rattle.dnlab_c.specs.contracts.loose.Loose as loose
 use Rattle.dnlab_c.specs.contracts.place.Place as place
 use Rattle.dnlab_c.specs.Guests.{KeptGuest}
 use Rattle.dnlab_c.specs.contracts.guest.Guest as guest
-use Rattle.dnlab_c.specs.Places.{boxed, placed}
+use Rattle.dnlab_c.specs.Places.{boxed, placed, token}
 use Rattle.std.specs.Prelude.{Option, Some, None}
 use Rattle.std.specs.declared.alloc.Global.{Global}
-use Rattle.libc.specs.Heap.{chunk}
 use Rattle.std.proofs.GlobalToken.{dealloc_token-Testable}
 
 abbrev pub both : Val → Val → Val
@@ -69,7 +68,7 @@ single v = vstruct (vcons v vnil)
 
 tested : {M : Type 1} {𝓤 : Ura M} (𝓛 : Logic 𝓤) (a : Global) (p : Ptr) (g : KeptGuest) → ent 𝓤 (sem 𝓛 (boxed p g)) (guard 𝓤 (Testable p) (sem 𝓛 (boxed p g)))
 tested {𝓤 = 𝓤} 𝓛 a p g = let R : RattleType = guest.the_row in
-    fact_use 𝓤 (Testable p) (via 𝓤 _ (snd∗ 𝓤 (sem 𝓛 (lies_at R full_share p g)) (sem 𝓛 (chunk (bare (lone R.mir)) p))) (dealloc_token-Testable 𝓛 a (bare (lone R.mir)) p)) (guard_i 𝓤 (Testable p) (sem 𝓛 (boxed p g)))
+    fact_use 𝓤 (Testable p) (via 𝓤 _ (snd∗ 𝓤 (sem 𝓛 (lies_at R full_share p g)) (sem 𝓛 (token (bare (lone R.mir)) p))) (dealloc_token-Testable 𝓛 a (bare (lone R.mir)) p)) (guard_i 𝓤 (Testable p) (sem 𝓛 (boxed p g)))
 
 module _ {M : Type 1} {𝓤 : Ura M} {𝓛 : Logic 𝓤} {K : Type 0} {Γ : List (Item 𝓤)} {G : Goal 𝓤 𝓛.H} where
   pub place_out : K → (d : place.the_row.Denot) (vs : List Val) → (vs ≡ single (ptr_val d.at) ∷ [] → Seq K 𝓛 (‵ (placed d.at d.guest) ∷ Γ) G) → Seq K 𝓛 (‵ (place.the_row.own_val d vs) ∷ Γ) G
@@ -87,4 +86,4 @@ module _ {M : Type 1} {𝓤 : Ura M} {𝓛 : Logic 𝓤} {K : Type 0} {Γ : List
   either_placed t a p None empty full = feq_l t (λ e. empty refl e)
   either_placed t a p (Some g) empty full = let R : RattleType = guest.the_row in
       use1 𝓛 (given (Testable p) (‵ (boxed p g))) (tested 𝓛 a p g) $ learn t (λ test.
-      in_a_block t p (λ q. boxed q g) (fst∗ 𝓤 (never 𝓤) (sem 𝓛 (chunk (bare (lone R.mir)) null_ptr))) (λ b o e. full b o g refl e (subst Testable e test)))
+      in_a_block t p (λ q. boxed q g) (fst∗ 𝓤 (never 𝓤) (sem 𝓛 (token (bare (lone R.mir)) null_ptr))) (λ b o e. full b o g refl e (subst Testable e test)))
