@@ -87,6 +87,7 @@ impl RuleList {
         };
         self.jumps.push_reserved(0);
         aim(&self.rules, &mut self.jumps);
+        self.paths.forget(); // a rule has come
         self.added += 1;
         Ok(())
     }
@@ -130,6 +131,7 @@ impl RuleList {
         self.rules.retain(|counted| counted.number() != number);
         self.jumps.truncate(self.rules.len());
         aim(&self.rules, &mut self.jumps);
+        self.paths.forget(); // rules have gone
         Ok(())
     }
 

@@ -14,7 +14,7 @@ matches_alike p q h = λ t r.
     && address_matches r.src (h.src t) && port_matches r.sports (h.sport t)
     && address_matches r.dst (h.dst t) && port_matches r.dports (h.dport t)
 
-least_alike : (p q : Packet) (rs : List Rule) → IsAlike p q → least_match p rs ≡ least_match q rs
+pub least_alike : (p q : Packet) (rs : List Rule) → IsAlike p q → least_match p rs ≡ least_match q rs
 least_alike p q rs h = λ t from.
     option_map (λ k. from + k) (position (matches_alike p q h t) (drop from rs))
 

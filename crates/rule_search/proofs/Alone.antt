@@ -133,8 +133,10 @@ pub Lasts-goes : (p : Packet) (cs : List Counted) (jumps : List ℕ) (from : ℕ
 Lasts-goes p cs jumps from last want k c are h e there d =
     let rs = the_rules cs in
     let b = least_match-within p rs from k e in
-    let j = jump cs jumps k c are there d in
-    (h.0 - 1, omega (arith, h.1, b.0, b.1, j.1),
-    sym (ap (last_or last) (matches-on h.0 p cs jumps k c (omega (arith, h.1, b.0, b.1)) are there d))
-    ∙ sym (ap (λ at. last_or last (matches_from h.0 p rs at)) e)
-    ∙ h.2)
+    let j = jump cs jumps k c are there d in (
+      h.0 - 1,
+      omega (arith, h.1, b.0, b.1, j.1),
+      sym (ap (last_or last) (matches-on h.0 p cs jumps k c (omega (arith, h.1, b.0, b.1)) are there d))
+          ∙ sym (ap (λ at. last_or last (matches_from h.0 p rs at)) e)
+          ∙ h.2,
+    )

@@ -5,4 +5,5 @@ pub mod Recounted
 pub mod Settling
 pub mod JumpOrder
 pub mod Alone
+pub mod PathFacts
 pub mod CallerLemmas

@@ -1,7 +1,7 @@
 -- The same rules with other counters: a search finds the same among them.
-use Rattle.std.proofs.Common.{◌≡◌, ℕ, zero, suc, ◌+◌, ◌≤◌, ◌<◌, Bool, true, false, cond, Option, Some, None, List, [], ◌∷◌, ◌==◌, length, map, refl, sym, ap, ◌∙◌, subst, arith}
-use Rattle.std.specs.Prelude.{All, not, slice_get, option_map, option_and_then}
-use Rattle.std.specs.List.{list_any, last_or, position_or_len}
+use Rattle.std.proofs.Common.{◌≡◌, ℕ, zero, suc, ◌+◌, ◌≤◌, cond, Option, Some, None, List, [], ◌∷◌, ◌==◌, length, map, refl, sym, ap, ◌∙◌, subst}
+use Rattle.std.specs.Prelude.{All, not, slice_get, option_and_then}
+use Rattle.std.specs.List.{list_any, last_or}
 use Rattle.std.proofs.lemmas.Bool.{cond_both}
 use Rattle.std.proofs.lemmas.List.{length-map}
 use Rattle.std.proofs.lemmas.List.Elements.{All-nil, All-cons, All-head, All-tail}
@@ -12,7 +12,7 @@ use Rattle.emu_model.specs.declared.rules.Action.TheVariants.{Allow, Deny, Count
 use Rattle.emu_model.specs.declared.rules.Rule.{Rule}
 use Rattle.emu_model.specs.Rules.{Counted, the_rules, matched_places, verdict, verdict_by, verdict_of_match, is_behind, start_behind}
 use Rattle.rule_search.specs.declared.counted.Amount.{Amount}
-use Rattle.rule_search.specs.Walk.{Precedes, Ascends, GoesForward, IsOrdered, IsRecounted, bare, count_more, count_more_at, counted_more}
+use Rattle.rule_search.specs.Walk.{Precedes, Ascends, GoesForward, IsOrdered, IsRecounted, bare, count_more, count_more_at}
 
 -- ---- what doesn't look at the counters
 
@@ -102,8 +102,8 @@ older-recounted added cs new h older = All-recounted (λ c. c.order ≤ added) (
 pub IsRecounted-refl : (cs : List Counted) → IsRecounted cs cs
 IsRecounted-refl cs = record { same = refl }
 
-pub IsRecounted-then : (as bs cs : List Counted) → IsRecounted as bs → IsRecounted bs cs → IsRecounted as cs
-IsRecounted-then as bs cs h k = record { same = k.same ∙ h.same }
+pub IsRecounted-then : (xs ys zs : List Counted) → IsRecounted xs ys → IsRecounted ys zs → IsRecounted xs zs
+IsRecounted-then xs ys zs h k = record { same = k.same ∙ h.same }
 
 bare-counted : (ks : List ℕ) (a : Amount) (i : ℕ) (cs : List Counted) → map bare (count_more_at ks a i cs) ≡ map bare cs
 bare-counted ks a i [] = refl

@@ -1,6 +1,6 @@
 -- What paths have counted may be given to the rules in any order, and at any time.
-use Rattle.std.proofs.Common.{◌≡◌, ℕ, zero, suc, ◌+◌, ◌-◌, ◌≤◌, ◌<◌, ◌==◌, Bool, true, false, cond, Option, Some, None, List, [], ◌∷◌, ◌++◌, length, map, set, refl, sym, ap, ◌∙◌, subst, inl, inr, arith, eqb}
-use Rattle.std.specs.Prelude.{All, IsNone, IfSome, ◌^◌, min, slice_get}
+use Rattle.std.proofs.Common.{◌≡◌, ℕ, zero, suc, ◌+◌, ◌-◌, ◌<◌, Bool, true, false, cond, Option, Some, None, List, [], ◌∷◌, ◌++◌, set, take, refl, sym, ap, ◌∙◌, subst, inl, inr, arith, eqb}
+use Rattle.std.specs.Prelude.{All, ◌^◌, min, slice_get}
 use Rattle.std.specs.List.{list_any}
 use Rattle.std.proofs.lemmas.Bool.{ne_eqb, eqb-true, cases_Bool}
 use Rattle.std.proofs.lemmas.Option.{same_Some, none-some}
@@ -11,7 +11,7 @@ use Rattle.emu_model.specs.Rules.{Counted, the_rules, matched_places, count_pack
 use Rattle.rule_search.specs.declared.counted.Amount.{Amount}
 use Rattle.rule_search.specs.declared.paths.Path.{Path}
 use Rattle.rule_search.specs.Walk.{IsRecounted, one_more, count_more, count_more_at, counted_more}
-use Rattle.rule_search.specs.Paths.{flow_packet, IsPathOf, IsTruePath, settled_by, settled_in}
+use Rattle.rule_search.specs.Paths.{IsIdle, IsPathOf, flow_packet, settled_by, settled_in, with_one}
 use Rattle.rule_search.proofs.Alike.{matched-alike}
 use Rattle.rule_search.proofs.Recounted.{rules-recounted, IsRecounted-refl, IsRecounted-then, IsRecounted-counted}
 
@@ -127,14 +127,15 @@ settled_by-counted (Some f) ks a cs =
     (ap (λ rs. count_more_at (matched_places f.from p rs) f.counted 0 (count_more_at ks a 0 cs)) rs
     ∙ counted-swap (matched_places f.from p (the_rules cs)) ks f.counted a 0 cs)
 
-settled_by-swap : (o : Option Path) (f : Path) (cs : List Counted) → settled_by o (settled_by (Some f) cs) ≡ settled_by (Some f) (settled_by o cs)
-settled_by-swap o f cs =
+settled_by-swap : (o x : Option Path) (cs : List Counted) → settled_by x (settled_by o cs) ≡ settled_by o (settled_by x cs)
+settled_by-swap None x cs = refl
+settled_by-swap (Some f) x cs =
     let p = flow_packet f in
-    let rs = rules-recounted cs (settled_by o cs) (IsRecounted-settled_by o cs) in
-    let more : settled_by o (counted_more f.from p f.counted cs) ≡ counted_more f.from p f.counted (settled_by o cs) =
-    settled_by-counted o (matched_places f.from p (the_rules cs)) f.counted cs
-    ∙ ap (λ rs. count_more_at (matched_places f.from p rs) f.counted 0 (settled_by o cs)) (sym rs) in
-    sym (both (eqb f.counted.packets 0) (counted_more f.from p f.counted) (settled_by o) cs (sym more))
+    let rs = rules-recounted cs (settled_by x cs) (IsRecounted-settled_by x cs) in
+    let more : settled_by x (counted_more f.from p f.counted cs) ≡ counted_more f.from p f.counted (settled_by x cs) =
+    settled_by-counted x (matched_places f.from p (the_rules cs)) f.counted cs
+    ∙ ap (λ rs. count_more_at (matched_places f.from p rs) f.counted 0 (settled_by x cs)) (sym rs) in
+    sym (both (eqb f.counted.packets 0) (counted_more f.from p f.counted) (settled_by x) cs (sym more))
 
 -- ---- all paths
 
@@ -149,39 +150,36 @@ settled-counted [] ks a cs = refl
 settled-counted (o ∷ os) ks a cs =
     ap (settled_in os) (settled_by-counted o ks a cs) ∙ settled-counted os ks a (settled_by o cs)
 
--- a path that is settled may be gone
-pub settled-out : (os : List (Option Path)) (k : ℕ) (f : Path) (cs : List Counted) → slice_get os k ≡ Some (Some f) → settled_in (set os k None) (settled_by (Some f) cs) ≡ settled_in os cs
-settled-out [] k f cs e = absurd (none-some (Some f) e)
-settled-out (o ∷ os) zero f cs e =
-    ap (λ (o : Option Path). settled_in os (settled_by o cs)) (sym (same_Some o (Some f) e))
-settled-out (o ∷ os) (suc k) f cs e =
-    ap (settled_in (set os k None)) (settled_by-swap o f cs) ∙ settled-out os k f (settled_by o cs) e
-
--- a path that has counted nothing may come
-settled_by-idle : (f : Path) (cs : List Counted) → f.counted.packets ≡ 0 → settled_by (Some f) cs ≡ cs
-settled_by-idle f cs h =
+pub settled_by-idle : (o : Option Path) (cs : List Counted) → IsIdle o → settled_by o cs ≡ cs
+settled_by-idle None cs h = refl
+settled_by-idle (Some f) cs h =
     ap (λ n. cond (eqb n 0) cs (counted_more f.from (flow_packet f) f.counted cs)) h
 
-pub settled-in : (os : List (Option Path)) (k : ℕ) (f : Path) (cs : List Counted) → slice_get os k ≡ Some None → f.counted.packets ≡ 0 → settled_in (set os k (Some f)) cs ≡ settled_in os cs
-settled-in [] k f cs e h = absurd (none-some None e)
-settled-in (o ∷ os) zero f cs e h =
-    ap (settled_in os) (settled_by-idle f cs h)
-    ∙ ap (λ (o : Option Path). settled_in os (settled_by o cs)) (sym (same_Some o None e))
-settled-in (o ∷ os) (suc k) f cs e h = settled-in os k f (settled_by o cs) e h
+-- a path that is settled may make place for one that has counted nothing
+pub settled-out : (os : List (Option Path)) (k : ℕ) (o new : Option Path) (cs : List Counted) → slice_get os k ≡ Some o → IsIdle new → settled_in (set os k new) (settled_by o cs) ≡ settled_in os cs
+settled-out [] k o new cs e idle = absurd (none-some o e)
+settled-out (x ∷ os) zero o new cs e idle =
+    ap (settled_in os) (settled_by-idle new (settled_by o cs) idle)
+    ∙ ap (λ (o : Option Path). settled_in os (settled_by o cs)) (sym (same_Some x o e))
+settled-out (x ∷ os) (suc k) o new cs e idle =
+    ap (settled_in (set os k new)) (settled_by-swap o x cs) ∙ settled-out os k o new (settled_by x cs) e idle
 
-settled_by-none : (o : Option Path) (cs : List Counted) → IsNone o → settled_by o cs ≡ cs
-settled_by-none None cs h = refl
-settled_by-none (Some f) cs h = absurd h
+pub settled-idle : (os : List (Option Path)) (cs : List Counted) → All IsIdle os → settled_in os cs ≡ cs
+settled-idle [] cs h = refl
+settled-idle (o ∷ os) cs h =
+    ap (settled_in os) (settled_by-idle o cs (All-head IsIdle o os h)) ∙ settled-idle os cs (All-tail IsIdle o os h)
 
-pub settled-none : (os : List (Option Path)) (cs : List Counted) → All IsNone os → settled_in os cs ≡ cs
-settled-none [] cs h = refl
-settled-none (o ∷ os) cs h =
-    ap (settled_in os) (settled_by-none o cs (All-head IsNone o os h)) ∙ settled-none os cs (All-tail IsNone o os h)
+-- one path more is settled
+next : (os : List (Option Path)) (k : ℕ) (o : Option Path) (cs : List Counted) → slice_get os k ≡ Some o → settled_in (take (suc k) os) cs ≡ settled_by o (settled_in (take k os) cs)
+next [] k o cs e = absurd (none-some o e)
+next (x ∷ os) zero o cs e = ap (λ (o : Option Path). settled_by o cs) (same_Some x o e)
+next (x ∷ os) (suc k) o cs e = next os k o (settled_by x cs) e
+
+pub settled-next : (os : List (Option Path)) (k : ℕ) (o : Option Path) (cs : List Counted) → slice_get os k ≡ Some o → settled_in (take (k + 1) os) cs ≡ settled_by o (settled_in (take k os) cs)
+settled-next os k o cs e =
+    ap (λ n. settled_in (take n os) cs) (let one : k + 1 ≡ suc k = omega arith in one) ∙ next os k o cs e
 
 -- ---- a path counts a packet
-
-abbrev pub with_one : ℕ → Path → Path
-with_one size f = record f { counted = one_more size f.counted }
 
 no_amount : (a : Amount) → a.packets ≡ 0 → a.bytes ≡ 0 → a ≡ nothing
 no_amount a e h =
@@ -202,7 +200,7 @@ settled_by-more f size cs idle =
           some
           ∙ ap (λ a. count_more_at ks (one_more size a) 0 cs) (no_amount a e (idle e))
           ∙ counted-first ks size 0 cs
-          ∙ ap (count_more_at ks (one size) 0) (sym (settled_by-idle f cs e))
+          ∙ ap (count_more_at ks (one size) 0) (sym (settled_by-idle (Some f) cs e))
       | inr n ↦
           some
           ∙ counted-join ks size a 0 cs
@@ -212,7 +210,7 @@ settled_by-more f size cs idle =
 more_at : (os : List (Option Path)) (k : ℕ) (f : Path) (size : ℕ) (rs : List Rule) (cs : List Counted) → slice_get os k ≡ Some (Some f) → (f.counted.packets ≡ 0 → f.counted.bytes ≡ 0) → the_rules cs ≡ rs → settled_in (set os k (Some (with_one size f))) cs ≡ count_more_at (matched_places f.from (flow_packet f) rs) (one size) 0 (settled_in os cs)
 more_at [] k f size rs cs e idle same = absurd (none-some (Some f) e)
 more_at (o ∷ os) zero f size rs cs e idle same =
-    let ks = λ rs. matched_places f.from (flow_packet f) rs in
+    let ks = λ (rs : List Rule). matched_places f.from (flow_packet f) rs in
     ap (settled_in os) (settled_by-more f size cs idle)
     ∙ settled-counted os (ks (the_rules cs)) (one size) (settled_by (Some f) cs)
     ∙ ap (λ rs. count_more_at (ks rs) (one size) 0 (settled_in os (settled_by (Some f) cs))) same
@@ -221,15 +219,15 @@ more_at (o ∷ os) (suc k) f size rs cs e idle same =
     more_at os k f size rs (settled_by o cs) e idle
     (rules-recounted cs (settled_by o cs) (IsRecounted-settled_by o cs) ∙ same)
 
-pub settled-more : (os : List (Option Path)) (k : ℕ) (f : Path) (start : ℕ) (p : Packet) (cs : List Counted) → slice_get os k ≡ Some (Some f) → IsTruePath (the_rules cs) f → IsPathOf start p f → settled_in (set os k (Some (with_one p.size f))) cs ≡ counted_rules start p (settled_in os cs)
-settled-more os k f start p cs e true_of of =
+pub settled-more : (os : List (Option Path)) (k : ℕ) (f : Path) (age start : ℕ) (p : Packet) (cs : List Counted) → slice_get os k ≡ Some (Some f) → (f.counted.packets ≡ 0 → f.counted.bytes ≡ 0) → IsPathOf age start p f → settled_in (set os k (Some (with_one p.size f))) cs ≡ counted_rules start p (settled_in os cs)
+settled-more os k f age start p cs e idle of =
     let new = settled_in os cs in
     let rs = rules-recounted cs new (IsRecounted-settled os cs) in
     let ks : matched_places f.from (flow_packet f) (the_rules cs) ≡ matched_places start p (the_rules new) =
     ap (λ n. matched_places n (flow_packet f) (the_rules cs)) of.from
     ∙ matched-alike start (flow_packet f) p (the_rules cs) of.alike
     ∙ ap (matched_places start p) (sym rs) in
-    more_at os k f p.size (the_rules cs) cs e true_of.idle refl
+    more_at os k f p.size (the_rules cs) cs e idle refl
     ∙ ap (λ ks. count_more_at ks (one p.size) 0 new) ks
     ∙ sym (counted-one (matched_places start p (the_rules new)) p 0 new)
 

@@ -48,11 +48,13 @@ impl Amount {
 
     /// A packet more.
     #[inline(always)]
-    pub(crate) fn add(&mut self, packet: &Packet)
-        ensures { self.new ≡ one_more packet.now.size self.old }
+    pub(crate) fn and(self, packet: &Packet) -> Self
+        ensures { result ≡ one_more packet.now.size self }
     {
-        self.packets = self.packets.saturating_add(1);
-        self.bytes = self.bytes.saturating_add(u64::from(packet.size.get()));
+        Amount {
+            packets: self.packets.saturating_add(1),
+            bytes: self.bytes.saturating_add(u64::from(packet.size.get())),
+        }
     }
 
     /// One packet.

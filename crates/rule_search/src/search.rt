@@ -14,11 +14,11 @@ use emu_model::{Packet, Place, Verdict};
 #[derive(Clone, Copy)]
 pub struct Found {
     last: Option<usize>,
-    rule: usize,
+    pub(crate) rule: usize,
 }
 
 /// The least place at or after `from` whose rule matches.
-#[inline(always)]
+#[inline(never)]
 fn next_match(rules: &[CountedRule], from: usize, packet: &Packet) -> Option<usize>
     ensures { result ≡ least_match packet.now (the_rules rules.now) from }
 {
@@ -31,6 +31,31 @@ fn next_match(rules: &[CountedRule], from: usize, packet: &Packet) -> Option<usi
     None
 }
 
+/// The same where few rules are left.
+#[inline(always)]
+fn near_match(rules: &[CountedRule], from: usize, packet: &Packet) -> Option<usize>
+    ensures { result ≡ least_match packet.now (the_rules rules.now) from }
+{
+    for place in from..rules.len() {
+        let counted = &rules[place];
+        if counted.matches(packet) {
+            return Some(place);
+        }
+    }
+    None
+}
+
+/// The same: the code of a short search stands where it is called.
+#[inline(always)]
+fn first_match(rules: &[CountedRule], from: usize, packet: &Packet) -> Option<usize>
+    ensures { result ≡ least_match packet.now (the_rules rules.now) from }
+{
+    if rules.len().saturating_sub(from) <= MOST_WALKED {
+        return near_match(rules, from, packet);
+    }
+    next_match(rules, from, packet)
+}
+
 /// A walk from `start` to the rule that ends the search.
 #[inline(always)]
 fn search(rules: &[CountedRule], jumps: &[usize], start: usize, packet: &Packet) -> Found
@@ -40,7 +65,7 @@ fn search(rules: &[CountedRule], jumps: &[usize], start: usize, packet: &Packet)
     let mut from = start;
     let mut last = None;
     let mut is_first = true;
-    while let Some(place) = next_match(rules, from, packet) {
+    while let Some(place) = first_match(rules, from, packet) {
         let counted = &rules[place];
         if let Some(_verdict) = counted.decision() {
             let rule = if is_first { place } else { NO_RULE };
@@ -57,6 +82,16 @@ fn search(rules: &[CountedRule], jumps: &[usize], start: usize, packet: &Packet)
         last,
         rule: NO_RULE,
     }
+}
+
+/// Whether a walk takes no more time than a path: few rules are left, or the first ends the search.
+#[inline(always)]
+fn is_short(rules: &[CountedRule], start: usize, packet: &Packet) -> bool {
+    if rules.len().saturating_sub(start) <= MOST_WALKED {
+        return true;
+    }
+    let first = &rules[start];
+    first.matches(packet) && first.decision().is_some()
 }
 
 /// The verdict of a search whose last match is at this place.
@@ -97,7 +132,7 @@ pub(crate) fn walk_and_count(
     ensures rules { rules.new ≡ counted_more start packet.now amount rules.old }
 {
     let mut from = start;
-    while let Some(place) = next_match(rules, from, packet) {
+    while let Some(place) = first_match(rules, from, packet) {
         let counted = &mut rules[place];
         counted.count_more(amount);
         if let Some(verdict) = counted.decision() {
@@ -124,12 +159,39 @@ pub fn judge_and_count(
     ensures rules { IsRecounted rules.old rules.new }
     ensures paths { AreTrueOf (the_rules rules.old) paths.new }
 {
-    if rules.len().saturating_sub(start) > MOST_WALKED
-        && let Some(found) = paths.count(start, packet)
-    {
-        return verdict_at(rules, found.last);
+    if is_short(rules, start, packet) {
+        return walk_and_count(rules, jumps, start, packet, Amount::one(packet));
     }
-    walk_and_count(rules, jumps, start, packet, Amount::one(packet))
+    count_far(paths, rules, jumps, start, packet)
+}
+
+/// The same where many rules are left.
+#[inline(never)]
+fn count_far(
+    paths: &mut Paths,
+    rules: &mut [CountedRule],
+    jumps: &[usize],
+    start: usize,
+    packet: &Packet,
+) -> Verdict
+    requires jumps { AreJumps (the_rules rules.old) jumps.now }
+    requires paths { AreTrueOf (the_rules rules.old) paths.old }
+    ensures verdict { result ≡ verdict start packet.now rules.old }
+    ensures counted { settled paths.new rules.new
+        ≡ counted_rules start packet.now (settled paths.old rules.old) }
+    ensures rules { IsRecounted rules.old rules.new }
+    ensures paths { AreTrueOf (the_rules rules.old) paths.new }
+{
+    let seat = paths.seek(start, packet);
+    if !seat.is_taken {
+        return walk_and_count(rules, jumps, start, packet, Amount::one(packet));
+    }
+    let found = paths.count(seat.place, packet);
+    let verdict = verdict_at(rules, found.last);
+    if found.rule != NO_RULE {
+        count_at(rules, found.rule, packet);
+    }
+    verdict
 }
 
 /// A verdict that was foreseen, and the place of the rule that gives it where no rule before counts the packet, else
@@ -177,7 +239,7 @@ pub fn foresee(
     ensures rules { IsRecounted rules.old rules.new }
     ensures paths { AreTrueOf (the_rules rules.old) paths.new }
 {
-    if rules.len().saturating_sub(start) <= MOST_WALKED {
+    if is_short(rules, start, packet) {
         let found = search(rules, jumps, start, packet);
         return foretold(rules, found);
     }
@@ -201,11 +263,12 @@ fn far_search(
     ensures rules { IsRecounted rules.old rules.new }
     ensures paths { AreTrueOf (the_rules rules.old) paths.new }
 {
-    if let Some(found) = paths.recall(start, packet) {
-        return found;
+    let seat = paths.seek(start, packet);
+    if seat.is_taken {
+        return paths.recall(seat.place);
     }
     let found = search(rules, jumps, start, packet);
-    paths.remember(rules, jumps, start, packet, found);
+    paths.remember(seat.place, rules, jumps, start, packet, found);
     found
 }
 

@@ -76,11 +76,11 @@ returns-clause-verdict c =
     let p = c.args.packet.now in
     let q = c.args.amount in
     let old = c.args.rules.now in
-    Answers-none p c.loop-place.rules c.loop-place.from (verdict c.args.start p old) c.loop-place.invariant.answers (sym c.next_match.ensures ∙ c.in_default.is)
+    Answers-none p c.loop-place.rules c.loop-place.from (verdict c.args.start p old) c.loop-place.invariant.answers (sym c.first_match.ensures ∙ c.in_default.is)
 
 pub returns-clause-rules : goal.returns-clause-rules
 returns-clause-rules c =
     let p = c.args.packet.now in
     let q = c.args.amount in
     let old = c.args.rules.now in
-    Leaves-none p q c.loop-place.rules c.loop-place.from (counted_more c.args.start p q old) c.loop-place.invariant.leaves (sym c.next_match.ensures ∙ c.in_default.is)
+    Leaves-none p q c.loop-place.rules c.loop-place.from (counted_more c.args.start p q old) c.loop-place.invariant.leaves (sym c.first_match.ensures ∙ c.in_default.is)
