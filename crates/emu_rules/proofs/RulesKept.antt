@@ -1,18 +1,20 @@
 -- What an adding, a deletion and a search keep of a rule list.
-use Rattle.std.proofs.Common.{◌≡◌, ℕ, suc, ◌+◌, ◌-◌, ◌<◌, ◌≤◌, Bool, true, false, cond, Some, None, List, [], ◌∷◌, length, refl, sym, ap, ◌∙◌, subst, inl, inr, arith, eqb, ltb, leb}
+use Rattle.std.proofs.Common.{◌≡◌, ℕ, suc, ◌+◌, ◌-◌, ◌<◌, ◌≤◌, Bool, true, false, cond, Some, None, List, [], ◌∷◌, length, refl, sym, ap, ◌∙◌, subst, inl, inr, arith, ltb, leb}
 use Rattle.std.specs.Prelude.{◌||◌, not, All, filter, insert, ◌^◌}
 use Rattle.std.proofs.lemmas.Bool.{ltb-true, ltb-false, lt-leb, le-leb, cases_Bool, cond_both}
 use Rattle.std.proofs.lemmas.Bool.Decides.{nat_tests}
 use Rattle.std.proofs.lemmas.List.Elements.{All-nil, All-cons, All-head, All-tail, All-weaker, All-filter}
+use Rattle.emu_model.specs.declared.packets.Packet.{Packet}
+use Rattle.emu_model.specs.declared.packets.Place.{Place}
 use Rattle.emu_model.specs.declared.rules.Action.{Action}
 use Rattle.emu_model.specs.declared.rules.Action.TheVariants.{Allow, Deny, Count, SkipTo, Pipe}
 use Rattle.emu_model.specs.declared.rules.Rule.{Rule}
 use Rattle.emu_model.specs.declared.records.Refusal.TheVariants.{BadNumber, BadSkip, RulesFull, NoRule}
-use Rattle.emu_model.specs.Rules.{Counted, RuleBook, the_rules, place_of_number, new_rule, with_rule, is_bad_skip, is_rule_number, is_full, add_refusal}
+use Rattle.emu_model.specs.Rules.{Counted, RuleBook, the_rules, place_of_number, new_rule, with_rule, is_bad_skip, is_rule_number, is_full, add_refusal, start_behind, verdict}
 use Rattle.rule_search.specs.Walk.{Precedes, Ascends, IsOrdered, IsRecounted, AreJumps, GoesForward}
 use Rattle.rule_search.specs.declared.paths.Paths.{Paths}
 use Rattle.rule_search.specs.Paths.{AreTrueOf, settled}
-use Rattle.rule_search.proofs.CallerLemmas.{IsOrdered-recounted, IsRecounted-settled, older-recounted, rules-recounted}
+use Rattle.rule_search.proofs.CallerLemmas.{IsOrdered-recounted, IsRecounted-settled, behind-recounted, length-recounted, older-recounted, rules-recounted, verdict-recounted}
 use Rattle.emu_rules.specs.Sound.{IsSound}
 
 -- ---- what an adding keeps
@@ -129,9 +131,9 @@ IsSound-recounted cs new jumps added paths now h same knows =
     }
 
 -- the rules as a look at them finds them
-pub IsSound-settled : (cs : List Counted) (jumps : List ℕ) (added : ℕ) (paths now : Paths) → IsSound cs jumps added paths → ((rs : List Rule) → AreTrueOf rs now) → IsSound (settled paths cs) jumps added now
-IsSound-settled cs jumps added paths now h none =
-    IsSound-recounted cs (settled paths cs) jumps added paths now h (IsRecounted-settled paths.held.items cs) (none (the_rules cs))
+pub IsSound-settled : (cs : List Counted) (jumps : List ℕ) (added : ℕ) (paths now : Paths) → IsSound cs jumps added paths → AreTrueOf (the_rules cs) now → IsSound (settled paths cs) jumps added now
+IsSound-settled cs jumps added paths now h knows =
+    IsSound-recounted cs (settled paths cs) jumps added paths now h (IsRecounted-settled paths.held.items cs) knows
 
 abbrev pub book : List Counted → ℕ → RuleBook
 book rules added = record { rules = rules; added = added }
@@ -144,3 +146,17 @@ inserted added r cs now read new n place kept same is own at =
     ∙ ap (λ i. place_of_number (i + 1) (the_rules read)) number
     ∙ ap (λ xs. place_of_number (r.number + 1) (the_rules xs)) (same ∙ kept) in
     ap (λ xs. insert xs place new) kept ∙ ap (λ i. insert cs i new) here ∙ ap (insert cs (place_of_number (r.number + 1) (the_rules cs))) is ∙ sym (with_rule-insert added r cs)
+
+-- ---- what a look at the rules finds
+
+pub verdict-settled : (start : ℕ) (p : Packet) (m : Paths) (cs : List Counted) → verdict start p (settled m cs) ≡ verdict start p cs
+verdict-settled start p m cs = verdict-recounted start p cs (settled m cs) (IsRecounted-settled m.held.items cs)
+
+pub behind-settled : (place : Place) (m : Paths) (cs : List Counted) → start_behind place (settled m cs) ≡ start_behind place cs
+behind-settled place m cs = behind-recounted place cs (settled m cs) (IsRecounted-settled m.held.items cs)
+
+pub length-settled : (m : Paths) (cs : List Counted) → length (settled m cs) ≡ length cs
+length-settled m cs = length-recounted cs (settled m cs) (IsRecounted-settled m.held.items cs)
+
+pub rules-settled : (m : Paths) (cs : List Counted) → the_rules (settled m cs) ≡ the_rules cs
+rules-settled m cs = rules-recounted cs (settled m cs) (IsRecounted-settled m.held.items cs)

@@ -105,7 +105,7 @@ impl RuleList {
         {
             return Some(Refusal::BadSkip);
         }
-        if self.rules.len() > MOST_RULES || self.added == u64::MAX {
+        if self.len() > MOST_RULES || self.added == u64::MAX {
             return Some(Refusal::RulesFull);
         }
         None
@@ -168,13 +168,7 @@ impl RuleList {
             self.new ≡ counted_book start packet.now self.old }
     {
         let start = first_behind(&self.rules, place);
-        judge_and_count(
-            &mut self.paths,
-            &mut self.rules,
-            &self.jumps,
-            start,
-            packet,
-        )
+        judge_and_count(&mut self.paths, &mut self.rules, &self.jumps, start, packet)
     }
 
     /// The same verdict; nothing is counted.
