@@ -1,6 +1,6 @@
 //! The rule list.
 
-ghost use Rattle.std.specs.Prelude.{◌≡◌, ◌≢◌, ◌<◌, ◌∷◌, [], length, slice_get, Some, None, IfOk, OnOk, OnErr, MatchResult};
+ghost use Rattle.std.specs.Prelude.{◌≡◌, ◌≢◌, ◌^◌, ◌<◌, ◌∷◌, [], length, slice_get, Some, None, IfOk, OnOk, OnErr, MatchResult};
 ghost use Rattle.emu_model.specs.Rules.{initial_book, add_refusal, book_with, delete_refusal, book_without, verdict, counted_book, start_behind, is_rule_number, the_rules, count_at};
 ghost use Rattle.rule_search.specs.Walk.{CountsAlone};
 ghost use Rattle.emu_rules.specs.Errors.{refusal_of};
@@ -226,7 +226,8 @@ impl RuleList {
 
     /// How many rules there are, the default too.
     pub fn len(&self) -> usize
-        ensures { result ≡ length self.now.rules }
+        ensures count { result ≡ length self.now.rules }
+        ensures small { result < 2 ^ 63 }
     {
         self.rules.len()
     }
