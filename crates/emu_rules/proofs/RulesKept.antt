@@ -1,19 +1,20 @@
 -- What an adding, a deletion and a search keep of a rule list.
-use Rattle.std.proofs.Common.{◌≡◌, ℕ, suc, ◌+◌, ◌-◌, ◌<◌, ◌≤◌, Bool, true, false, cond, Some, None, List, [], ◌∷◌, length, refl, sym, ap, ◌∙◌, subst, inl, inr, arith, eqb, ltb, leb}
+use Rattle.std.proofs.Common.{◌≡◌, ℕ, suc, ◌+◌, ◌-◌, ◌<◌, ◌≤◌, Bool, true, false, cond, Some, None, List, [], ◌∷◌, length, refl, sym, ap, ◌∙◌, subst, inl, inr, arith, ltb, leb}
 use Rattle.std.specs.Prelude.{◌||◌, not, All, filter, insert, ◌^◌}
-use Rattle.std.specs.List.{list_any}
 use Rattle.std.proofs.lemmas.Bool.{ltb-true, ltb-false, lt-leb, le-leb, cases_Bool, cond_both}
 use Rattle.std.proofs.lemmas.Bool.Decides.{nat_tests}
 use Rattle.std.proofs.lemmas.List.Elements.{All-nil, All-cons, All-head, All-tail, All-weaker, All-filter}
 use Rattle.emu_model.specs.declared.packets.Packet.{Packet}
+use Rattle.emu_model.specs.declared.packets.Place.{Place}
 use Rattle.emu_model.specs.declared.rules.Action.{Action}
 use Rattle.emu_model.specs.declared.rules.Action.TheVariants.{Allow, Deny, Count, SkipTo, Pipe}
 use Rattle.emu_model.specs.declared.rules.Rule.{Rule}
 use Rattle.emu_model.specs.declared.records.Refusal.TheVariants.{BadNumber, BadSkip, RulesFull, NoRule}
-use Rattle.emu_model.specs.Rules.{Counted, RuleBook, the_rules, place_of_number, count_packet, count_at, new_rule, with_rule, is_bad_skip, is_rule_number, is_full, add_refusal}
-use Rattle.rule_search.specs.Walk.{Precedes, Ascends, IsOrdered, AreJumps, GoesForward}
-use Rattle.rule_search.specs.declared.memory.SearchMemory.{SearchMemory}
-use Rattle.rule_search.specs.Findings.{IsTrueOf}
+use Rattle.emu_model.specs.Rules.{Counted, RuleBook, the_rules, place_of_number, new_rule, with_rule, is_bad_skip, is_rule_number, is_full, add_refusal, start_behind, verdict}
+use Rattle.rule_search.specs.Walk.{Precedes, Ascends, IsOrdered, IsRecounted, AreJumps, GoesForward}
+use Rattle.rule_search.specs.declared.paths.Paths.{Paths}
+use Rattle.rule_search.specs.Paths.{AreTrueOf, settled}
+use Rattle.rule_search.proofs.CallerLemmas.{IsOrdered-recounted, IsRecounted-settled, behind-recounted, length-recounted, older-recounted, rules-recounted, verdict-recounted}
 use Rattle.emu_rules.specs.Sound.{IsSound}
 
 -- ---- what an adding keeps
@@ -117,49 +118,22 @@ IsOrdered-filter p cs h = record {
   forward = All-filter p (λ c. GoesForward c.rule.number c.rule.action) cs h.forward;
 }
 
--- ---- what a search keeps
+-- ---- what counting keeps
 
-All-count_at : (P : Counted → Type 0) (ks : List ℕ) (p : Packet) (i : ℕ) (cs : List Counted) → ((c : Counted) → P c → P (count_packet p c)) → All P cs → All P (count_at ks p i cs)
-All-count_at P ks p i [] keeps h = h
-All-count_at P ks p i (c ∷ cs) keeps h =
-    let hit = list_any (λ k. eqb k i) ks in
-    let own = All-head P c cs h in
-    All-cons P (cond hit (count_packet p c) c) (count_at ks p (i + 1) cs)
-    (cond_both hit (count_packet p c) c P (λ _. keeps c own) (λ _. own))
-    (All-count_at P ks p (i + 1) cs keeps (All-tail P c cs h))
+pub IsSound-recounted : (cs new : List Counted) (jumps : List ℕ) (added : ℕ) (paths now : Paths) → IsSound cs jumps added paths → IsRecounted cs new → AreTrueOf (the_rules cs) now → IsSound new jumps added now
+IsSound-recounted cs new jumps added paths now h same knows =
+    let rs = rules-recounted cs new same in
+    record {
+      ordered = IsOrdered-recounted cs new same h.ordered;
+      older = older-recounted added cs new same h.older;
+      jumps_are = subst (λ rs. AreJumps rs jumps) (sym rs) h.jumps_are;
+      paths_are = subst (λ rs. AreTrueOf rs now) (sym rs) knows;
+    }
 
-Ascends-count_at : (ks : List ℕ) (p : Packet) (i : ℕ) (cs : List Counted) → Ascends cs → Ascends (count_at ks p i cs)
-Ascends-count_at ks p i [] h = tt
-Ascends-count_at ks p i (c ∷ cs) h =
-    let hit = list_any (λ k. eqb k i) ks in
-    let rest = count_at ks p (i + 1) cs in
-    let up : All (Precedes c) rest =
-    All-count_at (Precedes c) ks p (i + 1) cs (λ x q. record { number = q.number; order = q.order }) h.0 in (
-      cond_both hit (count_packet p c) c (λ x. All (Precedes x) rest)
-          (λ _. All-weaker (Precedes c) (Precedes (count_packet p c)) (λ x q. record { number = q.number; order = q.order }) rest up)
-          (λ _. up),
-      Ascends-count_at ks p (i + 1) cs h.1,
-    )
-
-pub the_rules-count_at : (ks : List ℕ) (p : Packet) (i : ℕ) (cs : List Counted) → the_rules (count_at ks p i cs) ≡ the_rules cs
-the_rules-count_at ks p i [] = refl
-the_rules-count_at ks p i (c ∷ cs) =
-    let hit = list_any (λ k. eqb k i) ks in
-    let same : (cond hit (count_packet p c) c).rule ≡ c.rule =
-    cond_both hit (count_packet p c) c (λ x. x.rule ≡ c.rule) (λ _. refl) (λ _. refl) in
-    ap (λ r. r ∷ the_rules (count_at ks p (i + 1) cs)) same
-    ∙ ap (λ rs. c.rule ∷ rs) (the_rules-count_at ks p (i + 1) cs)
-
-pub IsSound-counted : (ks : List ℕ) (p : Packet) (cs : List Counted) (jumps : List ℕ) (added : ℕ) (memory now : SearchMemory) → IsSound cs jumps added memory → IsTrueOf (the_rules cs) now → IsSound (count_at ks p 0 cs) jumps added now
-IsSound-counted ks p cs jumps added memory now h knows = record {
-  ordered = record {
-    ascends = Ascends-count_at ks p 0 cs h.ordered.ascends;
-    forward = All-count_at (λ c. GoesForward c.rule.number c.rule.action) ks p 0 cs (λ c f. f) h.ordered.forward;
-  };
-  older = All-count_at (λ c. c.order ≤ added) ks p 0 cs (λ c le. le) h.older;
-  jumps_are = subst (λ rs. AreJumps rs jumps) (sym (the_rules-count_at ks p 0 cs)) h.jumps_are;
-  memory_is = subst (λ rs. IsTrueOf rs now) (sym (the_rules-count_at ks p 0 cs)) knows;
-}
+-- the rules as a look at them finds them
+pub IsSound-settled : (cs : List Counted) (jumps : List ℕ) (added : ℕ) (paths now : Paths) → IsSound cs jumps added paths → AreTrueOf (the_rules cs) now → IsSound (settled paths cs) jumps added now
+IsSound-settled cs jumps added paths now h knows =
+    IsSound-recounted cs (settled paths cs) jumps added paths now h (IsRecounted-settled paths.held.items cs) knows
 
 abbrev pub book : List Counted → ℕ → RuleBook
 book rules added = record { rules = rules; added = added }
@@ -172,3 +146,17 @@ inserted added r cs now read new n place kept same is own at =
     ∙ ap (λ i. place_of_number (i + 1) (the_rules read)) number
     ∙ ap (λ xs. place_of_number (r.number + 1) (the_rules xs)) (same ∙ kept) in
     ap (λ xs. insert xs place new) kept ∙ ap (λ i. insert cs i new) here ∙ ap (insert cs (place_of_number (r.number + 1) (the_rules cs))) is ∙ sym (with_rule-insert added r cs)
+
+-- ---- what a look at the rules finds
+
+pub verdict-settled : (start : ℕ) (p : Packet) (m : Paths) (cs : List Counted) → verdict start p (settled m cs) ≡ verdict start p cs
+verdict-settled start p m cs = verdict-recounted start p cs (settled m cs) (IsRecounted-settled m.held.items cs)
+
+pub behind-settled : (place : Place) (m : Paths) (cs : List Counted) → start_behind place (settled m cs) ≡ start_behind place cs
+behind-settled place m cs = behind-recounted place cs (settled m cs) (IsRecounted-settled m.held.items cs)
+
+pub length-settled : (m : Paths) (cs : List Counted) → length (settled m cs) ≡ length cs
+length-settled m cs = length-recounted cs (settled m cs) (IsRecounted-settled m.held.items cs)
+
+pub rules-settled : (m : Paths) (cs : List Counted) → the_rules (settled m cs) ≡ the_rules cs
+rules-settled m cs = rules-recounted cs (settled m cs) (IsRecounted-settled m.held.items cs)

@@ -1,13 +1,12 @@
--- What a rule list keeps of its rules, of the jumps beside them, of its count of addings and of what
--- its memory holds.
+-- What a rule list keeps of its rules, of the jumps beside them, of its count of addings and of its paths.
 use Rattle.std.specs.Prelude.{ℕ, ◌≤◌, List, All}
 use Rattle.emu_model.specs.Rules.{Counted, the_rules}
-use Rattle.rule_search.specs.declared.memory.SearchMemory.{SearchMemory}
+use Rattle.rule_search.specs.declared.paths.Paths.{Paths}
 use Rattle.rule_search.specs.Walk.{IsOrdered, AreJumps}
-use Rattle.rule_search.specs.Findings.{IsTrueOf}
+use Rattle.rule_search.specs.Paths.{AreTrueOf}
 
-pub record IsSound (rules : List Counted) (jumps : List ℕ) (added : ℕ) (memory : SearchMemory) : Type 0 where
+pub record IsSound (rules : List Counted) (jumps : List ℕ) (added : ℕ) (paths : Paths) : Type 0 where
   pub ordered : IsOrdered rules
   pub older : All (λ c. c.order ≤ added) rules
   pub jumps_are : AreJumps (the_rules rules) jumps
-  pub memory_is : IsTrueOf (the_rules rules) memory
+  pub paths_are : AreTrueOf (the_rules rules) paths

@@ -1,14 +1,14 @@
 //! The rule list.
 
-ghost use Rattle.std.specs.Prelude.{◌≡◌, ◌≢◌, ◌<◌, ◌∷◌, [], length, Some, None, IfOk, OnOk, OnErr, MatchResult};
+ghost use Rattle.std.specs.Prelude.{◌≡◌, ◌≢◌, ◌^◌, ◌<◌, ◌∷◌, [], length, slice_get, Some, None, IfOk, OnOk, OnErr, MatchResult};
 ghost use Rattle.emu_model.specs.Rules.{initial_book, add_refusal, book_with, delete_refusal, book_without, verdict, counted_book, start_behind, is_rule_number, the_rules, count_at};
 ghost use Rattle.rule_search.specs.Walk.{CountsAlone};
 ghost use Rattle.emu_rules.specs.Errors.{refusal_of};
 
 use emu_model::{Packet, Place, Refusal, Rule, RuleNumber, Verdict};
 use rule_search::{
-    CountedRule, Foreseen, NO_RULE, SearchMemory, aim, count_at, first_behind, first_from, foresee,
-    judge, judge_and_count, judge_by_memory, target_of,
+    CountedRule, Foreseen, NO_RULE, Paths, aim, count_at, find, first_behind, first_from, foresee,
+    judge_and_count, target_of,
 };
 use std::alloc::{AllocError, Global};
 use std::marker::Model;
@@ -28,19 +28,20 @@ pub struct RuleList {
     /// Where a search goes on that matched at each place.
     jumps: Vec<usize>,
     added: u64,
-    /// What searches among these rules found before.
-    memory: SearchMemory,
+    /// What searches among these rules found before, and what it counted.
+    paths: Paths,
 }
 
 impl Model for RuleList {
     ghost use Rattle.emu_model.specs.Rules.{RuleBook};
+    ghost use Rattle.rule_search.specs.Paths.{settled};
     ghost use Rattle.emu_rules.specs.Sound.{IsSound};
 
     ghost Value = { RuleBook };
 
-    ghost view = { λ l. record { rules = l.rules.items; added = l.added } };
+    ghost view = { λ l. record { rules = settled l.paths l.rules.items; added = l.added } };
 
-    ghost invariant = { λ l. IsSound l.rules.items l.jumps.items l.added l.memory };
+    ghost invariant = { λ l. IsSound l.rules.items l.jumps.items l.added l.paths };
 }
 
 impl RuleList {
@@ -56,7 +57,7 @@ impl RuleList {
             rules,
             jumps,
             added: 0,
-            memory: SearchMemory::new(alloc),
+            paths: Paths::new(alloc),
         })
     }
 
@@ -77,16 +78,16 @@ impl RuleList {
         if self.rules.reserve(1).is_err() || self.jumps.reserve(1).is_err() {
             return Err(AddError::NoMemory);
         }
-        if self.memory.make_places(self.rules.len() + 1).is_err() {
-            return Err(AddError::NoMemory);
-        }
+        // Without places for paths each search is a walk.
+        let _places = self.paths.make_places(self.rules.len() + 1);
+        self.paths.settle(&mut self.rules, &self.jumps);
         let place = first_from(&self.rules, counted.number() + 1);
         let Ok(()) = self.rules.insert(place, counted) else {
             unreachable!()
         };
         self.jumps.push_reserved(0);
         aim(&self.rules, &mut self.jumps);
-        self.memory.forget(); // a rule has come
+        self.paths.forget(); // a rule has come
         self.added += 1;
         Ok(())
     }
@@ -104,7 +105,7 @@ impl RuleList {
         {
             return Some(Refusal::BadSkip);
         }
-        if self.rules.len() > MOST_RULES || self.added == u64::MAX {
+        if self.len() > MOST_RULES || self.added == u64::MAX {
             return Some(Refusal::RulesFull);
         }
         None
@@ -122,6 +123,7 @@ impl RuleList {
         if !is_rule_number(number) {
             return Err(Refusal::BadNumber);
         }
+        self.paths.settle(&mut self.rules, &self.jumps);
         let number = number.get();
         if !self.rules.iter().any(|counted| counted.number() == number) {
             return Err(Refusal::NoRule);
@@ -129,7 +131,7 @@ impl RuleList {
         self.rules.retain(|counted| counted.number() != number);
         self.jumps.truncate(self.rules.len());
         aim(&self.rules, &mut self.jumps);
-        self.memory.forget(); // rules have gone
+        self.paths.forget(); // rules have gone
         Ok(())
     }
 
@@ -138,14 +140,14 @@ impl RuleList {
         ensures verdict { result ≡ verdict 0 packet.now self.old.rules }
         ensures counted { self.new ≡ counted_book 0 packet.now self.old }
     {
-        judge_and_count(&mut self.memory, &mut self.rules, &self.jumps, 0, packet)
+        judge_and_count(&mut self.paths, &mut self.rules, &self.jumps, 0, packet)
     }
 
     /// The same verdict; nothing is counted.
     pub fn find(&self, packet: &Packet) -> Verdict
         ensures { result ≡ verdict 0 packet.now self.now.rules }
     {
-        judge(&self.rules, &self.jumps, 0, packet)
+        find(&self.rules, &self.jumps, 0, packet)
     }
 
     /// The same verdict, and nothing is counted; a later search for a packet of this flow goes by
@@ -154,7 +156,7 @@ impl RuleList {
         ensures verdict { result ≡ verdict 0 packet.now self.old.rules }
         ensures same { self.new ≡ self.old }
     {
-        judge_by_memory(&mut self.memory, &self.rules, &self.jumps, 0, packet)
+        self.foresee_rule(packet).verdict
     }
 
     /// The verdict of a search that begins behind the place of a rule, which may be gone: the
@@ -166,13 +168,7 @@ impl RuleList {
             self.new ≡ counted_book start packet.now self.old }
     {
         let start = first_behind(&self.rules, place);
-        judge_and_count(
-            &mut self.memory,
-            &mut self.rules,
-            &self.jumps,
-            start,
-            packet,
-        )
+        judge_and_count(&mut self.paths, &mut self.rules, &self.jumps, start, packet)
     }
 
     /// The same verdict; nothing is counted.
@@ -181,7 +177,7 @@ impl RuleList {
             result ≡ verdict start packet.now self.now.rules }
     {
         let start = first_behind(&self.rules, place);
-        judge(&self.rules, &self.jumps, start, packet)
+        find(&self.rules, &self.jumps, start, packet)
     }
 
     /// The same verdict, foreseen.
@@ -190,8 +186,7 @@ impl RuleList {
             result ≡ verdict start packet.now self.old.rules }
         ensures same { self.new ≡ self.old }
     {
-        let start = first_behind(&self.rules, place);
-        judge_by_memory(&mut self.memory, &self.rules, &self.jumps, start, packet)
+        self.foresee_rule_after(place, packet).verdict
     }
 
     /// The verdict of `foresee`, and by which rule.
@@ -202,7 +197,7 @@ impl RuleList {
         ensures rule { result.rule ≢ NO_RULE →
             CountsAlone 0 packet.now (the_rules self.old.rules) result.rule }
     {
-        foresee(&mut self.memory, &self.rules, &self.jumps, 0, packet)
+        foresee(&mut self.paths, &mut self.rules, &self.jumps, 0, packet)
     }
 
     /// The same of a search behind the place of a rule.
@@ -215,7 +210,7 @@ impl RuleList {
             CountsAlone start packet.now (the_rules self.old.rules) result.rule }
     {
         let start = first_behind(&self.rules, place);
-        foresee(&mut self.memory, &self.rules, &self.jumps, start, packet)
+        foresee(&mut self.paths, &mut self.rules, &self.jumps, start, packet)
     }
 
     /// The rule at a place counts a packet, which was foreseen there.
@@ -229,11 +224,22 @@ impl RuleList {
         count_at(&mut self.rules, rule, packet);
     }
 
-    /// The rules in order with their counters, the default last.
-    pub fn list(&self) -> &[CountedRule]
-        ensures { result.now ≡ self.now.rules }
+    /// How many rules there are, the default too.
+    pub fn len(&self) -> usize
+        ensures count { result ≡ length self.now.rules }
+        ensures small { result < 2 ^ 63 }
     {
-        self.rules.as_slice()
+        self.rules.len()
+    }
+
+    /// The rule at a place with its counters; the default is the last.
+    pub fn rule_at(&mut self, place: usize) -> CountedRule
+        requires { place < length self.old.rules }
+        ensures rule { slice_get self.old.rules place ≡ Some result }
+        ensures same { self.new ≡ self.old }
+    {
+        self.paths.settle(&mut self.rules, &self.jumps);
+        self.rules[place]
     }
 }
 

@@ -19,7 +19,7 @@ use emu_model::{
     Command, DropCause, FlowNumber, FlowSpec, Load, PipeConfig, PipeNumber, Record, Refusal, Rule,
     RuleNumber, SendSpec, Setting, TrainSpec,
 };
-use emu_rules::{AddError, CountedRule};
+use emu_rules::{AddError, RuleList};
 use packet_store::{Owner, Shelf};
 use pipe_table::ConfigureError;
 use record_log::RecordLog;
@@ -237,10 +237,10 @@ impl Network {
         ensures refused { OnErr result (IsStill self.old self.new) }
         ensures fits { length self.old.book.rules + 3 ≤ self.old.log.spare → IsOk result }
     {
-        let lines = self.book.list().len();
+        let lines = self.book.len();
         self.reserve_besides(lines)?;
         self.done(at.now, number);
-        note_rules(&mut self.log, self.book.list());
+        note_rules(&mut self.log, &mut self.book);
         Ok(())
     }
 
@@ -387,13 +387,15 @@ fn plain_sending(send: &SendSpec) -> Sending
 }
 
 // Records a line for each rule.
-fn note_rules(log: &mut RecordLog, rules: &[CountedRule])
-    requires { length rules.now ≤ log.old.spare }
+fn note_rules(log: &mut RecordLog, book: &mut RuleList)
+    requires { length book.old.rules ≤ log.old.spare }
+    ensures book { book.new ≡ book.old }
     ensures records { log.new.records
-        ≡ log.old.records ++ map (λ c. RuleLine c.rule c.packets c.bytes) rules.now }
-    ensures room { log.old.spare ≤ log.new.spare + length rules.now }
+        ≡ log.old.records ++ map (λ c. RuleLine c.rule c.packets c.bytes) book.old.rules }
+    ensures room { log.old.spare ≤ log.new.spare + length book.old.rules }
 {
-    for counted in rules {
+    for place in 0..book.len() {
+        let counted = book.rule_at(place);
         log.note(&Record::RuleLine {
             rule: counted.rule(),
             packets: counted.packets(),

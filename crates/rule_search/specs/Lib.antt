@@ -1,2 +1,2 @@
 pub mod Walk
-pub mod Findings
+pub mod Paths

@@ -1,8 +1,8 @@
 //! A rule with its counters.
 
-ghost use Rattle.std.specs.Prelude.{◌≡◌, ◌≤◌};
-ghost use Rattle.emu_model.specs.Rules.{place_of, rule_matches, count_packet, new_rule, default_rule};
-ghost use Rattle.rule_search.specs.Walk.{decision, target_of};
+ghost use Rattle.std.specs.Prelude.{◌≡◌, ◌≤◌, ◌==◌, not};
+ghost use Rattle.emu_model.specs.Rules.{place_of, rule_matches, count_packet, verdict_by, new_rule, default_rule};
+ghost use Rattle.rule_search.specs.Walk.{count_more, decision, one_more, target_of};
 
 use crate::matching::matches;
 use emu_model::{
@@ -18,6 +18,55 @@ pub struct CountedRule {
     order: u64,
     packets: u64,
     bytes: u64,
+}
+
+/// So many packets and bytes; each of the two stays at 2^64 - 1.
+#[derive(Clone, Copy)]
+pub struct Amount {
+    packets: u64,
+    bytes: u64,
+}
+
+impl Amount {
+    /// None.
+    pub(crate) fn none() -> Self
+        ensures { result ≡ record { packets = 0; bytes = 0 } }
+    {
+        Amount {
+            packets: 0,
+            bytes: 0,
+        }
+    }
+
+    /// Whether there is a packet in it.
+    #[inline(always)]
+    pub(crate) fn is_some(&self) -> bool
+        ensures { result ≡ not (self.now.packets == 0) }
+    {
+        self.packets != 0
+    }
+
+    /// A packet more.
+    #[inline(always)]
+    pub(crate) fn and(self, packet: &Packet) -> Self
+        ensures { result ≡ one_more packet.now.size self }
+    {
+        Amount {
+            packets: self.packets.saturating_add(1),
+            bytes: self.bytes.saturating_add(u64::from(packet.size.get())),
+        }
+    }
+
+    /// One packet.
+    #[inline(always)]
+    pub(crate) fn one(packet: &Packet) -> Self
+        ensures { result ≡ record { packets = 1; bytes = packet.now.size } }
+    {
+        Amount {
+            packets: 1,
+            bytes: u64::from(packet.size.get()),
+        }
+    }
 }
 
 impl Model for CountedRule {
@@ -123,6 +172,27 @@ impl CountedRule {
     {
         self.packets = self.packets.saturating_add(1);
         self.bytes = self.bytes.saturating_add(u64::from(packet.size.get()));
+    }
+
+    /// So many packets and bytes more.
+    #[inline(always)]
+    pub(crate) fn count_more(&mut self, amount: Amount)
+        ensures { self.new ≡ count_more amount self.old }
+    {
+        self.packets = self.packets.saturating_add(amount.packets);
+        self.bytes = self.bytes.saturating_add(amount.bytes);
+    }
+
+    /// The verdict of a search whose last match it is.
+    #[inline(always)]
+    pub(crate) fn verdict(&self) -> Verdict
+        ensures { result ≡ verdict_by self.now.rule.action self.now }
+    {
+        match self.rule.action {
+            Action::Allow => Verdict::OverTheLink,
+            Action::Deny | Action::Count | Action::SkipTo(_) => Verdict::Dropped,
+            Action::Pipe(pipe) => Verdict::IntoPipe(pipe, self.place()),
+        }
     }
 
     /// The verdict, if the search ends at this rule.

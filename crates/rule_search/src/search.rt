@@ -1,13 +1,21 @@
-//! The search among the rules: one walk over those that can match, by jumps that are kept.
+//! The search among the rules: one walk over those that can match, by jumps that are kept, or the path that is
+//! remembered of it.
 
-ghost use Rattle.std.specs.Prelude.{◌≡◌, ◌≢◌, ℕ, ◌<◌, ◌≤◌, ◌∷◌, [], length, slice_get, Some, None};
-ghost use Rattle.emu_model.specs.Rules.{Counted, the_rules, least_match, place_of_number, start_behind, verdict, count_at, counted_rules};
-ghost use Rattle.rule_search.specs.Walk.{IsOrdered, AreJumps, CountsAlone, decision};
-ghost use Rattle.rule_search.specs.Findings.{IsTrueOf};
+ghost use Rattle.std.specs.Prelude.{◌≡◌, ◌≢◌, ℕ, ◌<◌, ◌≤◌, ◌∷◌, [], length, slice_get, Some, None, option_and_then};
+ghost use Rattle.emu_model.specs.Rules.{Counted, the_rules, least_match, place_of_number, start_behind, verdict, verdict_of_match, count_at, counted_rules};
+ghost use Rattle.rule_search.specs.Walk.{IsOrdered, AreJumps, CountsAlone, IsFound, IsRecounted, counted_more, decision};
+ghost use Rattle.rule_search.specs.Paths.{settled, AreTrueOf};
 
-use crate::counted::{CountedRule, target_of};
-use crate::memory::{MOST_WALKED, SearchMemory};
+use crate::counted::{Amount, CountedRule, target_of};
+use crate::paths::{MOST_WALKED, Paths};
 use emu_model::{Packet, Place, Verdict};
+
+/// What a search finds: the last place that matches, and the same where no rule before counts the packet, else `NO_RULE`.
+#[derive(Clone, Copy)]
+pub struct Found {
+    last: Option<usize>,
+    pub(crate) rule: usize,
+}
 
 /// The least place at or after `from` whose rule matches.
 #[inline(never)]
@@ -37,108 +45,153 @@ fn near_match(rules: &[CountedRule], from: usize, packet: &Packet) -> Option<usi
     None
 }
 
-/// The verdict of a search that begins at `start`.
-pub fn judge(rules: &[CountedRule], jumps: &[usize], start: usize, packet: &Packet) -> Verdict
-    requires { AreJumps (the_rules rules.now) jumps.now }
-    ensures { result ≡ verdict start packet.now rules.now }
-{
-    let mut from = start;
-    while let Some(place) = next_match(rules, from, packet) {
-        let rule = &rules[place];
-        if let Some(answer) = rule.decision() {
-            return answer;
-        }
-        from = jumps[place];
-    }
-    Verdict::Dropped
-}
-
-/// The same place, by the memory where it knows.
+/// The same: the code of a short search stands where it is called.
 #[inline(always)]
-fn recalled_match(
-    memory: &mut SearchMemory,
-    rules: &[CountedRule],
-    from: usize,
-    packet: &Packet,
-) -> Option<usize>
-    requires { IsTrueOf (the_rules rules.now) memory.old }
-    ensures found { result ≡ least_match packet.now (the_rules rules.now) from }
-    ensures memory { IsTrueOf (the_rules rules.now) memory.new }
+fn first_match(rules: &[CountedRule], from: usize, packet: &Packet) -> Option<usize>
+    ensures { result ≡ least_match packet.now (the_rules rules.now) from }
 {
     if rules.len().saturating_sub(from) <= MOST_WALKED {
         return near_match(rules, from, packet);
     }
-    far_match(memory, rules, from, packet)
+    next_match(rules, from, packet)
 }
 
-/// The same where many rules are left: by the memory where it knows.
-#[inline(never)]
-fn far_match(
-    memory: &mut SearchMemory,
-    rules: &[CountedRule],
-    from: usize,
-    packet: &Packet,
-) -> Option<usize>
-    requires { IsTrueOf (the_rules rules.now) memory.old }
-    ensures found { result ≡ least_match packet.now (the_rules rules.now) from }
-    ensures memory { IsTrueOf (the_rules rules.now) memory.new }
-{
-    if let Some(found) = memory.recall(from, packet) {
-        return found;
-    }
-    let found = next_match(rules, from, packet);
-    memory.remember(from, packet, found);
-    found
-}
-
-/// The same verdict; what is found is remembered.
-pub fn judge_by_memory(
-    memory: &mut SearchMemory,
-    rules: &[CountedRule],
-    jumps: &[usize],
-    start: usize,
-    packet: &Packet,
-) -> Verdict
-    requires jumps { AreJumps (the_rules rules.now) jumps.now }
-    requires memory { IsTrueOf (the_rules rules.now) memory.old }
-    ensures verdict { result ≡ verdict start packet.now rules.now }
-    ensures memory { IsTrueOf (the_rules rules.now) memory.new }
+/// A walk from `start` to the rule that ends the search.
+#[inline(always)]
+fn search(rules: &[CountedRule], jumps: &[usize], start: usize, packet: &Packet) -> Found
+    requires { AreJumps (the_rules rules.now) jumps.now }
+    ensures { IsFound start packet.now (the_rules rules.now) result }
 {
     let mut from = start;
-    while let Some(place) = recalled_match(memory, rules, from, packet) {
-        let rule = &rules[place];
-        if let Some(decided) = rule.decision() {
-            return decided;
+    let mut last = None;
+    let mut is_first = true;
+    while let Some(place) = first_match(rules, from, packet) {
+        let counted = &rules[place];
+        if let Some(_verdict) = counted.decision() {
+            let rule = if is_first { place } else { NO_RULE };
+            return Found {
+                last: Some(place),
+                rule,
+            };
         }
+        last = Some(place);
+        is_first = false;
         from = jumps[place];
     }
-    Verdict::Dropped
+    Found {
+        last,
+        rule: NO_RULE,
+    }
 }
 
-/// The same; each rule that matches counts the packet besides.
-pub fn judge_and_count(
-    memory: &mut SearchMemory,
+/// Whether a walk takes no more time than a path: few rules are left, or the first ends the search.
+#[inline(always)]
+fn is_short(rules: &[CountedRule], start: usize, packet: &Packet) -> bool {
+    if rules.len().saturating_sub(start) <= MOST_WALKED {
+        return true;
+    }
+    let first = &rules[start];
+    first.matches(packet) && first.decision().is_some()
+}
+
+/// The verdict of a search whose last match is at this place.
+#[inline(always)]
+fn verdict_at(rules: &[CountedRule], last: Option<usize>) -> Verdict
+    ensures { result ≡ verdict_of_match (option_and_then (slice_get rules.now) last) }
+{
+    let Some(place) = last else {
+        return Verdict::Dropped;
+    };
+    if place >= rules.len() {
+        return Verdict::Dropped;
+    }
+    let rule = &rules[place];
+    rule.verdict()
+}
+
+/// The verdict of a search that begins at `start`.
+pub fn find(rules: &[CountedRule], jumps: &[usize], start: usize, packet: &Packet) -> Verdict
+    requires { AreJumps (the_rules rules.now) jumps.now }
+    ensures { result ≡ verdict start packet.now rules.now }
+{
+    let found = search(rules, jumps, start, packet);
+    verdict_at(rules, found.last)
+}
+
+/// The same verdict; each rule that matches counts so many packets and bytes besides.
+#[inline(always)]
+pub(crate) fn walk_and_count(
     rules: &mut [CountedRule],
     jumps: &[usize],
     start: usize,
     packet: &Packet,
+    amount: Amount,
 ) -> Verdict
-    requires jumps { AreJumps (the_rules rules.old) jumps.now }
-    requires memory { IsTrueOf (the_rules rules.old) memory.old }
+    requires { AreJumps (the_rules rules.old) jumps.now }
     ensures verdict { result ≡ verdict start packet.now rules.old }
-    ensures rules { rules.new ≡ counted_rules start packet.now rules.old }
-    ensures memory { IsTrueOf (the_rules rules.old) memory.new }
+    ensures rules { rules.new ≡ counted_more start packet.now amount rules.old }
 {
     let mut from = start;
-    while let Some(place) = recalled_match(memory, rules, from, packet) {
+    while let Some(place) = first_match(rules, from, packet) {
         let counted = &mut rules[place];
-        counted.count(packet);
+        counted.count_more(amount);
         if let Some(verdict) = counted.decision() {
             return verdict;
         }
         from = jumps[place];
     }
     Verdict::Dropped
+}
+
+/// The same verdict; each rule that matches counts the packet, or its path does, where one is remembered.
+pub fn judge_and_count(
+    paths: &mut Paths,
+    rules: &mut [CountedRule],
+    jumps: &[usize],
+    start: usize,
+    packet: &Packet,
+) -> Verdict
+    requires jumps { AreJumps (the_rules rules.old) jumps.now }
+    requires paths { AreTrueOf (the_rules rules.old) paths.old }
+    ensures verdict { result ≡ verdict start packet.now rules.old }
+    ensures counted { settled paths.new rules.new
+        ≡ counted_rules start packet.now (settled paths.old rules.old) }
+    ensures rules { IsRecounted rules.old rules.new }
+    ensures paths { AreTrueOf (the_rules rules.old) paths.new }
+{
+    if is_short(rules, start, packet) {
+        return walk_and_count(rules, jumps, start, packet, Amount::one(packet));
+    }
+    count_far(paths, rules, jumps, start, packet)
+}
+
+/// The same where many rules are left.
+#[inline(never)]
+fn count_far(
+    paths: &mut Paths,
+    rules: &mut [CountedRule],
+    jumps: &[usize],
+    start: usize,
+    packet: &Packet,
+) -> Verdict
+    requires jumps { AreJumps (the_rules rules.old) jumps.now }
+    requires paths { AreTrueOf (the_rules rules.old) paths.old }
+    ensures verdict { result ≡ verdict start packet.now rules.old }
+    ensures counted { settled paths.new rules.new
+        ≡ counted_rules start packet.now (settled paths.old rules.old) }
+    ensures rules { IsRecounted rules.old rules.new }
+    ensures paths { AreTrueOf (the_rules rules.old) paths.new }
+{
+    let seat = paths.seek(start, packet);
+    if !seat.is_taken {
+        return walk_and_count(rules, jumps, start, packet, Amount::one(packet));
+    }
+    let found = paths.count(seat.place, packet);
+    let verdict = verdict_at(rules, found.last);
+    if found.rule != NO_RULE {
+        count_at(rules, found.rule, packet);
+    }
+    verdict
 }
 
 /// A verdict that was foreseen, and the place of the rule that gives it where no rule before counts the packet, else
@@ -152,40 +205,71 @@ pub struct Foreseen {
 /// No rule alone counts the packet.
 pub const NO_RULE: usize = usize::MAX;
 
-/// The same verdict as `judge_by_memory`, and by which rule; what is found is remembered.
+/// What a search foretells.
+#[inline(always)]
+fn foretold(rules: &[CountedRule], found: Found) -> Foreseen
+    ensures verdict { result.verdict
+        ≡ verdict_of_match (option_and_then (slice_get rules.now) found.last) }
+    ensures rule { result.rule ≡ found.rule }
+{
+    Foreseen {
+        verdict: verdict_at(rules, found.last),
+        rule: found.rule,
+    }
+}
+
+/// The same verdict, and by which rule; where many rules are left, the path is remembered.
 #[inline(always)]
 pub fn foresee(
-    memory: &mut SearchMemory,
-    rules: &[CountedRule],
+    paths: &mut Paths,
+    rules: &mut [CountedRule],
     jumps: &[usize],
     start: usize,
     packet: &Packet,
 ) -> Foreseen
-    requires jumps { AreJumps (the_rules rules.now) jumps.now }
-    requires memory { IsTrueOf (the_rules rules.now) memory.old }
-    ensures verdict { result.verdict ≡ verdict start packet.now rules.now }
-    ensures memory { IsTrueOf (the_rules rules.now) memory.new }
+    requires jumps { AreJumps (the_rules rules.old) jumps.now }
+    requires paths { AreTrueOf (the_rules rules.old) paths.old }
+    ensures verdict { result.verdict ≡ verdict start packet.now rules.old }
     ensures rule { result.rule ≢ NO_RULE →
-        CountsAlone start packet.now (the_rules rules.now) result.rule }
+        CountsAlone start packet.now (the_rules rules.old) result.rule }
     ensures none { result.rule ≡ NO_RULE → (k : ℕ) (c : Counted) →
-        least_match packet.now (the_rules rules.now) start ≡ Some k →
-        slice_get rules.now k ≡ Some c → decision c.rule.action c ≡ None }
+        least_match packet.now (the_rules rules.old) start ≡ Some k →
+        slice_get rules.old k ≡ Some c → decision c.rule.action c ≡ None }
+    ensures same { settled paths.new rules.new ≡ settled paths.old rules.old }
+    ensures rules { IsRecounted rules.old rules.new }
+    ensures paths { AreTrueOf (the_rules rules.old) paths.new }
 {
-    let mut from = start;
-    let mut is_first = true;
-    while let Some(place) = recalled_match(memory, rules, from, packet) {
-        let counted = &rules[place];
-        if let Some(verdict) = counted.decision() {
-            let rule = if is_first { place } else { NO_RULE };
-            return Foreseen { verdict, rule };
-        }
-        is_first = false;
-        from = jumps[place];
+    if is_short(rules, start, packet) {
+        let found = search(rules, jumps, start, packet);
+        return foretold(rules, found);
     }
-    Foreseen {
-        verdict: Verdict::Dropped,
-        rule: NO_RULE,
+    let found = far_search(paths, rules, jumps, start, packet);
+    foretold(rules, found)
+}
+
+/// The search where many rules are left: by the path that is remembered, else by a walk, which is remembered then.
+#[inline(never)]
+fn far_search(
+    paths: &mut Paths,
+    rules: &mut [CountedRule],
+    jumps: &[usize],
+    start: usize,
+    packet: &Packet,
+) -> Found
+    requires jumps { AreJumps (the_rules rules.old) jumps.now }
+    requires paths { AreTrueOf (the_rules rules.old) paths.old }
+    ensures found { IsFound start packet.now (the_rules rules.old) result }
+    ensures same { settled paths.new rules.new ≡ settled paths.old rules.old }
+    ensures rules { IsRecounted rules.old rules.new }
+    ensures paths { AreTrueOf (the_rules rules.old) paths.new }
+{
+    let seat = paths.seek(start, packet);
+    if seat.is_taken {
+        return paths.recall(seat.place);
     }
+    let found = search(rules, jumps, start, packet);
+    paths.remember(seat.place, rules, jumps, start, packet, found);
+    found
 }
 
 /// The rule at a place counts a packet.

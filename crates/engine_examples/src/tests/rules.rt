@@ -5,7 +5,7 @@ use emu_model::{
     Action, Load, Packet, PipeNumber, Place, PortRange, Prefix, PrefixLength, Protocol,
     ProtocolMatch, Refusal, Rule, RuleNumber, Size, Verdict,
 };
-use emu_rules::{AddError, RuleList};
+use emu_rules::{AddError, CountedRule, RuleList};
 use std::alloc::Global;
 use std::test::Fail;
 
@@ -168,17 +168,26 @@ fn answers(list: &mut RuleList, wanted: &[(Call, &'static str)]) -> bool {
     true
 }
 
+/// Whether a rule has this number, order, packets and bytes.
+fn is_line(counted: &CountedRule, want: (u32, u64, u64, u64)) -> bool {
+    let place = counted.place();
+    counted.rule().number.get() == want.0
+        && place.order == want.1
+        && counted.packets() == want.2
+        && counted.bytes() == want.3
+}
+
 /// The listing has these lines: number, order, packets, bytes.
-fn lists(list: &RuleList, wanted: &[(u32, u64, u64, u64)]) -> bool {
-    let lines = list.list();
-    lines.len() == wanted.len()
-        && lines.iter().zip(wanted).all(|(counted, want)| {
-            let place = counted.place();
-            counted.rule().number.get() == want.0
-                && place.order == want.1
-                && counted.packets() == want.2
-                && counted.bytes() == want.3
-        })
+fn lists(list: &mut RuleList, wanted: &[(u32, u64, u64, u64)]) -> bool {
+    if list.len() != wanted.len() {
+        return false;
+    }
+    for (place, want) in wanted.iter().enumerate() {
+        if place >= list.len() || !is_line(&list.rule_at(place), *want) {
+            return false;
+        }
+    }
+    true
 }
 
 /// A packet of 1000 bytes gets this pipe, with this place.
@@ -211,7 +220,7 @@ fn jump_to_a_pipe(rt: HostRuntime) -> Result<(), Fail> {
         (300, 0, 1, 1000),
         (65535, 0, 0, 0),
     ];
-    let listed = lists(&list, &lines);
+    let listed = lists(&mut list, &lines);
     let told = finds_pipe(&list, (1, 300, 0));
     assert!(rt; answered && listed && told);
     Ok(())
@@ -256,12 +265,12 @@ fn rule_replaced_behind_a_pipe(rt: HostRuntime) -> Result<(), Fail> {
     ];
     let answered = answers(&mut list, &steps);
     let lines = [(100, 2, 1, 1000), (300, 1, 1, 1000), (65535, 0, 0, 0)];
-    let listed = lists(&list, &lines);
+    let listed = lists(&mut list, &lines);
     assert!(rt; answered && listed);
     Ok(())
 }
 
-/// Rules come and go between packets of one flow, in a list that is long enough for its memory.
+/// Rules come and go between packets of one flow, in a list that is long enough for paths.
 #[test]
 fn what_was_found_before_changes(rt: HostRuntime) -> Result<(), Fail> {
     let mut list = made_at_last(rt.alloc())?;
@@ -290,7 +299,44 @@ fn what_was_found_before_changes(rt: HostRuntime) -> Result<(), Fail> {
         (5, 4, 4, 4000),
         (65535, 0, 2, 2000),
     ];
-    let listed = lists(&list, &lines);
+    let listed = lists(&mut list, &lines);
+    assert!(rt; grown && answered && listed);
+    Ok(())
+}
+
+/// Packets of one flow are counted by their path, and its rules have them when they are listed, and when one goes.
+#[test]
+fn what_a_path_counted(rt: HostRuntime) -> Result<(), Fail> {
+    let mut list = made_at_last(rt.alloc())?;
+    let mut grown = true;
+    for n in 1..6 {
+        grown = grown && grows(&mut list, n);
+    }
+    let steps = [
+        (Call::Skip(3, 5), "ok"),
+        (Call::Allow(7), "ok"),
+        (Call::Foresee, "allow"),
+        (Call::Send, "allow"),
+        (Call::Send, "allow"),
+        (Call::Delete(2), "ok"),
+        (Call::Count(2), "ok"),
+        (Call::Foresee, "allow"),
+        (Call::Send, "allow"),
+        (Call::ForeseeAfter(2, 7), "allow"),
+        (Call::SendAfter(2, 7), "allow"),
+    ];
+    let answered = answers(&mut list, &steps);
+    let lines = [
+        (1, 0, 3, 3000),
+        (2, 7, 1, 1000),
+        (3, 2, 4, 4000),
+        (3, 5, 4, 4000),
+        (4, 3, 0, 0),
+        (5, 4, 4, 4000),
+        (7, 6, 4, 4000),
+        (65535, 0, 0, 0),
+    ];
+    let listed = lists(&mut list, &lines) && answer(&mut list, Call::Send) == "allow";
     assert!(rt; grown && answered && listed);
     Ok(())
 }
@@ -305,12 +351,12 @@ fn made_at_last(alloc: Global) -> Result<RuleList, Fail> {
 
 /// One rule more, at the second try where memory was refused; the list was as before then.
 fn grows(list: &mut RuleList, n: u32) -> bool {
-    let before = list.list().len();
+    let before = list.len();
     let first = answer(list, Call::Count(n));
     if first == "ok" {
-        return list.list().len() > before;
+        return list.len() > before;
     }
-    list.list().len() == before && answer(list, Call::Count(n)) == "ok"
+    list.len() == before && answer(list, Call::Count(n)) == "ok"
 }
 
 /// Passes with ample memory, and where any one allocation is refused.
@@ -375,9 +421,9 @@ fn low_ports() -> Rule {
     }
 }
 
-/// Each of 600 flows gets its own verdict, foreseen and then counted.
+/// Each of 3000 flows gets its own verdict, foreseen and then counted.
 fn take_turns(list: &mut RuleList) -> bool {
-    for sport in 1..601 {
+    for sport in 1..3001 {
         let sent = packet(Protocol::Udp, 0x0a00_0001, sport, 0x0a00_0002, 2000);
         let want = if sport <= 300 { "allow" } else { "deny" };
         if word(list.foresee(&sent)) != want || word(list.verdict(&sent)) != want {
@@ -387,7 +433,7 @@ fn take_turns(list: &mut RuleList) -> bool {
     true
 }
 
-/// More flows than a memory has places for, in turn: their findings take each other's places.
+/// More flows than there are places for paths, in turn: they take each other's places.
 #[test]
 fn flows_at_one_place(rt: HostRuntime) -> Result<(), Fail> {
     let mut list = RuleList::new(rt.alloc())?;
@@ -398,13 +444,13 @@ fn flows_at_one_place(rt: HostRuntime) -> Result<(), Fail> {
     let judged = take_turns(&mut list) && take_turns(&mut list);
     let lines = [
         (10, 0, 600, 600_000),
-        (20, 1, 600, 600_000),
+        (20, 1, 5400, 5_400_000),
         (21, 2, 0, 0),
         (22, 3, 0, 0),
         (23, 4, 0, 0),
         (65535, 0, 0, 0),
     ];
-    let listed = lists(&list, &lines);
+    let listed = lists(&mut list, &lines);
     assert!(rt; added && judged && listed);
     Ok(())
 }

@@ -1,7 +1,8 @@
-use Rattle.std.proofs.Common.{refl, sym, ap, ◌∙◌, set, length}
+use Rattle.std.proofs.Common.{refl, sym, ap, ◌∙◌, ◌∷◌, [], set, length}
 use Rattle.std.proofs.lemmas.Option.{slice_get_read}
 use Rattle.emu_model.specs.Rules.{count_packet}
-use Rattle.rule_search.proofs.Alone.{count_one}
+use Rattle.rule_search.proofs.Counting.{count_one}
+use Rattle.rule_search.proofs.Settling.{one, counted-one}
 use Rattle.rule_search.proofs.search.count_at.Goals as goal
 
 pub returns : goal.returns
@@ -10,5 +11,6 @@ returns c =
     let p = c.args.packet.now in
     let own = c.index-rules-place.result in
     ap (set cs c.args.place) (c.count.ensures ∙ ap (count_packet p) (sym c.index-rules-place.is))
-    ∙ count_one p cs c.args.place own
+    ∙ count_one (one p.size) cs c.args.place own
     (slice_get_read cs (length cs) c.args.place own refl c.requires c.index-rules-place.is)
+    ∙ sym (counted-one (c.args.place ∷ []) p 0 cs)

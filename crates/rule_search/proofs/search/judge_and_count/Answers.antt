@@ -1,94 +1,23 @@
-use Rattle.std.proofs.Common.{sym, ap, ◌∙◌, subst, ◌<◌, ◌-◌, length, slice_index, set, arith}
-use Rattle.std.proofs.lemmas.List.{length-map, length-set}
-use Rattle.emu_model.specs.Rules.{Counted, the_rules, verdict, counted_rules, count_packet}
-use Rattle.rule_search.specs.Walk.{AreJumps}
-use Rattle.rule_search.specs.Findings.{IsTrueOf}
-use Rattle.rule_search.proofs.Walking.{matched_read, least_match-within, Answers-none}
-use Rattle.rule_search.proofs.Counting.{counting_ends, counting_goes, jump-counted, Leaves-none}
+use Rattle.std.proofs.Common.{sym, ap, ◌∙◌, subst}
+use Rattle.emu_model.specs.Rules.{the_rules, matched_places}
+use Rattle.rule_search.specs.declared.counted.Amount.{Amount}
+use Rattle.rule_search.specs.Walk.{IsRecounted, counted_more}
+use Rattle.rule_search.specs.Paths.{settled}
+use Rattle.rule_search.proofs.Recounted.{IsRecounted-counted}
+use Rattle.rule_search.proofs.Settling.{settled-walked}
 use Rattle.rule_search.proofs.search.judge_and_count.Goals as goal
 
-pub returns-in-Some-decision-clause-verdict : goal.returns-in-Some-decision-clause-verdict
-returns-in-Some-decision-clause-verdict c =
-    let cs = c.loop-place.rules in
+pub returns-then-is_short-clause-counted : goal.returns-then-is_short-clause-counted
+returns-then-is_short-clause-counted c =
+    let m = c.args.paths.now in
+    let cs = c.args.rules.now in
     let p = c.args.packet.now in
-    let old = c.args.rules.now in
-    let e = sym c.in-Some.ensures.found in
-    (counting_ends p cs c.loop-place.from (verdict c.args.start p old) (counted_rules c.args.start p old) c.in-Some.place c.index-rules-place.result c.count.new.self c.in-Some-decision.verdict
-    c.loop-place.invariant.answers c.loop-place.invariant.leaves e
-    (matched_read p cs c.loop-place.from c.in-Some.place c.index-rules-place.result e c.index-rules-place.is)
-    (c.count.ensures ∙ ap (count_packet p) (sym c.index-rules-place.is))
-    (sym c.decision.ensures ∙ c.in-Some-decision.is)).0
+    ap (settled m) c.walk_and_count.ensures.rules
+    ∙ ap (λ (a : Amount). settled m (counted_more c.args.start p a cs)) c.one.ensures
+    ∙ settled-walked m.held.items c.args.start p cs
 
-pub returns-in-Some-decision-clause-rules : goal.returns-in-Some-decision-clause-rules
-returns-in-Some-decision-clause-rules c =
-    let cs = c.loop-place.rules in
-    let p = c.args.packet.now in
-    let old = c.args.rules.now in
-    let e = sym c.in-Some.ensures.found in
-    (counting_ends p cs c.loop-place.from (verdict c.args.start p old) (counted_rules c.args.start p old) c.in-Some.place c.index-rules-place.result c.count.new.self c.in-Some-decision.verdict
-    c.loop-place.invariant.answers c.loop-place.invariant.leaves e
-    (matched_read p cs c.loop-place.from c.in-Some.place c.index-rules-place.result e c.index-rules-place.is)
-    (c.count.ensures ∙ ap (count_packet p) (sym c.index-rules-place.is))
-    (sym c.decision.ensures ∙ c.in-Some-decision.is)).1
-
-pub loop-place-smaller : goal.loop-place-smaller
-loop-place-smaller c =
-    let cs = c.loop-place.rules in
-    let p = c.args.packet.now in
-    let e = sym c.in-Some.ensures.found in
-    let jumps = c.args.jumps.now in
-    let up : c.in-Some.place < slice_index jumps c.in-Some.place =
-    jump-counted p cs jumps c.in-Some.place c.index-rules-place.result c.count.new.self
-    (subst (λ rs. AreJumps rs jumps) (sym c.loop-place.invariant.same) c.requires.jumps)
-    (matched_read p cs c.loop-place.from c.in-Some.place c.index-rules-place.result e c.index-rules-place.is)
-    (c.count.ensures ∙ ap (count_packet p) (sym c.index-rules-place.is))
-    (sym c.decision.ensures ∙ c.in_default-decision.is) in
-    let b = least_match-within p (the_rules cs) c.loop-place.from c.in-Some.place e in
-    let falls : length (set cs c.in-Some.place c.count.new.self) - slice_index jumps c.in-Some.place < length cs - c.loop-place.from =
-    omega (arith, b.0, b.1, length-map cs (λ (c : Counted). c.rule), length-set cs c.in-Some.place c.count.new.self) in
-    falls
-
-pub loop-place-preserved : goal.loop-place-preserved
-loop-place-preserved c =
-    let cs = c.loop-place.rules in
-    let p = c.args.packet.now in
-    let old = c.args.rules.now in
-    let e = sym c.in-Some.ensures.found in
-    let jumps = c.args.jumps.now in
-    let on =
-    counting_goes p cs jumps c.loop-place.from (verdict c.args.start p old) (counted_rules c.args.start p old) c.in-Some.place c.index-rules-place.result c.count.new.self
-    (subst (λ rs. AreJumps rs jumps) (sym c.loop-place.invariant.same) c.requires.jumps)
-    c.loop-place.invariant.answers c.loop-place.invariant.leaves e
-    (matched_read p cs c.loop-place.from c.in-Some.place c.index-rules-place.result e c.index-rules-place.is)
-    (c.count.ensures ∙ ap (count_packet p) (sym c.index-rules-place.is))
-    (sym c.decision.ensures ∙ c.in_default-decision.is) in
-    record {
-      same = on.same ∙ c.loop-place.invariant.same;
-      answers = on.answers;
-      leaves = on.leaves;
-      knows = subst (λ rs. IsTrueOf rs c.recalled_match.new.memory) c.loop-place.invariant.same c.recalled_match.ensures.memory;
-    }
-
-pub returns-clause-verdict : goal.returns-clause-verdict
-returns-clause-verdict c =
-    let p = c.args.packet.now in
-    let old = c.args.rules.now in
-    Answers-none p c.loop-place.rules c.loop-place.from (verdict c.args.start p old) c.loop-place.invariant.answers (sym c.recalled_match.ensures.found ∙ c.in_default.is)
-
-pub returns-clause-rules : goal.returns-clause-rules
-returns-clause-rules c =
-    let p = c.args.packet.now in
-    let old = c.args.rules.now in
-    Leaves-none p c.loop-place.rules c.loop-place.from (counted_rules c.args.start p old) c.loop-place.invariant.leaves (sym c.recalled_match.ensures.found ∙ c.in_default.is)
-
-pub recalled_match-requires : goal.recalled_match-requires
-recalled_match-requires c =
-    subst (λ rs. IsTrueOf rs c.loop-place.memory) (sym c.loop-place.invariant.same) c.loop-place.invariant.knows
-
-pub returns-in-Some-decision-clause-memory : goal.returns-in-Some-decision-clause-memory
-returns-in-Some-decision-clause-memory c =
-    subst (λ rs. IsTrueOf rs c.recalled_match.new.memory) c.loop-place.invariant.same c.recalled_match.ensures.memory
-
-pub returns-clause-memory : goal.returns-clause-memory
-returns-clause-memory c =
-    subst (λ rs. IsTrueOf rs c.recalled_match.new.memory) c.loop-place.invariant.same c.recalled_match.ensures.memory
+pub returns-then-is_short-clause-rules : goal.returns-then-is_short-clause-rules
+returns-then-is_short-clause-rules c =
+    let cs = c.args.rules.now in
+    subst (IsRecounted cs) (sym c.walk_and_count.ensures.rules)
+    (IsRecounted-counted (matched_places c.args.start c.args.packet.now (the_rules cs)) c.one.result cs)

@@ -1,34 +1,48 @@
-use Rattle.std.proofs.Common.{◌≡◌, ◌∙◌, sym, subst, ap}
+use Rattle.std.proofs.Common.{◌≡◌, List, ◌∙◌, sym, subst, ap}
 use Rattle.std.proofs.lemmas.List.{with_items_is}
-use Rattle.emu_model.specs.Rules.{the_rules, matched_places, counted_rules, start_behind}
-use Rattle.rule_search.specs.Findings.{IsTrueOf}
+use Rattle.emu_model.specs.Rules.{Counted, counted_rules, start_behind, the_rules, verdict}
+use Rattle.rule_search.specs.Walk.{IsRecounted}
+use Rattle.rule_search.specs.Paths.{AreTrueOf, settled}
 use Rattle.emu_rules.specs.Sound.{IsSound}
-use Rattle.emu_rules.proofs.RulesKept.{IsSound-counted, book}
+use Rattle.emu_rules.proofs.RulesKept.{IsSound-recounted, behind-settled, book, verdict-settled}
 use Rattle.emu_rules.proofs.list.RuleList.verdict_after.Goals as goal
 
 pub invariant_of-self : goal.invariant_of-self
 invariant_of-self c =
-    let old = c.self.inside.rules in
-    let p = c.args.packet.now in
+    let s = c.self.inside in
     let new = c.judge_and_count.new.rules in
-    let start = c.first_behind-start.result in
-    let is = with_items_is old new (c.judge_and_count.auto.rules ∙ c.deref_mut.ensures.len) ∙ c.judge_and_count.ensures.rules ∙ ap (counted_rules start p) c.deref_mut.ensures.value in
-    let memory = c.judge_and_count.new.memory in
-    let knows = subst (λ cs. IsTrueOf (the_rules cs) memory) c.deref_mut.ensures.value c.judge_and_count.ensures.memory in
-    subst (λ cs. IsSound cs c.self.inside.jumps.items c.self.inside.added memory) (sym is)
-    (IsSound-counted (matched_places start p (the_rules old.items)) p old.items c.self.inside.jumps.items c.self.inside.added c.self.inside.memory memory c.self.invariant knows)
+    let paths = c.judge_and_count.new.paths in
+    let is = with_items_is s.rules new (c.judge_and_count.auto.rules ∙ c.deref_mut.ensures.len) in
+    let same = subst (λ (cs : List Counted). IsRecounted cs new) c.deref_mut.ensures.value c.judge_and_count.ensures.rules in
+    let knows = subst (λ (cs : List Counted). AreTrueOf (the_rules cs) paths) c.deref_mut.ensures.value c.judge_and_count.ensures.paths in
+    subst (λ (cs : List Counted). IsSound cs s.jumps.items s.added paths) (sym is)
+    (IsSound-recounted s.rules.items new s.jumps.items s.added s.paths paths c.self.invariant same knows)
+
+pub returns-clause-verdict : goal.returns-clause-verdict
+returns-clause-verdict c =
+    let s = c.self.inside in
+    let p = c.args.packet.now in
+    let n = c.first_behind-start.result in
+    let start : c.first_behind-start.result ≡ start_behind c.args.place (settled s.paths s.rules.items) =
+    c.first_behind-start.ensures ∙ ap (start_behind c.args.place) c.deref.ensures.value ∙ sym (behind-settled c.args.place s.paths s.rules.items) in
+    rw (← c.self.view_is)
+    (c.judge_and_count.ensures.verdict
+    ∙ ap (verdict n p) c.deref_mut.ensures.value
+    ∙ sym (verdict-settled n p s.paths s.rules.items)
+    ∙ ap (λ n. verdict n p (settled s.paths s.rules.items)) start)
 
 pub returns-clause-counted : goal.returns-clause-counted
 returns-clause-counted c =
-    let old = c.self.inside.rules in
+    let s = c.self.inside in
     let p = c.args.packet.now in
-    let place = c.args.place in
+    let n = c.first_behind-start.result in
     let new = c.judge_and_count.new.rules in
-    let start : c.first_behind-start.result ≡ start_behind place old.items =
-    c.first_behind-start.ensures ∙ ap (start_behind place) c.deref.ensures.value in
-    let is =
-    with_items_is old new (c.judge_and_count.auto.rules ∙ c.deref_mut.ensures.len)
-    ∙ c.judge_and_count.ensures.rules
-    ∙ ap (counted_rules c.first_behind-start.result p) c.deref_mut.ensures.value
-    ∙ ap (λ s. counted_rules s p old.items) start in
-    rw (← c.self.view_is) (ap (λ cs. book cs c.self.inside.added) is)
+    let paths = c.judge_and_count.new.paths in
+    let is = with_items_is s.rules new (c.judge_and_count.auto.rules ∙ c.deref_mut.ensures.len) in
+    let start : c.first_behind-start.result ≡ start_behind c.args.place (settled s.paths s.rules.items) =
+    c.first_behind-start.ensures ∙ ap (start_behind c.args.place) c.deref.ensures.value ∙ sym (behind-settled c.args.place s.paths s.rules.items) in
+    rw (← c.self.view_is) (ap (λ cs. book cs s.added)
+    (ap (settled paths) is
+    ∙ c.judge_and_count.ensures.counted
+    ∙ ap (λ cs. counted_rules n p (settled s.paths cs)) c.deref_mut.ensures.value
+    ∙ ap (λ n. counted_rules n p (settled s.paths s.rules.items)) start))
