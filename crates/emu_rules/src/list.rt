@@ -80,7 +80,7 @@ impl RuleList {
         }
         // Without places for paths each search is a walk.
         let _places = self.paths.make_places(self.rules.len() + 1);
-        self.paths.settle(&mut self.rules, &self.jumps);
+        self.paths.settle(&mut self.rules, &self.jumps); // before a rule comes
         let place = first_from(&self.rules, counted.number() + 1);
         let Ok(()) = self.rules.insert(place, counted) else {
             unreachable!()
@@ -123,7 +123,7 @@ impl RuleList {
         if !is_rule_number(number) {
             return Err(Refusal::BadNumber);
         }
-        self.paths.settle(&mut self.rules, &self.jumps);
+        self.paths.settle(&mut self.rules, &self.jumps); // before rules go
         let number = number.get();
         if !self.rules.iter().any(|counted| counted.number() == number) {
             return Err(Refusal::NoRule);
@@ -151,7 +151,7 @@ impl RuleList {
     }
 
     /// The same verdict, and nothing is counted; a later search for a packet of this flow goes by
-    /// what this one found. Takes no memory.
+    /// the path that this one found. Takes no memory.
     pub fn foresee(&mut self, packet: &Packet) -> Verdict
         ensures verdict { result ≡ verdict 0 packet.now self.old.rules }
         ensures same { self.new ≡ self.old }
@@ -232,13 +232,13 @@ impl RuleList {
         self.rules.len()
     }
 
-    /// The rule at a place with its counters; the default is the last.
+    /// The rule at a place with its counters; the default is the last. Takes no memory.
     pub fn rule_at(&mut self, place: usize) -> CountedRule
         requires { place < length self.old.rules }
         ensures rule { slice_get self.old.rules place ≡ Some result }
         ensures same { self.new ≡ self.old }
     {
-        self.paths.settle(&mut self.rules, &self.jumps);
+        self.paths.settle(&mut self.rules, &self.jumps); // before a rule is read
         self.rules[place]
     }
 }
