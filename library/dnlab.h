@@ -6,7 +6,7 @@
  *   if (answer.status == DNLAB_DONE) fwrite(room, 1, answer.length, stdout);
  *
  * Nothing is kept between two calls but an open session, and nothing is shared: threads may call at once, each with its own
- * room, answer and session. `room` must not overlap `text`, `report`, `line` or the answer; a length of 0 may come with any
+ * room, answer and session. `room` must not overlap `text`, `line` or the answer; a length of 0 may come with any
  * pointer but NULL. A call takes memory by malloc, and gives all of it back, but for an open session. It needs 128 KiB of
  * stack. It can't be interrupted: what a text costs is bounded by its budgets. Not for signal handlers. */
 #ifndef DNLAB_H
@@ -51,9 +51,8 @@ typedef struct {
 void dnlab_alone(const uint8_t *text, size_t text_length, uint8_t *room, size_t room_length, dnlab_answer *answer);
 /* Says whether a text is a scenario: what `dnlab check` writes. */
 void dnlab_check(const uint8_t *text, size_t text_length, uint8_t *room, size_t room_length, dnlab_answer *answer);
-/* What `--explain` says of a text, behind the line of its fault; of a text that was run (`has_run`) also by its report. */
-void dnlab_explain(const uint8_t *text, size_t text_length, const uint8_t *report, size_t report_length, bool has_run,
-                   uint8_t *room, size_t room_length, dnlab_answer *answer);
+/* What `--explain` says of a text, behind the line of its fault; with `runs` also of its run, which is made for that. */
+void dnlab_explain(const uint8_t *text, size_t text_length, bool runs, uint8_t *room, size_t room_length, dnlab_answer *answer);
 /* The version, the commit of the sources, and by which kit they are proved. */
 void dnlab_version(uint8_t *room, size_t room_length, dnlab_answer *answer);
 

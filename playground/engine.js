@@ -50,8 +50,8 @@ class Engine {
   }
   alone(text) { return this.withTexts("dnlab_alone", [text]); }
   check(text) { return this.withTexts("dnlab_check", [text]); }
-  // What `--explain` says, behind the line of the fault; of a text that was run also by its report.
-  explain(text, report) { return this.withTexts("dnlab_explain", [text, report || new Uint8Array(0)], report ? 1 : 0); }
+  // What `--explain` says, behind the line of the fault; with `runs` also of its run, which is made for that.
+  explain(text, runs) { return this.withTexts("dnlab_explain", [text], runs ? 1 : 0); }
   version() { return new TextDecoder().decode(this.call("dnlab_version").bytes); }
 }
 // What the program writes on standard error before what is explained.

@@ -7,7 +7,7 @@ onmessage = async ({data: {turn, module, text, traced}}) => {
   try {
     engine ||= new Engine(await WebAssembly.instantiate(module, {}));
     const begun = performance.now(), found = engine.alone(text), spent = performance.now() - begun;
-    const said = engine.explain(text, found.status ? null : found.bytes);
+    const said = engine.explain(text, !found.status);
     // The pictures want each packet's making, which `trace` alone records: a second run.
     const isLong = found.bytes.length > MOST_DRAWN, more = found.status || isLong || !traced ? null : engine.alone(traced);
     const drawn = isLong ? new Uint8Array(0) : more && !more.status ? more.bytes : found.bytes.slice();

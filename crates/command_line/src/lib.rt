@@ -3,10 +3,8 @@
 #![tactic(auto)]
 
 mod hinted;
-mod kept;
 mod meter;
 mod tell;
-mod watched;
 mod words;
 
 ghost use Rattle.std.specs.Prelude.{◌≡◌};
@@ -14,11 +12,12 @@ ghost use Rattle.command_line.specs.Status.{status_after};
 
 use clap::Error;
 use clap::error::ErrorKind;
-use control::parse_scenario;
-use explain_text::{explained, faults_text, refusals_text, warnings_text};
+use explain::{Account, Note, Subject};
+use explain_text::{account_of, explained, faults_text, scenario_explained};
 use hinted::LineHints;
-use kept::{Keeper, Kept};
-use lab::{Device, OpenGate, Plan, RunFault, Stop, check, live, run_alone_within, run_within};
+use lab::{
+    Device, Made, OpenGate, Plan, RunFault, Stop, check_kept, live, run_alone_within, run_within,
+};
 use meter::Meter;
 use std::alloc::{AllocError, Global};
 use std::process::ExitCode;
@@ -27,7 +26,6 @@ use std::sync::Wait;
 use std::thread::Threads;
 use std::{env, io};
 use tell::{hint_at, print, tell_output, tell_steps};
-use watched::{Watched, Watcher};
 use words::{Task, stray_word, task_of};
 
 /// The exit status of a strict run in which a command was refused, or an experiment spent its steps.
@@ -60,47 +58,34 @@ fn fail(rt: &impl Eprint, fault: RunFault) -> ExitCode {
     end(rt, Err(Stop::Fault(fault)))
 }
 
-// What a call without limits answers.
-fn unlimited(outcome: Result<(), RunFault>) -> Result<(), Stop> {
+// What a call without limits answers that makes no reports.
+fn unlimited(outcome: Result<(), RunFault>) -> Result<Option<Made>, Stop> {
     match outcome {
-        Ok(()) => Ok(()),
+        Ok(()) => Ok(None),
         Err(fault) => Err(Stop::Fault(fault)),
     }
 }
 
-// What is said behind a call that went well, where that is asked for: which commands were refused, if there was a run,
-// and what is silently wrong.
-fn tell_all(
-    rt: &impl Eprint,
-    alloc: Global,
-    kept: &Kept,
-    watched: &Watched,
-    task: &Task,
-) -> Result<(), AllocError> {
-    if !task.explains() {
-        return Ok(());
+// What a call answers that makes reports.
+fn with_reports(outcome: Result<Made, Stop>) -> Result<Option<Made>, Stop> {
+    match outcome {
+        Ok(made) => Ok(Some(made)),
+        Err(stop) => Err(stop),
     }
-    if !task.runs() {
-        let said = explained(alloc, kept.text(), None)?;
-        print(rt, said.as_slice());
-        return Ok(());
-    }
-    let refused = refusals_text(alloc, kept.text(), watched.refusals())?;
-    print(rt, refused.as_slice());
-    // The text was read before, so that it is a scenario.
-    let Ok(scenario) = parse_scenario(alloc, kept.text()) else {
-        return Err(AllocError);
-    };
-    let notes = Some(watched.notes());
-    let warned = warnings_text(alloc, kept.text(), scenario.experiments(), notes)?;
-    print(rt, warned.as_slice());
-    Ok(())
+}
+
+// How many experiments spent their steps.
+fn count_spent(notes: &[Note]) -> usize {
+    notes
+        .iter()
+        .filter(|note| note.subject == Subject::Spent)
+        .count()
 }
 
 // Says of a strict run that commands were refused or steps were spent, if so, and how the program ends.
-fn end_strictly(rt: &impl Eprint, watched: &Watched) -> ExitCode {
-    let refused = watched.refusals().len();
-    let spent = watched.spent();
+fn end_strictly(rt: &impl Eprint, account: &Account) -> ExitCode {
+    let refused = account.refusals().len();
+    let spent = count_spent(account.notes());
     if refused == 0 && spent == 0 {
         return ExitCode::from(0);
     }
@@ -110,39 +95,82 @@ fn end_strictly(rt: &impl Eprint, watched: &Watched) -> ExitCode {
     ExitCode::from(NOT_STRICT)
 }
 
-// Says why a call gave no answer, and where it is asked for what is wrong with the text, which commands were refused and
-// what is silently wrong. Where memory for that is refused the program says so.
+// Says of a run that went well what is asked for: which commands were refused and what is silently wrong, and whether that
+// is a failure.
+fn end_run(
+    rt: &impl Eprint,
+    alloc: Global,
+    text: &[u8],
+    made: &Made,
+    task: &Task,
+) -> Result<ExitCode, AllocError> {
+    if !task.explains() && !task.is_strict() {
+        return Ok(ExitCode::from(0));
+    }
+    let account = account_of(alloc, made.reports.as_slice())?;
+    if task.explains() {
+        let experiments = made.scenario.experiments();
+        let said = scenario_explained(alloc, text, experiments, Some(&account))?;
+        print(rt, said.as_slice());
+    }
+    if task.is_strict() {
+        return Ok(end_strictly(rt, &account));
+    }
+    Ok(ExitCode::from(0))
+}
+
+// The same of a call that ran nothing.
+fn end_unrun(
+    rt: &impl Eprint,
+    alloc: Global,
+    text: &[u8],
+    task: &Task,
+) -> Result<ExitCode, AllocError> {
+    if task.explains() {
+        let said = explained(alloc, text, None)?;
+        print(rt, said.as_slice());
+    }
+    Ok(ExitCode::from(0))
+}
+
+// Says why a call stopped, and where it is asked for what is wrong with the text.
+fn end_stopped(
+    rt: &impl Eprint,
+    alloc: Global,
+    text: &[u8],
+    stop: Stop,
+    task: &Task,
+) -> Result<ExitCode, AllocError> {
+    match stop {
+        Stop::Fault(RunFault::Scenario(fault)) if task.explains() => {
+            let shown = faults_text(alloc, text, &fault)?;
+            let code = end(rt, Err(stop));
+            print(rt, shown.as_slice());
+            return Ok(code);
+        }
+        Stop::Steps { number, total } => tell_steps(rt, text, number, total, &task.limits()),
+        Stop::Output(bytes) => tell_output(rt, bytes, &task.limits()),
+        Stop::Fault(_) => {}
+    }
+    Ok(end(rt, Err(stop)))
+}
+
+// Says what is to be said behind a call, and how the program ends. Where memory for that is refused the program says so.
 fn end_with(
     rt: &impl Eprint,
     alloc: Global,
-    outcome: Result<(), Stop>,
-    kept: &Kept,
-    watched: &Watched,
+    text: &[u8],
+    outcome: Result<Option<Made>, Stop>,
     task: &Task,
 ) -> ExitCode {
-    if kept.lacks_memory() || watched.lacks_memory() {
-        return fail(rt, RunFault::Memory);
-    }
-    match outcome {
-        Ok(()) if tell_all(rt, alloc, kept, watched, task).is_err() => fail(rt, RunFault::Memory),
-        Ok(()) if task.is_strict() => end_strictly(rt, watched),
-        Err(Stop::Fault(RunFault::Scenario(fault))) if task.explains() => {
-            let Ok(shown) = faults_text(alloc, kept.text(), &fault) else {
-                return fail(rt, RunFault::Memory);
-            };
-            let code = end(rt, outcome);
-            print(rt, shown.as_slice());
-            code
-        }
-        Err(Stop::Steps { number, total }) => {
-            tell_steps(rt, kept.text(), number, total, &task.limits());
-            end(rt, outcome)
-        }
-        Err(Stop::Output(bytes)) => {
-            tell_output(rt, bytes, &task.limits());
-            end(rt, outcome)
-        }
-        _ => end(rt, outcome),
+    let code = match outcome {
+        Ok(Some(made)) => end_run(rt, alloc, text, &made, task),
+        Ok(None) => end_unrun(rt, alloc, text, task),
+        Err(stop) => end_stopped(rt, alloc, text, stop, task),
+    };
+    match code {
+        Ok(code) => code,
+        Err(_) => fail(rt, RunFault::Memory),
     }
 }
 
@@ -183,14 +211,9 @@ where
         Ok(task) => task,
         Err(error) => return say(rt, &error, words.as_slice()),
     };
-    // What goes past a limit of steps is named by its line.
-    let kept = Kept::new(alloc, task.explains() || task.limits().steps.is_some());
-    let watched = Watched::new(alloc, task.explains() || task.is_strict());
-    if watched.lacks_memory() {
-        return fail(rt, RunFault::Memory);
-    }
-    let mut reader = Device::new(Keeper::new(rt.reader(), kept));
-    let mut writer = Device::new(Watcher::new(io::writer(rt), watched));
+    let mut text = Vec::new(alloc);
+    let mut reader = Device::new(rt.reader());
+    let mut writer = Device::new(io::writer(rt));
     let outcome = match task {
         Task::Run {
             workers,
@@ -205,7 +228,9 @@ where
             };
             let meter = Meter::new(rt, progress);
             let (from, to) = (&mut reader, &mut writer);
-            run_within(rt, alloc, from, to, &limits, plan, &OpenGate, &meter)
+            with_reports(run_within(
+                rt, alloc, from, to, &mut text, &limits, plan, &OpenGate, &meter,
+            ))
         }
         Task::Alone {
             limits,
@@ -213,15 +238,14 @@ where
             ..
         } => {
             let meter = Meter::new(rt, progress);
-            run_alone_within(alloc, &mut reader, &mut writer, &limits, &meter)
+            let (from, to) = (&mut reader, &mut writer);
+            with_reports(run_alone_within(alloc, from, to, &mut text, &limits, &meter))
         }
-        Task::Check { .. } => unlimited(check(alloc, &mut reader, &mut writer)),
+        Task::Check { .. } => unlimited(check_kept(alloc, &mut reader, &mut writer, &mut text)),
         Task::Live { explain } => {
             let hints = LineHints { wanted: explain };
             unlimited(live(alloc, &mut reader, &mut writer, &hints))
         }
     };
-    let kept = reader.into_inner().into_kept();
-    let watched = writer.into_inner().into_watched();
-    end_with(rt, alloc, outcome, &kept, &watched, &task)
+    end_with(rt, alloc, text.as_slice(), outcome, &task)
 }

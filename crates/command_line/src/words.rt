@@ -62,14 +62,6 @@ impl Task {
             Task::Check { .. } | Task::Live { .. } => Limits::none(),
         }
     }
-
-    /// Whether experiments are to be run.
-    pub fn runs(&self) -> bool {
-        match self {
-            Task::Run { .. } | Task::Alone { .. } => true,
-            Task::Check { .. } | Task::Live { .. } => false,
-        }
-    }
 }
 
 const ABOUT: &str = "A link emulator in simulated time: rules and pipes of ipfw(8) and dummynet,

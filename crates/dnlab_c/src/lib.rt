@@ -15,12 +15,12 @@ ghost use Rattle.dnlab_c.specs.Guests.{Opens, TakesAt, ClosesAt};
 
 pub use answer::Answer;
 use answer::{all_well, faulty, no_memory, no_session, put, put_all};
-use explain_text::explained;
+use explain_text::{explained, faults_text};
 use guest::Guest;
 use lab::{Device, RunFault, check, reports_of};
 use loose::Loose;
 pub use place::{Hidden, Place};
-use std::alloc::Global;
+use std::alloc::{AllocError, Global};
 use std::mem;
 use version::VERSION;
 
@@ -53,18 +53,29 @@ pub extern "C" fn dnlab_check(alloc: Global, text: &[u8], room: &mut [u8], answe
     };
 }
 
-/// What `--explain` says on standard error of a text, and of its report where it was run, behind the line of its fault.
+// What is said of a text, and of its run, if that is asked for.
+fn said_of(alloc: Global, text: &[u8], runs: bool) -> Result<Vec<u8>, AllocError> {
+    if !runs {
+        return explained(alloc, text, None);
+    }
+    match reports_of(alloc, text) {
+        Ok(reports) => explained(alloc, text, Some(reports.each())),
+        Err(RunFault::Scenario(fault)) => faults_text(alloc, text, &fault),
+        Err(_) => Err(AllocError),
+    }
+}
+
+/// What `--explain` says on standard error of a text, behind the line of its fault; where `runs` is true of its run too,
+/// which is made for that. The statuses are those of `dnlab_alone`, but for a fault: what is said of one is put.
 #[unsafe(no_mangle)]
 pub extern "C" fn dnlab_explain(
     alloc: Global,
     text: &[u8],
-    report: &[u8],
-    has_run: bool,
+    runs: bool,
     room: &mut [u8],
     answer: &mut Answer,
 ) {
-    let ran = if has_run { Some(report) } else { None };
-    *answer = match explained(alloc, text, ran) {
+    *answer = match said_of(alloc, text, runs) {
         Ok(said) => put(said.as_slice(), room),
         Err(_) => no_memory(),
     };

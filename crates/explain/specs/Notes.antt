@@ -1,58 +1,26 @@
 -- What a report says besides its refusals.
-use Rattle.std.specs.Prelude.{ℕ, ◌+◌, List, [], ◌∷◌, ◌++◌, Option, Some, None, Bool, true, false, min, position, slice_get, slice_set, if◌then◌else◌, ◌==◌, codes}
-use Rattle.std.specs.Str.{bytes_eq}
-use Rattle.control_words.specs.Words.{Words, ◌>>=◌, next, after, value}
-use Rattle.explain.specs.Small.{small_number}
+use Rattle.std.specs.Prelude.{ℕ, ◌+◌, List, [], ◌∷◌, ◌++◌, Option, Some, None, Bool, true, false, min, position, slice_get, slice_set, ◌==◌}
+use Rattle.emu_model.specs.declared.packets.Load.{Load}
+use Rattle.emu_model.specs.declared.packets.Load.TheVariants.{Plain, Seg, Ack}
+use Rattle.emu_model.specs.declared.records.DropCause.{DropCause}
+use Rattle.emu_model.specs.declared.records.DropCause.TheVariants.{Denied, Budget}
+use Rattle.emu_model.specs.declared.records.Record.{Record}
+use Rattle.emu_model.specs.declared.records.Record.TheVariants.{PacketDropped, StepsSpent}
 use Rattle.explain.specs.declared.notes.Note.{Note}
 use Rattle.explain.specs.declared.notes.Subject.{Subject}
 use Rattle.explain.specs.declared.notes.Subject.TheVariants.{Spent, OverBudget, DeniedPlain, DeniedData, DeniedAck}
 
--- of a load's first word and the flow behind it
-abbrev pub flow_load : List ℕ → ℕ → Option Subject
-flow_load word f = if bytes_eq word (codes "data") then Some (DeniedData f) else (if bytes_eq word (codes "ack") then Some (DeniedAck f) else None)
+-- a packet with this load that the rules denied
+abbrev pub denied : Load → Subject
+denied Plain = DeniedPlain
+denied (Seg flow first) = DeniedData flow
+denied (Ack flow upto) = DeniedAck flow
 
--- LOAD: `plain`, `data F FIRST`, `ack F UPTO`
-abbrev pub load_of : List ℕ → Words → Option (Subject × Words)
-load_of word ws = if bytes_eq word (codes "plain") then Some (DeniedPlain, ws) else (do
-  f ← value small_number ws
-  x ← value small_number f.1
-  s ← flow_load word f.0
-  Some (s, x.1))
-
-abbrev pub load_in : Words → Option (Subject × Words)
-load_in ws = do
-  w ← next ws
-  load_of w.0 w.1
-
-abbrev pub by_cause : Subject → List ℕ → Option Subject
-by_cause s cause = if bytes_eq cause (codes "denied") then Some s else (if bytes_eq cause (codes "budget") then Some OverBudget else None)
-
--- CAUSE
-abbrev pub with_cause : Subject → Words → Option Subject
-with_cause s ws = do
-  w ← next ws
-  by_cause s w.0
-
--- `drop P LOAD CAUSE`, behind a moment
-abbrev pub dropped_in : Words → Option Subject
-dropped_in ws = do
-  ws ← after (codes "drop") ws
-  p ← value small_number ws
-  l ← load_in p.1
-  with_cause l.0 l.1
-
--- `spent`, behind a moment
-abbrev pub spent_in : Words → Option Subject
-spent_in ws = do
-  ws ← after (codes "spent") ws
-  Some Spent
-
-abbrev pub or_else : Option Subject → Option Subject → Option Subject
-or_else None other = other
-or_else (Some s) other = Some s
-
-abbrev pub subject_in : Words → Option Subject
-subject_in ws = or_else (spent_in ws) (dropped_in ws)
+-- of drops, those by the rules and for the budget are counted
+abbrev pub dropped : DropCause → Load → Option Subject
+dropped Denied load = Some (denied load)
+dropped Budget load = Some OverBudget
+dropped _ load = None
 
 abbrev pub is_same : Subject → Subject → Bool
 is_same Spent Spent = true
@@ -77,3 +45,21 @@ counted e m s ns (Some k) = more_at ns k (slice_get ns k)
 -- counted once more where it is there, else it stands last
 abbrev pub noted : ℕ → ℕ → Subject → List Note → List Note
 noted e m s ns = counted e m s ns (position (λ n. is_same s n.subject) ns)
+
+abbrev pub noted_if : ℕ → ℕ → Option Subject → List Note → List Note
+noted_if e m None ns = ns
+noted_if e m (Some s) ns = noted e m s ns
+
+-- what a record of the experiment with this number says is counted
+abbrev pub noted_by : ℕ → Record → List Note → List Note
+noted_by e (StepsSpent m) ns = noted e m Spent ns
+noted_by e (PacketDropped m packet load cause) ns = noted_if e m (dropped cause load) ns
+noted_by e _ ns = ns
+
+-- one record after the other, behind these notes
+abbrev pub notes_from : ℕ → List Record → List Note → List Note
+notes_from e [] ns = ns
+notes_from e (r ∷ rs) ns = notes_from e rs (noted_by e r ns)
+
+abbrev pub notes_of : ℕ → List Record → List Note
+notes_of e rs = notes_from e rs []

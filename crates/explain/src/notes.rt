@@ -1,11 +1,9 @@
-//! What a report says besides its refusals: steps used up, packets dropped by the rules and for the budget.
+//! What reports say besides refused commands: steps used up, packets dropped by the rules and for the budget.
 
-ghost use Rattle.std.specs.Prelude.{◌≡◌, ◌<◌, length, vec_len, position, slice_get, option_map, IfSome, OnOk};
-ghost use Rattle.control_words.specs.Text.{words as words_of};
-ghost use Rattle.explain.specs.Notes.{load_of, load_in, with_cause, dropped_in, spent_in, subject_in, is_same, more_at, noted};
+ghost use Rattle.std.specs.Prelude.{◌≡◌, ◌<◌, length, vec_len, position, slice_get, IfSome, OnOk};
+ghost use Rattle.explain.specs.Notes.{denied, dropped, is_same, more_at, noted, noted_if, noted_by};
 
-use crate::replies::number;
-use control_words::{Words, is};
+use emu_model::{DropCause, Load, Record};
 use std::alloc::AllocError;
 
 /// What is counted of an experiment.
@@ -23,7 +21,7 @@ pub enum Subject {
     DeniedAck(u64),
 }
 
-/// How often something happened in the experiment with this number in the report, from 1, and when first (ns).
+/// How often something happened in the experiment with this number in the scenario, from 1, and when first (ns).
 #[derive(Clone, Copy, Debug, PartialEq)]
 pub struct Note {
     pub experiment: u64,
@@ -32,72 +30,25 @@ pub struct Note {
     pub count: u64,
 }
 
-// What a packet carries whose load begins with this word; `None` where it isn't a load.
-fn load_of(word: &[u8], words: &mut Words) -> Option<Subject>
-    ensures { option_map (λ s. (s, words_of words.new.rest.now)) result
-        ≡ load_of word.now (words_of words.old.rest.now) }
+fn denied(load: Load) -> Subject
+    ensures { result ≡ denied load }
 {
-    if is(word, "plain") {
-        return Some(Subject::DeniedPlain);
-    }
-    let flow = number(words)?;
-    let _ = number(words)?;
-    if is(word, "data") {
-        Some(Subject::DeniedData(flow))
-    } else if is(word, "ack") {
-        Some(Subject::DeniedAck(flow))
-    } else {
-        None
+    match load {
+        Load::Plain => Subject::DeniedPlain,
+        Load::Seg { flow, .. } => Subject::DeniedData(u64::from(flow.get())),
+        Load::Ack { flow, .. } => Subject::DeniedAck(u64::from(flow.get())),
     }
 }
 
-fn load(words: &mut Words) -> Option<Subject>
-    ensures { option_map (λ s. (s, words_of words.new.rest.now)) result
-        ≡ load_in (words_of words.old.rest.now) }
+// What is counted of a drop.
+fn dropped(cause: DropCause, load: Load) -> Option<Subject>
+    ensures { result ≡ dropped cause load }
 {
-    let word = words.next_word()?;
-    load_of(word, words)
-}
-
-// What the cause of a drop makes of its load.
-fn with_cause(load: Subject, words: &mut Words) -> Option<Subject>
-    ensures { result ≡ with_cause load (words_of words.old.rest.now) }
-{
-    let cause = words.next_word()?;
-    if is(cause, "denied") {
-        Some(load)
-    } else if is(cause, "budget") {
-        Some(Subject::OverBudget)
-    } else {
-        None
+    match cause {
+        DropCause::Denied => Some(denied(load)),
+        DropCause::Budget => Some(Subject::OverBudget),
+        _ => None,
     }
-}
-
-// `drop P LOAD CAUSE`, behind a moment.
-fn dropped(words: &mut Words) -> Option<Subject>
-    ensures { result ≡ dropped_in (words_of words.old.rest.now) }
-{
-    words.expect_word("drop")?;
-    let _ = number(words)?;
-    let load = load(words)?;
-    with_cause(load, words)
-}
-
-// `spent`, behind a moment.
-fn spent(words: &mut Words) -> Option<Subject>
-    ensures { result ≡ spent_in (words_of words.old.rest.now) }
-{
-    words.expect_word("spent")?;
-    Some(Subject::Spent)
-}
-
-/// What is counted of a line with these words behind its moment.
-pub fn subject_of(words: &Words) -> Option<Subject>
-    ensures { result ≡ subject_in (words_of words.now.rest.now) }
-{
-    let mut first = *words;
-    let mut second = *words;
-    spent(&mut first).or(dropped(&mut second))
 }
 
 fn is_same(one: Subject, other: Subject) -> bool
@@ -129,8 +80,8 @@ fn count_again(notes: &mut Vec<Note>, place: usize)
     notes[place].count = count;
 }
 
-/// Counts something once more.
-pub fn put_note(
+// Counts something once more.
+fn put_note(
     notes: &mut Vec<Note>,
     experiment: u64,
     moment: u64,
@@ -149,4 +100,39 @@ pub fn put_note(
         count: 1,
     })?;
     Ok(())
+}
+
+// Counts something once more, if there is something.
+fn put_if(
+    notes: &mut Vec<Note>,
+    experiment: u64,
+    moment: u64,
+    subject: Option<Subject>,
+) -> Result<(), AllocError>
+    ensures { OnOk result (notes.new.items ≡ noted_if experiment moment subject notes.old.items) }
+{
+    match subject {
+        None => Ok(()),
+        Some(subject) => put_note(notes, experiment, moment, subject),
+    }
+}
+
+/// Counts what a record of the experiment with this number says.
+pub(crate) fn count_record(
+    notes: &mut Vec<Note>,
+    experiment: u64,
+    entry: &Record,
+) -> Result<(), AllocError>
+    ensures { OnOk result (notes.new.items ≡ noted_by experiment entry.now notes.old.items) }
+{
+    match *entry {
+        Record::StepsSpent { moment } => put_note(notes, experiment, moment, Subject::Spent),
+        Record::PacketDropped {
+            moment,
+            load,
+            cause,
+            ..
+        } => put_if(notes, experiment, moment, dropped(cause, load)),
+        _ => Ok(()),
+    }
 }

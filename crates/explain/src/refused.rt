@@ -1,6 +1,6 @@
 //! Where in a scenario a refused command stands, and what its code means.
 
-use crate::replies::Refusal;
+use crate::account::Refusal;
 use control_lines::{LineEntry, read_line};
 use control_words::first_line;
 

@@ -65,8 +65,8 @@ out_stopped a b read text workers (Err (Fault Gate)) out follows = absurd out
 out_stopped a b read text workers (Err (Steps number total)) out follows = absurd out
 out_stopped a b read text workers (Err (Output bytes)) out follows = absurd out
 
-pub out_not_gate : (a b : Option (List ℕ)) (text : List ℕ) (result : Result (Unit {0}) Stop) → WritesOut a b text result → result ≡ Err (Fault Gate) → ⊥
-out_not_gate a b text result out is = subst (WritesOut a b text) is out
+pub out_not_gate : (a b : Option (List ℕ)) (text : List ℕ) (s : Stop) → WritesOut a b text (Err s) → s ≡ Fault Gate → ⊥
+out_not_gate a b text s out is = subst (λ (x : Stop). WritesOut a b text (Err x)) is out
 
 -- the line of `check`
 pub written : (read a b c : Option (List ℕ)) (line : List ℕ) (t : Tally) → ((es : List Experiment) × Reads read es × (t ≡ tally_of es)) → line ≡ tally_line t → Appends a b line → Keeps b c → Writes tally read a c

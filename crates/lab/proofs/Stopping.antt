@@ -1,16 +1,18 @@
 -- Why a call within limits stops, and what that is to a call without them.
 use Rattle.std.proofs.Common.{◌≡◌, ℕ, ◌+◌, List, length, map, take, Bool, true, Option, Some, None, Result, Ok, Err, IfErr, refl, sym, ap, subst, ◌∙◌}
 use Rattle.std.specs.Prelude.{flat_map}
+use Rattle.std.specs.Io.KnownBytes.{Appends}
 use Rattle.control.specs.declared.scenario.Experiment.{Experiment}
 use Rattle.lab.specs.declared.fault.RunFault.{RunFault}
 use Rattle.lab.specs.declared.fault.RunFault.TheVariants.{Scenario, Read, Write, Memory, Strange, Gate}
 use Rattle.lab.specs.declared.limits.Limits.{Limits}
 use Rattle.lab.specs.declared.limits.Stop.{Stop}
 use Rattle.lab.specs.declared.limits.Stop.TheVariants.{Fault, Steps, Output}
+use Rattle.lab.specs.Bytes.{IsCut}
 use Rattle.lab.specs.Gathers.{Follows, IsFollowed}
 use Rattle.lab.specs.Plans.{IsOwnFault, fault_of}
 use Rattle.lab.specs.Reports.{report_alone, reports, Calls, Reads, ReadsFault}
-use Rattle.lab.specs.Within.{CallsWithin, FailsUnwritten, IsOutputStop, IsOwnStop, IsPast, IsStepsStop, IsStopped, IsUnlimited, IsWithin, MakesWithin, StopsUnwritten, leaves, steps_of}
+use Rattle.lab.specs.Within.{CallsWithin, FailsUnwritten, IsOutputStop, IsOwnStop, IsPast, IsStepsStop, IsStopped, IsUnlimited, IsWithin, MakesWithin, StopsUnwritten, WritesOut, done_of, leaves, steps_of}
 use Rattle.lab.proofs.Endings.{same-texts}
 use Rattle.lab.proofs.Writing.{keeps_same}
 
@@ -87,6 +89,18 @@ stop_calls limits read a (Fault Gate) stop = (stop, keeps_same a)
 stop_calls limits read a (Steps number total) stop = (stop, keeps_same a)
 stop_calls limits read a (Output bytes) stop = (stop, keeps_same a)
 
+-- a call that wrote what it made, or its beginning
+pub out_calls : (limits : Limits) (read a b : Option (List ℕ)) (text : List ℕ) (r : Result (Unit {0}) Stop) → MakesWithin limits read text → WritesOut a b text r → CallsWithin limits read a b r
+out_calls limits read a b text (Ok x) (es, reads, fits, is) out = (es, reads, fits, subst (Appends a b) is out)
+out_calls limits read a b text (Err (Fault (Scenario f))) made out = absurd out
+out_calls limits read a b text (Err (Fault Read)) made out = absurd out
+out_calls limits read a b text (Err (Fault Write)) (es, reads, fits, is) out = (es, reads, fits, subst (IsCut a b) is out)
+out_calls limits read a b text (Err (Fault Memory)) made out = (tt, out)
+out_calls limits read a b text (Err (Fault Strange)) made out = absurd out
+out_calls limits read a b text (Err (Fault Gate)) made out = absurd out
+out_calls limits read a b text (Err (Steps number total)) made out = absurd out
+out_calls limits read a b text (Err (Output bytes)) made out = absurd out
+
 -- without limits
 pub unlimited_calls : (limits : Limits) (read a b : Option (List ℕ)) (r : Result (Unit {0}) Stop) → limits.steps ≡ None → limits.output ≡ None →
     CallsWithin limits read a b r → IsUnlimited r
@@ -108,7 +122,7 @@ calls_same limits read a b (Err (Fault Gate)) calls = calls.1
 calls_same limits read a b (Err (Steps number total)) calls = calls.1
 calls_same limits read a b (Err (Output bytes)) calls = calls.1
 
-pub own_same : (r : Result (Unit {0}) Stop) → IfErr r IsOwnStop → IfErr (leaves r) IsOwnFault
+pub own_same : {T : Type 0} (r : Result T Stop) → IfErr r IsOwnStop → IfErr (leaves (done_of r)) IsOwnFault
 own_same (Ok x) own = tt
 own_same (Err (Fault e)) own = own
 own_same (Err (Steps number total)) own = tt
@@ -123,7 +137,7 @@ stopped_same read workers (Err (Output bytes)) stopped = tt
 err-is : (a b : RunFault) → ◌≡◌ {A = Result (Unit {0}) RunFault} (Err a) (Err b) → a ≡ b
 err-is a b is = cc
 
-pub gate_same : (may_refuse : Bool) (r : Result (Unit {0}) Stop) → (r ≡ Err (Fault Gate) → may_refuse ≡ true) → leaves r ≡ Err Gate → may_refuse ≡ true
+pub gate_same : {T : Type 0} (may_refuse : Bool) (r : Result T Stop) → (r ≡ Err (Fault Gate) → may_refuse ≡ true) → leaves (done_of r) ≡ Err Gate → may_refuse ≡ true
 gate_same may_refuse (Ok x) gate is = absurd (cc)
 gate_same may_refuse (Err (Fault e)) gate is = gate (ap (λ (x : RunFault). Err (Fault x)) (err-is e Gate is))
 gate_same may_refuse (Err (Steps number total)) gate is = absurd (cc)

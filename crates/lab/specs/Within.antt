@@ -8,10 +8,11 @@ use Rattle.lab.specs.declared.fault.RunFault.TheVariants as faults
 use Rattle.lab.specs.declared.limits.Limits.{Limits}
 use Rattle.lab.specs.declared.limits.Stop.{Stop}
 use Rattle.lab.specs.declared.limits.Stop.TheVariants as stops
+use Rattle.lab.specs.declared.within.Made.{Made}
 use Rattle.lab.specs.Bytes.{IsCut}
 use Rattle.lab.specs.Gathers.{Follows, IsFollowed}
 use Rattle.lab.specs.Plans.{IsOwnFault}
-use Rattle.lab.specs.Reports.{reports, Reads}
+use Rattle.lab.specs.Reports.{report_alone, reports, Reads}
 
 -- the steps that experiments may take, added up
 abbrev pub steps_of : List Experiment → ℕ
@@ -59,6 +60,11 @@ IsOutputStop limit n (stops.Output bytes) = IsPast limit n × (bytes ≡ n)
 abbrev pub MakesWithin : Limits → Option (List ℕ) → List ℕ → Type 0
 MakesWithin limits read text = (es : List Experiment) × Reads read es × Fits limits es × (text ≡ reports es)
 
+-- what was read spells this scenario, and these are the reports of its experiments
+pub record IsMade (read : Option (List ℕ)) (m : Made) : Type 0 where
+  pub spelled : Reads read m.scenario
+  pub each : m.reports.items ≡ map report_alone m.scenario
+
 -- a fault of a call that wrote nothing
 abbrev pub FailsUnwritten : Option (List ℕ) → RunFault → Type 0
 FailsUnwritten read (faults.Scenario f) = IfSome read (λ text. HasFault text f)
@@ -88,6 +94,11 @@ WritesOut old new text (Ok _) = Appends old new text
 WritesOut old new text (Err (stops.Fault faults.Write)) = IsCut old new text
 WritesOut old new text (Err (stops.Fault faults.Memory)) = Keeps old new
 WritesOut old new text (Err _) = ⊥
+
+-- a call went well, or stopped so
+abbrev pub done_of : {T : Type 0} → Result T Stop → Result (Unit {0}) Stop
+done_of (Ok x) = Ok tt
+done_of (Err s) = Err s
 
 -- no limit stopped it
 abbrev pub IsUnlimited : Result (Unit {0}) Stop → Type 0

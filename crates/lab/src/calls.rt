@@ -1,12 +1,12 @@
 //! `run_alone`, `run` and `check`: all is read before any step, and all steps are made before anything is written.
 
-ghost use Rattle.std.specs.Prelude.{◌≡◌, List, IfOk, IfErr, Err, true};
-ghost use Rattle.lab.specs.Bytes.{TakesFew};
+ghost use Rattle.std.specs.Prelude.{◌≡◌, ◌≢◌, List, IfOk, IfErr, OnOk, Err, true};
+ghost use Rattle.lab.specs.Bytes.{IsRead, TakesFew};
 ghost use Rattle.lab.specs.Gathers.{IsFollowed};
 ghost use Rattle.lab.specs.Plans.{IsOwnFault, fault_of};
 ghost use Rattle.control.specs.declared.scenario.Experiment.{Experiment as Script};
 ghost use Rattle.lab.specs.Reports.{reports, tally, tally_of, Calls, Ends, Reads, ReadsFault, reader_failed};
-ghost use Rattle.lab.specs.Within.{IsUnlimited, leaves};
+ghost use Rattle.lab.specs.Within.{IsUnlimited, done_of, leaves};
 
 use crate::ends::{Inlet, Outlet, flush_all, write_all};
 use crate::fault::RunFault;
@@ -15,33 +15,41 @@ use crate::limits::{Limits, Stop};
 use crate::plan::{Gate, Plan};
 use crate::progress::{Progress, Silent};
 use crate::whole::{Tally, check_of};
-use crate::within::{run_alone_within, run_within};
+use crate::within::{Made, run_alone_within, run_within};
 use std::alloc::Global;
 use std::sync::Wait;
 use std::thread::Threads;
 
 // What a call answers that has no limit.
-fn unlimited(outcome: Result<(), Stop>) -> Result<(), RunFault>
-    requires { IsUnlimited outcome }
-    ensures { result ≡ leaves outcome }
+fn unlimited(outcome: Result<Made, Stop>) -> Result<(), RunFault>
+    requires { IsUnlimited (done_of outcome) }
+    ensures { result ≡ leaves (done_of outcome) }
 {
     match outcome {
-        Ok(()) => Ok(()),
+        Ok(_) => Ok(()),
         Err(Stop::Fault(fault)) => Err(fault),
         Err(Stop::Steps { .. } | Stop::Output(_)) => unreachable!(),
     }
 }
 
-// How many experiments and commands the scenario has that is read.
+// How many experiments and commands the scenario has that is read, whose text it keeps.
 #[tactic(auto, using(crate::proofs::ReadFacts::read_tally, crate::proofs::ReadFacts::read_text_fault))]
-fn tally_read<R: Inlet>(alloc: Global, reader: &mut R) -> Result<Tally, RunFault>
+fn tally_read<R: Inlet>(
+    alloc: Global,
+    reader: &mut R,
+    text: &mut Vec<u8>,
+) -> Result<Tally, RunFault>
     ensures made { IfOk result (λ t.
         (es : List Script) × Reads (R.remaining reader.old) es × (t ≡ tally_of es)) }
     ensures taken { TakesFew (R.remaining reader.old) (R.remaining reader.new) }
     ensures fault { IfErr result (λ e. ReadsFault (R.remaining reader.old) e) }
+    ensures text { OnOk result (IsRead (R.remaining reader.old) (R.remaining reader.new)
+        text.new.items) }
+    ensures kept { IfErr result (λ e. e ≢ RunFault.Read → e ≢ RunFault.Memory →
+        IsRead (R.remaining reader.old) (R.remaining reader.new) text.new.items) }
     ensures failed { R.failed reader.new ≡ reader_failed result }
 {
-    let text = read_text(alloc, reader)?;
+    *text = read_text(alloc, reader)?;
     check_of(alloc, text.as_slice())
 }
 
@@ -77,7 +85,9 @@ pub fn run_alone_told<R: Inlet, W: Outlet, P: Progress>(
     ensures own { IfErr result IsOwnFault }
 {
     let limits = Limits::none();
-    unlimited(run_alone_within(alloc, reader, writer, &limits, progress))
+    let mut text = Vec::new(alloc);
+    let outcome = run_alone_within(alloc, reader, writer, &mut text, &limits, progress);
+    unlimited(outcome)
 }
 
 /// Reads a scenario and runs its experiments by the workers of a plan, each of which has a thread; then writes their
@@ -121,13 +131,15 @@ pub fn run_told<H: Threads + Wait + Sync, R: Inlet, W: Outlet, G: Gate, P: Progr
     ensures joins { IsFollowed (R.remaining reader.old) plan.workers (fault_of result) }
 {
     let limits = Limits::none();
-    let outcome = run_within(rt, alloc, reader, writer, &limits, plan, gate, progress);
+    let mut text = Vec::new(alloc);
+    let outcome = run_within(
+        rt, alloc, reader, writer, &mut text, &limits, plan, gate, progress,
+    );
     unlimited(outcome)
 }
 
 /// Reads a scenario and writes `ok`, how many experiments and how many commands it has. The faults are
 /// those of `run_alone`.
-#[tactic(auto, using(crate::proofs::Endings::written, crate::proofs::Endings::cut, crate::proofs::Endings::cut_after))]
 pub fn check<R: Inlet, W: Outlet>(
     alloc: Global,
     reader: &mut R,
@@ -139,7 +151,29 @@ pub fn check<R: Inlet, W: Outlet>(
         (R.failed reader.new) (W.failed writer.old) (W.failed writer.new) writer.old writer.new }
     ensures own { IfErr result IsOwnFault }
 {
-    let tally = tally_read(alloc, reader)?;
+    let mut text = Vec::new(alloc);
+    check_kept(alloc, reader, writer, &mut text)
+}
+
+/// `check`, which leaves the text that it read in `text`, unless reading failed or memory was refused.
+#[tactic(auto, using(crate::proofs::Endings::written, crate::proofs::Endings::cut, crate::proofs::Endings::cut_after))]
+pub fn check_kept<R: Inlet, W: Outlet>(
+    alloc: Global,
+    reader: &mut R,
+    writer: &mut W,
+    text: &mut Vec<u8>,
+) -> Result<(), RunFault>
+    ensures calls { Calls tally (R.remaining reader.old) (W.contents writer.old)
+        (W.contents writer.new) result }
+    ensures ends { Ends result (R.remaining reader.old) (R.remaining reader.new)
+        (R.failed reader.new) (W.failed writer.old) (W.failed writer.new) writer.old writer.new }
+    ensures own { IfErr result IsOwnFault }
+    ensures text { OnOk result (IsRead (R.remaining reader.old) (R.remaining reader.new)
+        text.new.items) }
+    ensures kept { IfErr result (λ e. e ≢ RunFault.Read → e ≢ RunFault.Memory →
+        IsRead (R.remaining reader.old) (R.remaining reader.new) text.new.items) }
+{
+    let tally = tally_read(alloc, reader, text)?;
     let Ok(line) = tally.line(alloc) else {
         return Err(RunFault::Memory);
     };

@@ -24,7 +24,7 @@ mod whole;
 mod within;
 mod worker;
 
-pub use calls::{check, run, run_alone, run_alone_told, run_told};
+pub use calls::{check, check_kept, run, run_alone, run_alone_told, run_told};
 pub use device::Device;
 pub use ends::{Inlet, Outlet, Trouble};
 pub use fault::RunFault;
@@ -35,4 +35,4 @@ pub use plan::{Gate, OpenGate, Plan};
 pub use progress::{Progress, Silent};
 pub use talk::live;
 pub use whole::{Reports, Tally, check_of, reports_of, reports_told};
-pub use within::{run_alone_within, run_within};
+pub use within::{Made, run_alone_within, run_within};

@@ -1,13 +1,13 @@
 //! `run_alone` and `run` within limits: all is read before any step, all steps are made before anything is written, and
 //! what goes past a limit stops it before either.
 
-ghost use Rattle.std.specs.Prelude.{◌≡◌, ◌≢◌, ◌≤◌, List, None, flat_map, length, map, sum, IfOk, IfErr, Err, true};
+ghost use Rattle.std.specs.Prelude.{◌≡◌, ◌≢◌, ◌≤◌, List, None, flat_map, length, map, sum, IfOk, IfErr, OnOk, Err, true};
 ghost use Rattle.control.specs.declared.scenario.Experiment.{Experiment as Script};
 ghost use Rattle.lab.specs.declared.limits.Stop.TheVariants as stops;
-ghost use Rattle.lab.specs.Bytes.{TakesFew};
+ghost use Rattle.lab.specs.Bytes.{IsRead, TakesFew};
 ghost use Rattle.lab.specs.Gathers.{Follows};
 ghost use Rattle.lab.specs.Reports.{Ends, Reads, ReadsFault, reader_failed, writer_failed};
-ghost use Rattle.lab.specs.Within.{CallsWithin, IsOwnStop, IsStopped, MakesWithin, StopsUnwritten, WritesOut, leaves};
+ghost use Rattle.lab.specs.Within.{CallsWithin, IsMade, IsOwnStop, IsStopped, MakesWithin, StopsUnwritten, WritesOut, done_of, leaves};
 
 use crate::alone::run_all;
 use crate::ends::{Inlet, Outlet};
@@ -25,16 +25,31 @@ use std::alloc::Global;
 use std::sync::Wait;
 use std::thread::Threads;
 
-// Reads a scenario.
+/// What a call made: the scenario that it read, and the reports of its experiments, in their order.
+#[derive(Drop)]
+pub struct Made {
+    pub scenario: Scenario,
+    pub reports: Vec<Report>,
+}
+
+// Reads a scenario, whose text it keeps.
 #[tactic(auto, using(crate::proofs::ReadFacts::read_spells, crate::proofs::ReadFacts::read_faults))]
-fn read_scenario<R: Inlet>(alloc: Global, reader: &mut R) -> Result<Scenario, RunFault>
+fn read_scenario<R: Inlet>(
+    alloc: Global,
+    reader: &mut R,
+    text: &mut Vec<u8>,
+) -> Result<Scenario, RunFault>
     ensures read { IfOk result (λ es. Reads (R.remaining reader.old) es) }
     ensures few { IfOk result (λ es. sum (map (λ e. length e.commands) es) ≤ 16777216) }
+    ensures text { OnOk result (IsRead (R.remaining reader.old) (R.remaining reader.new)
+        text.new.items) }
+    ensures kept { IfErr result (λ e. e ≢ RunFault.Read → e ≢ RunFault.Memory →
+        IsRead (R.remaining reader.old) (R.remaining reader.new) text.new.items) }
     ensures taken { TakesFew (R.remaining reader.old) (R.remaining reader.new) }
     ensures fault { IfErr result (λ e. ReadsFault (R.remaining reader.old) e) }
     ensures failed { R.failed reader.new ≡ reader_failed result }
 {
-    let text = read_text(alloc, reader)?;
+    *text = read_text(alloc, reader)?;
     match parse_scenario(alloc, text.as_slice()) {
         Ok(scenario) => Ok(scenario),
         Err(ParseError::Fault(fault)) => Err(RunFault::Scenario(fault)),
@@ -47,17 +62,24 @@ fn read_scenario<R: Inlet>(alloc: Global, reader: &mut R) -> Result<Scenario, Ru
 fn reports_read<R: Inlet, P: Progress>(
     alloc: Global,
     reader: &mut R,
+    text: &mut Vec<u8>,
     limits: &Limits,
     progress: &P,
-) -> Result<Vec<Report>, Stop>
-    ensures made { IfOk result (λ rs.
-        MakesWithin limits.now (R.remaining reader.old) (flat_map (λ r. r) rs.items)) }
+) -> Result<Made, Stop>
+    ensures within { IfOk result (λ m. MakesWithin limits.now (R.remaining reader.old)
+        (flat_map (λ r. r) m.reports.items)) }
+    ensures made { IfOk result (IsMade (R.remaining reader.old)) }
+    ensures text { OnOk result (IsRead (R.remaining reader.old) (R.remaining reader.new)
+        text.new.items) }
+    ensures kept { IfErr result (λ s. s ≢ stops.Fault RunFault.Read →
+        s ≢ stops.Fault RunFault.Memory →
+        IsRead (R.remaining reader.old) (R.remaining reader.new) text.new.items) }
     ensures taken { TakesFew (R.remaining reader.old) (R.remaining reader.new) }
     ensures stop { IfErr result (StopsUnwritten limits.now (R.remaining reader.old)) }
     ensures own { IfErr result IsOwnStop }
     ensures failed { R.failed reader.new ≡ reader_failed (leaves result) }
 {
-    let scenario = match read_scenario(alloc, reader) {
+    let scenario = match read_scenario(alloc, reader, text) {
         Ok(scenario) => scenario,
         Err(fault) => return Err(Stop::Fault(fault)),
     };
@@ -67,7 +89,7 @@ fn reports_read<R: Inlet, P: Progress>(
         return Err(Stop::Fault(RunFault::Memory));
     };
     limits.check_reports(alloc, reports.as_slice())?;
-    Ok(reports)
+    Ok(Made { scenario, reports })
 }
 
 // The reports of the scenario that is read, its experiments run by the workers of a plan.
@@ -76,21 +98,28 @@ fn reports_together<H: Threads + Wait + Sync, R: Inlet, G: Gate, P: Progress + S
     rt: &H,
     alloc: Global,
     reader: &mut R,
+    text: &mut Vec<u8>,
     limits: &Limits,
     plan: Plan,
     gate: &G,
     progress: &P,
-) -> Result<Vec<Report>, Stop>
-    ensures made { IfOk result (λ ts.
-        MakesWithin limits.now (R.remaining reader.old) (flat_map (λ t. t) ts.items)) }
+) -> Result<Made, Stop>
+    ensures within { IfOk result (λ m. MakesWithin limits.now (R.remaining reader.old)
+        (flat_map (λ r. r) m.reports.items)) }
+    ensures made { IfOk result (IsMade (R.remaining reader.old)) }
+    ensures text { OnOk result (IsRead (R.remaining reader.old) (R.remaining reader.new)
+        text.new.items) }
+    ensures kept { IfErr result (λ s. s ≢ stops.Fault RunFault.Read →
+        s ≢ stops.Fault RunFault.Memory →
+        IsRead (R.remaining reader.old) (R.remaining reader.new) text.new.items) }
     ensures taken { TakesFew (R.remaining reader.old) (R.remaining reader.new) }
     ensures stop { IfErr result (StopsUnwritten limits.now (R.remaining reader.old)) }
     ensures gate { result ≡ Err (stops.Fault RunFault.Gate) → G.may_refuse ≡ true }
     ensures joins { IfErr result (λ s. IsStopped (R.remaining reader.old) plan.workers (Err s)) }
-    ensures joined { IfOk result (λ ts. Follows (R.remaining reader.old) plan.workers None) }
+    ensures joined { OnOk result (Follows (R.remaining reader.old) plan.workers None) }
     ensures failed { R.failed reader.new ≡ reader_failed (leaves result) }
 {
-    let scenario = match read_scenario(alloc, reader) {
+    let scenario = match read_scenario(alloc, reader, text) {
         Ok(scenario) => scenario,
         Err(fault) => return Err(Stop::Fault(fault)),
     };
@@ -105,7 +134,7 @@ fn reports_together<H: Threads + Wait + Sync, R: Inlet, G: Gate, P: Progress + S
         Err(fault) => return Err(Stop::Fault(fault)),
     };
     limits.check_reports(alloc, reports.as_slice())?;
-    Ok(reports)
+    Ok(Made { scenario, reports })
 }
 
 // Writes reports, by way of a buffer that is there before the first byte.
@@ -129,44 +158,62 @@ fn write_reports<W: Outlet>(alloc: Global, writer: &mut W, reports: &[Report]) -
 }
 
 /// `run_alone_told` within limits. `Steps` comes before the first step and `Output` before the first byte, just where what
-/// was read goes past that limit. Its faults are those of `run_alone`.
-#[tactic(auto, using(crate::proofs::Stopping::stop_calls, crate::proofs::Endings::out_own))]
+/// was read goes past that limit. Its faults are those of `run_alone`. The text that was read stands in `text` then, unless
+/// reading failed or memory was refused; what it made and wrote is the answer.
+#[tactic(auto, using(crate::proofs::Stopping::stop_calls, crate::proofs::Stopping::out_calls, crate::proofs::Endings::out_own))]
 pub fn run_alone_within<R: Inlet, W: Outlet, P: Progress>(
     alloc: Global,
     reader: &mut R,
     writer: &mut W,
+    text: &mut Vec<u8>,
     limits: &Limits,
     progress: &P,
-) -> Result<(), Stop>
+) -> Result<Made, Stop>
     ensures calls { CallsWithin limits.now (R.remaining reader.old) (W.contents writer.old)
-        (W.contents writer.new) result }
-    ensures ends { Ends (leaves result) (R.remaining reader.old) (R.remaining reader.new)
+        (W.contents writer.new) (done_of result) }
+    ensures ends { Ends (leaves (done_of result)) (R.remaining reader.old) (R.remaining reader.new)
         (R.failed reader.new) (W.failed writer.old) (W.failed writer.new) writer.old writer.new }
     ensures own { IfErr result IsOwnStop }
+    ensures made { IfOk result (IsMade (R.remaining reader.old)) }
+    ensures text { OnOk result (IsRead (R.remaining reader.old) (R.remaining reader.new)
+        text.new.items) }
+    ensures kept { IfErr result (λ s. s ≢ stops.Fault RunFault.Read →
+        s ≢ stops.Fault RunFault.Memory →
+        IsRead (R.remaining reader.old) (R.remaining reader.new) text.new.items) }
 {
-    let made = reports_read(alloc, reader, limits, progress)?;
-    write_reports(alloc, writer, made.as_slice())
+    let made = reports_read(alloc, reader, text, limits, progress)?;
+    write_reports(alloc, writer, made.reports.as_slice())?;
+    Ok(made)
 }
 
-/// `run_told` within limits: it stops just where `run_alone_within` does. Its faults are those of `run`.
-#[tactic(auto, using(crate::proofs::Stopping::stop_calls, crate::proofs::Endings::out_stopped, crate::proofs::Endings::out_not_gate))]
+/// `run_told` within limits: it stops just where `run_alone_within` does, and answers the same. Its faults are those of
+/// `run`.
+#[tactic(auto, using(crate::proofs::Stopping::stop_calls, crate::proofs::Stopping::out_calls, crate::proofs::Endings::out_stopped, crate::proofs::Endings::out_not_gate))]
 pub fn run_within<H: Threads + Wait + Sync, R: Inlet, W: Outlet, G: Gate, P: Progress + Sync>(
     rt: &H,
     alloc: Global,
     reader: &mut R,
     writer: &mut W,
+    text: &mut Vec<u8>,
     limits: &Limits,
     plan: Plan,
     gate: &G,
     progress: &P,
-) -> Result<(), Stop>
+) -> Result<Made, Stop>
     ensures calls { CallsWithin limits.now (R.remaining reader.old) (W.contents writer.old)
-        (W.contents writer.new) result }
-    ensures ends { Ends (leaves result) (R.remaining reader.old) (R.remaining reader.new)
+        (W.contents writer.new) (done_of result) }
+    ensures ends { Ends (leaves (done_of result)) (R.remaining reader.old) (R.remaining reader.new)
         (R.failed reader.new) (W.failed writer.old) (W.failed writer.new) writer.old writer.new }
     ensures gate { result ≡ Err (stops.Fault RunFault.Gate) → G.may_refuse ≡ true }
-    ensures joins { IsStopped (R.remaining reader.old) plan.workers result }
+    ensures joins { IsStopped (R.remaining reader.old) plan.workers (done_of result) }
+    ensures made { IfOk result (IsMade (R.remaining reader.old)) }
+    ensures text { OnOk result (IsRead (R.remaining reader.old) (R.remaining reader.new)
+        text.new.items) }
+    ensures kept { IfErr result (λ s. s ≢ stops.Fault RunFault.Read →
+        s ≢ stops.Fault RunFault.Memory →
+        IsRead (R.remaining reader.old) (R.remaining reader.new) text.new.items) }
 {
-    let made = reports_together(rt, alloc, reader, limits, plan, gate, progress)?;
-    write_reports(alloc, writer, made.as_slice())
+    let made = reports_together(rt, alloc, reader, text, limits, plan, gate, progress)?;
+    write_reports(alloc, writer, made.reports.as_slice())?;
+    Ok(made)
 }

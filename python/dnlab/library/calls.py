@@ -41,7 +41,7 @@ def bound(path: str) -> ctypes.CDLL:
     text: list[Any] = [ctypes.c_char_p, ctypes.c_size_t]
     room: list[Any] = [ctypes.c_void_p, ctypes.c_size_t, ctypes.POINTER(Answer)]
     place: Any = ctypes.POINTER(Place)
-    calls = {"alone": [*text, *room], "check": [*text, *room], "explain": [*text, *text, ctypes.c_bool, *room], "version": room,
+    calls = {"alone": [*text, *room], "check": [*text, *room], "explain": [*text, ctypes.c_bool, *room], "version": room,
              "open": [place, room[-1]], "take": [place, *text, *room], "close": [place, room[-1]]}
     try:
         found = ctypes.CDLL(path)
@@ -82,10 +82,9 @@ def check(text: bytes) -> bytes:
     return _called("dnlab_check", text, len(text))
 
 
-def explain(text: bytes, report: bytes | None = None) -> str:
-    """What `--explain` says of a text, behind the line of its fault; of a text that was run also by its report."""
-    given = report or b""
-    return _called("dnlab_explain", text, len(text), given, len(given), report is not None).decode()
+def explain(text: bytes, runs: bool = False) -> str:
+    """What `--explain` says of a text, behind the line of its fault; where `runs` is true also of its run, which is made for that."""
+    return _called("dnlab_explain", text, len(text), runs).decode()
 
 
 def version() -> str:

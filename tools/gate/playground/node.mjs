@@ -14,7 +14,7 @@ let engine = await made();
 const plain = new TextDecoder(), bytesOf = (text) => Buffer.from(text, "base64");
 function ran({text, isCheck}) {
   const bytes = bytesOf(text), found = isCheck ? engine.check(bytes) : engine.alone(bytes);
-  const said = page.firstLine(found) + plain.decode(engine.explain(bytes, isCheck || found.status ? null : found.bytes).bytes);
+  const said = page.firstLine(found) + plain.decode(engine.explain(bytes, !isCheck && !found.status).bytes);
   return {status: found.status, report: Buffer.from(found.bytes).toString("base64"), said};
 }
 const runs = asked.cases.map(ran);

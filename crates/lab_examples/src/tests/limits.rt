@@ -5,23 +5,31 @@ use super::*;
 /// The steps that the four experiments may take: three of them 10^6 each, and the last 2.
 const STEPS: u64 = 3_000_002;
 
-/// What a run within limits answers, and what it wrote: by each experiment itself, or by two workers.
-fn within<H: Threads + Wait + Sync + AllocGlobal>(
+/// Whether a run within limits answers four experiments and four reports, and what it wrote: by each experiment itself, or
+/// by two workers. It wants all of the text to be kept.
+fn within<H: Abort + Threads + Wait + Sync + AllocGlobal>(
     rt: &H,
     is_alone: bool,
     limits: &Limits,
-) -> Result<(Result<(), Stop>, Vec<u8>), Fail> {
+) -> Result<(Result<bool, Stop>, Vec<u8>), Fail> {
     let alloc = rt.alloc();
     let mut reader = Device::new(texts::FOUR_EXPERIMENTS.as_bytes());
     let mut writer = Device::new(Vec::new(alloc));
     let plan = Plan::new(2, 1).ok_or("a plan")?;
-    let (from, to) = (&mut reader, &mut writer);
+    let (from, to, text) = (&mut reader, &mut writer, &mut Vec::new(alloc));
     let outcome = if is_alone {
-        run_alone_within(alloc, from, to, limits, &Silent)
+        run_alone_within(alloc, from, to, text, limits, &Silent)
     } else {
-        run_within(rt, alloc, from, to, limits, plan, &OpenGate, &Silent)
+        run_within(rt, alloc, from, to, text, limits, plan, &OpenGate, &Silent)
     };
-    Ok((outcome, writer.into_inner()))
+    assert!(rt; text.as_slice() == texts::FOUR_EXPERIMENTS.as_bytes());
+    match outcome {
+        Ok(made) => {
+            let tells = made.scenario.experiments().len() == 4 && made.reports.len() == 4;
+            Ok((Ok(tells), writer.into_inner()))
+        }
+        Err(stop) => Ok((Err(stop), writer.into_inner())),
+    }
 }
 
 #[test]
@@ -33,7 +41,7 @@ fn reaches_both(rt: HostRuntime) -> Result<(), Fail> {
     };
     for is_alone in [true, false] {
         let (outcome, written) = within(&rt, is_alone, &limits)?;
-        assert!(rt; outcome == Ok(()));
+        assert!(rt; outcome == Ok(true));
         assert!(rt; written.as_slice() == report);
     }
     Ok(())

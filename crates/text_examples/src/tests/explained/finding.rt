@@ -1,7 +1,10 @@
 //! What is found in a text and in a report, and what is printed of it, written by hand.
 
 use control::{Cause, Fault};
+use emu_model::{DropCause, FlowNumber, Load, Record, Refusal as Why};
 use explain::*;
+use report::Archive;
+use std::alloc::AllocError;
 use std::process::Abort;
 use std::test::*;
 
@@ -75,16 +78,6 @@ fn places(rt: HostRuntime) {
     assert!(rt; line_at(b"a\nb\n", 0).is_none());
 }
 
-const REPORT: &str = "experiment a
-0 ok 0
-0 refused 1 13
-0 ok 2
-rule 65535 0 0 deny ip from any to any
-counters 0 0 0 0 0 0 0 0 0 0 0
-experiment b
-0 refused 0 10
-";
-
 const SCENARIO: &str = "# refused commands
 experiment a seed 0 budget 1
 @0 one_pass 1
@@ -104,33 +97,46 @@ fn refusal(experiment: u64, command: u64, code: u64) -> Refusal {
     }
 }
 
-/// Takes a report in pieces of so many bytes, and wants these refusals and notes of it.
-fn hears(
+/// What the records of some experiments say that is told.
+fn account(
     rt: &(impl Abort + AllocGlobal),
-    report: &str,
-    size: usize,
-    refusals: &[Refusal],
-    notes: &[Note],
-) {
-    let mut replies = Replies::new(rt.alloc());
-    for bytes in report.as_bytes().chunks(size.max(1)) {
-        assert!(rt; replies.take(bytes).is_ok(), "memory");
+    experiments: &[&[Record]],
+) -> Result<Account, AllocError> {
+    let mut account = Account::new(rt.alloc());
+    for (place, records) in experiments.iter().enumerate() {
+        let mut archive = Archive::new(rt.alloc());
+        archive.append(records)?;
+        account.take(place as u64 + 1, &archive)?;
     }
-    assert!(rt; replies.refusals() == refusals, "in pieces of {size}");
-    assert!(rt; replies.notes() == notes, "in pieces of {size}");
+    Ok(account)
+}
+
+fn done(command: u64) -> Record {
+    Record::CommandDone { moment: 0, command }
+}
+
+fn refused(command: u64, refusal: Why) -> Record {
+    Record::CommandRefused {
+        moment: 0,
+        command,
+        refusal,
+    }
+}
+
+/// The records of two experiments, of each of which a command is refused.
+fn refused_records() -> ([Record; 3], [Record; 1]) {
+    (
+        [done(0), refused(1, Why::NoRule), done(2)],
+        [refused(0, Why::BadNumber)],
+    )
 }
 
 #[test]
 fn refusals(rt: HostRuntime) {
-    for size in 1..40 {
-        hears(
-            &rt,
-            REPORT,
-            size,
-            &[refusal(1, 1, 13), refusal(2, 0, 10)],
-            &[],
-        );
-    }
+    let (first, second) = refused_records();
+    let account = account(&rt, &[&first, &second]).expect(&rt, "memory");
+    assert!(rt; account.refusals() == &[refusal(1, 1, 13), refusal(2, 0, 10)]);
+    assert!(rt; account.notes().is_empty());
 }
 
 /// Wants this to be printed of the command that was refused.
@@ -168,25 +174,24 @@ fn lines_of_commands(rt: HostRuntime) {
     assert!(rt; text.find(&refusal(2, 7, 10)).is_none());
 }
 
-const DROPS: &str = "experiment a
-0 ok 0
-5 drop 0 plain denied
-6 drop 1 data 7 0 denied
-7 drop 2 data 8 1460 full
-8 drop 3 data 7 1460 denied
-8 drop 4 ack 7 2920 denied
-9 drop 5 plain budget
-9 drop 6 ack 9 0 budget
-10 spent
-counters 7 0 0 4 0 0 0 1 0 0 2
-experiment b
-3 drop 0 plain denied
-4 drop 1 plain lost
-4 deliver 2 plain
-counters 3 1 0 1 0 0 1 0 0 0 0
-experiment c
-1 drop 0 plain denied
-";
+fn drop_of(moment: u64, load: Load, cause: DropCause) -> Record {
+    Record::PacketDropped {
+        moment,
+        packet: moment,
+        load,
+        cause,
+    }
+}
+
+/// What a flow sends: a segment, or an acknowledgement.
+fn load_of(rt: &impl Abort, number: u16, is_segment: bool) -> Load {
+    let flow = FlowNumber::new(number).expect(rt, "a flow's number");
+    if is_segment {
+        Load::Seg { flow, first: 0 }
+    } else {
+        Load::Ack { flow, upto: 2920 }
+    }
+}
 
 fn note(experiment: u64, subject: Subject, first: u64, count: u64) -> Note {
     Note {
@@ -197,9 +202,25 @@ fn note(experiment: u64, subject: Subject, first: u64, count: u64) -> Note {
     }
 }
 
-// The third experiment's report hasn't ended.
 #[test]
 fn notes(rt: HostRuntime) {
+    let (segment, acknowledgement) = (load_of(&rt, 7, true), load_of(&rt, 7, false));
+    let first = [
+        drop_of(5, Load::Plain, DropCause::Denied),
+        drop_of(6, segment, DropCause::Denied),
+        drop_of(7, load_of(&rt, 8, true), DropCause::Full),
+        drop_of(8, segment, DropCause::Denied),
+        drop_of(8, acknowledgement, DropCause::Denied),
+        drop_of(9, Load::Plain, DropCause::Budget),
+        drop_of(9, load_of(&rt, 9, false), DropCause::Budget),
+        Record::StepsSpent { moment: 10 },
+    ];
+    let second = [
+        drop_of(3, Load::Plain, DropCause::Denied),
+        drop_of(4, Load::Plain, DropCause::Lost),
+        done(0),
+    ];
+    let account = account(&rt, &[&first, &second]).expect(&rt, "memory");
     let wanted = [
         note(1, Subject::DeniedPlain, 5, 1),
         note(1, Subject::DeniedData(7), 6, 2),
@@ -208,9 +229,8 @@ fn notes(rt: HostRuntime) {
         note(1, Subject::Spent, 10, 1),
         note(2, Subject::DeniedPlain, 3, 1),
     ];
-    for size in 1..40 {
-        hears(&rt, DROPS, size, &[], &wanted);
-    }
+    assert!(rt; account.notes() == &wanted);
+    assert!(rt; account.refusals().is_empty());
 }
 
 const FAULTS: &str = "experiment a seed 0 budget 1
@@ -261,14 +281,14 @@ fn a_fault_with_its_line(rt: HostRuntime) {
 
 // Where memory is refused the answer says so, and it isn't where there is enough.
 #[test]
-fn refused(rt: HostRuntime) {
+fn memory_refused(rt: HostRuntime) {
     let fault = fault(4, Cause::AfterEnd);
     if let Ok(shown) = show_finding(rt.alloc(), &find(SCENARIO.as_bytes(), &fault)) {
         assert!(rt; shown.len() > 20);
     }
-    let mut replies = Replies::new(rt.alloc());
-    if replies.take(REPORT.as_bytes()).is_ok() {
-        assert!(rt; replies.refusals().len() == 2);
+    let (first, second) = refused_records();
+    if let Ok(account) = account(&rt, &[&first, &second]) {
+        assert!(rt; account.refusals().len() == 2);
     }
     if let Ok(found) = faults_behind(rt.alloc(), FAULTS.as_bytes(), &fault) {
         assert!(rt; found.len() == 5);

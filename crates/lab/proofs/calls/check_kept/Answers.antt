@@ -1,6 +1,6 @@
 use Rattle.std.proofs.Common.{◌∙◌}
 use Rattle.lab.proofs.Endings.{cut_after}
-use Rattle.lab.proofs.calls.check.Goals as goal
+use Rattle.lab.proofs.calls.check_kept.Goals as goal
 
 pub returns-in_default-flush_all-clause-calls : goal.returns-in_default-flush_all-clause-calls
 returns-in_default-flush_all-clause-calls g c =

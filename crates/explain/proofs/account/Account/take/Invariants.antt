@@ -1,0 +1,18 @@
+use Rattle.std.proofs.Common.{◌≡◌, ◌-◌, ◌≤◌, ◌++◌, length, drop}
+use Rattle.std.specs.Prelude.{flat_map}
+use Rattle.explain.specs.Account.{refusals_by}
+use Rattle.explain.specs.Notes.{notes_from, notes_of}
+use Rattle.explain.proofs.account.Account.take.Given as goal
+
+-- what is left, behind what was told so far, is all
+abbrev pub invariant-loop-done : goal.invariant-loop-done
+invariant-loop-done l = record {
+  done : l.done ≤ length l.records;
+  refusals : l.self-inside.refusals.items ++ flat_map (refusals_by l.experiment) (drop l.done l.records)
+      ≡ l.initial.self-inside.refusals.items ++ flat_map (refusals_by l.experiment) l.records;
+  notes : notes_from l.experiment (drop l.done l.records) l.notes.items ≡ notes_of l.experiment l.records;
+  kept : l.self-inside.notes.items ≡ l.initial.self-inside.notes.items;
+}
+
+abbrev pub decreases-loop-done : goal.decreases-loop-done
+decreases-loop-done l = length l.records - l.done
