@@ -135,7 +135,7 @@ fn refused_records() -> ([Record; 3], [Record; 1]) {
 fn refusals(rt: HostRuntime) {
     let (first, second) = refused_records();
     let account = account(&rt, &[&first, &second]).expect(&rt, "memory");
-    assert!(rt; account.refusals() == &[refusal(1, 1, 13), refusal(2, 0, 10)]);
+    assert!(rt; account.refusals() == [refusal(1, 1, 13), refusal(2, 0, 10)].as_slice());
     assert!(rt; account.notes().is_empty());
 }
 
@@ -229,7 +229,7 @@ fn notes(rt: HostRuntime) {
         note(1, Subject::Spent, 10, 1),
         note(2, Subject::DeniedPlain, 3, 1),
     ];
-    assert!(rt; account.notes() == &wanted);
+    assert!(rt; account.notes() == wanted.as_slice());
     assert!(rt; account.refusals().is_empty());
 }
 
