@@ -202,24 +202,36 @@ fn note(experiment: u64, subject: Subject, first: u64, count: u64) -> Note {
     }
 }
 
-#[test]
-fn notes(rt: HostRuntime) {
-    let (segment, acknowledgement) = (load_of(&rt, 7, true), load_of(&rt, 7, false));
-    let first = [
+/// The records of an experiment in which much is dropped.
+fn dropped_records(segment: Load, acknowledgement: Load, other: Load) -> [Record; 8] {
+    [
         drop_of(5, Load::Plain, DropCause::Denied),
         drop_of(6, segment, DropCause::Denied),
-        drop_of(7, load_of(&rt, 8, true), DropCause::Full),
+        drop_of(7, other, DropCause::Full),
         drop_of(8, segment, DropCause::Denied),
         drop_of(8, acknowledgement, DropCause::Denied),
         drop_of(9, Load::Plain, DropCause::Budget),
-        drop_of(9, load_of(&rt, 9, false), DropCause::Budget),
+        drop_of(9, other, DropCause::Budget),
         Record::StepsSpent { moment: 10 },
-    ];
-    let second = [
+    ]
+}
+
+/// The records of another in which little is.
+fn few_records() -> [Record; 3] {
+    [
         drop_of(3, Load::Plain, DropCause::Denied),
         drop_of(4, Load::Plain, DropCause::Lost),
         done(0),
-    ];
+    ]
+}
+
+#[test]
+fn notes(rt: HostRuntime) {
+    let segment = load_of(&rt, 7, true);
+    let acknowledgement = load_of(&rt, 7, false);
+    let other = load_of(&rt, 8, true);
+    let first = dropped_records(segment, acknowledgement, other);
+    let second = few_records();
     let account = account(&rt, &[&first, &second]).expect(&rt, "memory");
     let wanted = [
         note(1, Subject::DeniedPlain, 5, 1),
