@@ -202,36 +202,38 @@ fn note(experiment: u64, subject: Subject, first: u64, count: u64) -> Note {
     }
 }
 
-/// The records of an experiment in which much is dropped.
-fn dropped_records(segment: Load, acknowledgement: Load, other: Load) -> [Record; 8] {
-    [
-        drop_of(5, Load::Plain, DropCause::Denied),
-        drop_of(6, segment, DropCause::Denied),
-        drop_of(7, other, DropCause::Full),
-        drop_of(8, segment, DropCause::Denied),
-        drop_of(8, acknowledgement, DropCause::Denied),
-        drop_of(9, Load::Plain, DropCause::Budget),
-        drop_of(9, other, DropCause::Budget),
-        Record::StepsSpent { moment: 10 },
-    ]
+/// A packet of a flow that is dropped: a segment, or an acknowledgement.
+fn drop_of_flow(
+    rt: &impl Abort,
+    moment: u64,
+    number: u16,
+    is_segment: bool,
+    cause: DropCause,
+) -> Record {
+    drop_of(moment, load_of(rt, number, is_segment), cause)
 }
 
-/// The records of another in which little is.
-fn few_records() -> [Record; 3] {
-    [
-        drop_of(3, Load::Plain, DropCause::Denied),
-        drop_of(4, Load::Plain, DropCause::Lost),
-        done(0),
-    ]
+fn spent(moment: u64) -> Record {
+    Record::StepsSpent { moment }
 }
 
 #[test]
 fn notes(rt: HostRuntime) {
-    let segment = load_of(&rt, 7, true);
-    let acknowledgement = load_of(&rt, 7, false);
-    let other = load_of(&rt, 8, true);
-    let first = dropped_records(segment, acknowledgement, other);
-    let second = few_records();
+    let first = [
+        drop_of(5, Load::Plain, DropCause::Denied),
+        drop_of_flow(&rt, 6, 7, true, DropCause::Denied),
+        drop_of_flow(&rt, 7, 8, true, DropCause::Full),
+        drop_of_flow(&rt, 8, 7, true, DropCause::Denied),
+        drop_of_flow(&rt, 8, 7, false, DropCause::Denied),
+        drop_of(9, Load::Plain, DropCause::Budget),
+        drop_of_flow(&rt, 9, 9, false, DropCause::Budget),
+        spent(10),
+    ];
+    let second = [
+        drop_of(3, Load::Plain, DropCause::Denied),
+        drop_of(4, Load::Plain, DropCause::Lost),
+        done(0),
+    ];
     let account = account(&rt, &[&first, &second]).expect(&rt, "memory");
     let wanted = [
         note(1, Subject::DeniedPlain, 5, 1),
