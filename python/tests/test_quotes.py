@@ -44,5 +44,5 @@ def test_a_quote_is_a_block_after_a_link(docs: ModuleType) -> None:
 
 def test_crates_that_others_use_have_callers(docs: ModuleType) -> None:
     used = docs.stood_on()
-    assert {"emu_model", "lab", "number_table"} <= used  # `crates.txt` names them after a colon
-    assert not {"dnlab", "emu_laws", "example_texts", "rtrb"} & used
+    assert {"emu_model", "lab", "due_index"} <= used  # `crates.txt` names them after a colon
+    assert not {"dnlab", "emu_laws", "text_examples", "rtrb"} & used

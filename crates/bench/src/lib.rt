@@ -20,4 +20,4 @@ pub use hand::{Hand, Stamp};
 pub use mail::{Moments, RingMail};
 pub use outcome::Outcome;
 pub use registry::{OpenError, Registry};
-pub use tenant::{PostError, Refusal, Strange, Tenant};
+pub use tenant::{PostError, RefusedPost, Strange, Tenant};

@@ -11,11 +11,8 @@ use crate::mail::{Moments, RingMail};
 use crate::tenant::Tenant;
 use emu_model::Spec;
 use rtrb::RingBuffer;
-use shard::Parcel;
+use shard::{Parcel, SLOTS};
 use std::alloc::{AllocError, Global};
-
-/// The slots of each ring.
-pub(crate) const SLOTS: usize = 64;
 
 /// How many names there are.
 pub const NAMES: u32 = 1_000_000;

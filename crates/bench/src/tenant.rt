@@ -10,13 +10,10 @@ ghost use Rattle.bench.specs.Commands.{BeginsWith, Took};
 
 use crate::mail::{Moments, News, Posted, RingMail};
 use crate::outcome::Outcome;
-use emu_model::{Command, Ending, Record, Spec, Timed};
+use emu_model::{Command, Ending, LATEST_MOMENT, Record, Spec, Timed};
 use rtrb::{Consumer, Producer, PushError};
 use shard::Dossier;
 use std::alloc::{AllocError, Global};
-
-/// The latest moment (ns) of a command.
-const LATEST: u64 = 1_000_000_000_000_000;
 
 /// Posts an experiment's commands and reads its letters, and keeps both.
 #[derive(Drop)]
@@ -49,7 +46,7 @@ pub enum PostError {
 
 /// A command that was not posted, and why.
 #[derive(Clone, Copy)]
-pub struct Refusal {
+pub struct RefusedPost {
     pub cause: PostError,
     pub command: Timed,
 }
@@ -124,7 +121,7 @@ impl Tenant {
 
     /// Posts a command, at a moment (ns), behind those that were posted; or hands it back with the first cause that
     /// holds.
-    pub fn post(&mut self, command: Timed) -> Result<(), Refusal>
+    pub fn post(&mut self, command: Timed) -> Result<(), RefusedPost>
         ensures same { SameTenant self.old self.new
             × (letters_read self.new ≡ letters_read self.old) }
         ensures ok { OnOk result
@@ -137,7 +134,7 @@ impl Tenant {
         if self.closed {
             return Err(hand_back(PostError::Closed, command));
         }
-        if command.moment > LATEST {
+        if command.moment > LATEST_MOMENT {
             return Err(hand_back(PostError::TooLate, command));
         }
         if command.moment < self.last {
@@ -206,10 +203,10 @@ impl Tenant {
     }
 }
 
-fn hand_back(cause: PostError, command: Timed) -> Refusal
+fn hand_back(cause: PostError, command: Timed) -> RefusedPost
     ensures { (result.cause ≡ cause) × (result.command ≡ command) }
 {
-    Refusal { cause, command }
+    RefusedPost { cause, command }
 }
 
 fn is_end_command(command: &Command) -> bool

@@ -6,3 +6,10 @@ pub mod Order
 pub mod Ranges
 pub mod Scenario
 pub mod Steps
+pub mod Forms
+pub mod Values
+pub mod Choices
+pub mod Walk
+pub mod FirstWrong
+pub mod Behind
+pub mod Refused

@@ -1,14 +1,30 @@
-//! The text of a scenario: what it spells, or its first fault.
+//! The text of a scenario: what it spells, or its first fault. Of a line that is refused also its first word at fault,
+//! and what was expected in its place (our choice): the first such that no line begins with the words up to it.
 #![tactic(auto)]
 
+mod choice;
+mod expected;
 mod fault;
+mod form;
 mod names;
 mod reading;
 mod scenario;
 mod text_laws;
+mod value;
+mod word_fault;
+mod word_fault_law;
 
+pub use choice::stood_before;
+pub use expected::{
+    EndsWord, Expected, FieldsSeen, FlowSeen, FlowWord, HeaderWord, PacketWord, PipeSeen, PipeWord,
+    RuleWord, TimesSeen, TrainWord,
+};
 pub use fault::{Cause, Fault, ParseError};
+pub use form::{Form, Keyword};
 pub use names::ExperimentName;
-pub use reading::parse_scenario;
+pub use reading::{MOST_EXPERIMENTS, parse_scenario};
 pub use scenario::{CommandList, Experiment, Scenario};
 pub use text_laws::{texts_join, texts_part, texts_spell_one};
+pub use value::{Value, value_at};
+pub use word_fault::{Behind, Blamed, Check, blame, blame_behind};
+pub use word_fault_law::{one_is_first_wrong, refused_are_blamed};

@@ -8,11 +8,11 @@ use lib.Chars.{codes}
 use Rattle.control_words.specs.Words.{Words, said}
 use Rattle.control_words.specs.Numbers.{number_of, moment_of}
 use Rattle.control_words.specs.Addresses.{protocol_of, match_of, address_of, prefix_of, ports_of, is_name_byte, name_of}
-use Rattle.control_options.specs.Options.{options_of, flow_options_of}
+use Rattle.control_words.specs.Options.{options_of, flow_options_of}
 use Rattle.control_lines.specs.Grammar.{IsAction, ArePorts, IsRule, IsEnds, IsSend, IsTrain, IsFlow, IsCommand, AreSteps, Header, Line, Experiment, Command, IsLine}
 use Rattle.control_lines.specs.Shape.{action_of, source_ports_of, last_ports_of, rule_of, ends_of, send_of, train_of, flow_of, last_number_of, numbered, alone, config_of, pipe_of, add_of, inject_of, train_command_of, flow_command_of, source_of, command_of, steps_of, header_of, timed_of, shape_of}
 use Rattle.control_lines.proofs.Reading.{bind_some, chosen, key_is, value_is, after_is, end_is, said_is}
-use Rattle.control_options.specs.OptionsAreRead.{OptionsAreRead, FlowOptionsAreRead}
+use Rattle.control_words.specs.OptionsAreRead.{OptionsAreRead, FlowOptionsAreRead}
 use Rattle.control_lines.specs.declared.raw.RawAction.{RawAction}
 use Rattle.control_lines.specs.declared.raw.RawAction.TheVariants.{Allow, Deny, Count, SkipTo, Pipe}
 use Rattle.control_words.specs.declared.raw.RawPorts.{RawPorts}

@@ -2,7 +2,7 @@
 use Rattle.std.proofs.Common.{◌≡◌, ◌⊎◌, inl, inr, Bool, true, false, cond, List, [], ◌∷◌, Option, Some, None, refl, ap, ◌∙◌, ℕ}
 use Rattle.std.specs.Str.{bytes_eq}
 use Rattle.control_words.specs.Words.{Words, ◌>>=◌, after, none_left}
-pub use Rattle.control_options.proofs.CallerLemmas.{key_is, value_is, said_is}
+pub use Rattle.control_words.proofs.CallerLemmas.{key_is, value_is, said_is}
 
 pub bind_some : {A B : Type 0} (o : Option A) (f : A → Option B) (y : B) → (o >>= f) ≡ Some y → (x : A) × (o ≡ Some x) × (f x ≡ Some y)
 bind_some None f y e = absurd cc

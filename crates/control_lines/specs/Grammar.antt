@@ -4,7 +4,7 @@ use lib.Chars.{codes}
 use Rattle.control_words.specs.Words.{Words}
 use Rattle.control_words.specs.Numbers.{number_of}
 use Rattle.control_words.specs.Addresses.{protocol_of, match_of, address_of, prefix_of, ports_of, name_of}
-use Rattle.control_options.specs.Grammar.{IsPair, AreOptions, AreFlowOptions}
+use Rattle.control_words.specs.Grammar.{IsPair, AreOptions, AreFlowOptions}
 use Rattle.control_lines.specs.declared.raw.RawAction.{RawAction}
 use Rattle.control_lines.specs.declared.raw.RawAction.TheVariants.{Allow, Deny, Count, SkipTo, Pipe}
 use Rattle.control_words.specs.declared.raw.RawPorts.{RawPorts}

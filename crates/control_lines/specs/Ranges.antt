@@ -29,13 +29,15 @@ use Rattle.control_lines.specs.declared.raw.RawAction.TheVariants as raw_action
 use Rattle.control_lines.specs.declared.raw.RawRule.{RawRule}
 use Rattle.control_words.specs.declared.raw.RawQueue.{RawQueue}
 use Rattle.control_words.specs.declared.raw.RawQueue.TheVariants as raw_queue
-use Rattle.control_options.specs.declared.raw.RawFields.{RawFields}
-use Rattle.control_options.specs.declared.raw.RawMask.{RawMask}
-use Rattle.control_options.specs.declared.raw.RawMask.TheVariants as raw_mask
-use Rattle.control_options.specs.declared.raw.RawCodel.{RawCodel}
-use Rattle.control_options.specs.declared.raw.RawDiscipline.{RawDiscipline}
-use Rattle.control_options.specs.declared.raw.RawDiscipline.TheVariants as raw_discipline
-use Rattle.control_options.specs.declared.raw.RawConfig.{RawConfig}
+use Rattle.control_words.specs.declared.raw_options.RawFields.{RawFields}
+use Rattle.control_words.specs.declared.raw_options.RawMask.{RawMask}
+use Rattle.control_words.specs.declared.raw_options.RawMask.TheVariants as raw_mask
+use Rattle.control_words.specs.declared.raw_options.RawCodel.{RawCodel}
+use Rattle.control_words.specs.declared.raw_options.BareDiscipline.{BareDiscipline}
+use Rattle.control_words.specs.declared.raw_options.BareDiscipline.TheVariants as bare_discipline
+use Rattle.control_words.specs.declared.raw_options.RawDiscipline.{RawDiscipline}
+use Rattle.control_words.specs.declared.raw_options.RawDiscipline.TheVariants as raw_discipline
+use Rattle.control_words.specs.declared.raw_options.RawConfig.{RawConfig}
 use Rattle.control_words.specs.declared.raw.RawTiming.{RawTiming}
 use Rattle.control_words.specs.declared.raw.RawTiming.TheVariants as raw_timing
 use Rattle.control_lines.specs.declared.raw.RawSend.{RawSend}
@@ -128,9 +130,12 @@ codel_within codel = do
   interval ← within (unwrap_or codel.interval 100000000) 1000 60000000000
   Some (disciplines.ControlledDelay target interval)
 
+abbrev pub bare_within : BareDiscipline → Discipline
+bare_within bare_discipline.TailDrop = disciplines.TailDrop
+
 unfoldable pub discipline_within : Option RawDiscipline → Option Discipline
 discipline_within None = Some disciplines.TailDrop
-discipline_within (Some raw_discipline.TailDrop) = Some disciplines.TailDrop
+discipline_within (Some (raw_discipline.Bare bare)) = Some (bare_within bare)
 discipline_within (Some (raw_discipline.ControlledDelay codel)) = codel_within codel
 
 unfoldable pub config_within : RawConfig → Option PipeConfig

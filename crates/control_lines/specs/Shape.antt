@@ -5,7 +5,7 @@ use lib.Chars.{codes}
 use Rattle.control_words.specs.Words.{Words, ◌>>=◌, next, none_left, after, value, said}
 use Rattle.control_words.specs.Numbers.{number_of, moment_of}
 use Rattle.control_words.specs.Addresses.{protocol_of, match_of, address_of, prefix_of, ports_of, name_of}
-use Rattle.control_options.specs.Options.{options_of, flow_options_of}
+use Rattle.control_words.specs.Options.{options_of, flow_options_of}
 use Rattle.control_lines.specs.Grammar.{Header, Line, Experiment, Command}
 use Rattle.control_lines.specs.declared.raw.RawAction.{RawAction}
 use Rattle.control_lines.specs.declared.raw.RawAction.TheVariants.{Allow, Deny, Count, SkipTo, Pipe}

@@ -18,8 +18,7 @@ use crate::packet_line::packet_line;
 use crate::ranges;
 use crate::raw::RawLine;
 use crate::shape::line_shape;
-use control_options::options_are_read;
-use control_words::Words;
+use control_words::{Words, options_are_read};
 use emu_model::{Spec, Timed};
 
 /// How many bytes a line has at most, before its line feed.

@@ -3,7 +3,7 @@
 ghost use Rattle.control_lines.specs.LinesAreRead.{LinesAreRead};
 ghost use Rattle.control_lines.specs.LinesSayOne.{LinesSayOne};
 
-use control_options::options_are_read;
+use control_words::options_are_read;
 
 /// A line says one thing at most.
 pub fn lines_say_one()

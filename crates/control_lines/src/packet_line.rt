@@ -22,13 +22,10 @@ ghost use Rattle.control_lines.specs.PacketLine.{
   IsPacketLine,
 };
 
-use emu_model::{Command, Protocol, RangedU16, SendSpec, Timed};
+use emu_model::{Command, LATEST_MOMENT, Protocol, RangedU16, SendSpec, Timed};
 
 /// How many digits are read as one number: as many as always fit 64 bits.
 const MAX_DIGITS: usize = 19;
-
-/// The latest moment of a command, in ns.
-const MAX_MOMENT: u64 = 1_000_000_000_000_000;
 
 /// The digits in front as a number, and how many they are.
 fn digits_in_front(text: &[u8]) -> (u64, usize)
@@ -93,11 +90,11 @@ fn number_word(text: &[u8]) -> Option<(u64, &[u8])>
 
 /// A moment as a word, and what follows the space behind it.
 fn moment_word(text: &[u8]) -> Option<(u64, &[u8])>
-    ensures { IfSome result (λ x. Takes SpellsMoment text.now x.0 x.1.now × (x.0 ≤ MAX_MOMENT)) }
+    ensures { IfSome result (λ x. Takes SpellsMoment text.now x.0 x.1.now × (x.0 ≤ LATEST_MOMENT)) }
 {
     let digits = behind(text, b'@')?;
     let (n, rest) = number(digits)?;
-    if n > MAX_MOMENT {
+    if n > LATEST_MOMENT {
         return None;
     }
     let rest = behind(rest, b' ')?;

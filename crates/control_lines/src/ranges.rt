@@ -15,6 +15,7 @@ ghost use Rattle.control_lines.specs.Ranges.{
   fields_within,
   mask_within,
   codel_within,
+  bare_within,
   discipline_within,
   config_within,
   send_within,
@@ -28,12 +29,14 @@ ghost use Rattle.control_lines.specs.Ranges.{
 };
 
 use crate::raw::{RawAction, RawCommand, RawFlow, RawHeader, RawRule, RawSend, RawTimed, RawTrain};
-use control_options::{RawCodel, RawConfig, RawDiscipline, RawFields, RawMask};
-use control_words::{RawAddress, RawPorts, RawPrefix, RawQueue, RawTiming};
+use control_words::{
+    BareDiscipline, RawAddress, RawCodel, RawConfig, RawDiscipline, RawFields, RawMask, RawPorts,
+    RawPrefix, RawQueue, RawTiming,
+};
 use emu_model::{
-    Action, Budget, Command, Discipline, FlowSpec, KByteLimit, Mask, PipeConfig, PortRange, Prefix,
-    QueueLimit, RangedU8, RangedU16, RangedU32, RangedU64, Rule, SendSpec, SlotLimit, Spec, Timed,
-    Timeout, Timing, TrainSpec,
+    Action, Budget, Command, Discipline, FlowSpec, KByteLimit, LATEST_MOMENT, Mask, PipeConfig,
+    PortRange, Prefix, QueueLimit, RangedU8, RangedU16, RangedU32, RangedU64, Rule, SendSpec,
+    SlotLimit, Spec, Timed, Timeout, Timing, TrainSpec,
 };
 
 fn in_range(number: u128, low: u64, high: u64) -> Option<u64>
@@ -216,13 +219,21 @@ fn codel(raw: RawCodel) -> Option<Discipline>
     Some(Discipline::ControlledDelay { target, interval })
 }
 
+fn bare_discipline(raw: BareDiscipline) -> Discipline
+    ensures { result ≡ bare_within raw }
+{
+    match raw {
+        BareDiscipline::TailDrop => Discipline::TailDrop,
+    }
+}
+
 #[tactic(auto, unfolding(crate::specs::Ranges::discipline_within))]
 fn discipline(raw: Option<RawDiscipline>) -> Option<Discipline>
     ensures { result ≡ discipline_within raw }
 {
     match raw {
         None => Some(Discipline::TailDrop),
-        Some(RawDiscipline::TailDrop) => Some(Discipline::TailDrop),
+        Some(RawDiscipline::Bare(bare)) => Some(bare_discipline(bare)),
         Some(RawDiscipline::ControlledDelay(times)) => codel(times),
     }
 }
@@ -357,7 +368,7 @@ fn command(raw: RawCommand) -> Option<Command>
 pub fn timed(raw: RawTimed) -> Option<Timed>
     ensures { result ≡ timed_within raw }
 {
-    let moment = in_range(raw.moment, 0, 1_000_000_000_000_000)?;
+    let moment = in_range(raw.moment, 0, LATEST_MOMENT)?;
     let command = command(raw.command)?;
     Some(Timed { moment, command })
 }

@@ -1,7 +1,6 @@
 //! Lines as they are written: their shape alone, with numbers of up to 20 digits in base units.
 
-use control_options::{RawConfig, RawFlowOptions};
-use control_words::{RawAddress, RawPorts, RawPrefix};
+use control_words::{RawAddress, RawConfig, RawFlowOptions, RawPorts, RawPrefix};
 use emu_model::{Protocol, ProtocolMatch};
 
 #[derive(Clone, Copy)]

@@ -28,8 +28,7 @@ use crate::raw::{
     RawAction, RawCommand, RawEnds, RawFlow, RawHeader, RawLine, RawRule, RawSend, RawTimed,
     RawTrain,
 };
-use control_options::{flow_options, pipe_options};
-use control_words::{RawPorts, Words, addresses, is, numbers};
+use control_words::{RawPorts, Words, addresses, flow_options, is, numbers, pipe_options};
 
 fn number(words: &mut Words) -> Option<u128>
     ensures { option_map (λ n. (n, words_of words.new.rest.now)) result

@@ -1,12 +1,20 @@
 //! What one word of a scenario says: lines and words, numbers with their units, addresses, ports and
-//! names (our choice, in the words of ipfw(8)). A number has up to 20 digits here, whatever its
-//! range.
+//! names; and the options of a pipe and of a flow, as words: in any order, each at most once (our choice, in the words
+//! of ipfw(8)). A number has up to 20 digits here, whatever its range.
 #![tactic(auto)]
 
 pub mod addresses;
 pub mod numbers;
+mod options;
+mod options_law;
 mod raw;
+mod raw_options;
 mod text;
 
+pub use options::{bare_discipline, flow_options, pipe_options};
+pub use options_law::options_are_read;
 pub use raw::{RawAddress, RawPorts, RawPrefix, RawQueue, RawTiming};
+pub use raw_options::{
+    BareDiscipline, RawCodel, RawConfig, RawDiscipline, RawFields, RawFlowOptions, RawMask,
+};
 pub use text::{Words, first_line, is};

@@ -5,7 +5,7 @@ ghost use Rattle.control.specs.declared.fault.Cause.TheVariants.{NoEnd};
 ghost use Rattle.dnlab_c.specs.Answers.{cause_number, IsPut};
 
 use control::{Cause, Fault};
-use report_writer::{Report, put_reports};
+use experiment::{Report, put_reports};
 use std::alloc::Global;
 
 /// The text was written to the room.

@@ -1,4 +1,5 @@
 pub mod Least
 pub mod Numbers
 pub mod Places
+pub mod Table
 pub mod Tree

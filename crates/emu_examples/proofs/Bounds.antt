@@ -11,7 +11,7 @@ use Rattle.emu_model.specs.declared.packets.Protocol.TheVariants.{Tcp}
 use Rattle.emu_model.specs.declared.pipes.Discipline.TheVariants.{ControlledDelay}
 use Rattle.emu_model.specs.Pipes.{same_discipline}
 use Rattle.emu_model.specs.Loss.{is_below_rate, stream_of}
-use Rattle.emu_model.specs.DropTail.{Waiting, accepts}
+use Rattle.emu_model.specs.DropTail.{Queued, accepts}
 use Rattle.emu_model.specs.Codel.{Times, CodelState, initial_control, dodequeue, answer, while_dropping, initial_count, count_up, enter_drop_state, control_step, control_law, codel_dequeue, drop_first}
 use Rattle.emu_model.specs.Reno.{Sender, initial_sender, initial_window, bounded, expire, is_new, round_trip, new_estimate, estimated_timeout, ack, emit, window_after, halved_ssthresh}
 
@@ -37,7 +37,7 @@ at_half : is_below_rate 500000 (2 ^ 31) ≡ false
 at_half = refl
 
 -- a queue of 2 slots takes a second packet and no third
-abbrev packet : ℕ → Waiting ℕ
+abbrev packet : ℕ → Queued ℕ
 packet size = record { item = 0; size = size; stamp = 0 }
 
 second_slot : accepts (Slots 2) (packet 40 ∷ []) 40 ≡ true
@@ -58,14 +58,14 @@ past_kbyte = refl
 abbrev times : Times
 times = record { target = 5; interval = 100 }
 
-abbrev left_behind : ℕ → List (Waiting ℕ)
+abbrev left_behind : ℕ → List (Queued ℕ)
 left_behind last = packet 1500 ∷ packet last ∷ []
 
 abbrev above_since : ℕ → CodelState
 above_since moment = record initial_control { first_above_time = moment }
 
 -- whether a head may be dropped that was above since long ago
-abbrev may_drop : ℕ → Waiting ℕ → List (Waiting ℕ) → Bool
+abbrev may_drop : ℕ → Queued ℕ → List (Queued ℕ) → Bool
 may_drop now p rest = (dodequeue times now (above_since 1) (p ∷ rest)).ok_to_drop
 
 short_stay : may_drop 4 (packet 40) (left_behind 40) ≡ false

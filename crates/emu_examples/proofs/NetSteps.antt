@@ -114,9 +114,9 @@ arrival_at_the_first = refl
 
 -- a delay line keeps the last exit when its first packet leaves
 abbrev two_on_the_way : Line ℕ
-two_on_the_way = record { flight = record { item = 7; exit = 5 } ∷ record { item = 8; exit = 9 } ∷ []; last = 9 }
+two_on_the_way = record { in_flight = record { item = 7; exit = 5 } ∷ record { item = 8; exit = 9 } ∷ []; last = 9 }
 
-one_leaves : leave two_on_the_way ≡ record { flight = record { item = 8; exit = 9 } ∷ []; last = 9 }
+one_leaves : leave two_on_the_way ≡ record { in_flight = record { item = 8; exit = 9 } ∷ []; last = 9 }
 one_leaves = refl
 
 -- a third that finishes at 6 with a delay of 1 leaves no earlier than the one before, at 9; with one of 4 at 10

@@ -9,7 +9,7 @@ use Rattle.emu_model.specs.declared.pipes.Discipline.TheVariants.{TailDrop, Cont
 use Rattle.emu_model.specs.declared.pipes.PipeConfig.{PipeConfig}
 use Rattle.emu_model.specs.declared.records.DropCause.TheVariants.{Denied, NoPipe, NoInstance, Lost, Full, Codel, Deleted, Budget}
 use Rattle.emu_model.specs.FlowIds.{FlowId}
-use Rattle.emu_model.specs.DropTail.{Waiting}
+use Rattle.emu_model.specs.DropTail.{Queued}
 use Rattle.emu_model.specs.Codel.{CodelState, initial_control}
 use Rattle.emu_model.specs.Pipes.{Instance, PipeState, initial_instance, dequeue, enqueue, drawn_one, draw, pipe_arrive, instance_finish, instance_configure, held_in}
 use Rattle.emu_model.specs.Net.{cause_number}
@@ -29,7 +29,7 @@ packet number = record {
   place = record { number = 0; order = 0 };
 }
 
-abbrev waiting : ℕ → Waiting Packet
+abbrev waiting : ℕ → Queued Packet
 waiting number = record { item = packet number; size = 1000; stamp = 5 }
 
 abbrev control : CodelState
@@ -56,7 +56,7 @@ instance = record {
   waiting = waiting 1 ∷ waiting 2 ∷ [];
   control = control;
   service = Some (record { item = packet 0; period = record { start = 4; sum = 1000; finish = 1000004 } });
-  line = record { flight = record { item = packet 9; exit = 70 } ∷ []; last = 70 };
+  line = record { in_flight = record { item = packet 9; exit = 70 } ∷ []; last = 70 };
   drawn = 2;
 }
 
@@ -112,7 +112,7 @@ goes_on_its_way :
         waiting = waiting 2 ∷ [];
         service = Some (record { item = packet 1; period = record { start = 4; sum = 2000; finish = 2000004 } });
         line = record {
-          flight = record { item = packet 9; exit = 70 } ∷ record { item = packet 0; exit = 11000004 } ∷ [];
+          in_flight = record { item = packet 9; exit = 70 } ∷ record { item = packet 0; exit = 11000004 } ∷ [];
           last = 11000004;
         };
       };

@@ -6,8 +6,8 @@ use Rattle.std.specs.List.{AllByRecursion, list_any}
 use Rattle.std.proofs.lemmas.Bool.{cases_lt, cases_eq, eqb-true, ne_eqb}
 use Rattle.emu_model.specs.Lists.{replace_first, tail}
 use Rattle.emu_laws.proofs.Words.{Packet, Load, Plain, Seg, Ack, PipeConfig, FlowSpec, Lost, Full}
-use Rattle.emu_model.specs.Delay.{Leaving, Line, enter, leave, first_item}
-use Rattle.emu_model.specs.DropTail.{Waiting, accepts}
+use Rattle.emu_model.specs.Delay.{InFlight, Line, enter, leave, first_item}
+use Rattle.emu_model.specs.DropTail.{Queued, accepts}
 use Rattle.emu_model.specs.Codel.{Dequeued}
 use Rattle.emu_model.specs.Reno.{Sender, with_segment, missing, ack, ack_new, ack_duplicate, enter_recovery, is_new, is_duplicate, bounded, emit, expire, started_timer}
 use Rattle.emu_model.specs.Pipes.{InService, Instance, PipeState, After, held_in, pipe_packets, dequeue, period_with, serve_next, no_drop, drop_one, enqueue, accept, drawn_one, instance_arrive, send_off, instance_finish, instance_configure, cut_service, pipe_arrive, pipe_finish, pipe_exit, pipe_configure}
@@ -186,38 +186,38 @@ OnWay T None = Unit {0}
 OnWay T (Some p) = T p
 
 pub record HoldsOf (T : Packet → Type 0) (i : Instance) : Type 0 where
-  pub flight : AllByRecursion (λ x. T x.item) i.line.flight
+  pub in_flight : AllByRecursion (λ x. T x.item) i.line.in_flight
   pub service : ServesOf T i.service
   pub waiting : AllByRecursion (λ w. T w.item) i.waiting
 
 module _ (T : Packet → Type 0) where
-  entered-holds : (now delay : ℕ) (p : Packet) (l : Line Packet) → T p → AllByRecursion (λ x. T x.item) l.flight →
-      AllByRecursion (λ x. T x.item) (enter p now delay l).flight
-  entered-holds now delay p l q h = each_joined (λ x. T x.item) l.flight _ h (q, tt)
+  entered-holds : (now delay : ℕ) (p : Packet) (l : Line Packet) → T p → AllByRecursion (λ x. T x.item) l.in_flight →
+      AllByRecursion (λ x. T x.item) (enter p now delay l).in_flight
+  entered-holds now delay p l q h = each_joined (λ x. T x.item) l.in_flight _ h (q, tt)
 
-  left-holds : (xs : List (Leaving Packet)) → AllByRecursion (λ x. T x.item) xs → AllByRecursion (λ x. T x.item) (tail xs)
+  left-holds : (xs : List (InFlight Packet)) → AllByRecursion (λ x. T x.item) xs → AllByRecursion (λ x. T x.item) (tail xs)
   left-holds [] h = tt
   left-holds (x ∷ xs) h = h.1
 
-  first-holds : (xs : List (Leaving Packet)) → AllByRecursion (λ x. T x.item) xs → OnWay T (first_item xs)
+  first-holds : (xs : List (InFlight Packet)) → AllByRecursion (λ x. T x.item) xs → OnWay T (first_item xs)
   first-holds [] h = tt
   first-holds (x ∷ xs) h = h.0
 
-  given-holds : (bw now : ℕ) (i : Instance) (o : Option (Waiting Packet)) → AllByRecursion (λ w. T w.item) (option_to_list o) →
+  given-holds : (bw now : ℕ) (i : Instance) (o : Option (Queued Packet)) → AllByRecursion (λ w. T w.item) (option_to_list o) →
       ServesOf T (option_map (λ w. record { item = w.item; period = period_with bw now w.size i.service }) o)
   given-holds bw now i None h = tt
   given-holds bw now i (Some w) h = h.0
 
-  next-holds : (config : PipeConfig) (now : ℕ) (i : Instance) → AllByRecursion (λ x. T x.item) i.line.flight →
+  next-holds : (config : PipeConfig) (now : ℕ) (i : Instance) → AllByRecursion (λ x. T x.item) i.line.in_flight →
       AllByRecursion (λ w. T w.item) i.waiting → HoldsOf T (serve_next config now i).state
   next-holds config now i line h =
       let d : Dequeued Packet = dequeue config.discipline now i.control i.waiting in
-      let W : Waiting Packet → Type 0 = λ w. T w.item in
+      let W : Queued Packet → Type 0 = λ w. T w.item in
       let all : AllByRecursion W (d.dropped ++ (option_to_list d.given ++ d.rest)) =
       subst (AllByRecursion W) (dequeue-cut config.discipline now i.control i.waiting).whole h in
       let later : AllByRecursion W (option_to_list d.given ++ d.rest) = each_back W d.dropped (option_to_list d.given ++ d.rest) all in
       record {
-        flight = line;
+        in_flight = line;
         service = given-holds config.bw now i d.given (each_front W (option_to_list d.given) d.rest later);
         waiting = each_back W (option_to_list d.given) d.rest later;
       }
@@ -229,8 +229,8 @@ module _ (T : Packet → Type 0) where
       (if accepts config.queue i.waiting p.size then accept config now p i else drop_one i p Full) h
       (either P (accepts config.queue i.waiting p.size) (accept config now p i) (drop_one i p Full)
       (either P (is_some i.service) (no_drop (enqueue now p i)) (serve_next config now (enqueue now p i))
-      (record { flight = h.flight; service = h.service; waiting = more })
-      (next-holds config now (enqueue now p i) h.flight more)) h)
+      (record { in_flight = h.in_flight; service = h.service; waiting = more })
+      (next-holds config now (enqueue now p i) h.in_flight more)) h)
     where
       P : After Instance → Type 0
       P a = HoldsOf T a.state
@@ -239,7 +239,7 @@ module _ (T : Packet → Type 0) where
       more = each_joined (λ w. T w.item) i.waiting _ h.waiting (q, tt)
 
   sent-holds : (config : PipeConfig) (now : ℕ) (o : Option (InService Packet)) (l : Line Packet) → ServesOf T o →
-      AllByRecursion (λ x. T x.item) l.flight → AllByRecursion (λ x. T x.item) (send_off config now o l).flight
+      AllByRecursion (λ x. T x.item) l.in_flight → AllByRecursion (λ x. T x.item) (send_off config now o l).in_flight
   sent-holds config now None l s h = h
   sent-holds config now (Some x) l s h = entered-holds now _ x.item l s h
 
@@ -253,33 +253,33 @@ module _ (T : Packet → Type 0) where
   pub pipe_arrive-holds : (seed now : ℕ) (packet : Packet) (p : PipeState) → T packet → PipeOf p →
       PipeOf (pipe_arrive seed now packet p).state
   pipe_arrive-holds seed now packet p q h =
-      (pipe_arrive-each (HoldsOf T) seed now packet p (λ id. record { flight = tt; service = tt; waiting = tt })
+      (pipe_arrive-each (HoldsOf T) seed now packet p (λ id. record { in_flight = tt; service = tt; waiting = tt })
       (λ lost i r. arrive-holds p.config now packet lost (drawn_one i) q
-      (record { flight = r.flight; service = r.service; waiting = r.waiting })) h).each
+      (record { in_flight = r.in_flight; service = r.service; waiting = r.waiting })) h).each
 
   pub pipe_finish-holds : (now k : ℕ) (p : PipeState) → PipeOf p → PipeOf (pipe_finish now k p).state
   pipe_finish-holds now k p h =
       (change_one-each (HoldsOf T) p.number p.config k (instance_finish p.config now) p
       (record { number = refl; config = refl; each = h })
       (λ i q. next-holds p.config now (record i { line = send_off p.config now i.service i.line })
-      (sent-holds p.config now i.service i.line q.service q.flight) q.waiting)).each
+      (sent-holds p.config now i.service i.line q.service q.in_flight) q.waiting)).each
 
   pub pipe_exit-holds : (k : ℕ) (p : PipeState) → PipeOf p → PipeOf (pipe_exit k p)
   pipe_exit-holds k p h =
       each_changed (HoldsOf T) (λ i. record i { line = leave i.line }) k p.instances
-      (λ i q. record { flight = left-holds i.line.flight q.flight; service = q.service; waiting = q.waiting }) h
+      (λ i q. record { in_flight = left-holds i.line.in_flight q.in_flight; service = q.service; waiting = q.waiting }) h
 
   pub flying-holds : (k : ℕ) (p : PipeState) → PipeOf p → OnWay T (flying_in k p)
   flying-holds k p h = go (slice_get p.instances k) refl
     where
-      go : (o : Option Instance) → slice_get p.instances k ≡ o → OnWay T (option_and_then (λ i. first_item i.line.flight) o)
+      go : (o : Option Instance) → slice_get p.instances k ≡ o → OnWay T (option_and_then (λ i. first_item i.line.in_flight) o)
       go None e = tt
-      go (Some i) e = first-holds i.line.flight (each_got (HoldsOf T) i p.instances k e h).flight
+      go (Some i) e = first-holds i.line.in_flight (each_got (HoldsOf T) i p.instances k e h).in_flight
 
   pub pipe_configure-holds : (config : PipeConfig) (p : PipeState) → PipeOf p → PipeOf (pipe_configure config p)
   pipe_configure-holds config p h =
       each_mapped (HoldsOf T) (HoldsOf T) (instance_configure p.config config)
-      (λ i q. record { flight = q.flight; service = cut-holds i.service q.service; waiting = q.waiting }) p.instances h
+      (λ i q. record { in_flight = q.in_flight; service = cut-holds i.service q.service; waiting = q.waiting }) p.instances h
 
   -- all that an instance holds, as a list
   served-list : (o : Option (InService Packet)) → ServesOf T o → AllByRecursion T (option_to_list (option_map (λ s. s.item) o))
@@ -288,10 +288,10 @@ module _ (T : Packet → Type 0) where
 
   instance-list : (i : Instance) → HoldsOf T i → AllByRecursion T (held_in i)
   instance-list i h =
-      each_joined T (map (λ x. x.item) i.line.flight ++ option_to_list (option_map (λ s. s.item) i.service))
+      each_joined T (map (λ x. x.item) i.line.in_flight ++ option_to_list (option_map (λ s. s.item) i.service))
       (map (λ w. w.item) i.waiting)
-      (each_joined T (map (λ x. x.item) i.line.flight) (option_to_list (option_map (λ s. s.item) i.service))
-      (each_mapped (λ x. T x.item) T (λ x. x.item) (λ x q. q) i.line.flight h.flight)
+      (each_joined T (map (λ x. x.item) i.line.in_flight) (option_to_list (option_map (λ s. s.item) i.service))
+      (each_mapped (λ x. T x.item) T (λ x. x.item) (λ x q. q) i.line.in_flight h.in_flight)
       (served-list i.service h.service))
       (each_mapped (λ w. T w.item) T (λ w. w.item) (λ w q. q) i.waiting h.waiting)
 
@@ -300,17 +300,17 @@ module _ (T : Packet → Type 0) where
   flat-list Q f h [] q = tt
   flat-list Q f h (x ∷ xs) q = each_joined T (f x) (flat_map f xs) (h x q.0) (flat-list Q f h xs q.1)
 
-  pub net-list : (n : Net) → AllByRecursion (λ x. T x.item) n.direct.flight → AllByRecursion PipeOf n.pipes →
+  pub net-list : (n : Net) → AllByRecursion (λ x. T x.item) n.direct.in_flight → AllByRecursion PipeOf n.pipes →
       AllByRecursion T (held_packets n)
   net-list n d p =
-      each_joined T (map (λ x. x.item) n.direct.flight) (flat_map pipe_packets n.pipes)
-      (each_mapped (λ x. T x.item) T (λ x. x.item) (λ x q. q) n.direct.flight d)
+      each_joined T (map (λ x. x.item) n.direct.in_flight) (flat_map pipe_packets n.pipes)
+      (each_mapped (λ x. T x.item) T (λ x. x.item) (λ x q. q) n.direct.in_flight d)
       (flat-list PipeOf pipe_packets (λ q h. flat-list (HoldsOf T) held_in instance-list q.instances h) n.pipes p)
 
 -- what follows for each packet
 weaker : (T U : Packet → Type 0) → ((p : Packet) → T p → U p) → (i : Instance) → HoldsOf T i → HoldsOf U i
 weaker T U h i q = record {
-  flight = each_weaker (λ x. T x.item) (λ x. U x.item) (λ x r. h x.item r) i.line.flight q.flight;
+  in_flight = each_weaker (λ x. T x.item) (λ x. U x.item) (λ x r. h x.item r) i.line.in_flight q.in_flight;
   service = go i.service q.service;
   waiting = each_weaker (λ w. T w.item) (λ w. U w.item) (λ w r. h w.item r) i.waiting q.waiting;
 }
@@ -325,7 +325,7 @@ IsTrue fs p = IsTrueOf p.load fs
 
 pub record AllTrue (o : Option Packet) (n : Net) : Type 0 where
   pub flows : AllByRecursion Acked n.flows
-  pub direct : AllByRecursion (λ x. IsTrue n.flows x.item) n.direct.flight
+  pub direct : AllByRecursion (λ x. IsTrue n.flows x.item) n.direct.in_flight
   pub pipes : AllByRecursion (PipeOf (IsTrue n.flows)) n.pipes
   pub way : OnWay (IsTrue n.flows) o
 
@@ -334,7 +334,7 @@ changed : (n : Net) (fs : List FlowState) → ((l : Load) → IsTrueOf l n.flows
     AllByRecursion Acked fs → (o : Option Packet) → AllTrue o n → AllTrue None (record n { flows = fs })
 changed n fs rise acked o h = record {
   flows = acked;
-  direct = each_weaker (λ x. IsTrue n.flows x.item) (λ x. IsTrue fs x.item) (λ x q. rise x.item.load q) n.direct.flight h.direct;
+  direct = each_weaker (λ x. IsTrue n.flows x.item) (λ x. IsTrue fs x.item) (λ x q. rise x.item.load q) n.direct.in_flight h.direct;
   pipes = each_weaker (PipeOf (IsTrue n.flows)) (PipeOf (IsTrue fs))
       (λ p q. each_weaker (HoldsOf (IsTrue n.flows)) (HoldsOf (IsTrue fs))
       (weaker (IsTrue n.flows) (IsTrue fs) (λ x r. rise x.load r)) p.instances q) n.pipes h.pipes;
@@ -357,8 +357,8 @@ true-keeps : (b : ℕ) → Keeps b (λ f. Unit {0}) Anything AllTrue
 true-keeps b = record {
   quiet = λ o n m a h. record {
     flows = subst (AllByRecursion Acked) (sym a.flows) h.flows;
-    direct = subst (λ fs. AllByRecursion (λ x. IsTrue fs x.item) m.direct.flight) (sym a.flows)
-        (subst (λ l. AllByRecursion (λ x. IsTrue n.flows x.item) l.flight) (sym a.direct) h.direct);
+    direct = subst (λ fs. AllByRecursion (λ x. IsTrue fs x.item) m.direct.in_flight) (sym a.flows)
+        (subst (λ l. AllByRecursion (λ x. IsTrue n.flows x.item) l.in_flight) (sym a.direct) h.direct);
     pipes = subst (λ fs. AllByRecursion (PipeOf (IsTrue fs)) m.pipes) (sym a.flows)
         (subst (AllByRecursion (PipeOf (IsTrue n.flows))) (sym a.pipes) h.pipes);
     way = subst (λ fs. OnWay (IsTrue fs) o) (sym a.flows) h.way;
@@ -375,9 +375,9 @@ true-keeps b = record {
   };
   left = λ n h. record {
     flows = h.flows;
-    direct = left-holds (IsTrue n.flows) n.direct.flight h.direct;
+    direct = left-holds (IsTrue n.flows) n.direct.in_flight h.direct;
     pipes = h.pipes;
-    way = first-holds (IsTrue n.flows) n.direct.flight h.direct;
+    way = first-holds (IsTrue n.flows) n.direct.in_flight h.direct;
   };
   arrived = λ seed now k p q n e h. record {
     flows = h.flows;

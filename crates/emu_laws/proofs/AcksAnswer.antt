@@ -142,7 +142,7 @@ answering-tells seed b = record {
   unpiped = λ now k p n none h. dropped-answers now (record { packet = p; cause = NoPipe } ∷ []) (handed k p) n h;
   left = λ n h.
       let m : Net = record n { direct = leave n.direct } in
-      unnoted starting (flying (first_item n.direct.flight)) n m refl (flying-last (first_item n.direct.flight) m.records) h;
+      unnoted starting (flying (first_item n.direct.in_flight)) n m refl (flying-last (first_item n.direct.in_flight) m.records) h;
   delivered = λ now p n h.
       let r : Record = PacketDelivered now p.number p.load in
       noted (r ∷ []) (leaving p) (came now p) n (note r n) refl (tt, tt) (last-more None n.records r) h;

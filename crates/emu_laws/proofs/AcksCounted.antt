@@ -325,9 +325,9 @@ module _ (k : ℕ) where
         (still (handed j p) (moving 0 p) n n refl refl refl (λ there. there) refl (omega arith) h);
     left = λ n h.
         let m : Net = record n { direct = leave n.direct } in
-        same starting (flying (first_item n.direct.flight)) n m refl
-        (omega (arith, weigh-left acks_of n, flying-acks (first_item n.direct.flight))) (λ there. there)
-        (omega (arith, weigh-left segs_of n, flying-segs (first_item n.direct.flight))) h;
+        same starting (flying (first_item n.direct.in_flight)) n m refl
+        (omega (arith, weigh-left acks_of n, flying-acks (first_item n.direct.in_flight))) (λ there. there)
+        (omega (arith, weigh-left segs_of n, flying-segs (first_item n.direct.in_flight))) h;
     delivered = delivered-even;
     taken = λ now p n none h.
         still (came now p) ended n n refl refl refl (λ there. there) (sym (taken-none n p none h.segs)) (omega arith) h;

@@ -10,7 +10,7 @@ use Rattle.emu_model.specs.Pipes.{PipeState, instance_for, instance_finish, pipe
 use Rattle.emu_model.specs.Net.{drop_record}
 use Rattle.emu_model.specs.Commands.{with_pipe}
 use Rattle.emu_model.specs.Events.{flying_in}
-use Rattle.emu_laws.specs.Happenings.{Happening, Coming, Finishing, Leaving, Configuring, Deleting, pipe_in, put_in, happen, after_all, Known, nothing, only_lines, finish_lines, deleted_lines, is_number, is_at, Standing, standing, first_held, known_of, history, told_of}
+use Rattle.emu_laws.specs.Happenings.{Happening, Coming, Finishing, InFlight, Configuring, Deleting, pipe_in, put_in, happen, after_all, Known, nothing, only_lines, finish_lines, deleted_lines, is_number, is_at, Standing, standing, first_held, known_of, history, told_of}
 use Rattle.emu_laws.specs.Strangers.{SameHappeningsChangeAlike, InstancesAreStrangers}
 use Rattle.emu_laws.proofs.PlaceOf.{changed-here, mapped-at}
 use Rattle.emu_laws.proofs.StandingOf.{entry, at_first, first_or, put-here, none-stands, first-stands, number-found, removed-here, new-here}
@@ -25,13 +25,13 @@ finished_lines now pipe k s =
     ++ map (drop_record now) (option_map_or (λ i. (instance_finish s.config now i).dropped) s.instance [])
 
 abbrev first_under_way : Standing → Option Packet
-first_under_way s = option_and_then (λ i. first_item i.line.flight) s.instance
+first_under_way s = option_and_then (λ i. first_item i.line.in_flight) s.instance
 
 -- what becomes known of an instance alone
 abbrev known_alone : ℕ → ℕ → ℕ → Happening → List Standing → Known
 known_alone seed pipe k (Coming now j packet) ss = only_lines (first_or (arrival_lines seed pipe k now packet) ss [])
 known_alone seed pipe k (Finishing now j i) ss = only_lines (first_or (finished_lines now pipe k) ss [])
-known_alone seed pipe k (Leaving j i) ss = record { left = first_or first_under_way ss None; lines = [] }
+known_alone seed pipe k (InFlight j i) ss = record { left = first_or first_under_way ss None; lines = [] }
 known_alone seed pipe k (Configuring j config) ss = nothing
 known_alone seed pipe k (Deleting now j) ss = only_lines (deleted_lines now (first_held ss))
 
@@ -137,9 +137,9 @@ module _ (seed pipe k : ℕ) (ps : List PipeState) where
             (ap (λ ds. finish_lines now pipe k p ++ map (drop_record now) ds) one.dropped));
       })
 
-  leaves-alone : GoesAlone seed pipe k (Leaving pipe k) ps
+  leaves-alone : GoesAlone seed pipe k (InFlight pipe k) ps
   leaves-alone =
-      by-pipe {P = GoesAlone seed pipe k (Leaving pipe k) ps}
+      by-pipe {P = GoesAlone seed pipe k (InFlight pipe k) ps}
       (λ none. record {
         stands = none-alone (λ q. put_in pipe (pipe_exit k q) ps) gone none;
         known = ap (λ o. record { left = o; lines = [] }) (told-none (flying_in k) first_under_way None none);
@@ -196,10 +196,10 @@ goes-alone seed pipe k (Finishing now j i) ps e =
     subst (λ x. GoesAlone seed pipe k (Finishing now x i) ps) (sym (eqb-true j pipe parts.0))
     (subst (λ x. GoesAlone seed pipe k (Finishing now pipe x) ps) (sym (eqb-true i k parts.1))
     (finishes-alone seed pipe k ps now))
-goes-alone seed pipe k (Leaving j i) ps e =
+goes-alone seed pipe k (InFlight j i) ps e =
     let parts = and_parts (j == pipe) (i == k) e in
-    subst (λ x. GoesAlone seed pipe k (Leaving x i) ps) (sym (eqb-true j pipe parts.0))
-    (subst (λ x. GoesAlone seed pipe k (Leaving pipe x) ps) (sym (eqb-true i k parts.1))
+    subst (λ x. GoesAlone seed pipe k (InFlight x i) ps) (sym (eqb-true j pipe parts.0))
+    (subst (λ x. GoesAlone seed pipe k (InFlight pipe x) ps) (sym (eqb-true i k parts.1))
     (leaves-alone seed pipe k ps))
 goes-alone seed pipe k (Configuring j config) ps e =
     subst (λ x. GoesAlone seed pipe k (Configuring x config) ps) (sym (eqb-true j pipe e))

@@ -3,12 +3,12 @@
 use Rattle.std.proofs.Common.{◌≡◌, ℕ, zero, suc, ◌+◌, ◌/◌, ◌%◌, List, [], ◌∷◌, Option, Some, None}
 use Rattle.std.specs.Prelude.{is_some, nat_lt, if◌then◌else◌}
 use Rattle.std.specs.Option.{option_map_or}
-use Rattle.emu_laws.proofs.Words.{Setting, Spec, Timed, Class, NextCommand, Exit, Finish, Expiry, Emission, Packet, Load, Plain, Seg, Ack, Verdict, OverTheLink, Dropped, IntoPipe, Rule, SendSpec, NoPipe, Budget, Command, Add, Delete, Config, PipeDelete, PipeShow, Show, Inject, Train, Flow, Stop, OnePass, Trace, End, CommandDone, CommandRefused, PacketDelivered, PacketPassed, AckTaken}
+use Rattle.emu_laws.proofs.Words.{EventContext, Spec, Timed, Class, NextCommand, Exit, Finish, Expiry, Emission, Packet, Load, Plain, Seg, Ack, Verdict, OverTheLink, Dropped, IntoPipe, Rule, SendSpec, NoPipe, Budget, Command, Add, Delete, Config, PipeDelete, PipeShow, Show, Inject, Train, Flow, Stop, OnePass, Trace, End, CommandDone, CommandRefused, PacketDelivered, PacketPassed, AckTaken}
 use Rattle.emu_model.specs.Rules.{RuleBook, initial_book, verdict, start_behind, counted_book, add_refusal, delete_refusal, book_with, book_without}
 use Rattle.emu_model.specs.Delay.{first_item, leave}
 use Rattle.emu_model.specs.Reno.{Sender, ack, with_segment, missing, emitted, emit}
 use Rattle.emu_model.specs.Pipes.{InService, PipeState, pipe_arrive, pipe_exit, pipe_configure}
-use Rattle.emu_model.specs.Net.{Net, FlowState, TrainState, note, note_traced, note_arrival, enter_pipe, drop_packet, by_verdict, pass_rules_from, pass_rules, go_on, packet_of, make_record, make, held, data_send, ack_send, find_pipe, put_pipe, put_after, find_flow, put_flow, find_train, put_train, take_segment, take_ack, take_load, deliver}
+use Rattle.emu_model.specs.Net.{Net, FlowState, TrainState, note, note_traced, note_arrival, enter_pipe, drop_packet, by_verdict, pass_rules_from, pass_rules, reinject, packet_of, make_record, make, held, data_send, ack_send, find_pipe, put_pipe, put_after, find_flow, put_flow, find_train, put_train, take_segment, take_ack, take_load, deliver}
 use Rattle.emu_model.specs.Commands.{new_pipe, delete_pipe, stop_flow, refusal_of, effect_of, obey}
 use Rattle.emu_model.specs.Events.{direct_exit, deliver_some, flying_in, leave_pipe_some, pipe_exits, served_in, note_finish, pipe_finishes, expire_flow, emit_segment, emit_packet, event_of}
 use Rattle.emu_model.specs.declared.sources.Due.{Due}
@@ -27,30 +27,30 @@ module _ (P : RuleBook → Type 0) (keeps : KeepsBook P) where
   abbrev Keeps : Net → Type 0
   Keeps n = P n.book
 
-  enter_pipe-keeps : (at : Setting) (k : ℕ) (p : Packet) (n : Net) → Keeps n → Keeps (enter_pipe at k p n)
+  enter_pipe-keeps : (at : EventContext) (k : ℕ) (p : Packet) (n : Net) → Keeps n → Keeps (enter_pipe at k p n)
   enter_pipe-keeps at k p n h =
       some_or Keeps (λ q. put_after at.now k (pipe_arrive at.seed at.now p q) n) (find_pipe k n)
       (drop_packet at.now NoPipe p n) (λ q e. h) h
 
-  by_verdict-keeps : (at : Setting) (v : Verdict) (p : Packet) (n : Net) → Keeps n → Keeps (by_verdict at v p n)
+  by_verdict-keeps : (at : EventContext) (v : Verdict) (p : Packet) (n : Net) → Keeps n → Keeps (by_verdict at v p n)
   by_verdict-keeps at OverTheLink p n h = h
   by_verdict-keeps at Dropped p n h = h
   by_verdict-keeps at (IntoPipe k place) p n h =
       enter_pipe-keeps at k (record p { place = place }) (note_arrival at.now k (record p { place = place }) n) h
 
-  pass_rules_from-keeps : (at : Setting) (start : ℕ) (p : Packet) (n : Net) → Keeps n → Keeps (pass_rules_from at start p n)
+  pass_rules_from-keeps : (at : EventContext) (start : ℕ) (p : Packet) (n : Net) → Keeps n → Keeps (pass_rules_from at start p n)
   pass_rules_from-keeps at start p n h =
       by_verdict-keeps at (verdict start p n.book.rules) p (record n { book = counted_book start p n.book })
       (keeps.searched start p n.book h)
 
-  make-keeps : (at : Setting) (l : Load) (send : SendSpec) (n : Net) → Keeps n → Keeps (make at l send n)
+  make-keeps : (at : EventContext) (l : Load) (send : SendSpec) (n : Net) → Keeps n → Keeps (make at l send n)
   make-keeps at l send n h =
       let p : Packet = packet_of l send n.made in
       let m : Net = note_traced (make_record at.now p ∷ []) (record n { made = n.made + 1 }) in
       either Keeps (nat_lt (held n) at.packet_budget) (pass_rules at p m) (drop_packet at.now Budget p m)
       (pass_rules_from-keeps at 0 p m h) h
 
-  take_segment-keeps : (at : Setting) (first : ℕ) (n : Net) (f : FlowState) → Keeps n → Keeps (take_segment at first n f)
+  take_segment-keeps : (at : EventContext) (first : ℕ) (n : Net) (f : FlowState) → Keeps n → Keeps (take_segment at first n f)
   take_segment-keeps at first n f h =
       let came : List ℕ = with_segment first f.came in
       make-keeps at (Ack f.number (missing f.flow.smss came)) (ack_send f.flow) (put_flow (record f { came = came }) n) h
@@ -60,24 +60,24 @@ module _ (P : RuleBook → Type 0) (keeps : KeepsBook P) where
       let t : Sender = ack f.flow now upto f.sender in
       either Keeps f.stopped n (note (AckTaken now f.number t.cwnd t.ssthresh) (put_flow (record f { sender = t }) n)) h h
 
-  take_load-keeps : (at : Setting) (l : Load) (n : Net) → Keeps n → Keeps (take_load at l n)
+  take_load-keeps : (at : EventContext) (l : Load) (n : Net) → Keeps n → Keeps (take_load at l n)
   take_load-keeps at Plain n h = h
   take_load-keeps at (Seg k first) n h =
       some_or Keeps (take_segment at first n) (find_flow k n) n (λ f e. take_segment-keeps at first n f h) h
   take_load-keeps at (Ack k upto) n h =
       some_or Keeps (take_ack at.now upto n) (find_flow k n) n (λ f e. take_ack-keeps at.now upto n f h) h
 
-  deliver-keeps : (at : Setting) (p : Packet) (n : Net) → Keeps n → Keeps (deliver at p n)
+  deliver-keeps : (at : EventContext) (p : Packet) (n : Net) → Keeps n → Keeps (deliver at p n)
   deliver-keeps at p n h = take_load-keeps at p.load (note (PacketDelivered at.now p.number p.load) n) h
 
-  direct_exit-keeps : (at : Setting) (n : Net) → Keeps n → Keeps (direct_exit at n)
-  direct_exit-keeps at n h = go (first_item n.direct.flight)
+  direct_exit-keeps : (at : EventContext) (n : Net) → Keeps n → Keeps (direct_exit at n)
+  direct_exit-keeps at n h = go (first_item n.direct.in_flight)
     where
       go : (o : Option Packet) → Keeps (deliver_some at o (record n { direct = leave n.direct }))
       go None = h
       go (Some p) = deliver-keeps at p (record n { direct = leave n.direct }) h
 
-  pipe_exits-keeps : (at : Setting) (pipe k : ℕ) (n : Net) (p : PipeState) → Keeps n → Keeps (pipe_exits at pipe k n p)
+  pipe_exits-keeps : (at : EventContext) (pipe k : ℕ) (n : Net) (p : PipeState) → Keeps n → Keeps (pipe_exits at pipe k n p)
   pipe_exits-keeps at pipe k n p h = go (flying_in k p)
     where
       go : (o : Option Packet) → Keeps (leave_pipe_some at pipe k o (put_pipe pipe (pipe_exit k p) n))
@@ -85,22 +85,22 @@ module _ (P : RuleBook → Type 0) (keeps : KeepsBook P) where
       go (Some x) =
           let there : Net = put_pipe pipe (pipe_exit k p) n in
           let told : Net = note (PacketPassed at.now x.number pipe k) there in
-          either Keeps n.one_pass (deliver at x there) (go_on at x told) (deliver-keeps at x there h)
+          either Keeps n.one_pass (deliver at x there) (reinject at x told) (deliver-keeps at x there h)
           (pass_rules_from-keeps at (start_behind x.place told.book.rules) x told h)
 
   note_finish-keeps : (now pipe k : ℕ) (o : Option (InService Packet)) (n : Net) → Keeps n → Keeps (note_finish now pipe k o n)
   note_finish-keeps now pipe k None n h = h
   note_finish-keeps now pipe k (Some i) n h = h
 
-  emit_segment-keeps : (at : Setting) (n : Net) (f : FlowState) → Keeps n → Keeps (emit_segment at n f)
+  emit_segment-keeps : (at : EventContext) (n : Net) (f : FlowState) → Keeps n → Keeps (emit_segment at n f)
   emit_segment-keeps at n f h =
       make-keeps at (Seg f.number (emitted f.sender)) (data_send f.flow)
       (put_flow (record f { sender = emit f.flow at.now f.sender }) n) h
 
-  emit_packet-keeps : (at : Setting) (n : Net) (t : TrainState) → Keeps n → Keeps (emit_packet at n t)
+  emit_packet-keeps : (at : EventContext) (n : Net) (t : TrainState) → Keeps n → Keeps (emit_packet at n t)
   emit_packet-keeps at n t h = make-keeps at Plain t.train.packet (put_train (record t { sent = t.sent + 1 }) n) h
 
-  event-keeps : (at : Setting) (class : Class) (k : ℕ) (n : Net) → Keeps n → Keeps (event_of at class k n)
+  event-keeps : (at : EventContext) (class : Class) (k : ℕ) (n : Net) → Keeps n → Keeps (event_of at class k n)
   event-keeps at NextCommand k n h = h
   event-keeps at Exit zero n h = direct_exit-keeps at n h
   event-keeps at Exit (suc k) n h =
@@ -115,7 +115,7 @@ module _ (P : RuleBook → Type 0) (keeps : KeepsBook P) where
       (λ t e. emit_packet-keeps at n t h)
       (some_or Keeps (emit_segment at n) (find_flow k n) n (λ f e. emit_segment-keeps at n f h) h)
 
-  effect-keeps : (at : Setting) (c : Command) (n : Net) → refusal_of c n ≡ None → Keeps n → Keeps (effect_of at c n)
+  effect-keeps : (at : EventContext) (c : Command) (n : Net) → refusal_of c n ≡ None → Keeps n → Keeps (effect_of at c n)
   effect-keeps at (Add r) n e h = keeps.added r n.book e h
   effect-keeps at (Delete k) n e h = keeps.deleted k n.book e h
   effect-keeps at (Config k config) n e h =
@@ -147,7 +147,7 @@ module _ (P : RuleBook → Type 0) (keeps : KeepsBook P) where
   noted (Trace c) now k n e = e
   noted End now k n e = e
 
-  obey-keeps : (at : Setting) (k : ℕ) (c : Command) (n : Net) → Keeps n → Keeps (obey at k c n)
+  obey-keeps : (at : EventContext) (k : ℕ) (c : Command) (n : Net) → Keeps n → Keeps (obey at k c n)
   obey-keeps at k c n h =
       let m : Net = note (CommandDone at.now k) n in
       found_or Keeps (λ r. note (CommandRefused at.now k r) n) (refusal_of c n) (effect_of at c m) (λ r e. h)

@@ -3,14 +3,14 @@ use Rattle.std.proofs.Common.{◌≡◌, ℕ, ◌+◌, ◌-◌, ◌<◌, ◌≤�
 use Rattle.std.specs.Prelude.{if◌then◌else◌, not, ◌⊎◌, ◌==◌, nat_lt, nat_le}
 use Rattle.std.proofs.lemmas.Bool.{ltb-false, leb-true, leb-false, eqb-false, or_parts}
 use Rattle.emu_laws.proofs.Words.{Packet}
-use Rattle.emu_model.specs.DropTail.{Waiting, bytes_of}
+use Rattle.emu_model.specs.DropTail.{Queued, bytes_of}
 use Rattle.emu_model.specs.Codel.{Times, CodelState, Dequeued, maxpacket, count_up, enter_drop_state, codel_dequeue}
 use Rattle.emu_model.proofs.CodelParts.{Found, is_short, found_by, ok_to_drop, look, look_empty, stop_dropping, set_next, give_head, give_none, drop_head, drop_on, first_dropped, dequeue_by_parts, by_parts}
 use Rattle.emu_laws.proofs.EachOf.{either, of_choice}
 use Rattle.emu_laws.specs.CodelCauses.{MayBeDropped, EachMayBe, CodelDropsByControl, Taking, control_after, GivesLate, LateSince, IsLateForInterval, DropsAfterInterval}
 
 -- a head that may be dropped
-record IsLong (times : Times) (now above : ℕ) (w : Waiting Packet) (rest : List (Waiting Packet)) (seen : ℕ) : Type 0 where
+record IsLong (times : Times) (now above : ℕ) (w : Queued Packet) (rest : List (Queued Packet)) (seen : ℕ) : Type 0 where
   late : times.target ≤ now - w.stamp
   more_waits : maxpacket < bytes_of rest
   went_above : 0 < above
@@ -20,7 +20,7 @@ record IsLong (times : Times) (now above : ℕ) (w : Waiting Packet) (rest : Lis
 clash : true ≡ false → ⊥
 clash e = cc e
 
-long : (times : Times) (now : ℕ) (c : CodelState) (w : Waiting Packet) (rest : List (Waiting Packet)) →
+long : (times : Times) (now : ℕ) (c : CodelState) (w : Queued Packet) (rest : List (Queued Packet)) →
     ok_to_drop times now c w rest ≡ true →
     IsLong times now c.first_above_time w rest (look times now c w rest).first_above_time
 long times now c w rest e = go (is_short times now w rest) refl e
@@ -53,10 +53,10 @@ long times now c w rest e = go (is_short times now w rest) refl e
 
 module _ (times : Times) (now : ℕ) (c : CodelState) where
   -- each that is dropped may be
-  abbrev May : List (Waiting Packet) → Dequeued Packet → Type 0
+  abbrev May : List (Queued Packet) → Dequeued Packet → Type 0
   May ws d = EachMayBe times now c d.dropped ws
 
-  may : (w : Waiting Packet) (rest : List (Waiting Packet)) (above seen : ℕ) → above ≡ c.first_above_time →
+  may : (w : Queued Packet) (rest : List (Queued Packet)) (above seen : ℕ) → above ≡ c.first_above_time →
       IsLong times now above w rest seen → (c.dropping ≡ true → c.drop_next ≤ now) → MayBeDropped times now c w rest
   may w rest above seen e h due = record {
     late = h.late;
@@ -66,7 +66,7 @@ module _ (times : Times) (now : ℕ) (c : CodelState) where
     due = due;
   }
 
-  on-may : (rest : List (Waiting Packet)) (d : CodelState) (w : Waiting Packet) (seen : ℕ) →
+  on-may : (rest : List (Queued Packet)) (d : CodelState) (w : Queued Packet) (seen : ℕ) →
       d.first_above_time ≡ c.first_above_time → IsLong times now d.first_above_time w rest seen →
       (d.drop_next ≤ now → c.dropping ≡ true → c.drop_next ≤ now) → May (w ∷ rest) (drop_on times now d w rest)
   on-may [] d w seen e h due = go (nat_lt now d.drop_next) refl
@@ -107,12 +107,12 @@ module _ (times : Times) (now : ℕ) (c : CodelState) where
           both true p q = q refl
           both false p q = p
 
-  first-may : (w : Waiting Packet) (rest : List (Waiting Packet)) (d : CodelState) → MayBeDropped times now c w rest →
+  first-may : (w : Queued Packet) (rest : List (Queued Packet)) (d : CodelState) → MayBeDropped times now c w rest →
       May (w ∷ rest) (first_dropped times now d w rest)
   first-may w [] d h = (refl, h, tt)
   first-may w (v ∷ rest) d h = (refl, h, tt)
 
-  parts-may : (ws : List (Waiting Packet)) → May ws (dequeue_by_parts times now c ws)
+  parts-may : (ws : List (Queued Packet)) → May ws (dequeue_by_parts times now c ws)
   parts-may [] = tt
   parts-may (w ∷ rest) = go (ok_to_drop times now c w rest) c.dropping refl refl
     where
@@ -137,11 +137,11 @@ codel_drops_by_control times now c ws =
     subst (λ d. EachMayBe times now c d.dropped ws) (sym (by_parts times now c ws)) (parts-may times now c ws)
 
 -- the moment that is set once the head was looked at: none, or it is late and the moment is new or stays
-abbrev Looked : Times → ℕ → ℕ → Waiting Packet → ℕ → Type 0
+abbrev Looked : Times → ℕ → ℕ → Queued Packet → ℕ → Type 0
 Looked times now above w seen =
     (seen ≡ 0) ⊎ ((times.target ≤ now - w.stamp) × ((seen ≡ now + times.interval) ⊎ (seen ≡ above)))
 
-looked : (times : Times) (now : ℕ) (c : CodelState) (w : Waiting Packet) (rest : List (Waiting Packet)) →
+looked : (times : Times) (now : ℕ) (c : CodelState) (w : Queued Packet) (rest : List (Queued Packet)) →
     Looked times now c.first_above_time w (look times now c w rest).first_above_time
 looked times now c w rest = go (is_short times now w rest) refl
   where
@@ -162,7 +162,7 @@ looked times now c w rest = go (is_short times now w rest) refl
 
 -- a dequeue gives a late packet, the moment being new or as before
 record GivesAbove (times : Times) (now above : ℕ) (d : Dequeued Packet) : Type 0 where
-  packet : Waiting Packet
+  packet : Queued Packet
   given : d.given ≡ Some packet
   late : times.target ≤ now - packet.stamp
   moment : (d.control.first_above_time ≡ now + times.interval) ⊎ (d.control.first_above_time ≡ above)
@@ -171,19 +171,19 @@ abbrev Gives : Times → ℕ → ℕ → Dequeued Packet → Type 0
 Gives times now above d = (d.control.first_above_time ≡ 0) ⊎ GivesAbove times now above d
 
 -- the head is given, once it was looked at
-gives-head : (times : Times) (now above : ℕ) (c : CodelState) (w : Waiting Packet) (rest : List (Waiting Packet)) →
+gives-head : (times : Times) (now above : ℕ) (c : CodelState) (w : Queued Packet) (rest : List (Queued Packet)) →
     Looked times now above w c.first_above_time → Gives times now above (give_head c w rest)
 gives-head times now above c w rest (inl e) = inl e
 gives-head times now above c w rest (inr h) = inr (record { packet = w; given = refl; late = h.0; moment = h.1 })
 
 -- what was dropped before changes nothing of it
-gives-on : (times : Times) (now above : ℕ) (w : Waiting Packet) (d : Dequeued Packet) → Gives times now above d →
+gives-on : (times : Times) (now above : ℕ) (w : Queued Packet) (d : Dequeued Packet) → Gives times now above d →
     Gives times now above (drop_head w d)
 gives-on times now above w d (inl e) = inl e
 gives-on times now above w d (inr h) =
     inr (record { packet = h.packet; given = h.given; late = h.late; moment = h.moment })
 
-on-gives : (times : Times) (now above : ℕ) (rest : List (Waiting Packet)) (d : CodelState) (w : Waiting Packet) →
+on-gives : (times : Times) (now above : ℕ) (rest : List (Queued Packet)) (d : CodelState) (w : Queued Packet) →
     d.first_above_time ≡ above → Looked times now above w d.first_above_time →
     Gives times now above (drop_on times now d w rest)
 on-gives times now above [] d w e h =
@@ -211,7 +211,7 @@ on-gives times now above (v ∷ rest) d w e h =
     seen : Looked times now above v counted.first_above_time
     seen = subst (λ a. Looked times now a v counted.first_above_time) e (looked times now (count_up d) v rest)
 
-first-gives : (times : Times) (now : ℕ) (rest : List (Waiting Packet)) (d : CodelState) (w : Waiting Packet) →
+first-gives : (times : Times) (now : ℕ) (rest : List (Queued Packet)) (d : CodelState) (w : Queued Packet) →
     Gives times now d.first_above_time (first_dropped times now d w rest)
 first-gives times now [] d w = inl refl
 first-gives times now (v ∷ rest) d w =
@@ -219,7 +219,7 @@ first-gives times now (v ∷ rest) d w =
     gives-on times now d.first_above_time w (give_head (enter_drop_state times now seen) v rest)
     (gives-head times now d.first_above_time (enter_drop_state times now seen) v rest (looked times now d v rest))
 
-parts-give : (times : Times) (now : ℕ) (c : CodelState) (ws : List (Waiting Packet)) →
+parts-give : (times : Times) (now : ℕ) (c : CodelState) (ws : List (Queued Packet)) →
     Gives times now c.first_above_time (dequeue_by_parts times now c ws)
 parts-give times now c [] = inl refl
 parts-give times now c (w ∷ rest) =
@@ -242,7 +242,7 @@ parts-give times now c (w ∷ rest) =
     not-false true e = refl
     not-false false e = absurd (clash e)
 
-gives : (times : Times) (now : ℕ) (c : CodelState) (ws : List (Waiting Packet)) →
+gives : (times : Times) (now : ℕ) (c : CodelState) (ws : List (Queued Packet)) →
     Gives times now c.first_above_time (codel_dequeue times now c ws)
 gives times now c ws =
     subst (Gives times now c.first_above_time) (sym (by_parts times now c ws)) (parts-give times now c ws)
@@ -282,7 +282,7 @@ set-since times (x ∷ earlier) = go (gives times x.moment c x.waiting) (set-sin
     go (inr h) before = on h h.moment before
 
 -- where something is dropped, the moment is set, and has come
-is-above : (times : Times) (now : ℕ) (c : CodelState) (ds ws : List (Waiting Packet)) →
+is-above : (times : Times) (now : ℕ) (c : CodelState) (ds ws : List (Queued Packet)) →
     EachMayBe times now c ds ws → 0 < length ds → (0 < c.first_above_time) × (c.first_above_time ≤ now)
 is-above times now c [] ws h few = absurd (omega (arith, few))
 is-above times now c (d ∷ ds) [] h few = absurd h

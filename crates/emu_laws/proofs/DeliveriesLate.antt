@@ -3,7 +3,7 @@ use Rattle.std.proofs.Common.{◌≡◌, ℕ, zero, suc, ◌+◌, ◌<◌, ◌�
 use Rattle.std.specs.Prelude.{if◌then◌else◌, ◌==◌, nat_lt, max, count_by, map, length, slice_get}
 use Rattle.std.specs.List.{AllByRecursion}
 use Rattle.std.proofs.lemmas.Bool.{eqb-true, eq-eqb, ltb-true}
-use Rattle.emu_laws.proofs.Words.{Setting, Spec, Timed, Packet, Load, SendSpec, PipeConfig, DropCause, Deleted, Record, PacketArrived, PacketFinished, PacketDelivered, PacketPassed, PacketDropped, Command}
+use Rattle.emu_laws.proofs.Words.{EventContext, Spec, Timed, Packet, Load, SendSpec, PipeConfig, DropCause, Deleted, Record, PacketArrived, PacketFinished, PacketDelivered, PacketPassed, PacketDropped, Command}
 use Rattle.emu_model.specs.Lists.{replace_first}
 use Rattle.emu_model.specs.FlowIds.{flow_id}
 use Rattle.emu_model.specs.Moments.{milliseconds}
@@ -85,7 +85,7 @@ passed-plain now pipe k number = refl
 
 -- all that is held of it leaves no sooner than at a moment
 record Held (moment packet now : ℕ) (o : Option Packet) (n : Net) : Type 0 where
-  direct : AllByRecursion (LeavesFrom moment packet) n.direct.flight
+  direct : AllByRecursion (LeavesFrom moment packet) n.direct.in_flight
   pipes : AllByRecursion (PipeFrom moment packet now) n.pipes
   way : OnWay (Is moment packet now) o
 
@@ -199,7 +199,7 @@ module _ (pipe delay : ℕ) where
             (undelivered (now + max (milliseconds delay) 1) x) n.records
             (none-pass (delivers x) n.records (omega (arith, known.once x, at_most_once x n, held)))) new);
         held = record {
-          direct = subst (λ l. AllByRecursion (LeavesFrom (now + max (milliseconds delay) 1) x) l.flight) (sym direct) late.direct;
+          direct = subst (λ l. AllByRecursion (LeavesFrom (now + max (milliseconds delay) 1) x) l.in_flight) (sym direct) late.direct;
           pipes = subst (AllByRecursion (PipeFrom (now + max (milliseconds delay) 1) x now)) (sym pipes) late.pipes;
           way = tt;
         };
@@ -215,7 +215,7 @@ module _ (pipe delay : ℕ) where
       m.pipes ≡ replace_first (λ q. q.number == k) p n.pipes → PipeFrom moment packet now p →
       OnWay (Is moment packet now) j → Held moment packet now o n → Held moment packet now j m
   put moment packet now k o j p n m d e q w h = record {
-    direct = subst (λ l. AllByRecursion (LeavesFrom moment packet) l.flight) (sym d) h.direct;
+    direct = subst (λ l. AllByRecursion (LeavesFrom moment packet) l.in_flight) (sym d) h.direct;
     pipes = subst (AllByRecursion (PipeFrom moment packet now)) (sym e)
         (each_replaced (PipeFrom moment packet now) (λ x. x.number == k) p n.pipes q h.pipes);
     way = w;
@@ -225,7 +225,7 @@ module _ (pipe delay : ℕ) where
   stays : (moment packet now : ℕ) (o j : Option Packet) (n m : Net) → m.direct ≡ n.direct → m.pipes ≡ n.pipes →
       OnWay (Is moment packet now) j → Held moment packet now o n → Held moment packet now j m
   stays moment packet now o j n m d e w h = record {
-    direct = subst (λ l. AllByRecursion (LeavesFrom moment packet) l.flight) (sym d) h.direct;
+    direct = subst (λ l. AllByRecursion (LeavesFrom moment packet) l.in_flight) (sym d) h.direct;
     pipes = subst (AllByRecursion (PipeFrom moment packet now)) (sym e) h.pipes;
     way = w;
   }
@@ -354,7 +354,7 @@ module _ (pipe delay : ℕ) where
   AnyCommand : Command → Type 0
   AnyCommand c = Unit {0}
 
-  all-keeps : (at : Setting) → Keeps at (IsOut at.now) Known AnyCommand (All at.now)
+  all-keeps : (at : EventContext) → Keeps at (IsOut at.now) Known AnyCommand (All at.now)
   all-keeps at = record {
     quiet = λ o n m same a. advance-same at.now o o n m same.records same.made
         (λ moment packet h. stays moment packet at.now o o n m same.direct same.pipes h.way h) a;
@@ -376,11 +376,11 @@ module _ (pipe delay : ℕ) where
           pipes = h.pipes;
           way = tt;
         }) a;
-    left = λ n out a. advance-same at.now None (first_item n.direct.flight) n (record n { direct = leave n.direct }) refl refl
+    left = λ n out a. advance-same at.now None (first_item n.direct.in_flight) n (record n { direct = leave n.direct }) refl refl
         (λ moment packet h. record {
-          direct = left-from moment packet at.now n.direct.flight h.direct;
+          direct = left-from moment packet at.now n.direct.in_flight h.direct;
           pipes = h.pipes;
-          way = first-from moment packet at.now n.direct.flight out h.direct;
+          way = first-from moment packet at.now n.direct.in_flight out h.direct;
         }) a;
     delivered = λ p n a. delivered-all at.now p n a;
     arrived = λ k p q n e a. arrived-all at.seed at.now k p q n e a;

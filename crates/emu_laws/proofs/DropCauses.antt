@@ -4,17 +4,18 @@ use Rattle.std.specs.Prelude.{if◌then◌else◌, ◌&&◌, ◌||◌, nat_lt, �
 use Rattle.std.specs.List.{AllByRecursion}
 use Rattle.std.proofs.lemmas.Bool.{lt-ltb, ne_eqb}
 use Rattle.std.proofs.lemmas.List.Sums.{sum_by-cons}
-use Rattle.emu_laws.proofs.Words.{SendSpec, Plain, Seg, Ack, Tcp, Load, Spec, Timed, Packet, QueueLimit, Slots, KBytes, Discipline, TailDrop, ControlledDelay, PipeConfig, DropCause, Denied, NoPipe, NoInstance, Lost, Full, Codel, Deleted, Budget, Command, Config, PipeDelete, Record, PacketDelivered, PacketDropped}
+use Rattle.emu_laws.proofs.Words.{SendSpec, Plain, Seg, Ack, Tcp, Load, Spec, Timed, Packet, QueueLimit, Slots, KBytes, Discipline, TailDrop, PipeConfig, DropCause, Denied, NoPipe, NoInstance, Lost, Full, Codel, Deleted, Budget, Command, Config, PipeDelete, Record, PacketDelivered, PacketDropped}
 use Rattle.emu_model.specs.FlowIds.{flow_id}
 use Rattle.emu_model.specs.Delay.{first_item, leave}
 use Rattle.emu_model.specs.Loss.{loss_word, is_below_rate}
-use Rattle.emu_model.specs.DropTail.{Waiting, accepts}
-use Rattle.emu_model.specs.Pipes.{Instance, PipeState, After, Drop, pipe_packets, dequeue, codel_drops, serve_next, no_drop, drop_one, enqueue, drawn_one, instance_arrive, instance_finish, put_instance, with_instance, draw, instance_for, arrive_at, pipe_arrive, pipe_finish, pipe_exit, pipe_configure}
+use Rattle.emu_model.specs.DropTail.{Queued, accepts}
+use Rattle.emu_model.specs.Pipes.{Instance, PipeState, After, Drop, pipe_packets, may_drop, dequeue, codel_drops, serve_next, no_drop, drop_one, enqueue, drawn_one, instance_arrive, instance_finish, put_instance, with_instance, draw, instance_for, arrive_at, pipe_arrive, pipe_finish, pipe_exit, pipe_configure}
 use Rattle.emu_model.specs.Net.{Net, initial_net, note, note_traced, make_record, note_all, note_drops, drop_record, packet_of, held, cause_number, is_drop_of, drops_of, find_pipe, put_after, put_pipe}
 use Rattle.emu_model.specs.Commands.{new_pipe, without_pipe, delete_pipe}
 use Rattle.emu_model.specs.Events.{flying_in}
 use Rattle.emu_model.specs.TraceLaws.{drops, EachPacketOnce}
 use Rattle.emu_model.specs.Alone.{alone}
+use Rattle.emu_model.proofs.CallerLemmas.{none_dropped}
 use Rattle.emu_laws.specs.Losses.{turns_away, IsLossless, NothingIsLost, IsDropTail, CodelDropsNothing, TakesAll, IsRoomy, NoQueueIsFull, KeepsPipes, NothingGoesWithPipes, SparesPackets, is_refusal, refuses_ack, AcksPassTheBudget, turned_away, PipesDropNothing}
 use Rattle.emu_laws.proofs.Counts.{one_if, count-cons}
 use Rattle.emu_laws.proofs.FlowsKept.{anything}
@@ -32,7 +33,7 @@ pub record Causes (b : ℕ) (Allowed : Command → Type 0) (C : PipeConfig → T
   pub turned : (l : Load) (cause : DropCause) → turns_away cause ≡ true → (cause ≡ Budget → ⊥) → D l cause
   pub refused : (l : Load) → ((k upto : ℕ) → l ≡ Ack k upto → ⊥) → D l Budget
   pub lost : (config : PipeConfig) → C config → (config.plr ≡ 0 → ⊥) → (l : Load) → D l Lost
-  pub full : (config : PipeConfig) (ws : List (Waiting Packet)) (size : ℕ) → C config → length ws < b →
+  pub full : (config : PipeConfig) (ws : List (Queued Packet)) (size : ℕ) → C config → length ws < b →
       accepts config.queue ws size ≡ false → (l : Load) → D l Full
   pub codel : (config : PipeConfig) → C config → (config.discipline ≡ TailDrop → ⊥) → (l : Load) → D l Codel
   pub deleted : (k : ℕ) → Allowed (PipeDelete k) → (l : Load) → D l Deleted
@@ -66,16 +67,18 @@ got-le f x (y ∷ ys) zero e =
 got-le f x (y ∷ ys) (suc k) e = omega (arith, sum_by-cons f y ys, got-le f x ys k e)
 
 waiting-size : (i : Instance) → length i.waiting ≤ size each_one i
-waiting-size i = omega (arith, size_is each_one i, as-many (λ (v : Waiting Packet). v.item) i.waiting)
+waiting-size i = omega (arith, size_is each_one i, as-many (λ (v : Queued Packet). v.item) i.waiting)
 
 -- loss rate 0 loses nothing
 rate-above : (plr word : ℕ) → is_below_rate plr word ≡ true → plr ≡ 0 → ⊥
 rate-above zero word e g = absurd (cc e)
 rate-above (suc plr) word e g = absurd (omega (arith, g))
 
-not-both : (target interval : ℕ) (d : Discipline) → d ≡ ControlledDelay target interval → d ≡ TailDrop → ⊥
-not-both target interval TailDrop e g = cc e
-not-both target interval (ControlledDelay t u) e g = cc g
+may-not-both : (d : Discipline) → may_drop d ≡ true → d ≡ TailDrop → ⊥
+may-not-both d may tail = clash (sym may ∙ ap may_drop tail)
+  where
+    clash : true ≡ false → ⊥
+    clash e = cc e
 
 -- what a pipe does changes no configuration
 arrive-config : (seed now : ℕ) (packet : Packet) (p : PipeState) → (pipe_arrive seed now packet p).state.config ≡ p.config
@@ -148,21 +151,21 @@ module _ (b : ℕ) (Allowed : Command → Type 0) (C : PipeConfig → Type 0) (D
   abbrev EachCaused : List Drop → Type 0
   EachCaused ds = AllByRecursion (λ d. D d.packet.load d.cause) ds
 
-  codel-caused : ((l : Load) → D l Codel) → (ws : List (Waiting Packet)) → EachCaused (codel_drops ws)
+  codel-caused : ((l : Load) → D l Codel) → (ws : List (Queued Packet)) → EachCaused (codel_drops ws)
   codel-caused d [] = tt
   codel-caused d (w ∷ ws) = (d w.item.load, codel-caused d ws)
 
   next-caused : (config : PipeConfig) (now : ℕ) (i : Instance) → C config →
       EachCaused (serve_next config now i).dropped
-  next-caused config now i c = go config.discipline refl i.waiting
+  next-caused config now i c = go (may_drop config.discipline) refl
     where
-      go : (d : Discipline) → config.discipline ≡ d → (ws : List (Waiting Packet)) →
-          EachCaused (codel_drops (dequeue d now i.control ws).dropped)
-      go TailDrop e [] = tt
-      go TailDrop e (w ∷ ws) = tt
-      go (ControlledDelay target interval) e ws =
-          codel-caused (causes.codel config c (not-both target interval config.discipline e))
-          (dequeue (ControlledDelay target interval) now i.control ws).dropped
+      dropped : List (Queued Packet)
+      dropped = (dequeue config.discipline now i.control i.waiting).dropped
+
+      go : (b : Bool) → may_drop config.discipline ≡ b → EachCaused (codel_drops dropped)
+      go false e =
+          subst (λ ws. EachCaused (codel_drops ws)) (sym (none_dropped config.discipline now i.control i.waiting e)) tt
+      go true e = codel-caused (causes.codel config c (may-not-both config.discipline e)) dropped
 
   pipe_arrive-caused : (seed now : ℕ) (packet : Packet) (p : PipeState) → C p.config → load each_one p < b →
       EachCaused (pipe_arrive seed now packet p).dropped
@@ -343,7 +346,7 @@ module _ (b : ℕ) (Allowed : Command → Type 0) (C : PipeConfig → Type 0) (D
         (causes.turned p.load NoPipe refl (λ g. cc g), tt)
         (record { within = kept.lost p n h.within; configs = h.configs; drops = h.drops });
     left = λ n h. record {
-      within = subst (λ o. Within b o (record n { direct = leave n.direct })) (sym (same-packet (first_item n.direct.flight)))
+      within = subst (λ o. Within b o (record n { direct = leave n.direct })) (sym (same-packet (first_item n.direct.in_flight)))
           (kept.left n h.within);
       configs = h.configs;
       drops = h.drops;
@@ -465,7 +468,7 @@ codel_drops_nothing spec c n ok =
     (codel-causes spec.budget.packets) ok n)
 
 -- it accepts, while fewer wait than may be held
-takes-all : (b : ℕ) (q : QueueLimit) (ws : List (Waiting Packet)) (size : ℕ) → TakesAll b q → length ws < b →
+takes-all : (b : ℕ) (q : QueueLimit) (ws : List (Queued Packet)) (size : ℕ) → TakesAll b q → length ws < b →
     accepts q ws size ≡ false → ⊥
 takes-all b (Slots n) ws size h few e = clash (sym (lt-ltb (length ws) n (omega (arith, h, few))) ∙ e)
   where

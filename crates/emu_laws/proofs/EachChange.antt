@@ -6,12 +6,12 @@ use Rattle.std.specs.Option.{option_map_or}
 use Rattle.std.specs.List.{AllByRecursion, list_any}
 use Rattle.std.proofs.lemmas.Bool.{ltb-true, eqb-true, eq-eqb, or_parts}
 use Rattle.emu_model.specs.Lists.{replace_first}
-use Rattle.emu_laws.proofs.Words.{Setting, Spec, Timed, Class, NextCommand, Exit, Finish, Expiry, Emission, Place, Packet, Load, Plain, Seg, Ack, Verdict, OverTheLink, Dropped, IntoPipe, SendSpec, PipeConfig, FlowSpec, DropCause, Denied, NoPipe, Budget, FlowThere, TooManyFlows, Command, Add, Delete, Config, PipeDelete, PipeShow, Show, Inject, Train, Flow, Stop, OnePass, Trace, End, CommandDone, CommandRefused, PacketDelivered, PacketPassed, AckTaken, TimerExpired}
+use Rattle.emu_laws.proofs.Words.{EventContext, Spec, Timed, Class, NextCommand, Exit, Finish, Expiry, Emission, Place, Packet, Load, Plain, Seg, Ack, Verdict, OverTheLink, Dropped, IntoPipe, SendSpec, PipeConfig, FlowSpec, DropCause, Denied, NoPipe, Budget, FlowThere, TooManyFlows, Command, Add, Delete, Config, PipeDelete, PipeShow, Show, Inject, Train, Flow, Stop, OnePass, Trace, End, CommandDone, CommandRefused, PacketDelivered, PacketPassed, AckTaken, TimerExpired}
 use Rattle.emu_model.specs.Rules.{verdict, start_behind, counted_book}
 use Rattle.emu_model.specs.Delay.{first_item, leave}
 use Rattle.emu_model.specs.Reno.{Sender, ack, with_segment, missing, emitted, emit, expire}
 use Rattle.emu_model.specs.Pipes.{InService, PipeState, After, pipe_arrive, pipe_finish, pipe_exit, pipe_configure}
-use Rattle.emu_model.specs.Net.{Net, initial_net, FlowState, TrainState, note, note_traced, note_arrival, enter_pipe, drop_packet, to_pipe, to_direct, by_verdict, pass_rules_from, pass_rules, go_on, packet_of, make_record, make, held, data_send, ack_send, find_pipe, put_pipe, put_after, find_flow, put_flow, find_train, put_train, take_segment, take_ack, take_load, deliver}
+use Rattle.emu_model.specs.Net.{Net, initial_net, FlowState, TrainState, note, note_traced, note_arrival, enter_pipe, drop_packet, to_pipe, to_direct, by_verdict, pass_rules_from, pass_rules, reinject, packet_of, make_record, make, held, data_send, ack_send, find_pipe, put_pipe, put_after, find_flow, put_flow, find_train, put_train, take_segment, take_ack, take_load, deliver}
 use Rattle.emu_model.specs.Commands.{new_pipe, without_pipe, delete_pipe, start_flow, stop_flow, is_in_use, source_refusal, refusal_of, effect_of, obey}
 use Rattle.emu_model.specs.Events.{direct_exit, deliver_some, flying_in, leave_pipe_some, pipe_exits, served_in, note_finish, pipe_finishes, expire_flow, emit_segment, emit_packet, event_of}
 use Rattle.emu_model.specs.declared.sources.Due.{Due}
@@ -41,7 +41,7 @@ pub record Keeps (b : ℕ) (Sends : FlowState → Type 0) (Allowed : Command →
       P (Some (packet_of l send number)) n
   pub placed : (place : Place) (p : Packet) (n : Net) → P (Some p) n → P (Some (record p { place = place })) n
   pub entered : (now : ℕ) (p : Packet) (n : Net) → P (Some p) n → P None (to_direct now p n)
-  pub left : (n : Net) → P None n → P (first_item n.direct.flight) (record n { direct = leave n.direct })
+  pub left : (n : Net) → P None n → P (first_item n.direct.in_flight) (record n { direct = leave n.direct })
   pub arrived : (seed now k : ℕ) (p : Packet) (q : PipeState) (n : Net) → find_pipe k n ≡ Some q → P (Some p) n →
       P None (put_pipe k (pipe_arrive seed now p q).state n)
   pub finished : (now pipe k : ℕ) (p : PipeState) (n : Net) → find_pipe pipe n ≡ Some p → P None n →
@@ -114,32 +114,32 @@ module _ (b : ℕ) (Sends : FlowState → Type 0) (Allowed : Command → Type 0)
       P None (drop_packet now cause p n)
   dropped-walks now cause p n h = alike None n (drop_packet now cause p n) refl refl refl (keeps.lost p n h)
 
-  enter_pipe-walks : (at : Setting) (k : ℕ) (p : Packet) (n : Net) → P (Some p) n → P None (enter_pipe at k p n)
+  enter_pipe-walks : (at : EventContext) (k : ℕ) (p : Packet) (n : Net) → P (Some p) n → P None (enter_pipe at k p n)
   enter_pipe-walks at k p n h =
       some_or (P None) (λ q. put_after at.now k (pipe_arrive at.seed at.now p q) n) (find_pipe k n)
       (drop_packet at.now NoPipe p n)
       (λ q e. put_after-walks at.now k (pipe_arrive at.seed at.now p q) n (keeps.arrived at.seed at.now k p q n e h))
       (dropped-walks at.now NoPipe p n h)
 
-  to_pipe-walks : (at : Setting) (k : ℕ) (p : Packet) (n : Net) → P (Some p) n → P None (to_pipe at k p n)
+  to_pipe-walks : (at : EventContext) (k : ℕ) (p : Packet) (n : Net) → P (Some p) n → P None (to_pipe at k p n)
   to_pipe-walks at k p n h =
       let m : Net = note_arrival at.now k p n in
       enter_pipe-walks at k p m (alike (Some p) n m refl refl refl h)
 
-  by_verdict-walks : (at : Setting) (v : Verdict) (p : Packet) (n : Net) → P (Some p) n →
+  by_verdict-walks : (at : EventContext) (v : Verdict) (p : Packet) (n : Net) → P (Some p) n →
       P None (by_verdict at v p n)
   by_verdict-walks at OverTheLink p n h = keeps.entered at.now p n h
   by_verdict-walks at Dropped p n h = dropped-walks at.now Denied p n h
   by_verdict-walks at (IntoPipe k place) p n h =
       to_pipe-walks at k (record p { place = place }) n (keeps.placed place p n h)
 
-  pass_rules_from-walks : (at : Setting) (start : ℕ) (p : Packet) (n : Net) → P (Some p) n →
+  pass_rules_from-walks : (at : EventContext) (start : ℕ) (p : Packet) (n : Net) → P (Some p) n →
       P None (pass_rules_from at start p n)
   pass_rules_from-walks at start p n h =
       let m : Net = record n { book = counted_book start p n.book } in
       by_verdict-walks at (verdict start p n.book.rules) p m (alike (Some p) n m refl refl refl h)
 
-  make-walks : (at : Setting) → at.packet_budget ≡ b → (l : Load) (send : SendSpec) (n : Net) → IsTrueOf l n.flows →
+  make-walks : (at : EventContext) → at.packet_budget ≡ b → (l : Load) (send : SendSpec) (n : Net) → IsTrueOf l n.flows →
       P None n → P None (make at l send n)
   make-walks at e l send n tells h =
       let p : Packet = packet_of l send n.made in
@@ -150,7 +150,7 @@ module _ (b : ℕ) (Sends : FlowState → Type 0) (Allowed : Command → Type 0)
       (keeps.made n.made l send m (subst (λ k. held n < k) e (ltb-true (held n) at.packet_budget r)) tells here))
       (λ r. alike None m (drop_packet at.now Budget p m) refl refl refl here)
 
-  take_segment-walks : (at : Setting) → at.packet_budget ≡ b → (k first : ℕ) (p : Packet) (n : Net) (f : FlowState) →
+  take_segment-walks : (at : EventContext) → at.packet_budget ≡ b → (k first : ℕ) (p : Packet) (n : Net) (f : FlowState) →
       p.load ≡ Seg k first → find_flow k n ≡ Some f → P (Some p) n → P None (take_segment at first n f)
   take_segment-walks at e k first p n f is there h =
       let came : List ℕ = with_segment first f.came in
@@ -170,7 +170,7 @@ module _ (b : ℕ) (Sends : FlowState → Type 0) (Allowed : Command → Type 0)
       (alike None m (note (AckTaken now f.number t.cwnd t.ssthresh) m) refl refl refl
       (keeps.acked now k upto p f n is there h))
 
-  take_load-walks : (at : Setting) → at.packet_budget ≡ b → (l : Load) (p : Packet) (n : Net) → p.load ≡ l →
+  take_load-walks : (at : EventContext) → at.packet_budget ≡ b → (l : Load) (p : Packet) (n : Net) → p.load ≡ l →
       P (Some p) n → P None (take_load at l n)
   take_load-walks at e Plain p n is h = keeps.lost p n h
   take_load-walks at e (Seg k first) p n is h =
@@ -180,20 +180,20 @@ module _ (b : ℕ) (Sends : FlowState → Type 0) (Allowed : Command → Type 0)
       some_or (P None) (take_ack at.now upto n) (find_flow k n) n
       (λ f there. take_ack-walks at.now k upto p n f is there h) (keeps.lost p n h)
 
-  deliver-walks : (at : Setting) → at.packet_budget ≡ b → (p : Packet) (n : Net) → P (Some p) n → P None (deliver at p n)
+  deliver-walks : (at : EventContext) → at.packet_budget ≡ b → (p : Packet) (n : Net) → P (Some p) n → P None (deliver at p n)
   deliver-walks at e p n h =
       let m : Net = note (PacketDelivered at.now p.number p.load) n in
       take_load-walks at e p.load p m refl (alike (Some p) n m refl refl refl h)
 
-  direct_exit-walks : (at : Setting) → at.packet_budget ≡ b → (n : Net) → P None n → P None (direct_exit at n)
-  direct_exit-walks at e n h = go (first_item n.direct.flight) (keeps.left n h)
+  direct_exit-walks : (at : EventContext) → at.packet_budget ≡ b → (n : Net) → P None n → P None (direct_exit at n)
+  direct_exit-walks at e n h = go (first_item n.direct.in_flight) (keeps.left n h)
     where
       go : (o : Option Packet) → P o (record n { direct = leave n.direct }) →
           P None (deliver_some at o (record n { direct = leave n.direct }))
       go None q = q
       go (Some p) q = deliver-walks at e p (record n { direct = leave n.direct }) q
 
-  pipe_exits-walks : (at : Setting) → at.packet_budget ≡ b → (pipe k : ℕ) (n : Net) (p : PipeState) →
+  pipe_exits-walks : (at : EventContext) → at.packet_budget ≡ b → (pipe k : ℕ) (n : Net) (p : PipeState) →
       find_pipe pipe n ≡ Some p → P None n → P None (pipe_exits at pipe k n p)
   pipe_exits-walks at b' pipe k n p e h = go (flying_in k p) (keeps.pipe_left pipe k p n e h)
     where
@@ -203,7 +203,7 @@ module _ (b : ℕ) (Sends : FlowState → Type 0) (Allowed : Command → Type 0)
       go (Some x) q =
           let there : Net = put_pipe pipe (pipe_exit k p) n in
           let told : Net = note (PacketPassed at.now x.number pipe k) there in
-          either (P None) n.one_pass (deliver at x there) (go_on at x told) (deliver-walks at b' x there q)
+          either (P None) n.one_pass (deliver at x there) (reinject at x told) (deliver-walks at b' x there q)
           (pass_rules_from-walks at (start_behind x.place told.book.rules) x told
           (alike (Some x) there told refl refl refl q))
 
@@ -215,7 +215,7 @@ module _ (b : ℕ) (Sends : FlowState → Type 0) (Allowed : Command → Type 0)
   same-pipes now pipe k None n = refl
   same-pipes now pipe k (Some i) n = refl
 
-  pipe_finishes-walks : (at : Setting) (pipe k : ℕ) (n : Net) (p : PipeState) → find_pipe pipe n ≡ Some p →
+  pipe_finishes-walks : (at : EventContext) (pipe k : ℕ) (n : Net) (p : PipeState) → find_pipe pipe n ≡ Some p →
       P None n → P None (pipe_finishes at pipe k n p)
   pipe_finishes-walks at pipe k n p e h =
       let m : Net = note_finish at.now pipe k (served_in k p) n in
@@ -224,7 +224,7 @@ module _ (b : ℕ) (Sends : FlowState → Type 0) (Allowed : Command → Type 0)
       (ap (find (λ q. q.number == pipe)) (same-pipes at.now pipe k (served_in k p) n) ∙ e)
       (note_finish-walks at.now pipe k (served_in k p) n h))
 
-  expire_flow-walks : (at : Setting) (k : ℕ) (n : Net) (f : FlowState) → find_flow k n ≡ Some f → P None n →
+  expire_flow-walks : (at : EventContext) (k : ℕ) (n : Net) (f : FlowState) → find_flow k n ≡ Some f → P None n →
       P None (expire_flow at n f)
   expire_flow-walks at k n f e h =
       let t : Sender = expire f.flow at.now f.sender in
@@ -232,12 +232,12 @@ module _ (b : ℕ) (Sends : FlowState → Type 0) (Allowed : Command → Type 0)
       alike None m (note (TimerExpired at.now f.number t.cwnd t.ssthresh) m) refl refl refl
       (keeps.expired at.now k f n e h)
 
-  emit_packet-walks : (at : Setting) → at.packet_budget ≡ b → (n : Net) (t : TrainState) → P None n → P None (emit_packet at n t)
+  emit_packet-walks : (at : EventContext) → at.packet_budget ≡ b → (n : Net) (t : TrainState) → P None n → P None (emit_packet at n t)
   emit_packet-walks at e n t h =
       let m : Net = put_train (record t { sent = t.sent + 1 }) n in
       make-walks at e Plain t.train.packet m tt (alike None n m refl refl refl h)
 
-  emit_segment-walks : (at : Setting) → at.packet_budget ≡ b → (k : ℕ) (n : Net) (f : FlowState) →
+  emit_segment-walks : (at : EventContext) → at.packet_budget ≡ b → (k : ℕ) (n : Net) (f : FlowState) →
       find_flow k n ≡ Some f → Sends f → P None n → P None (emit_segment at n f)
   emit_segment-walks at e k n f there sends h =
       make-walks at e (Seg f.number (emitted f.sender)) (data_send f.flow)
@@ -247,7 +247,7 @@ module _ (b : ℕ) (Sends : FlowState → Type 0) (Allowed : Command → Type 0)
   abbrev SendsAt : ℕ → Net → Type 0
   SendsAt k n = find_train k n ≡ None → (f : FlowState) → find_flow k n ≡ Some f → Sends f
 
-  event-walks : (at : Setting) → at.packet_budget ≡ b → (class : Class) (k : ℕ) (n : Net) →
+  event-walks : (at : EventContext) → at.packet_budget ≡ b → (class : Class) (k : ℕ) (n : Net) →
       (class ≡ Emission → SendsAt k n) → P None n → P None (event_of at class k n)
   event-walks at b' NextCommand k n sends h = h
   event-walks at b' Exit zero n sends h = direct_exit-walks at b' n h
@@ -276,7 +276,7 @@ module _ (b : ℕ) (Sends : FlowState → Type 0) (Allowed : Command → Type 0)
       go false h g =
           (or_parts (list_any (λ f. f.number == k) n.flows) (list_any (λ t. t.number == k) n.trains) h).0
 
-  effect-walks : (at : Setting) → at.packet_budget ≡ b → (c : Command) (n : Net) → refusal_of c n ≡ None → Allowed c →
+  effect-walks : (at : EventContext) → at.packet_budget ≡ b → (c : Command) (n : Net) → refusal_of c n ≡ None → Allowed c →
       P None n → P None (effect_of at c n)
   effect-walks at b' (Add r) n e ok h = alike None n (effect_of at (Add r) n) refl refl refl h
   effect-walks at b' (Delete k) n e ok h = alike None n (effect_of at (Delete k) n) refl refl refl h
@@ -312,7 +312,7 @@ module _ (b : ℕ) (Sends : FlowState → Type 0) (Allowed : Command → Type 0)
   noted-refusal (Trace c) now k n = refl
   noted-refusal End now k n = refl
 
-  obey-walks : (at : Setting) → at.packet_budget ≡ b → (k : ℕ) (c : Command) (n : Net) → Allowed c → P None n →
+  obey-walks : (at : EventContext) → at.packet_budget ≡ b → (k : ℕ) (c : Command) (n : Net) → Allowed c → P None n →
       P None (obey at k c n)
   obey-walks at b' k c n ok h =
       let m : Net = note (CommandDone at.now k) n in

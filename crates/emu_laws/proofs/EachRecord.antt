@@ -5,13 +5,13 @@ use Rattle.std.specs.Prelude.{if◌then◌else◌, ◌⊎◌, is_some, nat_lt, �
 use Rattle.std.specs.Option.{option_map_or}
 use Rattle.std.specs.List.{AllByRecursion}
 use Rattle.std.proofs.lemmas.Bool.{ltb-true, ltb-false, eqb-true, eq-eqb}
-use Rattle.emu_laws.proofs.Words.{PacketMade, Setting, Spec, Timed, Class, NextCommand, Exit, Finish, Expiry, Emission, Place, Packet, Load, Plain, Seg, Ack, Verdict, OverTheLink, Dropped, IntoPipe, SendSpec, PipeConfig, Denied, NoPipe, Budget, Command, Add, Delete, Config, PipeDelete, PipeShow, Show, Inject, Train, Flow, Stop, OnePass, Trace, End, Record, CommandDone, CommandRefused, PacketDelivered, PacketDropped, PacketPassed, AckTaken, TimerExpired, StepsSpent, RuleLine}
+use Rattle.emu_laws.proofs.Words.{PacketMade, EventContext, Spec, Timed, Class, NextCommand, Exit, Finish, Expiry, Emission, Place, Packet, Load, Plain, Seg, Ack, Verdict, OverTheLink, Dropped, IntoPipe, SendSpec, PipeConfig, Denied, NoPipe, Budget, Command, Add, Delete, Config, PipeDelete, PipeShow, Show, Inject, Train, Flow, Stop, OnePass, Trace, End, Record, CommandDone, CommandRefused, PacketDelivered, PacketDropped, PacketPassed, AckTaken, TimerExpired, StepsSpent, RuleLine}
 use Rattle.emu_model.specs.Lists.{replace_first}
 use Rattle.emu_model.specs.Rules.{RuleBook, book_with, book_without, Counted, verdict, start_behind, counted_book}
 use Rattle.emu_model.specs.Delay.{first_item, leave}
 use Rattle.emu_model.specs.Reno.{Sender, ack, with_segment, missing, emitted, emit, expire}
 use Rattle.emu_model.specs.Pipes.{Instance, InService, PipeState, pipe_arrive, pipe_finish, pipe_exit, pipe_configure, instance_for}
-use Rattle.emu_model.specs.Net.{Net, initial_net, FlowState, TrainState, note, note_all, note_traced, arrive_records, arrivals, note_arrival, drop_packet, to_pipe, to_direct, by_verdict, pass_rules_from, pass_rules, go_on, packet_of, make_record, make, held, data_send, ack_send, find_pipe, put_pipe, put_after, find_flow, put_flow, find_train, put_train, take_segment, take_ack, take_load, deliver}
+use Rattle.emu_model.specs.Net.{Net, initial_net, FlowState, TrainState, note, note_all, note_traced, arrive_records, arrivals, note_arrival, drop_packet, to_pipe, to_direct, by_verdict, pass_rules_from, pass_rules, reinject, packet_of, make_record, make, held, data_send, ack_send, find_pipe, put_pipe, put_after, find_flow, put_flow, find_train, put_train, take_segment, take_ack, take_load, deliver}
 use Rattle.emu_model.specs.Commands.{rule_lines, instance_lines, pipe_lines, new_pipe, delete_pipe, stop_flow, refusal_of, effect_of, obey}
 use Rattle.emu_model.specs.Events.{direct_exit, deliver_some, flying_in, leave_pipe_some, pipe_exits, served_in, note_finish, pipe_finishes, expire_flow, emit_segment, emit_packet, event_of}
 use Rattle.emu_model.specs.declared.sources.Due.{Due}
@@ -108,7 +108,7 @@ pub record Tells (seed b : ℕ) (Allowed : Command → Type 0) (P : Phase → Ne
       P (handed k (record p { place = place })) (counted start p n)
   pub unpiped : (now k : ℕ) (p : Packet) (n : Net) → find_pipe k n ≡ None → P (handed k p) n →
       P ended (drop_packet now NoPipe p n)
-  pub left : (n : Net) → P starting n → P (flying (first_item n.direct.flight)) (record n { direct = leave n.direct })
+  pub left : (n : Net) → P starting n → P (flying (first_item n.direct.in_flight)) (record n { direct = leave n.direct })
   pub delivered : (now : ℕ) (p : Packet) (n : Net) → P (leaving p) n →
       P (came now p) (note (PacketDelivered now p.number p.load) n)
   pub taken : (now : ℕ) (p : Packet) (n : Net) →
@@ -206,7 +206,7 @@ arrivals-silent now p q =
 
 module _ (seed b : ℕ) (Allowed : Command → Type 0) (P : Phase → Net → Type 0) (keeps : Tells seed b Allowed P) where
   -- an event of this seed and budget
-  record IsSet (at : Setting) : Type 0 where
+  record IsSet (at : EventContext) : Type 0 where
     seed_is : at.seed ≡ seed
     budget_is : at.packet_budget ≡ b
 
@@ -238,7 +238,7 @@ module _ (seed b : ℕ) (Allowed : Command → Type 0) (P : Phase → Net → Ty
   said_one : (o : Phase) (r : Record) (n : Net) → IsOpen o → IsSilent r → P o n → P o (note r n)
   said_one o r n a e h = keeps.said o (r ∷ []) n a (e, tt) h
 
-  to_pipe-walks : (at : Setting) → IsSet at → (k : ℕ) (p : Packet) (n : Net) → P (handed k p) n →
+  to_pipe-walks : (at : EventContext) → IsSet at → (k : ℕ) (p : Packet) (n : Net) → P (handed k p) n →
       P ended (to_pipe at k p n)
   to_pipe-walks at e k p n h =
       let told : List Record = option_map_or (arrivals at.now p) (find_pipe k n) [] in
@@ -252,18 +252,18 @@ module _ (seed b : ℕ) (Allowed : Command → Type 0) (P : Phase → Net → Ty
       (λ q g. subst (λ x. P ended (put_after at.now k (pipe_arrive x at.now p q) m)) (sym e.seed_is)
       (keeps.arrived at.now k p q m g here)) (λ none. keeps.unpiped at.now k p m none here)
 
-  by_verdict-walks : (at : Setting) → IsSet at → (start : ℕ) (v : Verdict) (p : Packet) (n : Net) →
+  by_verdict-walks : (at : EventContext) → IsSet at → (start : ℕ) (v : Verdict) (p : Packet) (n : Net) →
       verdict start p n.book.rules ≡ v → P (moving start p) n → P ended (by_verdict at v p (counted start p n))
   by_verdict-walks at e start OverTheLink p n is h = keeps.entered at.now start p n h
   by_verdict-walks at e start Dropped p n is h = keeps.denied at.now start p n is h
   by_verdict-walks at e start (IntoPipe k place) p n is h =
       to_pipe-walks at e k (record p { place = place }) (counted start p n) (keeps.piped start k place p n is h)
 
-  pass_rules_from-walks : (at : Setting) → IsSet at → (start : ℕ) (p : Packet) (n : Net) → P (moving start p) n →
+  pass_rules_from-walks : (at : EventContext) → IsSet at → (start : ℕ) (p : Packet) (n : Net) → P (moving start p) n →
       P ended (pass_rules_from at start p n)
   pass_rules_from-walks at e start p n h = by_verdict-walks at e start (verdict start p n.book.rules) p n refl h
 
-  make-walks : (at : Setting) → IsSet at → (l : Load) (send : SendSpec) (n : Net) →
+  make-walks : (at : EventContext) → IsSet at → (l : Load) (send : SendSpec) (n : Net) →
       P (owed at.now l send) n →
       P ended (make at l send n)
   make-walks at e l send n h =
@@ -275,7 +275,7 @@ module _ (seed b : ℕ) (Allowed : Command → Type 0) (P : Phase → Net → Ty
       (λ many. keeps.refused at.now l send n
       (subst (λ x. x ≤ held n) e.budget_is (ltb-false (held n) at.packet_budget many)) h)
 
-  take_segment-walks : (at : Setting) → IsSet at → (k first : ℕ) (p : Packet) (n : Net) (f : FlowState) →
+  take_segment-walks : (at : EventContext) → IsSet at → (k first : ℕ) (p : Packet) (n : Net) (f : FlowState) →
       p.load ≡ Seg k first → find_flow k n ≡ Some f → P (came at.now p) n → P ended (take_segment at first n f)
   take_segment-walks at e k first p n f is there h =
       let set : List ℕ = with_segment first f.came in
@@ -295,7 +295,7 @@ module _ (seed b : ℕ) (Allowed : Command → Type 0) (P : Phase → Net → Ty
       (said_one ended (AckTaken now f.number t.cwnd t.ssthresh) m tt refl
       (flow_put ended (record f { sender = t }) n tt h))
 
-  take_load-walks : (at : Setting) → IsSet at → (l : Load) (p : Packet) (n : Net) → p.load ≡ l →
+  take_load-walks : (at : EventContext) → IsSet at → (l : Load) (p : Packet) (n : Net) → p.load ≡ l →
       P (came at.now p) n → P ended (take_load at l n)
   take_load-walks at e Plain p n is h = keeps.taken at.now p n (λ k first g. absurd (plain (sym is ∙ g))) h
     where
@@ -316,21 +316,21 @@ module _ (seed b : ℕ) (Allowed : Command → Type 0) (P : Phase → Net → Ty
       other : {j first : ℕ} → Ack k upto ≡ Seg j first → ⊥
       other g = cc g
 
-  deliver-walks : (at : Setting) → IsSet at → (p : Packet) (n : Net) → P (leaving p) n →
+  deliver-walks : (at : EventContext) → IsSet at → (p : Packet) (n : Net) → P (leaving p) n →
       P ended (deliver at p n)
   deliver-walks at e p n h =
       take_load-walks at e p.load p (note (PacketDelivered at.now p.number p.load) n) refl
       (keeps.delivered at.now p n h)
 
-  direct_exit-walks : (at : Setting) → IsSet at → (n : Net) → P starting n → P ended (direct_exit at n)
-  direct_exit-walks at e n h = go (first_item n.direct.flight) (keeps.left n h)
+  direct_exit-walks : (at : EventContext) → IsSet at → (n : Net) → P starting n → P ended (direct_exit at n)
+  direct_exit-walks at e n h = go (first_item n.direct.in_flight) (keeps.left n h)
     where
       go : (o : Option Packet) → P (flying o) (record n { direct = leave n.direct }) →
           P ended (deliver_some at o (record n { direct = leave n.direct }))
       go None q = q
       go (Some p) q = deliver-walks at e p (record n { direct = leave n.direct }) q
 
-  pipe_exits-walks : (at : Setting) → IsSet at → (pipe k : ℕ) (n : Net) (p : PipeState) →
+  pipe_exits-walks : (at : EventContext) → IsSet at → (pipe k : ℕ) (n : Net) (p : PipeState) →
       find_pipe pipe n ≡ Some p → P starting n → P ended (pipe_exits at pipe k n p)
   pipe_exits-walks at b' pipe k n p e h = go (flying_in k p) (keeps.pipe_left pipe k p n e h)
     where
@@ -340,7 +340,7 @@ module _ (seed b : ℕ) (Allowed : Command → Type 0) (P : Phase → Net → Ty
       go (Some x) q =
           let there : Net = put_pipe pipe (pipe_exit k p) n in
           let told : Net = note (PacketPassed at.now x.number pipe k) there in
-          either (P ended) n.one_pass (deliver at x there) (go_on at x told) (deliver-walks at b' x there q)
+          either (P ended) n.one_pass (deliver at x there) (reinject at x told) (deliver-walks at b' x there q)
           (pass_rules_from-walks at b' (start_behind x.place told.book.rules) x told
           (said_one (moving (start_behind x.place there.book.rules) x) (PacketPassed at.now x.number pipe k) there tt refl (keeps.goes_on x there q)))
 
@@ -353,7 +353,7 @@ module _ (seed b : ℕ) (Allowed : Command → Type 0) (P : Phase → Net → Ty
   same-pipes now pipe k None n = refl
   same-pipes now pipe k (Some i) n = refl
 
-  pipe_finishes-walks : (at : Setting) (pipe k : ℕ) (n : Net) (p : PipeState) → find_pipe pipe n ≡ Some p →
+  pipe_finishes-walks : (at : EventContext) (pipe k : ℕ) (n : Net) (p : PipeState) → find_pipe pipe n ≡ Some p →
       P starting n → P ended (pipe_finishes at pipe k n p)
   pipe_finishes-walks at pipe k n p e h =
       let m : Net = note_finish at.now pipe k (served_in k p) n in
@@ -361,14 +361,14 @@ module _ (seed b : ℕ) (Allowed : Command → Type 0) (P : Phase → Net → Ty
       (ap (find (λ q. q.number == pipe)) (same-pipes at.now pipe k (served_in k p) n) ∙ e)
       (note_finish-walks at.now pipe k (served_in k p) n h)
 
-  expire_flow-walks : (at : Setting) (n : Net) (f : FlowState) → P starting n → P ended (expire_flow at n f)
+  expire_flow-walks : (at : EventContext) (n : Net) (f : FlowState) → P starting n → P ended (expire_flow at n f)
   expire_flow-walks at n f h =
       let t : Sender = expire f.flow at.now f.sender in
       let g : FlowState = record f { sender = t } in
       said_one ended (TimerExpired at.now f.number t.cwnd t.ssthresh) (put_flow g n) tt refl
       (flow_put ended g n tt (keeps.stood n h))
 
-  emit_packet-walks : (at : Setting) → IsSet at → (k : ℕ) (n : Net) (t : TrainState) → find_train k n ≡ Some t →
+  emit_packet-walks : (at : EventContext) → IsSet at → (k : ℕ) (n : Net) (t : TrainState) → find_train k n ≡ Some t →
       P starting n → P ended (emit_packet at n t)
   emit_packet-walks at e k n t there h =
       let m : Net = put_train (record t { sent = t.sent + 1 }) n in
@@ -377,7 +377,7 @@ module _ (seed b : ℕ) (Allowed : Command → Type 0) (P : Phase → Net → Ty
       (keeps.sent at.now Plain t.train.packet n
       (inr (record { number = k; train = t; there = there; sends = refl })) h))
 
-  emit_segment-walks : (at : Setting) → IsSet at → (k : ℕ) (n : Net) (f : FlowState) → find_flow k n ≡ Some f →
+  emit_segment-walks : (at : EventContext) → IsSet at → (k : ℕ) (n : Net) (f : FlowState) → find_flow k n ≡ Some f →
       P starting n → P ended (emit_segment at n f)
   emit_segment-walks at e k n f there h =
       let g : FlowState = record f { sender = emit f.flow at.now f.sender } in
@@ -388,7 +388,7 @@ module _ (seed b : ℕ) (Allowed : Command → Type 0) (P : Phase → Net → Ty
       (keeps.sent at.now l (data_send f.flow) n
       (record { flow = f; there = ap (λ j. find_flow j n) number ∙ there; sends = refl }) h))
 
-  event-walks : (at : Setting) → IsSet at → (class : Class) (k : ℕ) (n : Net) → P starting n →
+  event-walks : (at : EventContext) → IsSet at → (class : Class) (k : ℕ) (n : Net) → P starting n →
       P ended (event_of at class k n)
   event-walks at b' NextCommand k n h = keeps.stood n h
   event-walks at b' Exit zero n h = direct_exit-walks at b' n h
@@ -412,7 +412,7 @@ module _ (seed b : ℕ) (Allowed : Command → Type 0) (P : Phase → Net → Ty
       P starting n → P ended m
   done n m k d p i r f h = alike ended n m tt k d p i r f (keeps.stood n h)
 
-  effect-walks : (at : Setting) → IsSet at → (c : Command) (n : Net) → Allowed c → P starting n →
+  effect-walks : (at : EventContext) → IsSet at → (c : Command) (n : Net) → Allowed c → P starting n →
       P ended (effect_of at c n)
   effect-walks at b' (Add r) n ok h = keeps.ruled (book_with r n.book) n h
   effect-walks at b' (Delete k) n ok h = keeps.ruled (book_without k n.book) n h
@@ -444,7 +444,7 @@ module _ (seed b : ℕ) (Allowed : Command → Type 0) (P : Phase → Net → Ty
   effect-walks at b' (Trace c) n ok h = done n (effect_of at (Trace c) n) refl refl refl refl refl refl h
   effect-walks at b' End n ok h = keeps.stood n h
 
-  obey-walks : (at : Setting) → IsSet at → (k : ℕ) (c : Command) (n : Net) → Allowed c → P starting n →
+  obey-walks : (at : EventContext) → IsSet at → (k : ℕ) (c : Command) (n : Net) → Allowed c → P starting n →
       P ended (obey at k c n)
   obey-walks at b' k c n ok h =
       let m : Net = note (CommandDone at.now k) n in

@@ -7,7 +7,7 @@ use Rattle.emu_laws.proofs.Words.{SendSpec, Command, Ack, Packet, Spec, Timed, L
 use Rattle.emu_model.specs.Pipes.{Drop, Instance, PipeState, After, held_in, pipe_packets, pipe_arrive, pipe_finish, pipe_exit, pipe_configure}
 use Rattle.emu_model.specs.Net.{Net, note, note_all, note_drops, to_direct, put_pipe, note_traced, make_record, drop_record, packet_of}
 use Rattle.emu_model.specs.Rules.{start_behind}
-use Rattle.emu_model.specs.Delay.{Leaving, first_item, leave}
+use Rattle.emu_model.specs.Delay.{InFlight, first_item, leave}
 use Rattle.emu_model.specs.Commands.{new_pipe, without_pipe}
 use Rattle.emu_model.specs.Events.{flying_in}
 use Rattle.emu_model.specs.Alone.{alone}
@@ -37,7 +37,7 @@ holds-first p ps =
       ap one_if (eq-eqb p.number p.number refl),
     )
 
-first-held : (p : Packet) (xs : List (Leaving Packet)) → first_item xs ≡ Some p → Holds p.number (map (λ x. x.item) xs)
+first-held : (p : Packet) (xs : List (InFlight Packet)) → first_item xs ≡ Some p → Holds p.number (map (λ x. x.item) xs)
 first-held p [] e = absurd (cc e)
 first-held p (x ∷ xs) e =
     let same : x.item ≡ p = cc e in
@@ -49,14 +49,14 @@ first-held p (x ∷ xs) e =
     )
 
 flying-held : (k : ℕ) (p : Packet) (is : List Instance) →
-    option_and_then (λ i. first_item i.line.flight) (slice_get is k) ≡ Some p → Holds p.number (flat_map held_in is)
+    option_and_then (λ i. first_item i.line.in_flight) (slice_get is k) ≡ Some p → Holds p.number (flat_map held_in is)
 flying-held k p [] e = absurd (cc e)
 flying-held zero p (i ∷ is) e =
     holds-front p.number (held_in i) (flat_map held_in is)
     (holds-front p.number
-    (map (λ x. x.item) i.line.flight ++ option_to_list (option_map (λ s. s.item) i.service)) (map (λ w. w.item) i.waiting)
-    (holds-front p.number (map (λ x. x.item) i.line.flight) (option_to_list (option_map (λ s. s.item) i.service))
-    (first-held p i.line.flight e)))
+    (map (λ x. x.item) i.line.in_flight ++ option_to_list (option_map (λ s. s.item) i.service)) (map (λ w. w.item) i.waiting)
+    (holds-front p.number (map (λ x. x.item) i.line.in_flight) (option_to_list (option_map (λ s. s.item) i.service))
+    (first-held p i.line.in_flight e)))
 flying-held (suc k) p (i ∷ is) e = holds-back p.number (held_in i) (flat_map held_in is) (flying-held k p is e)
 
 pipe-held : (pipe j : ℕ) (q : PipeState) (ps : List PipeState) → find (λ p. p.number == pipe) ps ≡ Some q →
@@ -166,10 +166,10 @@ module _ (m : Net) where
     unpiped = λ now k p n none h. dropped-follows now (record { packet = p; cause = NoPipe } ∷ []) (handed k p) n h;
     left = λ n h.
         let k : Net = record n { direct = leave n.direct } in
-        unnoted (IsOfHeld m) (Place m) m starting (flying (first_item n.direct.flight)) n k refl
-        (left-place (first_item n.direct.flight) k (λ p e.
-        holds-front p.number (map (λ x. x.item) m.direct.flight) (flat_map pipe_packets m.pipes)
-        (subst (λ d. Holds p.number (map (λ x. x.item) d.flight)) h.place.direct (first-held p n.direct.flight e)))) h;
+        unnoted (IsOfHeld m) (Place m) m starting (flying (first_item n.direct.in_flight)) n k refl
+        (left-place (first_item n.direct.in_flight) k (λ p e.
+        holds-front p.number (map (λ x. x.item) m.direct.in_flight) (flat_map pipe_packets m.pipes)
+        (subst (λ d. Holds p.number (map (λ x. x.item) d.in_flight)) h.place.direct (first-held p n.direct.in_flight e)))) h;
     delivered = λ now p n h.
         let r : Record = PacketDelivered now p.number p.load in
         noted (IsOfHeld m) (Place m) m (r ∷ []) (leaving p) (came now p) n (note r n) refl (h.place, tt) tt h;
@@ -184,7 +184,7 @@ module _ (m : Net) where
         let there : Net = put_pipe pipe (pipe_exit k p) n in
         unnoted (IsOfHeld m) (Place m) m starting (flying (flying_in k p)) n there refl
         (left-place (flying_in k p) there (λ x g.
-        holds-back x.number (map (λ y. y.item) m.direct.flight) (flat_map pipe_packets m.pipes)
+        holds-back x.number (map (λ y. y.item) m.direct.in_flight) (flat_map pipe_packets m.pipes)
         (pipe-held pipe x.number p m.pipes (subst (λ ps. find (λ q. q.number == pipe) ps ≡ Some p) h.place.pipes e)
         (flying-held k x p.instances g)))) h;
     configured = λ k config p n ok e h. moved starting n (put_pipe k (pipe_configure config p) n) refl h;

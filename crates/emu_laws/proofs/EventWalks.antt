@@ -4,12 +4,12 @@ use Rattle.std.proofs.Common.{◌≡◌, ℕ, zero, suc, ◌+◌, ◌/◌, ◌%�
 use Rattle.std.specs.Prelude.{if◌then◌else◌, is_some, nat_lt, map, flat_map, slice_get}
 use Rattle.std.specs.Option.{option_map_or}
 use Rattle.std.specs.List.{AllByRecursion}
-use Rattle.emu_laws.proofs.Words.{Setting, Timed, Class, NextCommand, Exit, Finish, Expiry, Emission, Place, Packet, Load, Plain, Seg, Ack, Verdict, OverTheLink, Dropped, IntoPipe, SendSpec, PipeConfig, DropCause, Denied, NoPipe, Budget, Command, Add, Delete, Config, PipeDelete, PipeShow, Show, Inject, Train, Flow, Stop, OnePass, Trace, End, Record, CommandDone, CommandRefused, PacketMade, PacketArrived, PacketFinished, PacketDelivered, PacketPassed, PacketDropped, AckTaken, TimerExpired, StepsSpent, RuleLine}
+use Rattle.emu_laws.proofs.Words.{EventContext, Timed, Class, NextCommand, Exit, Finish, Expiry, Emission, Place, Packet, Load, Plain, Seg, Ack, Verdict, OverTheLink, Dropped, IntoPipe, SendSpec, PipeConfig, DropCause, Denied, NoPipe, Budget, Command, Add, Delete, Config, PipeDelete, PipeShow, Show, Inject, Train, Flow, Stop, OnePass, Trace, End, Record, CommandDone, CommandRefused, PacketMade, PacketArrived, PacketFinished, PacketDelivered, PacketPassed, PacketDropped, AckTaken, TimerExpired, StepsSpent, RuleLine}
 use Rattle.emu_model.specs.Rules.{Counted, verdict, start_behind, counted_book}
 use Rattle.emu_model.specs.Delay.{Line, first_item, leave}
 use Rattle.emu_model.specs.Reno.{Sender, ack, with_segment, missing, emitted, emit, expire}
 use Rattle.emu_model.specs.Pipes.{Instance, PipeState, pipe_arrive, pipe_finish, pipe_exit, pipe_configure}
-use Rattle.emu_model.specs.Net.{Net, FlowState, TrainState, note, note_all, note_traced, drop_packet, arrivals, to_pipe, to_direct, by_verdict, pass_rules_from, pass_rules, go_on, packet_of, make_record, make, held, data_send, ack_send, find_pipe, put_pipe, put_after, find_flow, put_flow, find_train, put_train, take_segment, take_ack, take_load, deliver}
+use Rattle.emu_model.specs.Net.{Net, FlowState, TrainState, note, note_all, note_traced, drop_packet, arrivals, to_pipe, to_direct, by_verdict, pass_rules_from, pass_rules, reinject, packet_of, make_record, make, held, data_send, ack_send, find_pipe, put_pipe, put_after, find_flow, put_flow, find_train, put_train, take_segment, take_ack, take_load, deliver}
 use Rattle.emu_model.specs.Commands.{rule_lines, instance_lines, pipe_lines, new_pipe, delete_pipe, stop_flow, refusal_of, effect_of, obey}
 use Rattle.emu_model.specs.Events.{direct_exit, deliver_some, flying_in, leave_pipe_some, pipe_exits, served_in, note_finish, pipe_finishes, expire_flow, emit_segment, emit_packet, event_of}
 use Rattle.emu_model.specs.declared.sources.Due.{Due}
@@ -50,7 +50,7 @@ pub record IsQuietAt (now : ℕ) (r : Record) : Type 0 where
 
 -- the changes of a net at a moment, P being kept by each; the option is the packet on its way. A delay line that is
 -- taken from is ready, what is known at the start is known where a packet finishes, and what is commanded is allowed.
-pub record Keeps (at : Setting) (Ready : Line Packet → Type 0) (Known : Net → Type 0) (Allowed : Command → Type 0)
+pub record Keeps (at : EventContext) (Ready : Line Packet → Type 0) (Known : Net → Type 0) (Allowed : Command → Type 0)
     (P : Option Packet → Net → Type 0) : Type 0 where
   pub quiet : (o : Option Packet) (n m : Net) → Alike n m → P o n → P o m
   pub traced : (b : Bool) (n : Net) → P None n → P None (record n { trace = b })
@@ -62,7 +62,7 @@ pub record Keeps (at : Setting) (Ready : Line Packet → Type 0) (Known : Net �
   pub dropped : (cause : DropCause) (p : Packet) (n : Net) → is_by_pipe cause ≡ false → P (Some p) n →
       P None (drop_packet at.now cause p n)
   pub entered : (p : Packet) (n : Net) → P (Some p) n → P None (to_direct at.now p n)
-  pub left : (n : Net) → Ready n.direct → P None n → P (first_item n.direct.flight) (record n { direct = leave n.direct })
+  pub left : (n : Net) → Ready n.direct → P None n → P (first_item n.direct.in_flight) (record n { direct = leave n.direct })
   pub delivered : (p : Packet) (n : Net) → P (Some p) n → P None (note (PacketDelivered at.now p.number p.load) n)
   pub arrived : (k : ℕ) (p : Packet) (q : PipeState) (n : Net) → find_pipe k n ≡ Some q → P (Some p) n →
       P None (put_after at.now k (pipe_arrive at.seed at.now p q) (note_traced (arrivals at.now p q) n))
@@ -107,7 +107,7 @@ IsReadyAt Ready (suc k) n =
     (p : PipeState) → find_pipe (suc k / 256) n ≡ Some p →
     (i : Instance) → slice_get p.instances (suc k % 256) ≡ Some i → Ready i.line
 
-module _ (at : Setting) (Ready : Line Packet → Type 0) (Known : Net → Type 0) (Allowed : Command → Type 0)
+module _ (at : EventContext) (Ready : Line Packet → Type 0) (Known : Net → Type 0) (Allowed : Command → Type 0)
     (P : Option Packet → Net → Type 0)
     (keeps : Keeps at Ready Known Allowed P) where
   -- only the rule list, flows, trains or `one_pass` are other
@@ -182,7 +182,7 @@ module _ (at : Setting) (Ready : Line Packet → Type 0) (Known : Net → Type 0
       take_load-walks p.load (note (PacketDelivered at.now p.number p.load) n) (keeps.delivered p n h)
 
   direct_exit-walks : (n : Net) → Ready n.direct → P None n → P None (direct_exit at n)
-  direct_exit-walks n ready h = go (first_item n.direct.flight) (keeps.left n ready h)
+  direct_exit-walks n ready h = go (first_item n.direct.in_flight) (keeps.left n ready h)
     where
       go : (o : Option Packet) → P o (record n { direct = leave n.direct }) →
           P None (deliver_some at o (record n { direct = leave n.direct }))
@@ -202,7 +202,7 @@ module _ (at : Setting) (Ready : Line Packet → Type 0) (Known : Net → Type 0
       go (Some x) g q =
           let there : Net = put_pipe pipe (pipe_exit k p) n in
           let told : Net = note (PacketPassed at.now x.number pipe k) there in
-          either (P None) n.one_pass (deliver at x there) (go_on at x told) (deliver-walks x there q)
+          either (P None) n.one_pass (deliver at x there) (reinject at x told) (deliver-walks x there q)
           (pass_rules_from-walks (start_behind x.place told.book.rules) x told
           (keeps.passed pipe k x p n e ready g h))
 

@@ -87,9 +87,9 @@ each-flat : {A B : Type 0} (Q : B → Type 0) (f : A → List B) (xs : List A) �
 each-flat Q f [] h = tt
 each-flat Q f (x ∷ xs) h = (each_front Q (f x) (flat_map f xs) h, each-flat Q f xs (each_back Q (f x) (flat_map f xs) h))
 
-line-due : (Q : Due → Type 0) (number exit : ℕ) (l : Line Packet) → first_exit l.flight ≡ Some exit →
+line-due : (Q : Due → Type 0) (number exit : ℕ) (l : Line Packet) → first_exit l.in_flight ≡ Some exit →
     AllByRecursion Q (line_dues number l) → Q (due Exit number exit)
-line-due Q number exit l e h = go (first_exit l.flight) e h
+line-due Q number exit l e h = go (first_exit l.in_flight) e h
   where
     go : (o : Option ℕ) → o ≡ Some exit → AllByRecursion Q (option_to_list (option_map (due Exit number) o)) →
         Q (due Exit number exit)
@@ -146,7 +146,7 @@ finish-due Q number i s e h = go i.service e h
 
 -- the first exit of a line is no later than now
 abbrev pub IsOut : ℕ → Line Packet → Type 0
-IsOut now l = (exit : ℕ) → first_exit l.flight ≡ Some exit → exit ≤ now
+IsOut now l = (exit : ℕ) → first_exit l.in_flight ≡ Some exit → exit ≤ now
 
 module _ (s : State) (c : Timed)
     (differ : (x : Source) → count_by (λ d. same_source d.source x) (dues_of s.clock s.net) ≤ 1) where
@@ -208,7 +208,7 @@ module _ (s : State) (c : Timed)
 
   exit-moment : (number exit : ℕ) (p : PipeState) (i : Instance) → e.source.class ≡ Exit → e.source.number ≡ number →
       find_pipe (number / 256) s.net ≡ Some p → slice_get p.instances (number % 256) ≡ Some i →
-      first_exit i.line.flight ≡ Some exit → exit ≡ e.moment
+      first_exit i.line.in_flight ≡ Some exit → exit ≡ e.moment
   exit-moment number exit p i exits n g h f =
       at-moment Exit (p.number * 256 + number % 256) exit (sym exits) (whole number p g ∙ sym n)
       (line-due IsSame (p.number * 256 + number % 256) exit i.line f
@@ -236,7 +236,7 @@ module _ (s : State) (c : Timed)
       no-command : Exit ≡ NextCommand → ⊥
       no-command x = cc x
 
-      direct-moment : (exit : ℕ) → 0 ≡ e.source.number → first_exit s.net.direct.flight ≡ Some exit → exit ≡ e.moment
+      direct-moment : (exit : ℕ) → 0 ≡ e.source.number → first_exit s.net.direct.in_flight ≡ Some exit → exit ≡ e.moment
       direct-moment exit n f =
           at-moment Exit 0 exit (sym exits) n
           (line-due IsSame 0 exit s.net.direct f

@@ -4,7 +4,7 @@ use Rattle.std.specs.Prelude.{if◌then◌else◌}
 use Rattle.emu_laws.proofs.Words.{Record, PacketDelivered, PacketPassed}
 use Rattle.emu_model.specs.Pipes.{pipe_exit}
 use Rattle.emu_model.specs.Rules.{start_behind}
-use Rattle.emu_model.specs.Net.{Net, note, put_pipe, deliver, go_on}
+use Rattle.emu_model.specs.Net.{Net, note, put_pipe, deliver, reinject}
 use Rattle.emu_model.specs.Events.{leave_pipe_some}
 use Rattle.emu_model.specs.RunLaws.{IsExtendedBy}
 use Rattle.emu_laws.specs.ExitLines.{exit_line, ExitsAreTold}
@@ -34,13 +34,13 @@ exits_are_told at pipe k n p q e =
     pass = PacketPassed at.now q.number pipe k
 
     go : (b : Bool) → IsExtendedBy (n.records ++ exit_line at.now pipe k b q ∷ [])
-        (if b then deliver at q there else go_on at q (note pass there)).records
+        (if b then deliver at q there else reinject at q (note pass there)).records
     go true =
         behind at.now delivery there (deliver at q there)
         (take_load-walks at AnyLine AnyNet AnyCommand (λ o m. Adds at.now (note delivery there) m)
         (adds-keeps at (note delivery there)) q.load (note delivery there) (nothing-yet at.now (note delivery there)))
     go false =
-        behind at.now pass there (go_on at q (note pass there))
+        behind at.now pass there (reinject at q (note pass there))
         (pass_rules_from-walks at AnyLine AnyNet AnyCommand (λ o m. Adds at.now (note pass there) m)
         (adds-keeps at (note pass there)) (start_behind q.place n.book.rules) q (note pass there)
         (nothing-yet at.now (note pass there)))

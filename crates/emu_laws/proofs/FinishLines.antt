@@ -6,7 +6,7 @@ use Rattle.emu_laws.proofs.Words.{Packet, Deleted, Record, PacketFinished, Packe
 use Rattle.emu_model.specs.Pipes.{InService, PipeState, Drop, pipe_arrive, pipe_finish, pipe_packets}
 use Rattle.emu_model.specs.Net.{drop_record}
 use Rattle.emu_model.specs.Events.{served_in}
-use Rattle.emu_laws.specs.Happenings.{Happening, Coming, Finishing, Leaving, Configuring, Deleting, pipe_in, happen, finish_lines, deleted_lines, known, lines_of, is_at, standing, first_held, known_of, told_of}
+use Rattle.emu_laws.specs.Happenings.{Happening, Coming, Finishing, InFlight, Configuring, Deleting, pipe_in, happen, finish_lines, deleted_lines, known, lines_of, is_at, standing, first_held, known_of, told_of}
 use Rattle.emu_laws.specs.RunHistories.{is_by_pipe, by_pipe, finish_of, finishes_of, finishes_told}
 
 module _ (pipe k : ℕ) where
@@ -52,7 +52,7 @@ module _ (pipe k : ℕ) where
       (λ p. finishes-append (finish_lines now j i p) (map (drop_record now) (pipe_finish now i p).dropped)
       ∙ ap (λ xs. xs ++ finishes_of pipe k (map (drop_record now) (pipe_finish now i p).dropped)) (other-finish now j i p e)
       ∙ drops-none now (pipe_finish now i p).dropped) (pipe_in j ps)
-  others-none seed (Leaving j i) ps e = refl
+  others-none seed (InFlight j i) ps e = refl
   others-none seed (Configuring j config) ps e = refl
   others-none seed (Deleting now j) ps e = deleting-none seed now j ps
 
@@ -60,7 +60,7 @@ module _ (pipe k : ℕ) where
       finishes_of pipe k (known seed h ps).lines ≡ finishes_of pipe k (known_of seed pipe k h ps).lines
   own-same seed (Coming now j packet) ps = refl
   own-same seed (Finishing now j i) ps = refl
-  own-same seed (Leaving j i) ps = refl
+  own-same seed (InFlight j i) ps = refl
   own-same seed (Configuring j config) ps = refl
   own-same seed (Deleting now j) ps =
       deleting-none seed now j ps ∙ sym (deleted-none now (first_held (standing pipe k ps)))

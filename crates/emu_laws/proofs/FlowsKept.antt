@@ -113,7 +113,7 @@ module _ (clock : ℕ) (n : Net) (differ : Differ n.flows) where
   optional class k moment (Some a) other = ((λ e none f there. absurd (other e)), tt)
 
   line-sent : (k : ℕ) (l : Line Packet) → AllByRecursion IsSent (line_dues k l)
-  line-sent k l = optional Exit k (λ m. m) (first_exit l.flight) (λ e. cc e)
+  line-sent k l = optional Exit k (λ m. m) (first_exit l.in_flight) (λ e. cc e)
 
   instances-sent : (k : ℕ) (is : List Instance) → AllByRecursion IsSent (instances_dues k is)
   instances-sent k [] = tt

@@ -8,8 +8,8 @@ use Rattle.std.proofs.lemmas.List.Sums.{sum_by-cons, sum_by-append}
 use Rattle.emu_laws.proofs.Words.{Packet, PipeConfig}
 use Rattle.emu_model.specs.Lists.{replace_first, change_at}
 use Rattle.emu_model.specs.Moments.{milliseconds}
-use Rattle.emu_model.specs.Delay.{Leaving, Line}
-use Rattle.emu_model.specs.DropTail.{Waiting}
+use Rattle.emu_model.specs.Delay.{InFlight, Line}
+use Rattle.emu_model.specs.DropTail.{Queued}
 use Rattle.emu_model.specs.Pipes.{InService, Instance, PipeState, held_in, pipe_packets, no_drop, put_instance, send_off, instance_finish, pipe_finish}
 use Rattle.emu_model.specs.Net.{Net, find_pipe}
 use Rattle.emu_model.specs.Events.{served_in}
@@ -111,20 +111,20 @@ served : Option (InService Packet) → List Packet
 served o = option_to_list (option_map (λ s. s.item) o)
 
 in-parts : (x : ℕ) (i : Instance) →
-    times x (held_in i) ≡ times x (map (λ l. l.item) i.line.flight) + times x (served i.service) + times x (map (λ w. w.item) i.waiting)
+    times x (held_in i) ≡ times x (map (λ l. l.item) i.line.in_flight) + times x (served i.service) + times x (map (λ w. w.item) i.waiting)
 unfolding served
 in-parts x i =
-    let flying : List Packet = map (λ l. l.item) i.line.flight in
+    let flying : List Packet = map (λ l. l.item) i.line.in_flight in
     let serving : List Packet = option_to_list (option_map (λ s. s.item) i.service) in
     let waiting : List Packet = map (λ w. w.item) i.waiting in
     omega (arith, times-append x (flying ++ serving) waiting, times-append x flying serving)
 
-no-flight : (moment x : ℕ) (ls : List (Leaving Packet)) → AllByRecursion (λ l. l.item.number ≡ x → ⊥) ls →
+no-in_flight : (moment x : ℕ) (ls : List (InFlight Packet)) → AllByRecursion (λ l. l.item.number ≡ x → ⊥) ls →
     AllByRecursion (LeavesFrom moment x) ls
-no-flight moment x [] h = tt
-no-flight moment x (l ∷ ls) h = ((λ e. absurd (h.0 e)), no-flight moment x ls h.1)
+no-in_flight moment x [] h = tt
+no-in_flight moment x (l ∷ ls) h = ((λ e. absurd (h.0 e)), no-in_flight moment x ls h.1)
 
-no-waiting : (moment x now : ℕ) (ws : List (Waiting Packet)) → AllByRecursion (λ w. w.item.number ≡ x → ⊥) ws →
+no-waiting : (moment x now : ℕ) (ws : List (Queued Packet)) → AllByRecursion (λ w. w.item.number ≡ x → ⊥) ws →
     AllByRecursion (λ w. Is moment x now w.item) ws
 no-waiting moment x now [] h = tt
 no-waiting moment x now (w ∷ ws) h = ((λ e. absurd (h.0 e)), no-waiting moment x now ws h.1)
@@ -136,8 +136,8 @@ no-service moment x now (Some s) e = λ g. absurd (omega (arith, e, times-cons x
 
 without : (moment x now : ℕ) (i : Instance) → times x (held_in i) ≡ 0 → HoldsFrom moment x now i
 without moment x now i e = record {
-  flight = no-flight moment x i.line.flight
-      (none-among x (λ l. l.item) i.line.flight (omega (arith, e, in-parts x i)));
+  in_flight = no-in_flight moment x i.line.in_flight
+      (none-among x (λ l. l.item) i.line.in_flight (omega (arith, e, in-parts x i)));
   service = no-service moment x now i.service (omega (arith, e, in-parts x i));
   waiting = no-waiting moment x now i.waiting
       (none-among x (λ w. w.item) i.waiting (omega (arith, e, in-parts x i)));
@@ -153,12 +153,12 @@ serves-one (Some r) s e =
 
 -- the packet that finishes leaves after the delay at least
 sent-late : (config : PipeConfig) (now delay : ℕ) (s : InService Packet) (o : Option (InService Packet)) (l : Line Packet) →
-    delay ≤ config.delay → AllByRecursion (λ x. x.item.number ≡ s.item.number → ⊥) l.flight →
-    AllByRecursion (LeavesFrom (now + max (milliseconds delay) 1) s.item.number) (send_off config now o l).flight
-sent-late config now delay s None l b h = no-flight (now + max (milliseconds delay) 1) s.item.number l.flight h
+    delay ≤ config.delay → AllByRecursion (λ x. x.item.number ≡ s.item.number → ⊥) l.in_flight →
+    AllByRecursion (LeavesFrom (now + max (milliseconds delay) 1) s.item.number) (send_off config now o l).in_flight
+sent-late config now delay s None l b h = no-in_flight (now + max (milliseconds delay) 1) s.item.number l.in_flight h
 sent-late config now delay s (Some r) l b h =
-    each_joined (LeavesFrom (now + max (milliseconds delay) 1) s.item.number) l.flight _
-    (no-flight (now + max (milliseconds delay) 1) s.item.number l.flight h)
+    each_joined (LeavesFrom (now + max (milliseconds delay) 1) s.item.number) l.in_flight _
+    (no-in_flight (now + max (milliseconds delay) 1) s.item.number l.in_flight h)
     ((λ e. omega (arith, b)), tt)
 
 finish-late : (config : PipeConfig) (now delay : ℕ) (s : InService Packet) (i : Instance) → i.service ≡ Some s →
@@ -168,7 +168,7 @@ finish-late config now delay s i e b most =
     let x : ℕ = s.item.number in
     next-from (now + max (milliseconds delay) 1) x now config (record i { line = send_off config now i.service i.line })
     (sent-late config now delay s i.service i.line b
-    (none-among x (λ l. l.item) i.line.flight (omega (arith, most, in-parts x i, serves-one i.service s e))))
+    (none-among x (λ l. l.item) i.line.in_flight (omega (arith, most, in-parts x i, serves-one i.service s e))))
     (no-waiting (now + max (milliseconds delay) 1) x now i.waiting
     (none-among x (λ w. w.item) i.waiting (omega (arith, most, in-parts x i, serves-one i.service s e))))
 
@@ -223,10 +223,10 @@ pipe_finish-late now delay k p s r b most =
     (omega (arith, most, pipe-times x p, got-within size r.instance p.instances k r.there))))
 
 net-times : (x : ℕ) (n : Net) → times x (held_packets n)
-    ≡ times x (map (λ l. l.item) n.direct.flight) + sum_by (λ p. times x (pipe_packets p)) n.pipes
+    ≡ times x (map (λ l. l.item) n.direct.in_flight) + sum_by (λ p. times x (pipe_packets p)) n.pipes
 net-times x n =
-    times-append x (map (λ l. l.item) n.direct.flight) (flat_map pipe_packets n.pipes)
-    ∙ ap (λ k. times x (map (λ l. l.item) n.direct.flight) + k) (times-flat x pipe_packets n.pipes)
+    times-append x (map (λ l. l.item) n.direct.in_flight) (flat_map pipe_packets n.pipes)
+    ∙ ap (λ k. times x (map (λ l. l.item) n.direct.in_flight) + k) (times-flat x pipe_packets n.pipes)
 
 -- the packet in service of a pipe is held
 pub served-held : (pipe k : ℕ) (p : PipeState) (s : InService Packet) (n : Net) → find_pipe pipe n ≡ Some p →
@@ -241,7 +241,7 @@ served-held pipe k p s n e r =
     )
 
 pub record FinishesLate (moment x now : ℕ) (n : Net) (ps : List PipeState) : Type 0 where
-  pub direct : AllByRecursion (LeavesFrom moment x) n.direct.flight
+  pub direct : AllByRecursion (LeavesFrom moment x) n.direct.in_flight
   pub pipes : AllByRecursion (PipeFrom moment x now) ps
 
 pub finishes_late : (now delay pipe k : ℕ) (p : PipeState) (s : InService Packet) (n : Net) → find_pipe pipe n ≡ Some p →
@@ -254,8 +254,8 @@ finishes_late now delay pipe k p s n e r b most =
     let load : PipeState → ℕ = λ q. times x (pipe_packets q) in
     let within : load p ≤ sum_by load n.pipes = found-within load (λ q. q.number == pipe) p n.pipes e in
     record {
-      direct = no-flight moment x n.direct.flight
-          (none-among x (λ l. l.item) n.direct.flight (omega (arith, most, net-times x n, within, serves-within k p s r)));
+      direct = no-in_flight moment x n.direct.in_flight
+          (none-among x (λ l. l.item) n.direct.in_flight (omega (arith, most, net-times x n, within, serves-within k p s r)));
       pipes = one-replaced load (PipeFrom moment x now) (λ q. q.number == pipe) p (pipe_finish now k p).state n.pipes e
           (serves-within k p s r) (omega (arith, most, net-times x n)) (pipe-without moment x now)
           (pipe_finish-late now delay k p s r b (omega (arith, most, net-times x n, within)));

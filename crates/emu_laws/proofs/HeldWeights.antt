@@ -10,9 +10,9 @@ use Rattle.std.proofs.lemmas.List.Sums.{sum_by-cons, sum_by-append}
 use Rattle.emu_model.specs.Lists.{replace_first, remove_first, change_at, tail}
 use Rattle.emu_laws.proofs.Words.{Packet, PipeConfig, NoInstance, Lost, Full, Codel, Deleted}
 use Rattle.emu_model.specs.FlowIds.{FlowId, flow_id, same_flow, new_instance, instance_of}
-use Rattle.emu_model.specs.Delay.{Leaving, Line, exit_after, leave, first_item}
+use Rattle.emu_model.specs.Delay.{InFlight, Line, exit_after, leave, first_item}
 use Rattle.emu_model.specs.Moments.{milliseconds}
-use Rattle.emu_model.specs.DropTail.{Waiting, accepts}
+use Rattle.emu_model.specs.DropTail.{Queued, accepts}
 use Rattle.emu_model.specs.Codel.{Dequeued}
 use Rattle.emu_model.specs.Pipes.{InService, Instance, PipeState, After, Drop, held_in, pipe_packets, dequeue, period_with, codel_drops, serve_next, no_drop, drop_one, enqueue, accept, drawn_one, instance_arrive, send_off, instance_finish, instance_configure, cut_service, initial_instance, put_instance, with_instance, draw, instance_for, arrive_at, pipe_arrive, pipe_finish, pipe_exit, pipe_configure}
 use Rattle.emu_model.specs.Net.{Net, held, find_pipe, put_pipe, to_direct}
@@ -140,7 +140,7 @@ module _ (w : Packet → ℕ) where
   abbrev pub weight : List Packet → ℕ
   weight ps = sum_by w ps
 
-  abbrev pub waits : List (Waiting Packet) → ℕ
+  abbrev pub waits : List (Queued Packet) → ℕ
   waits ws = weight (map (λ v. v.item) ws)
 
   abbrev pub some : Option Packet → ℕ
@@ -150,7 +150,7 @@ module _ (w : Packet → ℕ) where
   abbrev pub serves : Option (InService Packet) → ℕ
   serves o = weight (option_to_list (option_map (λ s. s.item) o))
 
-  abbrev pub flies : List (Leaving Packet) → ℕ
+  abbrev pub flies : List (InFlight Packet) → ℕ
   flies xs = weight (map (λ x. x.item) xs)
 
   -- of drops
@@ -170,30 +170,30 @@ module _ (w : Packet → ℕ) where
   one : (p : Packet) → weight (p ∷ []) ≡ w p
   one p = omega (arith, sum_by-cons w p [])
 
-  pub size_is : (i : Instance) → size i ≡ flies i.line.flight + serves i.service + waits i.waiting
+  pub size_is : (i : Instance) → size i ≡ flies i.line.in_flight + serves i.service + waits i.waiting
   unfolding size
   size_is i =
       omega (
         arith,
-        sum_by-append w (map (λ x. x.item) i.line.flight ++ option_to_list (option_map (λ s. s.item) i.service))
+        sum_by-append w (map (λ x. x.item) i.line.in_flight ++ option_to_list (option_map (λ s. s.item) i.service))
             (map (λ v. v.item) i.waiting),
-        sum_by-append w (map (λ x. x.item) i.line.flight) (option_to_list (option_map (λ s. s.item) i.service)),
+        sum_by-append w (map (λ x. x.item) i.line.in_flight) (option_to_list (option_map (λ s. s.item) i.service)),
       )
 
   pub load_is : (p : PipeState) → load p ≡ sum_by size p.instances
   unfolding load size
   load_is p = flat-sum w held_in p.instances
 
-  pub weigh_is : (n : Net) → weigh n ≡ flies n.direct.flight + sum_by load n.pipes
+  pub weigh_is : (n : Net) → weigh n ≡ flies n.direct.in_flight + sum_by load n.pipes
   unfolding weigh load
   weigh_is n =
       omega (
         arith,
-        sum_by-append w (map (λ x. x.item) n.direct.flight) (flat_map pipe_packets n.pipes),
+        sum_by-append w (map (λ x. x.item) n.direct.in_flight) (flat_map pipe_packets n.pipes),
         flat-sum w pipe_packets n.pipes,
       )
 
-  waits-append : (xs ys : List (Waiting Packet)) → waits (xs ++ ys) ≡ waits xs + waits ys
+  waits-append : (xs ys : List (Queued Packet)) → waits (xs ++ ys) ≡ waits xs + waits ys
   waits-append [] ys = omega arith
   waits-append (x ∷ xs) ys =
       omega (
@@ -203,7 +203,7 @@ module _ (w : Packet → ℕ) where
         sum_by-cons w x.item (map (λ v. v.item) (xs ++ ys)),
       )
 
-  flies-append : (xs ys : List (Leaving Packet)) → flies (xs ++ ys) ≡ flies xs + flies ys
+  flies-append : (xs ys : List (InFlight Packet)) → flies (xs ++ ys) ≡ flies xs + flies ys
   flies-append [] ys = omega arith
   flies-append (x ∷ xs) ys =
       omega (
@@ -213,7 +213,7 @@ module _ (w : Packet → ℕ) where
         sum_by-cons w x.item (map (λ y. y.item) (xs ++ ys)),
       )
 
-  codel-fallen : (ws : List (Waiting Packet)) → fallen (codel_drops ws) ≡ waits ws
+  codel-fallen : (ws : List (Queued Packet)) → fallen (codel_drops ws) ≡ waits ws
   unfolding fallen
   codel-fallen [] = refl
   codel-fallen (x ∷ xs) =
@@ -232,7 +232,7 @@ module _ (w : Packet → ℕ) where
   unfolding fallen
   none-fallen = refl
 
-  given-serves : (bw now : ℕ) (o : Option (InService Packet)) (g : Option (Waiting Packet)) →
+  given-serves : (bw now : ℕ) (o : Option (InService Packet)) (g : Option (Queued Packet)) →
       serves (option_map (λ v. record { item = v.item; period = period_with bw now v.size o }) g)
       ≡ waits (option_to_list g)
   given-serves bw now o None = refl
@@ -240,7 +240,7 @@ module _ (w : Packet → ℕ) where
 
   next-weight : (config : PipeConfig) (now : ℕ) (i : Instance) →
       size (serve_next config now i).state + fallen (serve_next config now i).dropped
-      ≡ flies i.line.flight + waits i.waiting
+      ≡ flies i.line.in_flight + waits i.waiting
   next-weight config now i =
       let d : Dequeued Packet = dequeue config.discipline now i.control i.waiting in
       let whole : waits i.waiting ≡ waits (d.dropped ++ (option_to_list d.given ++ d.rest)) =
@@ -284,12 +284,12 @@ module _ (w : Packet → ℕ) where
       rests (Some s) e = absurd (cc e)
 
   sent-weight : (config : PipeConfig) (now : ℕ) (o : Option (InService Packet)) (l : Line Packet) →
-      flies (send_off config now o l).flight ≡ flies l.flight + serves o
+      flies (send_off config now o l).in_flight ≡ flies l.in_flight + serves o
   sent-weight config now None l = omega arith
   sent-weight config now (Some s) l =
       omega (
         arith,
-        flies-append l.flight
+        flies-append l.in_flight
             (record { item = s.item; exit = exit_after l.last now (milliseconds config.delay) } ∷ []),
       )
 
@@ -364,7 +364,7 @@ module _ (w : Packet → ℕ) where
         change-load k 0 (instance_finish p.config now) p i e (omega (arith, finish-weight p.config now i)),
       )) (omega (arith, none-fallen))
 
-  tail-flies : (xs : List (Leaving Packet)) → flies (tail xs) + some (first_item xs) ≡ flies xs
+  tail-flies : (xs : List (InFlight Packet)) → flies (tail xs) + some (first_item xs) ≡ flies xs
   tail-flies [] = refl
   tail-flies (x ∷ xs) = omega (arith, sum_by-cons w x.item (map (λ y. y.item) xs))
 
@@ -375,7 +375,7 @@ module _ (w : Packet → ℕ) where
       left i = record i { line = leave i.line }
 
       go : (o : Option Instance) → slice_get p.instances k ≡ o →
-          load (pipe_exit k p) + some (option_and_then (λ i. first_item i.line.flight) o) ≡ load p
+          load (pipe_exit k p) + some (option_and_then (λ i. first_item i.line.in_flight) o) ≡ load p
       go None e =
           omega (
             arith,
@@ -391,7 +391,7 @@ module _ (w : Packet → ℕ) where
             changed-sum size (λ j. record j { line = leave j.line }) i k p.instances e,
             size_is i,
             size_is (record i { line = leave i.line }),
-            tail-flies i.line.flight,
+            tail-flies i.line.in_flight,
           )
 
   cut-serves : (o : Option (InService Packet)) → serves (option_map cut_service o) ≡ serves o
@@ -418,7 +418,7 @@ module _ (w : Packet → ℕ) where
   -- what each change of a net makes of its weight
   pub weigh-same : (n m : Net) → m.direct ≡ n.direct → m.pipes ≡ n.pipes → weigh m ≡ weigh n
   weigh-same n m d p =
-      let e : flies m.direct.flight ≡ flies n.direct.flight = ap (λ l. flies l.flight) d in
+      let e : flies m.direct.in_flight ≡ flies n.direct.in_flight = ap (λ l. flies l.in_flight) d in
       let g : sum_by load m.pipes ≡ sum_by load n.pipes = ap (sum_by load) p in
       omega (arith, e, g, weigh_is n, weigh_is m)
 
@@ -428,13 +428,13 @@ module _ (w : Packet → ℕ) where
         arith,
         weigh_is n,
         weigh_is (to_direct now p n),
-        flies-append n.direct.flight (record { item = p; exit = exit_after n.direct.last now 0 } ∷ []),
+        flies-append n.direct.in_flight (record { item = p; exit = exit_after n.direct.last now 0 } ∷ []),
         one p,
       )
 
-  pub weigh-left : (n : Net) → weigh (record n { direct = leave n.direct }) + some (first_item n.direct.flight) ≡ weigh n
+  pub weigh-left : (n : Net) → weigh (record n { direct = leave n.direct }) + some (first_item n.direct.in_flight) ≡ weigh n
   weigh-left n =
-      omega (arith, weigh_is n, weigh_is (record n { direct = leave n.direct }), tail-flies n.direct.flight)
+      omega (arith, weigh_is n, weigh_is (record n { direct = leave n.direct }), tail-flies n.direct.in_flight)
 
   -- a pipe put in place of the one of its number
   put-weigh : (k : ℕ) (p q : PipeState) (n : Net) → find_pipe k n ≡ Some p →
@@ -536,7 +536,7 @@ unfolding weigh
 held_is n =
     omega (
       arith,
-      sum_by-append each_one (map (λ x. x.item) n.direct.flight) (flat_map pipe_packets n.pipes),
-      as-many (λ (x : Leaving Packet). x.item) n.direct.flight,
+      sum_by-append each_one (map (λ x. x.item) n.direct.in_flight) (flat_map pipe_packets n.pipes),
+      as-many (λ (x : InFlight Packet). x.item) n.direct.in_flight,
       pipes-held n.pipes,
     )

@@ -22,10 +22,10 @@ same i =
       eq-eqb i.dport i.dport refl,
     ) refl
 
-go_on : (seen before rest : List FlowId) →
+reinject : (seen before rest : List FlowId) →
     different seen (before ++ rest) ≡ different (different seen before) rest
-go_on seen [] rest = refl
-go_on seen (i ∷ is) rest = go_on (cond (list_any (same_flow i) seen) seen (seen ++ i ∷ [])) is rest
+reinject seen [] rest = refl
+reinject seen (i ∷ is) rest = reinject (cond (list_any (same_flow i) seen) seen (seen ++ i ∷ [])) is rest
 
 -- what is seen stands first
 begins : (seen is : List FlowId) → (more : List FlowId) × (different seen is ≡ seen ++ more)
@@ -69,5 +69,5 @@ numbers_count_identifiers before after i new =
     let apart : list_any (same_flow i) made ≡ false = absent (same_flow i) [] before refl new in
     let rest = begins (made ++ i ∷ []) after in
     let all : different [] (before ++ i ∷ after) ≡ made ++ i ∷ rest.0 =
-    go_on [] before (i ∷ after) ∙ rw apart (rest.1 ∙ append_assoc made (i ∷ []) rest.0) in
+    reinject [] before (i ∷ after) ∙ rw apart (rest.1 ∙ append_assoc made (i ∷ []) rest.0) in
     ap (λ ids. instance_of ids i) all ∙ rw (found (same_flow i) made rest.0 i apart (same i)) refl

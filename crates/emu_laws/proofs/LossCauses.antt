@@ -6,7 +6,7 @@ use Rattle.std.proofs.lemmas.List.{length-append}
 use Rattle.emu_laws.proofs.Words.{Packet, QueueLimit, Slots, KBytes, PipeConfig, DropCause, Lost, Full, Codel}
 use Rattle.emu_model.specs.FlowIds.{flow_id}
 use Rattle.emu_model.specs.Loss.{loss_word, is_below_rate}
-use Rattle.emu_model.specs.DropTail.{Waiting, bytes_of, accepts}
+use Rattle.emu_model.specs.DropTail.{Queued, bytes_of, accepts}
 use Rattle.emu_model.specs.Pipes.{PipeState, instance_for, with_instance, Instance, Drop, codel_drops, dequeue, serve_next, enqueue, drawn_one, draw}
 use Rattle.emu_model.specs.ComponentLaws.{IsWithin}
 use Rattle.emu_laws.proofs.EachOf.{each_weaker}
@@ -15,7 +15,7 @@ use Rattle.emu_laws.proofs.QueuesKept.{bytes-append, bytes-one}
 use Rattle.emu_laws.specs.LossCauses.{waiting_in, drawn_in, IsOverLimit, FullAtLimit, IsBelowLossRate, LostBelowRate}
 
 -- what isn't accepted would be over the limit
-over : (limit : QueueLimit) (ws : List (Waiting Packet)) (w : Waiting Packet) → accepts limit ws w.size ≡ false →
+over : (limit : QueueLimit) (ws : List (Queued Packet)) (w : Queued Packet) → accepts limit ws w.size ≡ false →
     IsWithin limit (ws ++ w ∷ []) → ⊥
 over (Slots n) ws w e h = omega (arith, h, ltb-false (length ws) n e, length-append ws (w ∷ []))
 over (KBytes n) ws w e h =
@@ -26,7 +26,7 @@ passed-over : (config : PipeConfig) (now : ℕ) (i : Instance) →
     AllByRecursion (λ d. d.cause ≡ Codel) (serve_next config now i).dropped
 passed-over config now i = go (dequeue config.discipline now i.control i.waiting).dropped
   where
-    go : (ws : List (Waiting Packet)) → AllByRecursion (λ d. d.cause ≡ Codel) (codel_drops ws)
+    go : (ws : List (Queued Packet)) → AllByRecursion (λ d. d.cause ≡ Codel) (codel_drops ws)
     go [] = tt
     go (w ∷ ws) = (refl, go ws)
 

@@ -1,13 +1,14 @@
 -- What a packet takes through an instance.
-use Rattle.std.proofs.Common.{◌≡◌, ℕ, zero, suc, ◌+◌, ◌-◌, ◌*◌, ◌^◌, ◌≤◌, [], ◌∷◌, ◌++◌, Bool, true, false, refl, sym, ◌∙◌, ap, subst, Option, Some, None, arith, zero-add}
-use Rattle.std.specs.Prelude.{if◌then◌else◌, is_some, nat_lt, ◌||◌, option_map}
-use Rattle.emu_laws.proofs.Words.{Packet, PipeConfig, Discipline, TailDrop, ControlledDelay, Full}
+use Rattle.std.proofs.Common.{◌≡◌, ℕ, zero, suc, ◌+◌, ◌*◌, ◌^◌, ◌≤◌, [], ◌∷◌, ◌++◌, Bool, true, false, refl, sym, ◌∙◌, ap, subst, Option, Some, None, arith, zero-add}
+use Rattle.std.specs.Prelude.{if◌then◌else◌, is_some, option_map}
+use Rattle.emu_laws.proofs.Words.{Packet, PipeConfig, Discipline, Full}
 use Rattle.emu_model.specs.Moments.{milliseconds}
 use Rattle.emu_model.specs.Delay.{Line, exit_after, enter}
-use Rattle.emu_model.specs.DropTail.{Waiting, accepts}
+use Rattle.emu_model.specs.DropTail.{Queued, accepts}
 use Rattle.emu_model.specs.Codel.{CodelState}
 use Rattle.emu_model.specs.Rate.{div_ceil, begin}
 use Rattle.emu_model.specs.Pipes.{InService, Instance, After, dequeue, period_with, serve_next, no_drop, drop_one, enqueue, accept, instance_arrive, send_off}
+use Rattle.emu_model.proofs.CallerLemmas.{lone_dequeue}
 use Rattle.emu_laws.specs.PipeDelay.{propagation, transmission, DelayIsKept, IdleTakesItsTime}
 
 -- what was served enters the line
@@ -22,20 +23,15 @@ sent_off config now s i (Some x) e = ap (λ y. enter y.item now (milliseconds co
 pub delay_is_kept : DelayIsKept
 delay_is_kept config now s i e = record {
   exit = exit_after i.line.last now (milliseconds config.delay);
-  entered = ap (λ l. l.flight) (sent_off config now s i i.service e);
+  entered = ap (λ l. l.in_flight) (sent_off config now s i i.service e);
   no_sooner = omega arith;
   exactly = λ h. omega (arith, h);
 }
 
-or_true : (a : Bool) → (a || true) ≡ true
-or_true true = refl
-or_true false = refl
-
 -- one alone that waits is given
-given_alone : (d : Discipline) (now : ℕ) (c : CodelState) (w : Waiting Packet) →
+given_alone : (d : Discipline) (now : ℕ) (c : CodelState) (w : Queued Packet) →
     (dequeue d now c (w ∷ [])).given ≡ Some w
-given_alone TailDrop now c w = refl
-given_alone (ControlledDelay target interval) now c w = rw (or_true (nat_lt (now - w.stamp) target)) refl
+given_alone d now c w = ap (λ q. q.given) (lone_dequeue d now c w)
 
 begins : (bw now size : ℕ) → (begin bw now size).finish ≡ now + transmission bw size
 begins zero now size = omega arith
@@ -47,7 +43,7 @@ served_at_once : (config : PipeConfig) (now : ℕ) (p : Packet) (i : Instance) �
     (instance_arrive config now p false (record i { waiting = []; service = None })).state.service
     ≡ Some (record { item = p; period = begin config.bw now p.size })
 served_at_once config now p i ok =
-    let w : Waiting Packet = record { item = p; size = p.size; stamp = now } in
+    let w : Queued Packet = record { item = p; size = p.size; stamp = now } in
     let j : Instance = record i { waiting = []; service = None } in
     ap (λ b. (if b then accept config now p j else drop_one j p Full).state.service) ok
     ∙ ap (λ o. option_map (λ v. record { item = v.item; period = period_with {A = Packet} config.bw now v.size None }) o)
@@ -85,7 +81,7 @@ idle_takes_its_time config now p i idle ok =
       finish = begins config.bw now p.size;
       leaves = record {
         exit = kept.exit;
-        entered = kept.entered ∙ ap (λ l. l.flight ++ record { item = p; exit = kept.exit } ∷ []) line;
+        entered = kept.entered ∙ ap (λ l. l.in_flight ++ record { item = p; exit = kept.exit } ∷ []) line;
         no_sooner = kept.no_sooner;
         exactly = λ h. kept.exactly (subst (λ l. l.last ≤ finish + propagation config) (sym line) h);
       };

@@ -7,7 +7,7 @@ use Rattle.emu_laws.proofs.Words.{Packet}
 use Rattle.emu_model.specs.FlowIds.{flow_id, instance_of}
 use Rattle.emu_model.specs.Delay.{empty_line, leave}
 use Rattle.emu_model.specs.Loss.{loss_word}
-use Rattle.emu_model.specs.DropTail.{Waiting}
+use Rattle.emu_model.specs.DropTail.{Queued}
 use Rattle.emu_model.specs.ComponentLaws.{IsWithin}
 use Rattle.emu_model.specs.Pipes.{Instance, PipeState, instance_for, pipe_exit}
 use Rattle.emu_laws.specs.LossCauses.{waiting_in, drawn_in, IsOverLimit, IsBelowLossRate}
@@ -107,7 +107,7 @@ over-was now packet p q e h = record {
       (sym (rested-waiting h.instance p) ∙ ap (waiting_in h.instance) e ∙ rested-waiting h.instance q) within));
 }
   where
-    w : Waiting Packet
+    w : Queued Packet
     w = record { item = packet; size = packet.size; stamp = now }
 
 pub below-was : (seed : ℕ) (packet : Packet) (p q : PipeState) → at_rest p ≡ at_rest q → IsBelowLossRate seed packet q →

@@ -3,13 +3,13 @@ use Rattle.std.proofs.Common.{◌≡◌, ℕ, zero, suc, ◌+◌, List, [], ◌�
 use Rattle.std.specs.Prelude.{map}
 use Rattle.emu_laws.proofs.Words.{Packet, PipeConfig, TailDrop}
 use Rattle.emu_model.specs.Moments.{milliseconds}
-use Rattle.emu_model.specs.DropTail.{Waiting}
+use Rattle.emu_model.specs.DropTail.{Queued}
 use Rattle.emu_model.specs.Delay.{enter}
 use Rattle.emu_model.specs.Rate.{follow, finishes}
 use Rattle.emu_model.specs.Pipes.{InService, Instance}
 use Rattle.emu_laws.specs.QueueTurn.{drained, QueueIsServedInTurn}
 
-sizes : List (Waiting Packet) → List ℕ
+sizes : List (Queued Packet) → List ℕ
 sizes ws = map (λ w. w.size) ws
 
 -- at rate 0 no finish rests on a sum
@@ -19,13 +19,13 @@ unsummed start m n (z ∷ zs) = ap (λ fs. start ∷ fs) (unsummed start (m + z)
 
 module _ (config : PipeConfig) where
   -- the instance with this waiting, and this in service
-  with : Instance → List (Waiting Packet) → InService Packet → Instance
+  with : Instance → List (Queued Packet) → InService Packet → Instance
   with i ws s = record i { waiting = ws; service = Some s }
 
   tail_drop : ℕ → PipeConfig
   tail_drop bw = record config { bw = bw; discipline = TailDrop }
 
-  in_turn : (bw : ℕ) (ws : List (Waiting Packet)) (i : Instance) (s : InService Packet) →
+  in_turn : (bw : ℕ) (ws : List (Queued Packet)) (i : Instance) (s : InService Packet) →
       drained (length ws) (tail_drop bw) (with i ws s) ≡ finishes bw s.period.start s.period.sum (sizes ws)
   unfolding with tail_drop sizes
   in_turn bw [] i s = refl

@@ -5,7 +5,7 @@ use Rattle.std.proofs.lemmas.Bool.{ltb-true, leb-true}
 use Rattle.std.proofs.lemmas.List.{length-append}
 use Rattle.std.proofs.lemmas.List.Sums.{sum-map, sum_by-append, sum_by-cons}
 use Rattle.emu_laws.proofs.Words.{Packet, PipeConfig, QueueLimit, Slots, KBytes, Lost, Full}
-use Rattle.emu_model.specs.DropTail.{Waiting, bytes_of, accepts}
+use Rattle.emu_model.specs.DropTail.{Queued, bytes_of, accepts}
 use Rattle.emu_model.specs.Codel.{Dequeued}
 use Rattle.emu_model.specs.Pipes.{InService, Instance, After, dequeue, period_with, serve_next, no_drop, drop_one, enqueue, accept, drawn_one, instance_arrive, send_off, cut_service}
 use Rattle.emu_model.specs.ComponentLaws.{IsWithin}
@@ -61,16 +61,16 @@ never_idle spec c n =
     (alone spec c n).net.pipes
     (alone-pipes Anything (λ k config. Unit {0}) (λ k config i. IsWorkConserving i) busy-kept spec c n (anything c))
 
-pub bytes-append : (xs ys : List (Waiting Packet)) → bytes_of (xs ++ ys) ≡ bytes_of xs + bytes_of ys
+pub bytes-append : (xs ys : List (Queued Packet)) → bytes_of (xs ++ ys) ≡ bytes_of xs + bytes_of ys
 bytes-append xs ys =
     sum-map (λ w. w.size) (xs ++ ys) ∙ sum_by-append (λ w. w.size) xs ys
-    ∙ omega (arith, sum-map (λ (w : Waiting Packet). w.size) xs, sum-map (λ (w : Waiting Packet). w.size) ys)
+    ∙ omega (arith, sum-map (λ (w : Queued Packet). w.size) xs, sum-map (λ (w : Queued Packet). w.size) ys)
 
-pub bytes-one : (w : Waiting Packet) → bytes_of (w ∷ []) ≡ w.size
+pub bytes-one : (w : Queued Packet) → bytes_of (w ∷ []) ≡ w.size
 bytes-one w = sum-map (λ v. v.size) (w ∷ []) ∙ sum_by-cons (λ v. v.size) w [] ∙ omega arith
 
 -- one that is accepted is within a limit that is no less
-accepted : (queue limit : QueueLimit) (ws : List (Waiting Packet)) (w : Waiting Packet) → IsAtMost queue limit →
+accepted : (queue limit : QueueLimit) (ws : List (Queued Packet)) (w : Queued Packet) → IsAtMost queue limit →
     accepts queue ws w.size ≡ true → IsWithin limit (ws ++ w ∷ [])
 accepted (Slots m) (Slots n) ws w h e =
     omega (arith, h, ltb-true (length ws) m e, length-append ws (w ∷ []))
@@ -80,7 +80,7 @@ accepted (Slots m) (KBytes n) ws w h e = absurd h
 accepted (KBytes m) (Slots n) ws w h e = absurd h
 
 -- what is left of what waits is within it
-fewer-within : (limit : QueueLimit) (xs ys : List (Waiting Packet)) → IsWithin limit (xs ++ ys) → IsWithin limit ys
+fewer-within : (limit : QueueLimit) (xs ys : List (Queued Packet)) → IsWithin limit (xs ++ ys) → IsWithin limit ys
 fewer-within (Slots n) xs ys h = omega (arith, h, length-append xs ys)
 fewer-within (KBytes n) xs ys h = omega (arith, h, bytes-append xs ys)
 

@@ -5,12 +5,12 @@ use Rattle.std.specs.Prelude.{if◌then◌else◌, not, is_some, nat_lt, ◌==�
 use Rattle.std.specs.Option.{option_map_or}
 use Rattle.std.proofs.lemmas.List.{length-map}
 use Rattle.std.proofs.lemmas.List.Sums.{sum_by-cons, sum_by-append, count_by-le-length}
-use Rattle.emu_laws.proofs.Words.{Setting, Spec, Timed, Class, NextCommand, Exit, Finish, Expiry, Emission, Packet, Load, Plain, Seg, Ack, Verdict, OverTheLink, Dropped, IntoPipe, SendSpec, PipeConfig, DropCause, Denied, NoPipe, Budget, Deleted, Command, Add, Delete, Config, PipeDelete, PipeShow, Show, Inject, Train, Flow, Stop, OnePass, Trace, End, Record, CommandDone, CommandRefused, PacketArrived, PacketDelivered, PacketFinished, PacketPassed, AckTaken, TimerExpired, StepsSpent, RuleLine, PipeLine}
+use Rattle.emu_laws.proofs.Words.{EventContext, Spec, Timed, Class, NextCommand, Exit, Finish, Expiry, Emission, Packet, Load, Plain, Seg, Ack, Verdict, OverTheLink, Dropped, IntoPipe, SendSpec, PipeConfig, DropCause, Denied, NoPipe, Budget, Deleted, Command, Add, Delete, Config, PipeDelete, PipeShow, Show, Inject, Train, Flow, Stop, OnePass, Trace, End, Record, CommandDone, CommandRefused, PacketArrived, PacketDelivered, PacketFinished, PacketPassed, AckTaken, TimerExpired, StepsSpent, RuleLine, PipeLine}
 use Rattle.emu_model.specs.Rules.{Counted, verdict, start_behind, counted_book}
 use Rattle.emu_model.specs.Delay.{first_item, leave}
 use Rattle.emu_model.specs.Reno.{Sender, ack, with_segment, missing, emitted, emit, expire}
 use Rattle.emu_model.specs.Pipes.{Drop, InService, Instance, PipeState, After, pipe_packets, instance_for, pipe_arrive, pipe_finish, pipe_exit, pipe_configure}
-use Rattle.emu_model.specs.Net.{Net, FlowState, TrainState, note, note_all, note_traced, held, arrive_records, arrivals, note_arrival, enter_pipe, drop_packet, drop_record, to_pipe, by_verdict, pass_rules_from, pass_rules, go_on, packet_of, make_record, make, data_send, ack_send, find_pipe, put_pipe, put_after, find_flow, put_flow, find_train, put_train, take_segment, take_ack, take_load, deliver}
+use Rattle.emu_model.specs.Net.{Net, FlowState, TrainState, note, note_all, note_traced, held, arrive_records, arrivals, note_arrival, enter_pipe, drop_packet, drop_record, to_pipe, by_verdict, pass_rules_from, pass_rules, reinject, packet_of, make_record, make, data_send, ack_send, find_pipe, put_pipe, put_after, find_flow, put_flow, find_train, put_train, take_segment, take_ack, take_load, deliver}
 use Rattle.emu_model.specs.Commands.{without_pipe, rule_lines, instance_line, instance_lines, pipe_lines, new_pipe, delete_pipe, stop_flow, refusal_of, effect_of, obey}
 use Rattle.emu_model.specs.Events.{direct_exit, deliver_some, flying_in, leave_pipe_some, pipe_exits, served_in, note_finish, pipe_finishes, expire_flow, emit_segment, emit_packet, event_of}
 use Rattle.emu_model.specs.declared.sources.Due.{Due}
@@ -88,7 +88,7 @@ note_arrival-sum now k p n =
       some_or (λ rs. length rs ≤ 2) (arrivals now p) (find_pipe k n) [] (λ q e. arrivals-few now p q) (omega arith),
     )
 
-module _ (at : Setting) where
+module _ (at : EventContext) where
   enter_pipe-sum : (k : ℕ) (p : Packet) (n : Net) → sum_of (enter_pipe at k p n) ≤ sum_of n + 1
   enter_pipe-sum k p n =
       some_or (λ m. sum_of m ≤ sum_of n + 1) (λ q. put_after at.now k (pipe_arrive at.seed at.now p q) n) (find_pipe k n)
@@ -154,12 +154,12 @@ module _ (at : Setting) where
       omega (arith, take_load-sum p.load m, noted_one (PacketDelivered at.now p.number p.load) n)
 
   -- what leaves is held no more
-  left-sum : (n : Net) → sum_of (record n { direct = leave n.direct }) + one_of (first_item n.direct.flight) ≡ sum_of n
+  left-sum : (n : Net) → sum_of (record n { direct = leave n.direct }) + one_of (first_item n.direct.in_flight) ≡ sum_of n
   unfolding sum_of
-  left-sum n = omega (arith, weigh-left each_one n, some-is (first_item n.direct.flight))
+  left-sum n = omega (arith, weigh-left each_one n, some-is (first_item n.direct.in_flight))
 
   direct_exit-sum : (n : Net) → sum_of (direct_exit at n) ≤ sum_of n + 4
-  direct_exit-sum n = go (first_item n.direct.flight) (left-sum n)
+  direct_exit-sum n = go (first_item n.direct.in_flight) (left-sum n)
     where
       m : Net
       m = record n { direct = leave n.direct }
@@ -184,7 +184,7 @@ module _ (at : Setting) where
       go (Some q) h =
           let m : Net = put_pipe pipe (pipe_exit k p) n in
           let passed : Net = note (PacketPassed at.now q.number pipe k) m in
-          either (λ x. sum_of x ≤ sum_of n + 4) n.one_pass (deliver at q m) (go_on at q passed)
+          either (λ x. sum_of x ≤ sum_of n + 4) n.one_pass (deliver at q m) (reinject at q passed)
           (omega (arith, h, deliver-sum q m))
           (omega (
             arith,

@@ -2,7 +2,7 @@
 use Rattle.std.proofs.Common.{◌≡◌, ℕ, zero, suc, ◌+◌, ◌≤◌, List, [], ◌∷◌, ◌++◌, Bool, true, false, refl, sym, ◌∙◌, ap, subst, Option, Some, None, append_assoc, append-nil, arith}
 use Rattle.std.specs.Prelude.{if◌then◌else◌, is_some, nat_lt, map, length}
 use Rattle.std.specs.List.{AllByRecursion}
-use Rattle.emu_laws.proofs.Words.{Setting, Spec, Timed, Packet, Deleted, Record, PacketArrived, PacketFinished, PacketDelivered, PacketPassed, PacketDropped, Class, NextCommand, Exit, Finish, Expiry, Emission}
+use Rattle.emu_laws.proofs.Words.{EventContext, Spec, Timed, Packet, Deleted, Record, PacketArrived, PacketFinished, PacketDelivered, PacketPassed, PacketDropped, Class, NextCommand, Exit, Finish, Expiry, Emission}
 use Rattle.emu_model.specs.FlowIds.{flow_id}
 use Rattle.emu_model.specs.Delay.{leave}
 use Rattle.emu_model.specs.Pipes.{InService, PipeState, Drop, instance_for, pipe_arrive, pipe_finish, pipe_exit, pipe_configure, pipe_packets}
@@ -60,7 +60,7 @@ finish-adds now pipe k None l n a = a
 finish-adds now pipe k (Some s) l n a =
     add now (PacketFinished now s.item.number pipe k ∷ []) l n (note_finish now pipe k (Some s) n) refl ((refl, tt), tt) a
 
-pub adds-keeps : (at : Setting) (l : Net) → Keeps at AnyLine AnyNet AnyCommand (λ o m. Adds at.now l m)
+pub adds-keeps : (at : EventContext) (l : Net) → Keeps at AnyLine AnyNet AnyCommand (λ o m. Adds at.now l m)
 adds-keeps at l = record {
   quiet = λ o n m a h. add-none at.now l n m a.records h;
   traced = λ b n h. add-none at.now l n (record n { trace = b }) refl h;

@@ -4,10 +4,11 @@ use Rattle.std.proofs.Common.{Bool, true, inl, inr, ◌≡◌, ℕ, zero, suc, �
 use Rattle.std.specs.Prelude.{flat_map, option_and_then, option_map, option_to_list, if◌then◌else◌, ◌==◌, nat_lt, is_some, find, map, slice_get}
 use Rattle.std.specs.List.{AllByRecursion}
 use Rattle.std.proofs.lemmas.List.{length-append}
-use Rattle.emu_laws.proofs.Words.{SendSpec, Plain, Seg, PipeDelete, Dropped, IntoPipe, Denied, NoPipe, NoInstance, QueueLimit, Slots, KBytes, Packet, Load, Ack, Record, PacketDelivered, PacketDropped, Discipline, TailDrop, ControlledDelay, PipeConfig, Lost, Full, Codel, Deleted, Budget}
+use Rattle.emu_laws.proofs.Words.{SendSpec, Plain, Seg, PipeDelete, Dropped, IntoPipe, Denied, NoPipe, NoInstance, QueueLimit, Slots, KBytes, Packet, Load, Ack, Record, PacketDelivered, PacketDropped, Discipline, PipeConfig, Lost, Full, Codel, Deleted, Budget}
+use Rattle.emu_model.specs.declared.pipes.Discipline.TheVariants.{TailDrop, ControlledDelay}
 use Rattle.emu_model.specs.FlowIds.{FlowId, flow_id}
-use Rattle.emu_model.specs.Delay.{Leaving, first_item, leave}
-use Rattle.emu_model.specs.DropTail.{Waiting}
+use Rattle.emu_model.specs.Delay.{InFlight, first_item, leave}
+use Rattle.emu_model.specs.DropTail.{Queued}
 use Rattle.emu_model.specs.ComponentLaws.{IsWithin}
 use Rattle.emu_model.specs.Codel.{Times, CodelState, codel_dequeue}
 use Rattle.emu_model.specs.Pipes.{held_in, Instance, PipeState, After, Drop, no_drop, instance_finish, put_instance, dequeue, codel_drops, serve_next, enqueue, drawn_one, initial_instance, with_instance, draw, instance_for, pipe_packets, pipe_arrive, pipe_finish, pipe_exit, pipe_configure}
@@ -20,6 +21,7 @@ use Rattle.emu_laws.proofs.FlowsKept.{Anything}
 use Rattle.emu_laws.proofs.QueuesKept.{never_idle, bytes-append, bytes-one}
 use Rattle.emu_laws.proofs.PipeDrops.{instance_arrive-drops, pipe_arrive-drops}
 use Rattle.emu_laws.proofs.LossCauses.{at_limit, below_rate}
+use Rattle.emu_model.proofs.CallerLemmas.{lone_dequeue}
 use Rattle.emu_laws.proofs.CodelCauses.{codel_drops_by_control}
 use Rattle.emu_laws.proofs.EachRecord.{Phase, starting, leaving, moving, handed, counted, came, owed, ended, flying, IsOpen, IsLate, IsSilent, IsSent, Alike, Tells}
 use Rattle.emu_laws.proofs.StepRecords.{Follows, noted, unnoted, whole_step}
@@ -48,16 +50,8 @@ abbrev IsBusy : PipeState → Type 0
 IsBusy p = AllByRecursion IsWorkConserving p.instances
 
 -- a packet that waits alone isn't dropped
-none-behind : (times : Times) (now : ℕ) (c : CodelState) (w : Waiting Packet) (ds : List (Waiting Packet)) →
-    EachMayBe times now c ds (w ∷ []) → ds ≡ []
-none-behind times now c w [] h = refl
-none-behind times now c w (d ∷ ds) h = absurd (omega (arith, h.1.more_waits))
-
-one-spared : (d : Discipline) (now : ℕ) (c : CodelState) (w : Waiting Packet) → (dequeue d now c (w ∷ [])).dropped ≡ []
-one-spared TailDrop now c w = refl
-one-spared (ControlledDelay target interval) now c w =
-    let times : Times = record { target = target; interval = interval } in
-    none-behind times now c w (codel_dequeue times now c (w ∷ [])).dropped (codel_drops_by_control times now c (w ∷ []))
+one-spared : (d : Discipline) (now : ℕ) (c : CodelState) (w : Queued Packet) → (dequeue d now c (w ∷ [])).dropped ≡ []
+one-spared d now c w = ap (λ q. q.dropped) (lone_dequeue d now c w)
 
 no-service : {A : Type 0} (o : Option A) → is_some o ≡ false → o ≡ None
 no-service None e = refl
@@ -67,7 +61,7 @@ no-service (Some a) e = absurd (cc e)
 spared : (config : PipeConfig) (now : ℕ) (packet : Packet) (i : Instance) → IsWorkConserving i →
     is_some i.service ≡ false → (serve_next config now (enqueue now packet (drawn_one i))).dropped ≡ []
 spared config now packet i busy idle =
-    let w : Waiting Packet = record { item = packet; size = packet.size; stamp = now } in
+    let w : Queued Packet = record { item = packet; size = packet.size; stamp = now } in
     ap (λ ws. codel_drops (dequeue config.discipline now i.control (ws ++ w ∷ [])).dropped)
     (busy (no-service i.service idle))
     ∙ ap codel_drops (one-spared config.discipline now i.control w)
@@ -92,21 +86,21 @@ in-back p xs ys h = record {
   is = ap (λ zs. xs ++ zs) h.is ∙ sym (append_assoc xs h.before (p ∷ h.after));
 }
 
-first-in : (p : Packet) (xs : List (Leaving Packet)) → first_item xs ≡ Some p → IsIn p (map (λ x. x.item) xs)
+first-in : (p : Packet) (xs : List (InFlight Packet)) → first_item xs ≡ Some p → IsIn p (map (λ x. x.item) xs)
 first-in p [] e = absurd (cc e)
 first-in p (x ∷ xs) e =
     let same : x.item ≡ p = cc e in
     record { before = []; after = map (λ y. y.item) xs; is = ap (λ q. q ∷ map (λ y. y.item) xs) same }
 
 flying-is-in : (k : ℕ) (p : Packet) (is : List Instance) →
-    option_and_then (λ i. first_item i.line.flight) (slice_get is k) ≡ Some p → IsIn p (flat_map held_in is)
+    option_and_then (λ i. first_item i.line.in_flight) (slice_get is k) ≡ Some p → IsIn p (flat_map held_in is)
 flying-is-in k p [] e = absurd (cc e)
 flying-is-in zero p (i ∷ is) e =
     in-front p (held_in i) (flat_map held_in is)
-    (in-front p (map (λ x. x.item) i.line.flight ++ option_to_list (option_map (λ s. s.item) i.service))
+    (in-front p (map (λ x. x.item) i.line.in_flight ++ option_to_list (option_map (λ s. s.item) i.service))
     (map (λ w. w.item) i.waiting)
-    (in-front p (map (λ x. x.item) i.line.flight) (option_to_list (option_map (λ s. s.item) i.service))
-    (first-in p i.line.flight e)))
+    (in-front p (map (λ x. x.item) i.line.in_flight) (option_to_list (option_map (λ s. s.item) i.service))
+    (first-in p i.line.in_flight e)))
 flying-is-in (suc k) p (i ∷ is) e = in-back p (held_in i) (flat_map held_in is) (flying-is-in k p is e)
 
 pipe-is-in : (pipe : ℕ) (p : Packet) (q : PipeState) (ps : List PipeState) →
@@ -319,7 +313,7 @@ module _ (s : State) (busy : AllByRecursion IsBusy s.net.pipes) where
   -- what a dequeue in an instance drops
   codel-has : (now pipe k target interval : ℕ) (q : PipeState) (i : Instance) → find_pipe pipe s.net ≡ Some q →
       slice_get q.instances k ≡ Some i → q.config.discipline ≡ ControlledDelay target interval →
-      (before ds ws : List (Waiting Packet)) → i.waiting ≡ before ++ ws →
+      (before ds ws : List (Queued Packet)) → i.waiting ≡ before ++ ws →
       EachMayBe (record { target = target; interval = interval }) now i.control ds ws →
       AllByRecursion (Has now) (codel_drops ds)
   codel-has now pipe k target interval q i there is_there is before [] ws e h = tt
@@ -353,7 +347,7 @@ module _ (s : State) (busy : AllByRecursion IsBusy s.net.pipes) where
       (slice_get q.instances k) (no_drop q) (λ i e. go i e q.config.discipline refl i.waiting refl) tt
     where
       go : (i : Instance) → slice_get q.instances k ≡ Some i → (d : Discipline) → q.config.discipline ≡ d →
-          (ws : List (Waiting Packet)) → i.waiting ≡ ws →
+          (ws : List (Queued Packet)) → i.waiting ≡ ws →
           AllByRecursion (Has now) (codel_drops (dequeue d now i.control ws).dropped)
       go i e TailDrop is [] w = tt
       go i e TailDrop is (v ∷ ws) w = tt
@@ -439,7 +433,7 @@ module _ (s : State) (busy : AllByRecursion IsBusy s.net.pipes) where
           book = h.book;
           same = r.same;
           busy = r.busy;
-          within = within-less (held s.net) (first_item n.direct.flight) (record n { direct = leave n.direct })
+          within = within-less (held s.net) (first_item n.direct.in_flight) (record n { direct = leave n.direct })
               (kept.left n r.within);
         };
         flows = h.flows;
@@ -534,10 +528,10 @@ module _ (s : State) (busy : AllByRecursion IsBusy s.net.pipes) where
         ) h;
     left = λ n h.
         let k : Net = record n { direct = leave n.direct } in
-        unnoted (HasCause s) (Place s) s.net starting (flying (first_item n.direct.flight)) n k refl
-        (flying-place s (first_item n.direct.flight) k (direct-left n h.place) (λ p e.
-        in-front p (map (λ x. x.item) s.net.direct.flight) (flat_map pipe_packets s.net.pipes)
-        (subst (λ d. IsIn p (map (λ x. x.item) d.flight)) h.place.direct (first-in p n.direct.flight e)))) h;
+        unnoted (HasCause s) (Place s) s.net starting (flying (first_item n.direct.in_flight)) n k refl
+        (flying-place s (first_item n.direct.in_flight) k (direct-left n h.place) (λ p e.
+        in-front p (map (λ x. x.item) s.net.direct.in_flight) (flat_map pipe_packets s.net.pipes)
+        (subst (λ d. IsIn p (map (λ x. x.item) d.in_flight)) h.place.direct (first-in p n.direct.in_flight e)))) h;
     delivered = λ now p n h.
         let r : Record = PacketDelivered now p.number p.load in
         noted (HasCause s) (Place s) s.net (r ∷ []) (leaving p) (came now p) n (note r n) refl (tt, tt)
@@ -553,7 +547,7 @@ module _ (s : State) (busy : AllByRecursion IsBusy s.net.pipes) where
         let there : Net = put_pipe pipe (pipe_exit k p) n in
         unnoted (HasCause s) (Place s) s.net starting (flying (flying_in k p)) n there refl
         (flying-place s (flying_in k p) there (pipe-left pipe k p n e h.place) (λ x g.
-        in-back x (map (λ y. y.item) s.net.direct.flight) (flat_map pipe_packets s.net.pipes)
+        in-back x (map (λ y. y.item) s.net.direct.in_flight) (flat_map pipe_packets s.net.pipes)
         (pipe-is-in pipe x p s.net.pipes (subst (λ ps. find (λ q. q.number == pipe) ps ≡ Some p) h.place.pipes e)
         (flying-is-in k x p.instances g)))) h;
     configured = λ k config p n ok e h. moved starting n (put_pipe k (pipe_configure config p) n) refl h;
@@ -575,13 +569,13 @@ drops_have_causes spec c n =
         (record { book = refl; direct = refl; pipes = refl; flows = refl; trains = refl; made = refl })
 
 -- a queue with room takes one more
-room-within : (s : State) (limit : QueueLimit) (ws : List (Waiting Packet)) (p q : Packet) (now : ℕ) →
+room-within : (s : State) (limit : QueueLimit) (ws : List (Queued Packet)) (p q : Packet) (now : ℕ) →
     HasRoom s limit ws → IsOfStep s p → q.size ≡ p.size →
     IsWithin limit (ws ++ record { item = q; size = q.size; stamp = now } ∷ [])
 room-within s (Slots n) ws p q now h of e =
     omega (arith, h, length-append ws (record { item = q; size = q.size; stamp = now } ∷ []))
 room-within s (KBytes n) ws p q now h of e =
-    let w : Waiting Packet = record { item = q; size = q.size; stamp = now } in
+    let w : Queued Packet = record { item = q; size = q.size; stamp = now } in
     omega (arith, h p of, e, bytes-append ws (w ∷ []), bytes-one w)
 
 of-step : (s : State) (start : ℕ) (p : Packet) → EntersRules s start p → IsOfStep s p

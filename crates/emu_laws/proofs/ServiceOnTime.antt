@@ -4,7 +4,7 @@ use Rattle.std.specs.Prelude.{if◌then◌else◌, is_some, option_map}
 use Rattle.std.specs.List.{AllByRecursion}
 use Rattle.emu_laws.proofs.Words.{Packet, PipeConfig, Lost, Full}
 use Rattle.emu_model.specs.Rate.{div_ceil, finish_at, Period, follow}
-use Rattle.emu_model.specs.DropTail.{Waiting, accepts}
+use Rattle.emu_model.specs.DropTail.{Queued, accepts}
 use Rattle.emu_model.specs.Pipes.{InService, Instance, After, dequeue, period_with, serve_next, no_drop, drop_one, enqueue, accept, drawn_one, instance_arrive, send_off, cut_service}
 use Rattle.emu_model.specs.Alone.{alone}
 use Rattle.emu_laws.proofs.EachOf.{either, each_weaker}
@@ -41,7 +41,7 @@ with-time bw now size (Some s) = follow-time bw size s.period
 next-time : (config : PipeConfig) (now : ℕ) (i : Instance) → ServesOnTime config.bw (serve_next config now i).state.service
 next-time config now i = go (dequeue config.discipline now i.control i.waiting).given
   where
-    go : (o : Option (Waiting Packet)) → ServesOnTime config.bw (option_map (λ w. record {
+    go : (o : Option (Queued Packet)) → ServesOnTime config.bw (option_map (λ w. record {
       item = w.item;
       period = period_with config.bw now w.size i.service;
     }) o)

@@ -11,7 +11,7 @@ use Rattle.emu_model.specs.FlowIds.{FlowId, flow_id}
 use Rattle.emu_model.specs.Delay.{leave}
 use Rattle.emu_model.specs.Pipes.{Instance, PipeState, After, initial_instance, no_drop, drop_one, drawn_one, instance_arrive, instance_finish, instance_configure, put_instance, change_one, with_instance, draw, arrive_at, instance_for, pipe_arrive, pipe_finish, pipe_exit, pipe_configure}
 use Rattle.emu_model.specs.Commands.{with_pipe}
-use Rattle.emu_laws.specs.Happenings.{Happening, Coming, Finishing, Leaving, Configuring, Deleting, pipe_in, put_in, happen, is_number, is_at, Standing, standing}
+use Rattle.emu_laws.specs.Happenings.{Happening, Coming, Finishing, InFlight, Configuring, Deleting, pipe_in, put_in, happen, is_number, is_at, Standing, standing}
 use Rattle.emu_laws.specs.Strangers.{StrangersChangeNothing}
 use Rattle.emu_laws.proofs.PlaceOf.{changed-here, changed-other, or_else, next_instance, Opened, opened}
 use Rattle.emu_laws.proofs.StandingOf.{entry, at_first, put-other, put-here, number-found, removed-other, new-other}
@@ -48,7 +48,7 @@ new_or_configured config (s ∷ ss) = configured config s ∷ ss
 abbrev pub changed : ℕ → ℕ → ℕ → Happening → List Standing → List Standing
 changed seed pipe k (Coming now j packet) ss = at_first (come seed pipe k now packet) ss
 changed seed pipe k (Finishing now j i) ss = at_first (finished now) ss
-changed seed pipe k (Leaving j i) ss = at_first gone ss
+changed seed pipe k (InFlight j i) ss = at_first gone ss
 changed seed pipe k (Configuring j config) ss = new_or_configured config ss
 changed seed pipe k (Deleting now j) ss = tail ss
 
@@ -203,8 +203,8 @@ module _ (pipe k : ℕ) (ps : List PipeState) where
       (λ g. ap (λ c. record { config = c; instance = slice_get (pipe_finish now i p).state.instances k }) one.config
       ∙ ap (λ o. record { config = p.config; instance = o }) (one.elsewhere k (other-instance j i e g)))) (λ f. refl)
 
-  stranger-leaves : (seed j i : ℕ) → is_at pipe k (Leaving j i) ps ≡ false →
-      standing pipe k (happen seed (Leaving j i) ps) ≡ standing pipe k ps
+  stranger-leaves : (seed j i : ℕ) → is_at pipe k (InFlight j i) ps ≡ false →
+      standing pipe k (happen seed (InFlight j i) ps) ≡ standing pipe k ps
   stranger-leaves seed j i e =
       found-or (λ qs. standing pipe k qs ≡ standing pipe k ps) (λ p. put_in j (pipe_exit i p) ps) ps (pipe_in j ps)
       (λ p f. same-put j p (pipe_exit i p) f refl
@@ -226,6 +226,6 @@ module _ (pipe k : ℕ) (ps : List PipeState) where
 pub strangers_change_nothing : StrangersChangeNothing
 strangers_change_nothing seed pipe k (Coming now j packet) ps e = stranger-comes pipe k ps seed now j packet e
 strangers_change_nothing seed pipe k (Finishing now j i) ps e = stranger-finishes pipe k ps seed now j i e
-strangers_change_nothing seed pipe k (Leaving j i) ps e = stranger-leaves pipe k ps seed j i e
+strangers_change_nothing seed pipe k (InFlight j i) ps e = stranger-leaves pipe k ps seed j i e
 strangers_change_nothing seed pipe k (Configuring j config) ps e = stranger-configures pipe k ps seed j config e
 strangers_change_nothing seed pipe k (Deleting now j) ps e = stranger-deletes pipe k ps seed now j e

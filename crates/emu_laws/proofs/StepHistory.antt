@@ -3,11 +3,11 @@ use Rattle.std.proofs.Common.{◌≡◌, ℕ, zero, suc, ◌+◌, List, [], ◌�
 use Rattle.std.specs.Prelude.{if◌then◌else◌, is_some, nat_lt, map, flat_map, length, slice_get, ◌==◌}
 use Rattle.std.specs.Option.{option_map_or}
 use Rattle.std.specs.List.{AllByRecursion}
-use Rattle.emu_laws.proofs.Words.{Setting, Spec, Timed, Packet, PipeConfig, Lost, Full, Deleted, NoInstance, Record, PacketArrived, PacketFinished, PacketDelivered, PacketPassed, PacketDropped, Command, Class, NextCommand, Exit, Finish, Expiry, Emission}
+use Rattle.emu_laws.proofs.Words.{EventContext, Spec, Timed, Packet, PipeConfig, Lost, Full, Deleted, NoInstance, Record, PacketArrived, PacketFinished, PacketDelivered, PacketPassed, PacketDropped, Command, Class, NextCommand, Exit, Finish, Expiry, Emission}
 use Rattle.emu_model.specs.Lists.{replace_first}
 use Rattle.emu_model.specs.FlowIds.{flow_id}
 use Rattle.emu_model.specs.Delay.{Line, leave}
-use Rattle.emu_model.specs.DropTail.{Waiting, accepts}
+use Rattle.emu_model.specs.DropTail.{Queued, accepts}
 use Rattle.emu_model.specs.Pipes.{Instance, PipeState, After, Drop, InService, no_drop, drop_one, drawn_one, instance_arrive, instance_finish, serve_next, enqueue, accept, codel_drops, dequeue, put_instance, change_one, with_instance, draw, arrive_at, instance_for, pipe_arrive, pipe_finish, pipe_exit, pipe_configure, pipe_packets}
 use Rattle.emu_model.specs.Net.{Net, initial_net, note, note_all, note_traced, drop_record, drop_packet, arrive_records, arrivals, identify_record, make_record, packet_of, find_pipe, put_pipe, put_after, to_direct}
 use Rattle.emu_model.specs.Commands.{with_pipe, new_pipe, delete_pipe}
@@ -15,7 +15,7 @@ use Rattle.emu_model.specs.Events.{served_in, note_finish}
 use Rattle.emu_model.specs.declared.sources.Due.{Due}
 use Rattle.emu_model.specs.Step.{State, setting, take_class, count_step, spend, is_last_step, next_event, step}
 use Rattle.emu_model.specs.Alone.{alone}
-use Rattle.emu_laws.specs.Happenings.{Happening, Coming, Finishing, Leaving, Configuring, Deleting, put_in, happen, after_all, known, finish_lines, deleted_lines, lines_of}
+use Rattle.emu_laws.specs.Happenings.{Happening, Coming, Finishing, InFlight, Configuring, Deleting, put_in, happen, after_all, known, finish_lines, deleted_lines, lines_of}
 use Rattle.emu_laws.specs.RunHistories.{is_by_pipe, by_pipe, finishes_of, GoesOn, StepsAreHistories, RunsAreHistories}
 use Rattle.emu_laws.proofs.EachOf.{either, some_or}
 use Rattle.emu_laws.proofs.FinishLines.{finishes-by_pipe, finishes-told}
@@ -26,7 +26,7 @@ use Rattle.emu_laws.proofs.EventWalks.{IsSilent, IsQuietAt, Keeps, IsReadyAt, st
 abbrev IsByPipe : Drop → Type 0
 IsByPipe d = is_by_pipe d.cause ≡ true
 
-codel-by_pipe : (ws : List (Waiting Packet)) → AllByRecursion IsByPipe (codel_drops ws)
+codel-by_pipe : (ws : List (Queued Packet)) → AllByRecursion IsByPipe (codel_drops ws)
 codel-by_pipe [] = tt
 codel-by_pipe (w ∷ ws) = (refl, codel-by_pipe ws)
 
@@ -209,7 +209,7 @@ deleted-goes seed now k p n e =
 left-goes : (seed pipe k : ℕ) (p : PipeState) (n : Net) → find_pipe pipe n ≡ Some p →
     GoesOn seed n (put_pipe pipe (pipe_exit k p) n)
 left-goes seed pipe k p n e =
-    one-goes seed (Leaving pipe k) n (put_pipe pipe (pipe_exit k p) n) []
+    one-goes seed (InFlight pipe k) n (put_pipe pipe (pipe_exit k p) n) []
     (ap (λ o. option_map_or (λ x. put_in pipe (pipe_exit k x) n.pipes) o n.pipes) (sym e))
     (sym (append-nil n.records)) refl
 
@@ -238,7 +238,7 @@ AnyNet n = Unit {0}
 abbrev pub AnyCommand : Command → Type 0
 AnyCommand c = Unit {0}
 
-goes-keeps : (at : Setting) (l : Net) → Keeps at AnyLine AnyNet AnyCommand (λ o m. GoesOn at.seed l m)
+goes-keeps : (at : EventContext) (l : Net) → Keeps at AnyLine AnyNet AnyCommand (λ o m. GoesOn at.seed l m)
 goes-keeps at l = record {
   quiet = λ o n m a g. on n m g (same-by_pipe at.seed n m a.pipes a.records);
   traced = λ b n g. on n (record n { trace = b }) g (same-by_pipe at.seed n (record n { trace = b }) refl refl);

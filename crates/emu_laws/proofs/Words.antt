@@ -41,4 +41,4 @@ pub use Rattle.emu_model.specs.declared.records.Record.TheVariants.{CommandDone,
 pub use Rattle.emu_model.specs.declared.records.Counters.{Counters}
 pub use Rattle.emu_model.specs.declared.records.Ending.{Ending}
 pub use Rattle.emu_model.specs.declared.records.Ending.TheVariants.{Ended, Spent, Halted}
-pub use Rattle.emu_model.specs.declared.commands.Setting.{Setting}
+pub use Rattle.emu_model.specs.declared.commands.EventContext.{EventContext}

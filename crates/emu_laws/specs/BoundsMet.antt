@@ -21,7 +21,7 @@ use Rattle.emu_model.specs.declared.commands.Timed.{Timed}
 use Rattle.emu_model.specs.Rate.{finishes}
 use Rattle.emu_model.specs.Reno.{flight_size}
 use Rattle.emu_model.specs.Rules.{Counted, new_rule, default_rule}
-use Rattle.emu_model.specs.DropTail.{Waiting}
+use Rattle.emu_model.specs.DropTail.{Queued}
 use Rattle.emu_model.specs.Codel.{Times, codel_dequeue}
 use Rattle.emu_model.specs.Net.{FlowState, held}
 use Rattle.emu_model.specs.Step.{step}
@@ -147,7 +147,7 @@ abbrev times : Times
 times = record { target = 5; interval = 100 }
 
 -- two packets that came at a moment; behind the first wait as few bytes as may where it is dropped
-abbrev two_came : ℕ → List (Waiting Packet)
+abbrev two_came : ℕ → List (Queued Packet)
 two_came moment =
     record { item = udp_packet; size = 1000; stamp = moment }
     ∷ record { item = udp_packet; size = most_left + 1; stamp = moment }

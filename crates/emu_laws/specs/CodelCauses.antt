@@ -1,7 +1,7 @@
 -- CoDel drops a packet only where the control of RFC 8289 (sections 5.5 and 5.6) has it.
 use Rattle.std.specs.Prelude.{◌≡◌, ℕ, ◌+◌, ◌-◌, ◌<◌, ◌≤◌, true, ◌⊎◌, Some, List, [], ◌∷◌, length}
 use Rattle.emu_model.specs.declared.packets.Packet.{Packet}
-use Rattle.emu_model.specs.DropTail.{Waiting, bytes_of}
+use Rattle.emu_model.specs.DropTail.{Queued, bytes_of}
 use Rattle.emu_model.specs.Codel.{Times, CodelState, initial_control, maxpacket, codel_dequeue}
 
 -- a packet that is dropped had at least this sojourn, and more bytes than these behind it
@@ -13,7 +13,7 @@ most_left = maxpacket
 
 -- A packet may be dropped: its sojourn is at the target or above, more than a greatest packet waits behind it, the
 -- moment that was set as the sojourn went above has come; and so has that of the next drop, where CoDel drops.
-pub record MayBeDropped (times : Times) (now : ℕ) (c : CodelState) (w : Waiting Packet) (behind : List (Waiting Packet)) : Type 0 where
+pub record MayBeDropped (times : Times) (now : ℕ) (c : CodelState) (w : Queued Packet) (behind : List (Queued Packet)) : Type 0 where
   pub late : least_sojourn times ≤ now - w.stamp
   pub more_waits : most_left < bytes_of behind
   pub went_above : 0 < c.first_above_time
@@ -21,20 +21,20 @@ pub record MayBeDropped (times : Times) (now : ℕ) (c : CodelState) (w : Waitin
   pub due : c.dropping ≡ true → c.drop_next ≤ now
 
 -- what is dropped is the first that waited, each of which may be
-abbrev pub EachMayBe : Times → ℕ → CodelState → List (Waiting Packet) → List (Waiting Packet) → Type 0
+abbrev pub EachMayBe : Times → ℕ → CodelState → List (Queued Packet) → List (Queued Packet) → Type 0
 EachMayBe times now c [] ws = Unit {0}
 EachMayBe times now c (d ∷ ds) [] = ⊥
 EachMayBe times now c (d ∷ ds) (w ∷ behind) =
     (d ≡ w) × MayBeDropped times now c w behind × EachMayBe times now c ds behind
 
 abbrev pub CodelDropsByControl : Type 0
-CodelDropsByControl = (times : Times) (now : ℕ) (c : CodelState) (ws : List (Waiting Packet)) →
+CodelDropsByControl = (times : Times) (now : ℕ) (c : CodelState) (ws : List (Queued Packet)) →
     EachMayBe times now c (codel_dequeue times now c ws).dropped ws
 
 -- a dequeue: its moment, and what waits
 pub record Taking : Type 0 where
   pub moment : ℕ
-  pub waiting : List (Waiting Packet)
+  pub waiting : List (Queued Packet)
 
 -- CoDel's state after dequeues, the latest first
 abbrev pub control_after : Times → List Taking → CodelState
@@ -43,7 +43,7 @@ control_after times (x ∷ earlier) = (codel_dequeue times x.moment (control_aft
 
 -- a dequeue gives a packet whose sojourn is at the target or above
 pub record GivesLate (times : Times) (c : CodelState) (x : Taking) : Type 0 where
-  pub packet : Waiting Packet
+  pub packet : Queued Packet
   pub given : (codel_dequeue times x.moment c x.waiting).given ≡ Some packet
   pub late : times.target ≤ x.moment - packet.stamp
 
@@ -64,5 +64,5 @@ pub record IsLateForInterval (times : Times) (now : ℕ) (xs : List Taking) : Ty
 
 -- CoDel drops only there
 abbrev pub DropsAfterInterval : Type 0
-DropsAfterInterval = (times : Times) (now : ℕ) (xs : List Taking) (ws : List (Waiting Packet)) →
+DropsAfterInterval = (times : Times) (now : ℕ) (xs : List Taking) (ws : List (Queued Packet)) →
     0 < length (codel_dequeue times now (control_after times xs) ws).dropped → IsLateForInterval times now xs

@@ -3,14 +3,14 @@
 -- dropped, and the next drop was set for 212 ms (RFC 8289, section 5.5).
 use Rattle.std.specs.Prelude.{◌≡◌, ℕ, zero, suc, ◌+◌, true, false, List, [], ◌∷◌}
 use Rattle.emu_model.specs.Moments.{milliseconds}
-use Rattle.emu_model.specs.DropTail.{Waiting}
+use Rattle.emu_model.specs.DropTail.{Queued}
 use Rattle.emu_model.specs.Codel.{Times, CodelState, codel_dequeue}
 
 abbrev pub times : Times
 times = record { target = milliseconds 5; interval = milliseconds 100 }
 
 -- n packets from a number on, which all came at 0
-abbrev pub packets : ℕ → ℕ → List (Waiting ℕ)
+abbrev pub packets : ℕ → ℕ → List (Queued ℕ)
 packets first zero = []
 packets first (suc n) = record { item = first; size = 1000; stamp = 0 } ∷ packets (first + 1) n
 

@@ -1,6 +1,6 @@
 -- A packet that leaves an instance is delivered or passes on at once (one_pass as in ipfw(8)), and is told of first.
 use Rattle.std.specs.Prelude.{◌≡◌, ℕ, Bool, if◌then◌else◌, Some, [], ◌∷◌, ◌++◌}
-use Rattle.emu_model.specs.declared.commands.Setting.{Setting}
+use Rattle.emu_model.specs.declared.commands.EventContext.{EventContext}
 use Rattle.emu_model.specs.declared.packets.Packet.{Packet}
 use Rattle.emu_model.specs.declared.records.Record.{Record}
 use Rattle.emu_model.specs.declared.records.Record.TheVariants.{PacketDelivered, PacketPassed}
@@ -16,5 +16,5 @@ exit_line now pipe k one_pass q =
 
 -- it is the first that the exit records
 abbrev pub ExitsAreTold : Type 0
-ExitsAreTold = (at : Setting) (pipe k : ℕ) (n : Net) (p : PipeState) (q : Packet) → flying_in k p ≡ Some q →
+ExitsAreTold = (at : EventContext) (pipe k : ℕ) (n : Net) (p : PipeState) (q : Packet) → flying_in k p ≡ Some q →
     IsExtendedBy (n.records ++ exit_line at.now pipe k n.one_pass q ∷ []) (pipe_exits at pipe k n p).records

@@ -18,7 +18,7 @@ use Rattle.emu_model.specs.Events.{flying_in, served_in}
 pub data Happening : Type 0 where
   Coming : ℕ → ℕ → Packet → Happening
   Finishing : ℕ → ℕ → ℕ → Happening
-  Leaving : ℕ → ℕ → Happening
+  InFlight : ℕ → ℕ → Happening
   Configuring : ℕ → PipeConfig → Happening
   Deleting : ℕ → ℕ → Happening
 
@@ -34,7 +34,7 @@ happen seed (Coming now pipe packet) ps =
     option_map_or (λ p. put_in pipe (pipe_arrive seed now packet p).state ps) (pipe_in pipe ps) ps
 happen seed (Finishing now pipe k) ps =
     option_map_or (λ p. put_in pipe (pipe_finish now k p).state ps) (pipe_in pipe ps) ps
-happen seed (Leaving pipe k) ps = option_map_or (λ p. put_in pipe (pipe_exit k p) ps) (pipe_in pipe ps) ps
+happen seed (InFlight pipe k) ps = option_map_or (λ p. put_in pipe (pipe_exit k p) ps) (pipe_in pipe ps) ps
 happen seed (Configuring pipe config) ps =
     option_map_or (λ p. put_in pipe (pipe_configure config p) ps) (pipe_in pipe ps)
     (with_pipe (record { number = pipe; config = config; instances = [] }) ps)
@@ -69,7 +69,7 @@ known seed (Coming now pipe packet) ps =
 known seed (Finishing now pipe k) ps =
     only_lines (option_map_or (λ p. finish_lines now pipe k p ++ map (drop_record now) (pipe_finish now k p).dropped)
     (pipe_in pipe ps) [])
-known seed (Leaving pipe k) ps =
+known seed (InFlight pipe k) ps =
     record { left = option_map_or (flying_in k) (pipe_in pipe ps) None; lines = [] }
 known seed (Configuring pipe config) ps = nothing
 known seed (Deleting now pipe) ps =
@@ -90,7 +90,7 @@ abbrev pub is_at : ℕ → ℕ → Happening → List PipeState → Bool
 is_at pipe k (Coming now j packet) ps =
     j == pipe && is_number k (option_map_or (instance_for packet) (pipe_in j ps) None)
 is_at pipe k (Finishing now j i) ps = j == pipe && i == k
-is_at pipe k (Leaving j i) ps = j == pipe && i == k
+is_at pipe k (InFlight j i) ps = j == pipe && i == k
 is_at pipe k (Configuring j config) ps = j == pipe
 is_at pipe k (Deleting now j) ps = j == pipe
 

@@ -4,13 +4,13 @@ use Rattle.std.specs.Option.{option_map_or}
 use Rattle.std.specs.List.{AllByRecursion}
 use Rattle.emu_model.specs.declared.packets.Packet.{Packet}
 use Rattle.emu_model.specs.declared.records.DropCause.TheVariants.{Lost, Full}
-use Rattle.emu_model.specs.DropTail.{Waiting}
+use Rattle.emu_model.specs.DropTail.{Queued}
 use Rattle.emu_model.specs.Loss.{loss_word}
 use Rattle.emu_model.specs.Pipes.{PipeState, instance_for, pipe_arrive}
 use Rattle.emu_model.specs.ComponentLaws.{IsWithin}
 
 -- what waits in instance k of a pipe: nothing, where it is to be made
-abbrev pub waiting_in : ℕ → PipeState → List (Waiting Packet)
+abbrev pub waiting_in : ℕ → PipeState → List (Queued Packet)
 waiting_in k p = option_map_or (λ i. i.waiting) (slice_get p.instances k) []
 
 -- how many loss words instance k drew

@@ -16,7 +16,7 @@ use Rattle.emu_model.specs.declared.commands.Spec.{Spec}
 use Rattle.emu_model.specs.declared.commands.Timed.{Timed}
 use Rattle.emu_model.specs.declared.commands.Command.{Command}
 use Rattle.emu_model.specs.declared.commands.Command.TheVariants.{Config, PipeDelete}
-use Rattle.emu_model.specs.DropTail.{Waiting, bytes_of}
+use Rattle.emu_model.specs.DropTail.{Queued, bytes_of}
 use Rattle.emu_model.specs.Net.{drops_of}
 use Rattle.emu_model.specs.TraceLaws.{delivers, held_packets, once_made}
 use Rattle.emu_model.specs.Step.{State}
@@ -68,7 +68,7 @@ NoQueueIsFull = (spec : Spec) (c : List Timed) (n : ℕ) →
     drops_of (alone spec c n).net.records Full ≡ 0
 
 -- one packet more of a step has room
-abbrev pub HasRoom : State → QueueLimit → List (Waiting Packet) → Type 0
+abbrev pub HasRoom : State → QueueLimit → List (Queued Packet) → Type 0
 HasRoom s (Slots n) ws = length ws < n
 HasRoom s (KBytes n) ws = (p : Packet) → IsOfStep s p → bytes_of ws + p.size ≤ 1024 * n
 

@@ -20,7 +20,7 @@ transmission (suc bw) size = div_ceil (8 * 10 ^ 9 * size) (suc bw)
 -- nothing that is before it leaves later
 pub record LeavesAfterDelay (config : PipeConfig) (finish : ℕ) (p : Packet) (before after : Instance) : Type 0 where
   pub exit : ℕ
-  pub entered : after.line.flight ≡ before.line.flight ++ record { item = p; exit = exit } ∷ []
+  pub entered : after.line.in_flight ≡ before.line.in_flight ++ record { item = p; exit = exit } ∷ []
   pub no_sooner : finish + propagation config ≤ exit
   pub exactly : before.line.last ≤ finish + propagation config → exit ≡ finish + propagation config
 

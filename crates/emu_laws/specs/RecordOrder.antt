@@ -23,7 +23,7 @@ moment_of (TimerExpired moment flow cwnd ssthresh) = moment ∷ []
 moment_of (StepsSpent moment) = moment ∷ []
 moment_of (RuleLine rule packets bytes) = []
 moment_of (PipeLine pipe config) = []
-moment_of (InstanceLine pipe instance waiting bytes busy flight drawn) = []
+moment_of (InstanceLine pipe instance waiting bytes busy in_flight drawn) = []
 
 abbrev pub moments_of : List Record → List ℕ
 moments_of rs = flat_map moment_of rs

@@ -12,7 +12,7 @@ use Rattle.emu_model.specs.declared.commands.Spec.{Spec}
 use Rattle.emu_model.specs.declared.commands.Command.TheVariants.{PipeDelete}
 use Rattle.emu_model.specs.declared.commands.Timed.{Timed}
 use Rattle.emu_model.specs.Rules.{verdict}
-use Rattle.emu_model.specs.DropTail.{Waiting}
+use Rattle.emu_model.specs.DropTail.{Queued}
 use Rattle.emu_model.specs.Pipes.{Instance, PipeState, instance_for, pipe_packets}
 use Rattle.emu_model.specs.Net.{Net, find_pipe, held}
 use Rattle.emu_model.specs.Alone.{alone}
@@ -67,9 +67,9 @@ pub record IsDueInPipe (now number : ℕ) (n : Net) : Type 0 where
   pub instance : ℕ
   pub inside : Instance
   pub is_there : slice_get state.instances instance ≡ Some inside
-  pub before : List (Waiting Packet)
-  pub waiting : Waiting Packet
-  pub behind : List (Waiting Packet)
+  pub before : List (Queued Packet)
+  pub waiting : Queued Packet
+  pub behind : List (Queued Packet)
   pub waits : inside.waiting ≡ before ++ waiting ∷ behind
   pub number_is : waiting.item.number ≡ number
   pub due : MayBeDropped (record { target = target; interval = interval }) now inside.control waiting behind

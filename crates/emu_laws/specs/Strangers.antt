@@ -47,7 +47,7 @@ InstancesAreStrangers = (seed pipe k : ℕ) (hs js : List Happening) (ps qs : Li
 -- and the first under way leaves at its exit (an exit of number 0 is of the link of `allow`)
 pub record IsAtItsMoment (e : Due) (i : Instance) : Type 0 where
   pub finishes : (s : InService Packet) → e.source.class ≡ Finish → i.service ≡ Some s → s.period.finish ≡ e.moment
-  pub leaves : (exit : ℕ) → e.source.class ≡ Exit → 0 < e.source.number → first_exit i.line.flight ≡ Some exit →
+  pub leaves : (exit : ℕ) → e.source.class ≡ Exit → 0 < e.source.number → first_exit i.line.in_flight ≡ Some exit →
       exit ≡ e.moment
 
 -- so when it finishes and leaves is no other's affair either

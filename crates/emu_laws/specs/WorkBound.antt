@@ -19,7 +19,7 @@ HeldWithinBudget = (spec : Spec) (c : List Timed) (n : ℕ) → held (alone spec
 abbrev pub is_listing : Record → Bool
 is_listing (RuleLine rule packets bytes) = true
 is_listing (PipeLine pipe config) = true
-is_listing (InstanceLine pipe instance waiting bytes busy flight drawn) = true
+is_listing (InstanceLine pipe instance waiting bytes busy in_flight drawn) = true
 is_listing _ = false
 
 -- the records but for those lines

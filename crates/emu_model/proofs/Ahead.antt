@@ -10,12 +10,12 @@ use Rattle.emu_model.specs.Types.{Spec, Timed, Packet, Class, NextCommand, Exit,
 use Rattle.emu_model.specs.declared.sources.Due.{Due}
 use Rattle.emu_model.specs.Lists.{tail}
 use Rattle.emu_model.specs.Rate.{div_ceil, finish_at, Period, follow, begin, cut_period}
-use Rattle.emu_model.specs.Delay.{exit_after, Leaving, Line, enter, leave}
+use Rattle.emu_model.specs.Delay.{exit_after, InFlight, Line, enter, leave}
 use Rattle.emu_model.specs.Reno.{Sender, ack, ack_new, ack_duplicate, is_new, is_duplicate, enter_recovery, emit, started_timer, round_trip, timeout_after, bounded}
-use Rattle.emu_model.specs.DropTail.{Waiting, accepts}
+use Rattle.emu_model.specs.DropTail.{Queued, accepts}
 use Rattle.emu_model.specs.Codel.{Dequeued}
 use Rattle.emu_model.specs.Pipes.{InService, Instance, PipeState, After, dequeue, period_with, serve_next, no_drop, drop_one, enqueue, accept, drawn_one, instance_arrive, pipe_arrive, send_off, instance_finish, pipe_finish, pipe_exit, instance_configure, pipe_configure, cut_service}
-use Rattle.emu_model.specs.Net.{Net, Setting, FlowState, TrainState}
+use Rattle.emu_model.specs.Net.{Net, EventContext, FlowState, TrainState}
 use Rattle.emu_model.specs.Dues.{dues_of}
 use Rattle.emu_model.specs.Step.{State, setting, take_class, take_due, take_event, count_step, spend, is_last_step, next_event, step_with, step}
 use Rattle.emu_model.specs.Alone.{alone}
@@ -27,18 +27,18 @@ use Rattle.emu_model.proofs.DueParts.{ExitDue, FinishDue, TimerDue, InstanceDue,
 use Rattle.emu_model.proofs.CallerLemmas.{next_event_by_command, next_event_by_dues}
 
 -- exits from `low` on, none below the one before, and none above `last`
-abbrev RisesTo : ℕ → ℕ → List (Leaving Packet) → Type 0
+abbrev RisesTo : ℕ → ℕ → List (InFlight Packet) → Type 0
 RisesTo low last [] = Unit {0}
 RisesTo low last (x ∷ xs) = (low ≤ x.exit) × (x.exit ≤ last) × RisesTo x.exit last xs
 
 abbrev LineAhead : ℕ → Line Packet → Type 0
-LineAhead m l = RisesTo m l.last l.flight
+LineAhead m l = RisesTo m l.last l.in_flight
 
-rises-lower : (m low last : ℕ) (xs : List (Leaving Packet)) → m ≤ low → RisesTo low last xs → RisesTo m last xs
+rises-lower : (m low last : ℕ) (xs : List (InFlight Packet)) → m ≤ low → RisesTo low last xs → RisesTo m last xs
 rises-lower m low last [] h r = tt
 rises-lower m low last (x ∷ xs) h r = (omega (arith, r.0), r.1, r.2)
 
-rises-joined : (low last exit : ℕ) (p : Packet) (xs : List (Leaving Packet)) → low ≤ exit → last ≤ exit →
+rises-joined : (low last exit : ℕ) (p : Packet) (xs : List (InFlight Packet)) → low ≤ exit → last ≤ exit →
     RisesTo low last xs → RisesTo low exit (xs ++ record { item = p; exit = exit } ∷ [])
 rises-joined low last exit p [] h g r = (h, omega arith, tt)
 rises-joined low last exit p (x ∷ xs) h g r =
@@ -46,26 +46,26 @@ rises-joined low last exit p (x ∷ xs) h g r =
 
 entered-ahead : (now delay : ℕ) (p : Packet) (l : Line Packet) → LineAhead now l → LineAhead now (enter p now delay l)
 entered-ahead now delay p l r =
-    rises-joined now l.last (exit_after l.last now delay) p l.flight (omega arith) (omega arith) r
+    rises-joined now l.last (exit_after l.last now delay) p l.in_flight (omega arith) (omega arith) r
 
-line-from : (low m : ℕ) (l : Line Packet) → LineAhead low l → ExitDue (λ x. m ≤ x) l.flight → LineAhead m l
-line-from low m l h d = go l.flight h d
+line-from : (low m : ℕ) (l : Line Packet) → LineAhead low l → ExitDue (λ x. m ≤ x) l.in_flight → LineAhead m l
+line-from low m l h d = go l.in_flight h d
   where
-    go : (xs : List (Leaving Packet)) → RisesTo low l.last xs → ExitDue (λ x. m ≤ x) xs → RisesTo m l.last xs
+    go : (xs : List (InFlight Packet)) → RisesTo low l.last xs → ExitDue (λ x. m ≤ x) xs → RisesTo m l.last xs
     go [] r q = tt
     go (x ∷ xs) r q = (q, r.1, r.2)
 
-line-due : (m : ℕ) (l : Line Packet) → LineAhead m l → ExitDue (λ x. m ≤ x) l.flight
-line-due m l h = go l.flight h
+line-due : (m : ℕ) (l : Line Packet) → LineAhead m l → ExitDue (λ x. m ≤ x) l.in_flight
+line-due m l h = go l.in_flight h
   where
-    go : (xs : List (Leaving Packet)) → RisesTo m l.last xs → ExitDue (λ x. m ≤ x) xs
+    go : (xs : List (InFlight Packet)) → RisesTo m l.last xs → ExitDue (λ x. m ≤ x) xs
     go [] r = tt
     go (x ∷ xs) r = r.0
 
 left-ahead : (m : ℕ) (l : Line Packet) → LineAhead m l → LineAhead m (leave l)
-left-ahead m l r = go l.flight r
+left-ahead m l r = go l.in_flight r
   where
-    go : (xs : List (Leaving Packet)) → RisesTo m l.last xs → RisesTo m l.last (tail xs)
+    go : (xs : List (InFlight Packet)) → RisesTo m l.last xs → RisesTo m l.last (tail xs)
     go [] h = tt
     go (x ∷ xs) h = rises-lower m x.exit l.last xs h.0 h.2
 
@@ -131,7 +131,7 @@ serve_next-ahead config now i h =
     let d : Dequeued Packet = dequeue config.discipline now i.control i.waiting in
     record { line = h.line; service = go d.given }
   where
-    go : (o : Option (Waiting Packet)) → ServiceAhead now config.bw (option_map (λ w. record {
+    go : (o : Option (Queued Packet)) → ServiceAhead now config.bw (option_map (λ w. record {
       item = w.item;
       period = period_with config.bw now w.size i.service;
     }) o)
@@ -255,7 +255,7 @@ ahead m = record {
   train = TrainAhead m;
 }
 
-keeps-ahead : (at : Setting) → Keeps (ahead at.now) at
+keeps-ahead : (at : EventContext) → Keeps (ahead at.now) at
 keeps-ahead at = record {
   placed = λ p place h. tt;
   segment = λ l k f h. tt;
@@ -344,7 +344,7 @@ count_step-ahead s g =
 take_event-ahead : (class : Class) (k m : ℕ) (c : Timed) (rest : List Timed) (s : State) → s.left ≡ c ∷ rest →
     m ≤ c.moment → AreRising c.moment rest → Holds (ahead m) s.net → Ahead (take_event m class k s)
 take_event-ahead class k m c rest s l b r h =
-    let at : Setting = setting s.spec m in
+    let at : EventContext = setting s.spec m in
     record {
       net = event-holds (ahead m) at (keeps-ahead at) class k s.net (λ p e g q. pipe_finish-ahead m (k % 256) p q)
           (λ t e g q. sent-ahead m t q) h;
@@ -355,7 +355,7 @@ take_class-ahead : (class : Class) (e : Due) (c : Timed) (rest : List Timed) (s 
     e.moment ≤ c.moment → AreRising c.moment rest → Holds (ahead e.moment) s.net →
     Ahead (take_class class e c rest s)
 take_class-ahead NextCommand e c rest s l b r h =
-    let at : Setting = setting s.spec e.moment in
+    let at : EventContext = setting s.spec e.moment in
     record {
       net = obey-holds (ahead e.moment) at (keeps-ahead at) s.taken c.command s.net (fits-ahead e.moment c.command) h;
       left = rising-lower e.moment c.moment rest b r;

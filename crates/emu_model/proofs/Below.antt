@@ -5,10 +5,10 @@ use Rattle.std.specs.List.{AllByRecursion}
 use Rattle.std.proofs.lemmas.Bool.{ltb-true, lt-ltb}
 use Rattle.emu_model.specs.Types.{Packet, Spec, Timed, Class, NextCommand, Exit, Finish, Expiry, Emission, FlowSpec, Timing, Fixed, Adaptive, Command, Add, Delete, Config, PipeDelete, PipeShow, Show, Inject, Train, Flow, Stop, OnePass, Trace, End}
 use Rattle.emu_model.specs.declared.sources.Due.{Due}
-use Rattle.emu_model.specs.Delay.{Leaving, Line}
+use Rattle.emu_model.specs.Delay.{InFlight, Line}
 use Rattle.emu_model.specs.Reno.{Sender, Estimate, timeout_at, most_rto, ack, ack_new, ack_duplicate, is_new, is_duplicate, enter_recovery, emit, expire, started_timer, round_trip, timeout_after, estimated_timeout, new_estimate, bounded}
 use Rattle.emu_model.specs.Pipes.{InService, Instance, PipeState}
-use Rattle.emu_model.specs.Net.{Net, Setting, FlowState, TrainState, find_pipe, find_train}
+use Rattle.emu_model.specs.Net.{Net, EventContext, FlowState, TrainState, find_pipe, find_train}
 use Rattle.emu_model.specs.Dues.{dues_of}
 use Rattle.emu_model.specs.Step.{State, setting, take_class, take_due, take_event, count_step, spend, is_last_step, next_event, step_with, step}
 use Rattle.emu_model.specs.Alone.{alone}
@@ -127,7 +127,7 @@ near m = record {
   train = TrainNear m;
 }
 
-keeps-near : (at : Setting) → Keeps (near at.now) at
+keeps-near : (at : EventContext) → Keeps (near at.now) at
 keeps-near at = record {
   placed = λ p place h. h;
   segment = λ l k f h. omega (arith, h.segment);
@@ -186,10 +186,10 @@ later low m n e h =
     (λ f p q. flow-later low m f e p)
     (λ t p q. record { size = p.size; gap = p.gap; next = λ g. omega (arith, p.next g) }) n h h
 
-line-due : (m : ℕ) (l : Line Packet) → LineNear m l → ExitDue (λ x. x ≤ m + reach) l.flight
-line-due m l h = go l.flight h.flight
+line-due : (m : ℕ) (l : Line Packet) → LineNear m l → ExitDue (λ x. x ≤ m + reach) l.in_flight
+line-due m l h = go l.in_flight h.in_flight
   where
-    go : (xs : List (Leaving Packet)) → AllByRecursion (LeavesNear m) xs → ExitDue (λ x. x ≤ m + reach) xs
+    go : (xs : List (InFlight Packet)) → AllByRecursion (LeavesNear m) xs → ExitDue (λ x. x ≤ m + reach) xs
     go [] q = tt
     go (x ∷ xs) q = q.0.0
 
@@ -236,7 +236,7 @@ record IsTimely (class : Class) (m k : ℕ) (n : Net) : Type 0 where
 take_event-near : (class : Class) (k m : ℕ) (s : State) → m ≤ 10 ^ 15 → AllByRecursion IsEarly s.left →
     IsTimely class m k s.net → Holds (near m) s.net → Near (take_event m class k s)
 take_event-near class k m s b l i h =
-    let at : Setting = setting s.spec m in
+    let at : EventContext = setting s.spec m in
     record {
       net = event-holds (near m) at (keeps-near at) class k s.net
           (λ p a e q. pipe_finish-near m (k % 256) p (λ j o f g. omega (arith, i.served a p j o e f g)) q)
@@ -250,7 +250,7 @@ take_class-near : (class : Class) (e : Due) (c : Timed) (rest : List Timed) (s :
     IsTimely class e.moment e.source.number s.net → Holds (near e.moment) s.net →
     Near (take_class class e c rest s)
 take_class-near NextCommand e c rest s b l w r i h =
-    let at : Setting = setting s.spec e.moment in
+    let at : EventContext = setting s.spec e.moment in
     record {
       net = obey-holds (near e.moment) at (keeps-near at) s.taken c.command s.net (fits-near e.moment c.command w) h;
       left = r;
@@ -296,7 +296,7 @@ configures End w = tt
 
 alone-near : (spec : Spec) (c : List Timed) (n : ℕ) → AreRising 0 c → AllByRecursion IsEarly c → Near (alone spec c n)
 alone-near spec c zero r w = record {
-  net = record { direct = record { last = omega arith; flight = tt }; pipes = tt; flows = tt; trains = tt };
+  net = record { direct = record { last = omega arith; in_flight = tt }; pipes = tt; flows = tt; trains = tt };
   left = w;
   clock = omega arith;
 }

@@ -10,7 +10,9 @@ use Rattle.emu_model.specs.Dues.{due, dues_of, is_before}
 use Rattle.emu_model.specs.Step.{State, take_class, take_due, count_step, spend, is_last_step, next_event, step_with, step}
 pub use Rattle.emu_model.proofs.ControlRoot.{control_step_is}
 pub use Rattle.emu_model.proofs.FirstBy.{first_by, first_by-order, NotBefore, not_before, both_ways_equal}
-pub use Rattle.emu_model.proofs.Cuts.{IsCut, codel_dequeue-cut, dequeue-cut}
+pub use Rattle.emu_model.proofs.Cuts.{IsCut, codel_dequeue-cut}
+pub use Rattle.emu_model.proofs.Renamed.{bytes-renamed, renamed_dequeue}
+pub use Rattle.emu_model.proofs.Disciplines.{dequeue-cut, dequeue-renamed, lone_dequeue, none_dropped}
 
 before-le : (a b : Due) → is_before a b ≡ true → a.moment ≤ b.moment
 before-le a b e = go _ (or_cases _ _ e)

@@ -9,7 +9,7 @@ use Rattle.emu_model.specs.Rules.{Counted, verdict, start_behind, counted_book}
 use Rattle.emu_model.specs.Delay.{first_item, leave}
 use Rattle.emu_model.specs.Reno.{Sender, ack, with_segment, missing, emitted, emit, expire}
 use Rattle.emu_model.specs.Pipes.{Instance, PipeState, pipe_arrive, pipe_finish, pipe_exit, pipe_configure}
-use Rattle.emu_model.specs.Net.{Net, Setting, initial_net, FlowState, TrainState, note, note_all, note_traced, drop_packet, arrivals, to_pipe, to_direct, by_verdict, pass_rules_from, pass_rules, go_on, packet_of, make_record, make, held, data_send, ack_send, find_pipe, put_pipe, put_after, find_flow, put_flow, find_train, put_train, take_segment, take_ack, take_load, deliver}
+use Rattle.emu_model.specs.Net.{Net, EventContext, initial_net, FlowState, TrainState, note, note_all, note_traced, drop_packet, arrivals, to_pipe, to_direct, by_verdict, pass_rules_from, pass_rules, reinject, packet_of, make_record, make, held, data_send, ack_send, find_pipe, put_pipe, put_after, find_flow, put_flow, find_train, put_train, take_segment, take_ack, take_load, deliver}
 use Rattle.emu_model.specs.Commands.{rule_lines, instance_lines, pipe_lines, new_pipe, delete_pipe, stop_flow, refusal_of, effect_of, obey}
 use Rattle.emu_model.specs.Events.{direct_exit, deliver_some, flying_in, leave_pipe_some, pipe_exits, served_in, note_finish, pipe_finishes, expire_flow, emit_segment, emit_packet, event_of}
 use Rattle.emu_model.specs.declared.sources.Due.{Due}
@@ -49,10 +49,10 @@ pub record Keeps (P : Option Packet → Net → Type 0) : Type 0 where
   pub dropped : (now : ℕ) (cause : DropCause) (p : Packet) (n : Net) → P (Some p) n →
       P None (drop_packet now cause p n)
   pub entered : (now : ℕ) (p : Packet) (n : Net) → P (Some p) n → P None (to_direct now p n)
-  pub left : (n : Net) → P None n → P (first_item n.direct.flight) (record n { direct = leave n.direct })
+  pub left : (n : Net) → P None n → P (first_item n.direct.in_flight) (record n { direct = leave n.direct })
   pub delivered : (now : ℕ) (p : Packet) (n : Net) → P (Some p) n →
       P None (note (PacketDelivered now p.number p.load) n)
-  pub arrived : (at : Setting) (k : ℕ) (p : Packet) (q : PipeState) (n : Net) → find_pipe k n ≡ Some q →
+  pub arrived : (at : EventContext) (k : ℕ) (p : Packet) (q : PipeState) (n : Net) → find_pipe k n ≡ Some q →
       P (Some p) n →
       P None (put_after at.now k (pipe_arrive at.seed at.now p q) (note_traced (arrivals at.now p q) n))
   pub finished : (now pipe k : ℕ) (p : PipeState) (n : Net) → find_pipe pipe n ≡ Some p → P None n →
@@ -107,7 +107,7 @@ module _ (P : Option Packet → Net → Type 0) (keeps : Keeps P) where
   said_one : (r : Record) (n : Net) → IsSilent r → P None n → P None (note r n)
   said_one r n e h = keeps.said (r ∷ []) n (e, tt) h
 
-  to_pipe-walks : (at : Setting) (k : ℕ) (p : Packet) (n : Net) → P (Some p) n → P None (to_pipe at k p n)
+  to_pipe-walks : (at : EventContext) (k : ℕ) (p : Packet) (n : Net) → P (Some p) n → P None (to_pipe at k p n)
   to_pipe-walks at k p n h = go (find_pipe k n) refl
     where
       come : Option PipeState → Net
@@ -121,20 +121,20 @@ module _ (P : Option Packet → Net → Type 0) (keeps : Keeps P) where
           (alike (Some p) n (come None) refl refl refl refl (nothing_more n.trace n.records) h)
       go (Some q) e = keeps.arrived at k p q n e h
 
-  by_verdict-walks : (at : Setting) (v : Verdict) (p : Packet) (n : Net) → P (Some p) n →
+  by_verdict-walks : (at : EventContext) (v : Verdict) (p : Packet) (n : Net) → P (Some p) n →
       P None (by_verdict at v p n)
   by_verdict-walks at OverTheLink p n h = keeps.entered at.now p n h
   by_verdict-walks at Dropped p n h = keeps.dropped at.now Denied p n h
   by_verdict-walks at (IntoPipe k place) p n h =
       to_pipe-walks at k (record p { place = place }) n (keeps.placed place p n h)
 
-  pass_rules_from-walks : (at : Setting) (start : ℕ) (p : Packet) (n : Net) → P (Some p) n →
+  pass_rules_from-walks : (at : EventContext) (start : ℕ) (p : Packet) (n : Net) → P (Some p) n →
       P None (pass_rules_from at start p n)
   pass_rules_from-walks at start p n h =
       let m : Net = record n { book = counted_book start p n.book } in
       by_verdict-walks at (verdict start p n.book.rules) p m (alike (Some p) n m refl refl refl refl refl h)
 
-  make-walks : (at : Setting) (l : Load) (send : SendSpec) (n : Net) → P None n → P None (make at l send n)
+  make-walks : (at : EventContext) (l : Load) (send : SendSpec) (n : Net) → P None n → P None (make at l send n)
   make-walks at l send n h =
       let p : Packet = packet_of l send n.made in
       let m : Net = note_traced (make_record at.now p ∷ []) (record n { made = n.made + 1 }) in
@@ -142,7 +142,7 @@ module _ (P : Option Packet → Net → Type 0) (keeps : Keeps P) where
       either (P None) (nat_lt (held n) at.packet_budget) (pass_rules at p m) (drop_packet at.now Budget p m)
       (pass_rules_from-walks at 0 p m made) (keeps.dropped at.now Budget p m made)
 
-  take_segment-walks : (at : Setting) (first : ℕ) (n : Net) (f : FlowState) → P None n →
+  take_segment-walks : (at : EventContext) (first : ℕ) (n : Net) (f : FlowState) → P None n →
       P None (take_segment at first n f)
   take_segment-walks at first n f h =
       let came : List ℕ = with_segment first f.came in
@@ -157,26 +157,26 @@ module _ (P : Option Packet → Net → Type 0) (keeps : Keeps P) where
       either (P None) f.stopped n (note (AckTaken now f.number t.cwnd t.ssthresh) m) h
       (said_one (AckTaken now f.number t.cwnd t.ssthresh) m refl (alike None n m refl refl refl refl refl h))
 
-  take_load-walks : (at : Setting) (l : Load) (n : Net) → P None n → P None (take_load at l n)
+  take_load-walks : (at : EventContext) (l : Load) (n : Net) → P None n → P None (take_load at l n)
   take_load-walks at Plain n h = h
   take_load-walks at (Seg k first) n h =
       some_or (P None) (take_segment at first n) (find_flow k n) n (λ f e. take_segment-walks at first n f h) h
   take_load-walks at (Ack k upto) n h =
       some_or (P None) (take_ack at.now upto n) (find_flow k n) n (λ f e. take_ack-walks at.now upto n f h) h
 
-  deliver-walks : (at : Setting) (p : Packet) (n : Net) → P (Some p) n → P None (deliver at p n)
+  deliver-walks : (at : EventContext) (p : Packet) (n : Net) → P (Some p) n → P None (deliver at p n)
   deliver-walks at p n h =
       take_load-walks at p.load (note (PacketDelivered at.now p.number p.load) n) (keeps.delivered at.now p n h)
 
-  direct_exit-walks : (at : Setting) (n : Net) → P None n → P None (direct_exit at n)
-  direct_exit-walks at n h = go (first_item n.direct.flight) (keeps.left n h)
+  direct_exit-walks : (at : EventContext) (n : Net) → P None n → P None (direct_exit at n)
+  direct_exit-walks at n h = go (first_item n.direct.in_flight) (keeps.left n h)
     where
       go : (o : Option Packet) → P o (record n { direct = leave n.direct }) →
           P None (deliver_some at o (record n { direct = leave n.direct }))
       go None q = q
       go (Some p) q = deliver-walks at p (record n { direct = leave n.direct }) q
 
-  pipe_exits-walks : (at : Setting) (pipe k : ℕ) (n : Net) (p : PipeState) → find_pipe pipe n ≡ Some p →
+  pipe_exits-walks : (at : EventContext) (pipe k : ℕ) (n : Net) (p : PipeState) → find_pipe pipe n ≡ Some p →
       P None n → P None (pipe_exits at pipe k n p)
   pipe_exits-walks at pipe k n p e h = go (flying_in k p) refl (keeps.pipe_left pipe k p n e h)
     where
@@ -189,28 +189,28 @@ module _ (P : Option Packet → Net → Type 0) (keeps : Keeps P) where
       go (Some x) g q =
           let there : Net = put_pipe pipe (pipe_exit k p) n in
           let told : Net = note (PacketPassed at.now x.number pipe k) there in
-          either (P None) n.one_pass (deliver at x there) (go_on at x told) (deliver-walks at x there q)
+          either (P None) n.one_pass (deliver at x there) (reinject at x told) (deliver-walks at x there q)
           (pass_rules_from-walks at (start_behind x.place told.book.rules) x told
           (keeps.passed at.now pipe k x p n e g h))
 
-  expire_flow-walks : (at : Setting) (n : Net) (f : FlowState) → P None n → P None (expire_flow at n f)
+  expire_flow-walks : (at : EventContext) (n : Net) (f : FlowState) → P None n → P None (expire_flow at n f)
   expire_flow-walks at n f h =
       let t : Sender = expire f.flow at.now f.sender in
       let m : Net = put_flow (record f { sender = t }) n in
       said_one (TimerExpired at.now f.number t.cwnd t.ssthresh) m refl (alike None n m refl refl refl refl refl h)
 
-  emit_packet-walks : (at : Setting) (n : Net) (t : TrainState) → P None n → P None (emit_packet at n t)
+  emit_packet-walks : (at : EventContext) (n : Net) (t : TrainState) → P None n → P None (emit_packet at n t)
   emit_packet-walks at n t h =
       let m : Net = put_train (record t { sent = t.sent + 1 }) n in
       make-walks at Plain t.train.packet m (alike None n m refl refl refl refl refl h)
 
-  emit_segment-walks : (at : Setting) (n : Net) (f : FlowState) → P None n → P None (emit_segment at n f)
+  emit_segment-walks : (at : EventContext) (n : Net) (f : FlowState) → P None n → P None (emit_segment at n f)
   emit_segment-walks at n f h =
       let m : Net = put_flow (record f { sender = emit f.flow at.now f.sender }) n in
       make-walks at (Seg f.number (emitted f.sender)) (data_send f.flow) m
       (alike None n m refl refl refl refl refl h)
 
-  event-walks : (at : Setting) (class : Class) (k : ℕ) (n : Net) → P None n → P None (event_of at class k n)
+  event-walks : (at : EventContext) (class : Class) (k : ℕ) (n : Net) → P None n → P None (event_of at class k n)
   event-walks at NextCommand k n h = h
   event-walks at Exit zero n h = direct_exit-walks at n h
   event-walks at Exit (suc k) n h =
@@ -231,7 +231,7 @@ module _ (P : Option Packet → Net → Type 0) (keeps : Keeps P) where
   found_or None f d p q = q refl
   found_or (Some x) f d p q = p x refl
 
-  effect-walks : (at : Setting) (c : Command) (n : Net) → Fits P c → P None n → P None (effect_of at c n)
+  effect-walks : (at : EventContext) (c : Command) (n : Net) → Fits P c → P None n → P None (effect_of at c n)
   effect-walks at (Add r) n fits h = alike None n (effect_of at (Add r) n) refl refl refl refl refl h
   effect-walks at (Delete k) n fits h = alike None n (effect_of at (Delete k) n) refl refl refl refl refl h
   effect-walks at (Config k config) n fits h =
@@ -251,7 +251,7 @@ module _ (P : Option Packet → Net → Type 0) (keeps : Keeps P) where
   effect-walks at (Trace b) n fits h = fits n h
   effect-walks at End n fits h = h
 
-  obey-walks : (at : Setting) (k : ℕ) (c : Command) (n : Net) → Fits P c → P None n → P None (obey at k c n)
+  obey-walks : (at : EventContext) (k : ℕ) (c : Command) (n : Net) → Fits P c → P None n → P None (obey at k c n)
   obey-walks at k c n fits h =
       let m : Net = note (CommandDone at.now k) n in
       some_or (P None) (λ r. note (CommandRefused at.now k r) n) (refusal_of c n) (effect_of at c m)
@@ -305,7 +305,7 @@ module _ (P : Option Packet → Net → Type 0) (keeps : Keeps P) where
 
   -- what holds once the first command is obeyed holds after any number of steps from then on
   pub walks_on : (spec : Spec) (t : Timed) (ts : List Timed) (n : ℕ) →
-      AllByRecursion (λ u. Fits P u.command) ts → ((at : Setting) → P None (obey at 0 t.command initial_net)) →
+      AllByRecursion (λ u. Fits P u.command) ts → ((at : EventContext) → P None (obey at 0 t.command initial_net)) →
       P None (alone spec (t ∷ ts) (suc n)).net
   walks_on spec t ts n fits h =
       subst (λ s. P None s.net) (sym (shifted n (initial_state spec (t ∷ ts))))

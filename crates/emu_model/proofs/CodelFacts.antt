@@ -4,7 +4,7 @@ use Rattle.std.specs.Prelude.{if◌then◌else◌, not, ◌&&◌, nat_lt, min, A
 use Rattle.std.proofs.lemmas.Bool.{lt-ltb, ltb-true, ltb-false}
 use Rattle.std.proofs.lemmas.List.Elements.{All-nil, All-cons}
 use Rattle.emu_model.specs.Types.{Packet}
-use Rattle.emu_model.specs.DropTail.{Waiting}
+use Rattle.emu_model.specs.DropTail.{Queued}
 use Rattle.emu_model.specs.Codel.{Times, CodelState, Dequeued, count_up, initial_count, control_law}
 use Rattle.emu_model.proofs.CodelParts.{ok_to_drop, look, look_empty, drop_on, first_dropped, set_next, drop_head, give_head, give_none, stop_dropping, dequeue_by_parts, by_parts}
 use Rattle.emu_model.specs.CodelLaws.{drop_moment, drop_moments, DropsAreOnTime, DroppingBeginsWithOne, ReentryGoesOn}
@@ -18,12 +18,12 @@ OnTime times now moment count d =
     (d.control.drop_next ≡ drop_moment times.interval moment count (length d.dropped))
     × (now < d.control.drop_next))
 
-given-on-time : (times : Times) (now : ℕ) (c : CodelState) (w : Waiting Packet) (rest : List (Waiting Packet)) →
+given-on-time : (times : Times) (now : ℕ) (c : CodelState) (w : Queued Packet) (rest : List (Queued Packet)) →
     now < c.drop_next → OnTime times now c.drop_next c.count (give_head c w rest)
 given-on-time times now c w rest h = (All-nil (λ m. m ≤ now), omega arith, λ e. (refl, h))
 
 -- one that stops drops nothing more
-stopped-on-time : (times : Times) (now moment count : ℕ) (c : CodelState) (w : Waiting Packet) (rest : List (Waiting Packet)) →
+stopped-on-time : (times : Times) (now moment count : ℕ) (c : CodelState) (w : Queued Packet) (rest : List (Queued Packet)) →
     c.count ≡ count → OnTime times now moment count (give_head (stop_dropping c) w rest)
 stopped-on-time times now moment count c w rest e =
     (All-nil (λ m. m ≤ now), omega (arith, e), λ g. absurd (cc g))
@@ -33,18 +33,18 @@ emptied-on-time : (times : Times) (now moment count : ℕ) (c : CodelState) →
 emptied-on-time times now moment count c e =
     (All-nil (λ m. m ≤ now), omega (arith, e), λ g. absurd (cc g))
 
-dropped-on-time : (times : Times) (now moment count : ℕ) (w : Waiting Packet) (d : Dequeued Packet) →
+dropped-on-time : (times : Times) (now moment count : ℕ) (w : Queued Packet) (d : Dequeued Packet) →
     moment ≤ now → OnTime times now (control_law times.interval moment (count + 1)) (count + 1) d →
     OnTime times now moment count (drop_head w d)
 dropped-on-time times now moment count w d h t =
     (All-cons (λ m. m ≤ now) moment _ h t.0, omega (arith, t.1), t.2)
 
 -- the state at the next head, once one more was dropped
-abbrev next : Times → ℕ → CodelState → Waiting Packet → List (Waiting Packet) → CodelState
+abbrev next : Times → ℕ → CodelState → Queued Packet → List (Queued Packet) → CodelState
 next times now c v rest =
     let counted = look times now (count_up c) v rest in set_next times counted.drop_next counted
 
-on-time : (times : Times) (now : ℕ) (rest : List (Waiting Packet)) (c : CodelState) (w : Waiting Packet) →
+on-time : (times : Times) (now : ℕ) (rest : List (Queued Packet)) (c : CodelState) (w : Queued Packet) →
     c.count + length (w ∷ rest) < 2 ^ 32 →
     OnTime times now c.drop_next c.count (drop_on times now c w rest)
 on-time times now [] c w room = go (nat_lt now c.drop_next) refl
@@ -79,7 +79,7 @@ on-time times now (v ∷ rest) c w room =
         (give_head (stop_dropping (look times now (count_up c) v rest)) v rest) (ltb-false _ _ e)
         (stopped-on-time times now _ (c.count + 1) (look times now (count_up c) v rest) v rest up)
 
-parts-on-time : (times : Times) (now : ℕ) (c : CodelState) (ws : List (Waiting Packet)) →
+parts-on-time : (times : Times) (now : ℕ) (c : CodelState) (ws : List (Queued Packet)) →
     c.dropping ≡ true → c.count + length ws < 2 ^ 32 →
     OnTime times now c.drop_next c.count (dequeue_by_parts times now c ws)
 parts-on-time times now c [] b room = emptied-on-time times now _ _ (look_empty c) refl
@@ -104,12 +104,12 @@ Begins times now d =
     × (length d.dropped ≡ 1 → (d.control.dropping ≡ true) × (d.control.last_count ≡ d.control.count)
     × (d.control.drop_next ≡ control_law times.interval now d.control.count))
 
-first-begins : (times : Times) (now : ℕ) (c : CodelState) (w : Waiting Packet) (rest : List (Waiting Packet)) →
+first-begins : (times : Times) (now : ℕ) (c : CodelState) (w : Queued Packet) (rest : List (Queued Packet)) →
     Begins times now (first_dropped times now c w rest)
 first-begins times now c w [] = (omega arith, λ h. (refl, refl, refl))
 first-begins times now c w (v ∷ rest) = (omega arith, λ h. (refl, refl, refl))
 
-parts-begin : (times : Times) (now : ℕ) (c : CodelState) (ws : List (Waiting Packet)) → c.dropping ≡ false →
+parts-begin : (times : Times) (now : ℕ) (c : CodelState) (ws : List (Queued Packet)) → c.dropping ≡ false →
     Begins times now (dequeue_by_parts times now c ws)
 parts-begin times now c [] b = (omega arith, λ h. absurd (omega (arith, h)))
 parts-begin times now c (w ∷ rest) b = rw b (go (ok_to_drop times now c w rest))
@@ -145,7 +145,7 @@ opened times now c = (
     go late true false e = refl
     go late false false e = refl
 
-first-reenters : (times : Times) (now : ℕ) (c : CodelState) (w : Waiting Packet) (rest : List (Waiting Packet)) →
+first-reenters : (times : Times) (now : ℕ) (c : CodelState) (w : Queued Packet) (rest : List (Queued Packet)) →
     Reenters times now c (first_dropped times now c w rest).control.count
 first-reenters times now c w [] = opened times now (look_empty c)
 first-reenters times now c w (v ∷ rest) = opened times now (look times now c v rest)
@@ -154,7 +154,7 @@ first-reenters times now c w (v ∷ rest) = opened times now (look times now c v
 abbrev ReentersIn : Times → ℕ → CodelState → Dequeued Packet → Type 0
 ReentersIn times now c d = length d.dropped ≡ 1 → Reenters times now c d.control.count
 
-parts-reenter : (times : Times) (now : ℕ) (c : CodelState) (ws : List (Waiting Packet)) → c.dropping ≡ false →
+parts-reenter : (times : Times) (now : ℕ) (c : CodelState) (ws : List (Queued Packet)) → c.dropping ≡ false →
     ReentersIn times now c (dequeue_by_parts times now c ws)
 parts-reenter times now c [] b = λ h. absurd (omega (arith, h))
 parts-reenter times now c (w ∷ rest) b = rw b (go (ok_to_drop times now c w rest))

@@ -2,11 +2,11 @@
 -- that they are the definition's.
 use Rattle.std.proofs.Common.{◌≡◌, ℕ, zero, suc, ◌+◌, ◌-◌, ◌<◌, refl, ap, ◌∙◌, Bool, true, false, Some, None, List, [], ◌∷◌, length, arith}
 use Rattle.std.specs.Prelude.{◌||◌, not, ◌==◌, nat_lt, nat_le, if◌then◌else◌}
-use Rattle.emu_model.specs.DropTail.{Waiting, bytes_of}
+use Rattle.emu_model.specs.DropTail.{Queued, bytes_of}
 use Rattle.emu_model.specs.Codel.{Times, CodelState, DodequeueResult, Dequeued, maxpacket, with_above, answer, dodequeue, give, after_drop, count_up, leave_drop_state, schedule_next, while_dropping, enter_drop_state, drop_first, codel_dequeue, control_law}
 
 -- the head's stay is short, or what is left behind it is no more than one greatest packet
-abbrev pub is_short : {A : Type 0} → Times → ℕ → Waiting A → List (Waiting A) → Bool
+abbrev pub is_short : {A : Type 0} → Times → ℕ → Queued A → List (Queued A) → Bool
 is_short times now w rest = nat_lt (now - w.stamp) times.target || nat_le (bytes_of rest) maxpacket
 
 -- whether the head may be dropped, and the moment at which the stay has been long for an interval
@@ -21,14 +21,14 @@ found_by times now above false =
     if above == 0 then record { ok_to_drop = false; first_above_time = now + times.interval }
     else record { ok_to_drop = nat_le above now; first_above_time = above }
 
-abbrev pub found_of : {A : Type 0} → Times → ℕ → CodelState → Waiting A → List (Waiting A) → Found
+abbrev pub found_of : {A : Type 0} → Times → ℕ → CodelState → Queued A → List (Queued A) → Found
 found_of times now c w rest = found_by times now c.first_above_time (is_short times now w rest)
 
-abbrev pub ok_to_drop : {A : Type 0} → Times → ℕ → CodelState → Waiting A → List (Waiting A) → Bool
+abbrev pub ok_to_drop : {A : Type 0} → Times → ℕ → CodelState → Queued A → List (Queued A) → Bool
 ok_to_drop times now c w rest = (found_of times now c w rest).ok_to_drop
 
 -- the state once the head was looked at, and once the queue was found empty
-abbrev pub look : {A : Type 0} → Times → ℕ → CodelState → Waiting A → List (Waiting A) → CodelState
+abbrev pub look : {A : Type 0} → Times → ℕ → CodelState → Queued A → List (Queued A) → CodelState
 look times now c w rest = record c { first_above_time = (found_of times now c w rest).first_above_time }
 
 abbrev pub look_empty : CodelState → CodelState
@@ -37,20 +37,20 @@ look_empty c = record c { first_above_time = 0 }
 abbrev pub stop_dropping : CodelState → CodelState
 stop_dropping c = record c { dropping = false }
 
-abbrev pub give_head : {A : Type 0} → CodelState → Waiting A → List (Waiting A) → Dequeued A
+abbrev pub give_head : {A : Type 0} → CodelState → Queued A → List (Queued A) → Dequeued A
 give_head c w rest = record { dropped = []; given = Some w; rest = rest; control = c }
 
 abbrev pub give_none : {A : Type 0} → CodelState → Dequeued A
 give_none c = record { dropped = []; given = None; rest = []; control = c }
 
-abbrev pub drop_head : {A : Type 0} → Waiting A → Dequeued A → Dequeued A
+abbrev pub drop_head : {A : Type 0} → Queued A → Dequeued A → Dequeued A
 drop_head w d = record d { dropped = w ∷ d.dropped }
 
 abbrev pub set_next : Times → ℕ → CodelState → CodelState
 set_next times from c = record c { drop_next = control_law times.interval from c.count }
 
 -- a head that may be dropped, while dropping: it goes once `drop_next` has come, and so on
-abbrev pub drop_on : {A : Type 0} → Times → ℕ → CodelState → Waiting A → List (Waiting A) → Dequeued A
+abbrev pub drop_on : {A : Type 0} → Times → ℕ → CodelState → Queued A → List (Queued A) → Dequeued A
 drop_on times now c w [] =
     if nat_lt now c.drop_next then give_head c w []
     else drop_head w (give_none (stop_dropping (look_empty (count_up c))))
@@ -62,12 +62,12 @@ drop_on times now c w (v ∷ rest) =
     else drop_head w (give_head (stop_dropping counted) v rest))
 
 -- a head that may be dropped, as dropping begins: it goes, and the next is given
-abbrev pub first_dropped : {A : Type 0} → Times → ℕ → CodelState → Waiting A → List (Waiting A) → Dequeued A
+abbrev pub first_dropped : {A : Type 0} → Times → ℕ → CodelState → Queued A → List (Queued A) → Dequeued A
 first_dropped times now c w [] = drop_head w (give_none (enter_drop_state times now (look_empty c)))
 first_dropped times now c w (v ∷ rest) =
     drop_head w (give_head (enter_drop_state times now (look times now c v rest)) v rest)
 
-abbrev pub dequeue_by_parts : {A : Type 0} → Times → ℕ → CodelState → List (Waiting A) → Dequeued A
+abbrev pub dequeue_by_parts : {A : Type 0} → Times → ℕ → CodelState → List (Queued A) → Dequeued A
 dequeue_by_parts times now c [] = give_none (stop_dropping (look_empty c))
 dequeue_by_parts times now c (w ∷ rest) =
     let seen = look times now c w rest in
@@ -75,10 +75,10 @@ dequeue_by_parts times now c (w ∷ rest) =
     else (if c.dropping then drop_on times now seen w rest else first_dropped times now seen w rest)
 
 -- the head in hand
-abbrev in_hand : {A : Type 0} → Bool → CodelState → Waiting A → List (Waiting A) → DodequeueResult A
+abbrev in_hand : {A : Type 0} → Bool → CodelState → Queued A → List (Queued A) → DodequeueResult A
 in_hand ok c w rest = record { p = Some w; ok_to_drop = ok; rest = rest; control = c }
 
-dodequeue-parts : {A : Type 0} (times : Times) (now : ℕ) (c : CodelState) (w : Waiting A) (rest : List (Waiting A)) →
+dodequeue-parts : {A : Type 0} (times : Times) (now : ℕ) (c : CodelState) (w : Queued A) (rest : List (Queued A)) →
     dodequeue times now c (w ∷ rest) ≡ in_hand (ok_to_drop times now c w rest) (look times now c w rest) w rest
 dodequeue-parts {A = A} times now c w rest = go (is_short times now w rest)
   where
@@ -107,7 +107,7 @@ left-gives zero times now r = refl
 left-gives (suc n) times now r = refl
 
 -- while dropping, where the rounds are enough
-while-parts : {A : Type 0} (n : ℕ) (times : Times) (now : ℕ) (rest : List (Waiting A)) (ok : Bool) (c : CodelState) (w : Waiting A) →
+while-parts : {A : Type 0} (n : ℕ) (times : Times) (now : ℕ) (rest : List (Queued A)) (ok : Bool) (c : CodelState) (w : Queued A) →
     c.dropping ≡ true → length rest < n →
     while_dropping n times now (in_hand ok c w rest) ≡ drop_on times now c w rest
 while-parts zero times now rest ok c w on few = absurd (omega (arith, few))
@@ -144,14 +144,14 @@ while-parts {A = A} (suc n) times now (v ∷ rest) ok c w on few =
         ap (λ d. if nat_lt now c.drop_next then give_head c w (v ∷ rest) else drop_head w d)
         (left-gives n times now (in_hand false counted v rest))
 
-first-parts : {A : Type 0} (times : Times) (now : ℕ) (ok : Bool) (c : CodelState) (w : Waiting A) (rest : List (Waiting A)) →
+first-parts : {A : Type 0} (times : Times) (now : ℕ) (ok : Bool) (c : CodelState) (w : Queued A) (rest : List (Queued A)) →
     drop_first times now (in_hand ok c w rest) ≡ first_dropped times now c w rest
 first-parts times now ok c w [] = refl
 first-parts times now ok c w (v ∷ rest) =
     ap (λ r. after_drop (Some w) (give (record r { control = enter_drop_state times now r.control })))
     (dodequeue-parts times now c v rest)
 
-pub by_parts : {A : Type 0} (times : Times) (now : ℕ) (c : CodelState) (ws : List (Waiting A)) →
+pub by_parts : {A : Type 0} (times : Times) (now : ℕ) (c : CodelState) (ws : List (Queued A)) →
     codel_dequeue times now c ws ≡ dequeue_by_parts times now c ws
 by_parts times now c [] = refl
 by_parts {A = A} times now c (w ∷ rest) =

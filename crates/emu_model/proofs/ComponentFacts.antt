@@ -9,7 +9,7 @@ use Rattle.std.proofs.lemmas.Nat.{mod_below}
 use Rattle.rand_chacha.specs.Block.{block_word}
 use Rattle.emu_model.specs.Types.{Packet, Slots, KBytes}
 use Rattle.emu_model.specs.Loss.{loss_word}
-use Rattle.emu_model.specs.DropTail.{Waiting, bytes_of}
+use Rattle.emu_model.specs.DropTail.{Queued, bytes_of}
 use Rattle.emu_model.specs.Codel.{Times, CodelState, Dequeued, maxpacket, count_up, codel_dequeue}
 use Rattle.emu_model.proofs.CodelParts.{found_by, ok_to_drop, look, look_empty, drop_on, first_dropped, set_next, drop_head, give_head, give_none, stop_dropping, dequeue_by_parts, by_parts}
 use Rattle.emu_model.specs.Rate.{finish_at, finishes}
@@ -61,7 +61,7 @@ exits_are_folded (e ∷ es) l =
     let x : ℕ = exit_after l.last e.finish e.delay in
     exits_are_folded es (enter e.packet e.finish e.delay l)
     ∙ ap (λ xs. xs ++ exits x (map (λ a. (a.finish, a.delay)) es))
-    (map-append (λ a. a.exit) l.flight (record { item = e.packet; exit = x } ∷ []))
+    (map-append (λ a. a.exit) l.in_flight (record { item = e.packet; exit = x } ∷ []))
     ∙ append_assoc (exits_of l) (x ∷ []) (exits x (map (λ a. (a.finish, a.delay)) es))
 
 pub exits_never_fall : ExitsNeverFall
@@ -76,7 +76,7 @@ pub loss_has_its_extremes : LossHasItsExtremes
 loss_has_its_extremes seed pipe instance place =
     (refl, lt-ltb _ _ (omega (arith, word_below seed pipe instance place)))
 
-bytes-append : (ws : List (Waiting Packet)) (w : Waiting Packet) →
+bytes-append : (ws : List (Queued Packet)) (w : Queued Packet) →
     bytes_of (ws ++ w ∷ []) ≡ bytes_of ws + w.size
 bytes-append ws w =
     sum-map (λ v. v.size) (ws ++ w ∷ []) ∙ sum_by-append (λ v. v.size) ws (w ∷ [])
@@ -89,15 +89,15 @@ accepts_within_limit (KBytes n) ws w h =
     omega (arith, leb-true _ _ h, bytes-append ws w)
 
 -- the packets of a dequeue, in order, and that those it drops stayed long
-record Faithful (times : Times) (now : ℕ) (ws : List (Waiting Packet)) (d : Dequeued Packet) : Type 0 where
+record Faithful (times : Times) (now : ℕ) (ws : List (Queued Packet)) (d : Dequeued Packet) : Type 0 where
   order : d.dropped ++ option_to_list d.given ++ d.rest ≡ ws
   late : All (λ w. times.target ≤ now - w.stamp) d.dropped
 
-given-faithful : (times : Times) (now : ℕ) (c : CodelState) (w : Waiting Packet) (rest : List (Waiting Packet)) →
+given-faithful : (times : Times) (now : ℕ) (c : CodelState) (w : Queued Packet) (rest : List (Queued Packet)) →
     Faithful times now (w ∷ rest) (give_head c w rest)
 given-faithful times now c w rest = record { order = refl; late = All-nil (λ v. times.target ≤ now - v.stamp) }
 
-dropped-faithful : (times : Times) (now : ℕ) (w : Waiting Packet) (ws : List (Waiting Packet)) (d : Dequeued Packet) →
+dropped-faithful : (times : Times) (now : ℕ) (w : Queued Packet) (ws : List (Queued Packet)) (d : Dequeued Packet) →
     times.target ≤ now - w.stamp → Faithful times now ws d →
     Faithful times now (w ∷ ws) (drop_head w d)
 dropped-faithful times now w ws d h f = record {
@@ -119,11 +119,11 @@ long_stay times now above stay few e = go (nat_lt stay times.target) refl e
     go false h g = ltb-false _ _ h
 
 -- the state at the next head, once one more was dropped
-abbrev next : Times → ℕ → CodelState → Waiting Packet → List (Waiting Packet) → CodelState
+abbrev next : Times → ℕ → CodelState → Queued Packet → List (Queued Packet) → CodelState
 next times now c v rest =
     let counted = look times now (count_up c) v rest in set_next times counted.drop_next counted
 
-on-faithful : (times : Times) (now : ℕ) (rest : List (Waiting Packet)) (c : CodelState) (w : Waiting Packet) →
+on-faithful : (times : Times) (now : ℕ) (rest : List (Queued Packet)) (c : CodelState) (w : Queued Packet) →
     times.target ≤ now - w.stamp → Faithful times now (w ∷ rest) (drop_on times now c w rest)
 on-faithful times now [] c w h =
     elim (nat_lt now c.drop_next) as (λ b. Faithful times now (w ∷ [])
@@ -148,14 +148,14 @@ on-faithful times now (v ∷ rest) c w h =
     go false false e ih =
         dropped-faithful times now w (v ∷ rest) _ h (given-faithful times now _ v rest)
 
-first-faithful : (times : Times) (now : ℕ) (c : CodelState) (w : Waiting Packet) (rest : List (Waiting Packet)) →
+first-faithful : (times : Times) (now : ℕ) (c : CodelState) (w : Queued Packet) (rest : List (Queued Packet)) →
     times.target ≤ now - w.stamp → Faithful times now (w ∷ rest) (first_dropped times now c w rest)
 first-faithful times now c w [] h =
     dropped-faithful times now w [] _ h (none-faithful times now _)
 first-faithful times now c w (v ∷ rest) h =
     dropped-faithful times now w (v ∷ rest) _ h (given-faithful times now _ v rest)
 
-parts-faithful : (times : Times) (now : ℕ) (c : CodelState) (ws : List (Waiting Packet)) →
+parts-faithful : (times : Times) (now : ℕ) (c : CodelState) (ws : List (Queued Packet)) →
     Faithful times now ws (dequeue_by_parts times now c ws)
 parts-faithful times now c [] = none-faithful times now _
 parts-faithful times now c (w ∷ rest) = go (ok_to_drop times now c w rest) c.dropping refl
@@ -169,7 +169,7 @@ parts-faithful times now c (w ∷ rest) = go (ok_to_drop times now c w rest) c.d
     go true true e = on-faithful times now rest (look times now c w rest) w (long_stay times now c.first_above_time (now - w.stamp) (nat_le (bytes_of rest) maxpacket) e)
     go true false e = first-faithful times now (look times now c w rest) w rest (long_stay times now c.first_above_time (now - w.stamp) (nat_le (bytes_of rest) maxpacket) e)
 
-codel-faithful : (times : Times) (now : ℕ) (c : CodelState) (ws : List (Waiting Packet)) →
+codel-faithful : (times : Times) (now : ℕ) (c : CodelState) (ws : List (Queued Packet)) →
     Faithful times now ws (codel_dequeue times now c ws)
 codel-faithful times now c ws = subst (λ d. Faithful times now ws d) (sym (by_parts times now c ws)) (parts-faithful times now c ws)
 

@@ -4,7 +4,7 @@ use Rattle.std.specs.Prelude.{if◌then◌else◌, nat_lt, flat_map, option_map,
 use Rattle.std.specs.List.{AllByRecursion}
 use Rattle.emu_model.specs.Types.{Packet, Exit, Finish, Expiry, Emission}
 use Rattle.emu_model.specs.declared.sources.Due.{Due}
-use Rattle.emu_model.specs.Delay.{Leaving, Line, first_exit}
+use Rattle.emu_model.specs.Delay.{InFlight, Line, first_exit}
 use Rattle.emu_model.specs.Reno.{may_emit}
 use Rattle.emu_model.specs.Pipes.{InService, Instance}
 use Rattle.emu_model.specs.Net.{Net, FlowState, TrainState}
@@ -13,7 +13,7 @@ use Rattle.emu_model.proofs.AllFacts.{each_joined, each_front, each_back}
 use Rattle.emu_model.proofs.Holding.{Facts, Holds}
 
 -- what is said of a moment is said of the first exit, of a finish, of a timer that is set
-abbrev pub ExitDue : (ℕ → Type 0) → List (Leaving Packet) → Type 0
+abbrev pub ExitDue : (ℕ → Type 0) → List (InFlight Packet) → Type 0
 ExitDue D [] = Unit {0}
 ExitDue D (x ∷ xs) = D x.exit
 
@@ -26,7 +26,7 @@ TimerDue D None = Unit {0}
 TimerDue D (Some t) = D t
 
 pub record InstanceDue (D : ℕ → Type 0) (i : Instance) : Type 0 where
-  pub line : ExitDue D i.line.flight
+  pub line : ExitDue D i.line.in_flight
   pub service : FinishDue D i.service
 
 pub record FlowDue (D : ℕ → Type 0) (clock : ℕ) (f : FlowState) : Type 0 where
@@ -40,7 +40,7 @@ TrainDue D t = nat_lt t.sent t.train.count ≡ true → D (t.start + t.sent * t.
 abbrev pub timely : (ℕ → Type 0) → ℕ → Facts
 timely D clock = record {
   packet = λ p. Unit {0};
-  line = λ l. ExitDue D l.flight;
+  line = λ l. ExitDue D l.in_flight;
   pipe = λ p. AllByRecursion (InstanceDue D) p.instances;
   flow = FlowDue D clock;
   train = TrainDue D;
@@ -94,18 +94,18 @@ module _ (D : ℕ → Type 0) where
   abbrev IsDue : Due → Type 0
   IsDue d = D d.moment
 
-  line-to : (k : ℕ) (l : Line Packet) → ExitDue D l.flight → AllByRecursion IsDue (line_dues k l)
-  line-to k l h = go l.flight h
+  line-to : (k : ℕ) (l : Line Packet) → ExitDue D l.in_flight → AllByRecursion IsDue (line_dues k l)
+  line-to k l h = go l.in_flight h
     where
-      go : (xs : List (Leaving Packet)) → ExitDue D xs →
+      go : (xs : List (InFlight Packet)) → ExitDue D xs →
           AllByRecursion IsDue (option_to_list (option_map (due Exit k) (first_exit xs)))
       go [] r = tt
       go (x ∷ xs) r = (r, tt)
 
-  line-from : (k : ℕ) (l : Line Packet) → AllByRecursion IsDue (line_dues k l) → ExitDue D l.flight
-  line-from k l d = go l.flight d
+  line-from : (k : ℕ) (l : Line Packet) → AllByRecursion IsDue (line_dues k l) → ExitDue D l.in_flight
+  line-from k l d = go l.in_flight d
     where
-      go : (xs : List (Leaving Packet)) →
+      go : (xs : List (InFlight Packet)) →
           AllByRecursion IsDue (option_to_list (option_map (due Exit k) (first_exit xs))) → ExitDue D xs
       go [] q = tt
       go (x ∷ xs) q = q.0

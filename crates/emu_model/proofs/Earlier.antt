@@ -8,7 +8,7 @@ use Rattle.emu_model.specs.Rules.{verdict, start_behind, counted_book}
 use Rattle.emu_model.specs.Delay.{first_item, leave}
 use Rattle.emu_model.specs.Reno.{with_segment, missing, ack, emitted, emit, expire}
 use Rattle.emu_model.specs.Pipes.{After, InService, PipeState, pipe_arrive, pipe_finish, pipe_exit, pipe_configure}
-use Rattle.emu_model.specs.Net.{Net, Setting, FlowState, note, note_all, note_traced, drop_packet, arrivals, to_pipe, enter_pipe, by_verdict, pass_rules_from, go_on, packet_of, make_record, make, held, data_send, ack_send, find_pipe, put_pipe, put_after, find_flow, put_flow, find_train, put_train, take_segment, take_ack, take_load, deliver}
+use Rattle.emu_model.specs.Net.{Net, EventContext, FlowState, note, note_all, note_traced, drop_packet, arrivals, to_pipe, enter_pipe, by_verdict, pass_rules_from, reinject, packet_of, make_record, make, held, data_send, ack_send, find_pipe, put_pipe, put_after, find_flow, put_flow, find_train, put_train, take_segment, take_ack, take_load, deliver}
 use Rattle.emu_model.specs.Commands.{new_pipe, delete_pipe, stop_flow, refusal_of, effect_of, obey}
 use Rattle.emu_model.specs.Events.{direct_exit, flying_in, leave_pipe, pipe_exits, served_in, note_finish, pipe_finishes, expire_flow, emit_segment, emit_packet, emission, event_of}
 use Rattle.emu_model.specs.Step.{State, setting, take_command, take_class, take_due, count_step, spend, is_last_step, next_event, step_with, step}
@@ -46,7 +46,7 @@ module _ (rs : List Record) where
   chosen f g true sf sg n = sf n
   chosen f g false sf sg n = sg n
 
-  to-pipe : (at : Setting) (k : ℕ) (p : Packet) → Same (to_pipe at k p)
+  to-pipe : (at : EventContext) (k : ℕ) (p : Packet) → Same (to_pipe at k p)
   to-pipe at k p n =
       let come : List Record = option_map_or (arrivals at.now p) (find_pipe k n) [] in
       let m : Net = note_traced come n in
@@ -54,19 +54,19 @@ module _ (rs : List Record) where
       ∙ found (λ pipe. put_after at.now k (pipe_arrive at.seed at.now p pipe)) (drop_packet at.now NoPipe p)
       (find_pipe k m) (λ pipe. put-after at.now k (pipe_arrive at.seed at.now p pipe)) (noted _) m
 
-  by-verdict : (at : Setting) (v : Verdict) (p : Packet) → Same (by_verdict at v p)
+  by-verdict : (at : EventContext) (v : Verdict) (p : Packet) → Same (by_verdict at v p)
   by-verdict at OverTheLink p n = refl
   by-verdict at Dropped p n = noted _ n
   by-verdict at (IntoPipe k place) p n = to-pipe at k (record p { place = place }) n
 
-  pass-rules : (at : Setting) (start : ℕ) (p : Packet) → Same (pass_rules_from at start p)
+  pass-rules : (at : EventContext) (start : ℕ) (p : Packet) → Same (pass_rules_from at start p)
   pass-rules at start p n =
       by-verdict at (verdict start p n.book.rules) p (record n { book = counted_book start p n.book })
 
-  goes-on : (at : Setting) (p : Packet) → Same (go_on at p)
+  goes-on : (at : EventContext) (p : Packet) → Same (reinject at p)
   goes-on at p n = pass-rules at (start_behind p.place n.book.rules) p n
 
-  making : (at : Setting) (load : Load) (send : SendSpec) → Same (make at load send)
+  making : (at : EventContext) (load : Load) (send : SendSpec) → Same (make at load send)
   making at load send n =
       let p : Packet = packet_of load send n.made in
       let line : List Record = make_record at.now p ∷ [] in
@@ -77,7 +77,7 @@ module _ (rs : List Record) where
       (pass-rules at 0 p) (noted _) (note_traced line m)
 
   -- a flow of the net, put through
-  taking-segment : (at : Setting) (first : ℕ) (f : FlowState) → Same (λ n. take_segment at first n f)
+  taking-segment : (at : EventContext) (first : ℕ) (f : FlowState) → Same (λ n. take_segment at first n f)
   taking-segment at first f n =
       let came : List ℕ = with_segment first f.came in
       making at (Ack f.number (missing f.flow.smss came)) (ack_send f.flow) (put_flow (record f { came = came }) n)
@@ -94,28 +94,28 @@ module _ (rs : List Record) where
   same : Same (λ n. n)
   same n = refl
 
-  taking-load : (at : Setting) (l : Load) → Same (take_load at l)
+  taking-load : (at : EventContext) (l : Load) → Same (take_load at l)
   taking-load at Plain n = refl
   taking-load at (Seg k first) n =
       found (λ f n. take_segment at first n f) (λ n. n) (find_flow k n) (taking-segment at first) same n
   taking-load at (Ack k upto) n =
       found (λ f n. take_ack at.now upto n f) (λ n. n) (find_flow k n) (taking-ack at.now upto) same n
 
-  delivered : (at : Setting) (p : Packet) → Same (deliver at p)
+  delivered : (at : EventContext) (p : Packet) → Same (deliver at p)
   delivered at p =
       both (note (PacketDelivered at.now p.number p.load)) (take_load at p.load) (noted _) (taking-load at p.load)
 
   -- events
-  exits-direct : (at : Setting) → Same (direct_exit at)
+  exits-direct : (at : EventContext) → Same (direct_exit at)
   exits-direct at n =
-      found (λ q. deliver at q) (λ n. n) (first_item n.direct.flight) (delivered at) same (record n { direct = leave n.direct })
+      found (λ q. deliver at q) (λ n. n) (first_item n.direct.in_flight) (delivered at) same (record n { direct = leave n.direct })
 
-  leaves-pipe : (at : Setting) (pipe k : ℕ) (q : Packet) → Same (leave_pipe at pipe k q)
+  leaves-pipe : (at : EventContext) (pipe k : ℕ) (q : Packet) → Same (leave_pipe at pipe k q)
   leaves-pipe at pipe k q n =
-      chosen (deliver at q) (λ n. go_on at q (note (PacketPassed at.now q.number pipe k) n)) n.one_pass
-      (delivered at q) (both (note (PacketPassed at.now q.number pipe k)) (go_on at q) (noted _) (goes-on at q)) n
+      chosen (deliver at q) (λ n. reinject at q (note (PacketPassed at.now q.number pipe k) n)) n.one_pass
+      (delivered at q) (both (note (PacketPassed at.now q.number pipe k)) (reinject at q) (noted _) (goes-on at q)) n
 
-  exits-pipe : (at : Setting) (pipe k : ℕ) (p : PipeState) → Same (λ n. pipe_exits at pipe k n p)
+  exits-pipe : (at : EventContext) (pipe k : ℕ) (p : PipeState) → Same (λ n. pipe_exits at pipe k n p)
   exits-pipe at pipe k p n =
       found (λ q. leave_pipe at pipe k q) (λ n. n) (flying_in k p) (leaves-pipe at pipe k) same (put_pipe pipe (pipe_exit k p) n)
 
@@ -123,19 +123,19 @@ module _ (rs : List Record) where
   notes-finish now pipe k s n =
       found (λ i. note (PacketFinished now i.item.number pipe k)) (λ n. n) s (λ i. noted _) same n
 
-  finishes-pipe : (at : Setting) (pipe k : ℕ) (p : PipeState) → Same (λ n. pipe_finishes at pipe k n p)
+  finishes-pipe : (at : EventContext) (pipe k : ℕ) (p : PipeState) → Same (λ n. pipe_finishes at pipe k n p)
   finishes-pipe at pipe k p =
       both (note_finish at.now pipe k (served_in k p)) (put_after at.now pipe (pipe_finish at.now k p))
       (notes-finish at.now pipe k (served_in k p)) (put-after at.now pipe (pipe_finish at.now k p))
 
-  emits : (at : Setting) (k : ℕ) → Same (emission at k)
+  emits : (at : EventContext) (k : ℕ) → Same (emission at k)
   emits at k n =
       found (λ t n. emit_packet at n t) (λ n. option_map_or (emit_segment at n) (find_flow k n) n) (find_train k n)
       (λ t n. making at Plain t.train.packet (put_train (record t { sent = t.sent + 1 }) n))
       (λ n. found (λ f n. emit_segment at n f) (λ n. n) (find_flow k n) (λ f n. making at (Seg f.number (emitted f.sender)) (data_send f.flow)
       (put_flow (record f { sender = emit f.flow at.now f.sender }) n)) same n) n
 
-  event-same : (at : Setting) (class : Class) (k : ℕ) → Same (event_of at class k)
+  event-same : (at : EventContext) (class : Class) (k : ℕ) → Same (event_of at class k)
   event-same at NextCommand k n = refl
   event-same at Exit zero n = exits-direct at n
   event-same at Exit (suc k) n =
@@ -165,7 +165,7 @@ module _ (rs : List Record) where
   refusal-same (Trace b) n = refl
   refusal-same End n = refl
 
-  effect-same : (at : Setting) (c : Command) → Same (effect_of at c)
+  effect-same : (at : EventContext) (c : Command) → Same (effect_of at c)
   effect-same at (Add r) n = refl
   effect-same at (Delete k) n = refl
   effect-same at (Config k config) n =
@@ -183,7 +183,7 @@ module _ (rs : List Record) where
   effect-same at (Trace b) n = refl
   effect-same at End n = refl
 
-  obey-same : (at : Setting) (k : ℕ) (c : Command) → Same (obey at k c)
+  obey-same : (at : EventContext) (k : ℕ) (c : Command) → Same (obey at k c)
   obey-same at k c n =
       ap (λ o. option_map_or (λ r. note (CommandRefused at.now k r) (E n)) o
       (effect_of at c (note (CommandDone at.now k) (E n)))) (refusal-same c n)

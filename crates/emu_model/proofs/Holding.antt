@@ -8,7 +8,7 @@ use Rattle.emu_model.specs.Rules.{verdict, start_behind, counted_book}
 use Rattle.emu_model.specs.Delay.{Line, first_item, enter, leave}
 use Rattle.emu_model.specs.Reno.{ack, expire, with_segment, missing, emitted, emit, initial_sender}
 use Rattle.emu_model.specs.Pipes.{InService, PipeState, After, pipe_arrive, pipe_finish, pipe_exit, pipe_configure}
-use Rattle.emu_model.specs.Net.{Net, Setting, FlowState, TrainState, note, note_traced, note_arrival, enter_pipe, make_record, held, drop_packet, find_pipe, put_pipe, put_after, to_pipe, by_verdict, pass_rules_from, pass_rules, go_on, packet_of, make, data_send, ack_send, put_flow, put_train, find_flow, find_train, note_ack, take_segment, take_ack, take_load, deliver}
+use Rattle.emu_model.specs.Net.{Net, EventContext, FlowState, TrainState, note, note_traced, note_arrival, enter_pipe, make_record, held, drop_packet, find_pipe, put_pipe, put_after, to_pipe, by_verdict, pass_rules_from, pass_rules, reinject, packet_of, make, data_send, ack_send, put_flow, put_train, find_flow, find_train, note_ack, take_segment, take_ack, take_load, deliver}
 use Rattle.emu_model.specs.Commands.{with_pipe, new_pipe, delete_pipe, stop_flow, refusal_of, effect_of, obey}
 use Rattle.emu_model.specs.Events.{direct_exit, flying_in, leave_pipe, pipe_exits, served_in, note_finish, pipe_finishes, expire_flow, emit_segment, emit_packet, event_of}
 use Rattle.emu_model.proofs.AllFacts.{either, some_or, each_both, each_joined, each_found, each_replaced, each_removed}
@@ -29,14 +29,14 @@ pub record Holds (h : Facts) (n : Net) : Type 0 where
   pub trains : AllByRecursion h.train n.trains
 
 -- what an event does to one part keeps what is said of it
-pub record Keeps (h : Facts) (at : Setting) : Type 0 where
+pub record Keeps (h : Facts) (at : EventContext) : Type 0 where
   pub placed : (p : Packet) (place : Place) → h.packet p → h.packet (record p { place = place })
   pub segment : (l : Load) (k : ℕ) (f : FlowState) → h.flow f → h.packet (packet_of l (data_send f.flow) k)
   pub reply : (l : Load) (k : ℕ) (f : FlowState) → h.flow f → h.packet (packet_of l (ack_send f.flow) k)
   pub one_of_train : (l : Load) (k : ℕ) (t : TrainState) → h.train t → h.packet (packet_of l t.train.packet k)
   pub entered : (p : Packet) (l : Line Packet) → h.packet p → h.line l → h.line (enter p at.now 0 l)
   pub left : (l : Line Packet) → h.line l → h.line (leave l)
-  pub leaving : (p : Packet) (l : Line Packet) → first_item l.flight ≡ Some p → h.line l → h.packet p
+  pub leaving : (p : Packet) (l : Line Packet) → first_item l.in_flight ≡ Some p → h.line l → h.packet p
   pub arrived : (p : Packet) (q : PipeState) → h.packet p → h.pipe q → h.pipe (pipe_arrive at.seed at.now p q).state
   pub pipe_left : (k : ℕ) (q : PipeState) → h.pipe q → h.pipe (pipe_exit k q)
   pub pipe_leaving : (k : ℕ) (p : Packet) (q : PipeState) → flying_in k q ≡ Some p → h.pipe q → h.packet p
@@ -120,7 +120,7 @@ module _ (h : Facts) where
   after-put now k a n p s =
       same_parts (put_pipe k a.state n) (put_after now k a n) refl refl refl refl (pipe-put k a.state n p s)
 
-module _ (h : Facts) (at : Setting) (keeps : Keeps h at) where
+module _ (h : Facts) (at : EventContext) (keeps : Keeps h at) where
   enter_pipe-holds : (k : ℕ) (p : Packet) (n : Net) → h.packet p → Holds h n → Holds h (enter_pipe at k p n)
   enter_pipe-holds k p n fits s =
       some_or (Holds h) (λ q. put_after at.now k (pipe_arrive at.seed at.now p q) n) (find_pipe k n)
@@ -189,13 +189,13 @@ module _ (h : Facts) (at : Setting) (keeps : Keeps h at) where
   direct_exit-holds n s =
       let m : Net = record n { direct = leave n.direct } in
       let left : Holds h m = direct-put h (leave n.direct) n (keeps.left n.direct s.direct) s in
-      some_or (Holds h) (λ q. deliver at q m) (first_item n.direct.flight) m
+      some_or (Holds h) (λ q. deliver at q m) (first_item n.direct.in_flight) m
       (λ q e. deliver-holds q m left) left
 
   leave_pipe-holds : (pipe k : ℕ) (q : Packet) (n : Net) → h.packet q → Holds h n → Holds h (leave_pipe at pipe k q n)
   leave_pipe-holds pipe k q n fits s =
       let m : Net = note (PacketPassed at.now q.number pipe k) n in
-      either (Holds h) n.one_pass (deliver at q n) (go_on at q m) (deliver-holds q n s)
+      either (Holds h) n.one_pass (deliver at q n) (reinject at q m) (deliver-holds q n s)
       (pass_rules_from-holds (start_behind q.place m.book.rules) q m fits (same_parts h n m refl refl refl refl s))
 
   pipe_exits-holds : (pipe k : ℕ) (n : Net) (p : PipeState) → h.pipe p → Holds h n →

@@ -25,6 +25,8 @@ mod Holding
 mod Ahead
 pub mod CodelParts
 mod Cuts
+mod Renamed
+mod Disciplines
 mod FirstBy
 pub mod CallerLemmas
 pub mod PipeParts

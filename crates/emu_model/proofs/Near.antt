@@ -5,17 +5,18 @@ use Rattle.std.specs.List.{AllByRecursion}
 use Rattle.std.proofs.Math.Nat.{add-mul-div_right}
 use Rattle.std.proofs.lemmas.Nat.{mul-le}
 use Rattle.emu_model.specs.Moments.{milliseconds}
-use Rattle.emu_model.specs.Types.{Packet, Discipline, TailDrop, ControlledDelay, PipeConfig, Lost, Full}
+use Rattle.emu_model.specs.Types.{Packet, PipeConfig, Lost, Full}
 use Rattle.emu_model.specs.Lists.{tail}
 use Rattle.emu_model.specs.Rate.{finish_at, Period, follow, cut_period}
-use Rattle.emu_model.specs.Delay.{exit_after, Leaving, Line, enter, leave, first_item}
-use Rattle.emu_model.specs.DropTail.{Waiting, accepts}
-use Rattle.emu_model.specs.Codel.{CodelState, Dequeued}
+use Rattle.emu_model.specs.Delay.{exit_after, InFlight, Line, enter, leave, first_item}
+use Rattle.emu_model.specs.DropTail.{Queued, accepts}
+use Rattle.emu_model.specs.Codel.{Dequeued}
 use Rattle.emu_model.specs.Pipes.{InService, Instance, PipeState, After, dequeue, period_with, serve_next, no_drop, drop_one, enqueue, accept, drawn_one, instance_arrive, pipe_arrive, send_off, instance_finish, pipe_finish, pipe_exit, instance_configure, pipe_configure, cut_service}
 use Rattle.emu_model.specs.Events.{flying_in}
 use Rattle.emu_model.proofs.AllFacts.{either, each_joined, each_front, each_back, each_weaker, each_mapped, each_got, each_changed}
 use Rattle.emu_model.proofs.PipeParts.{InPipe, change_one-each, pipe_arrive-each}
-use Rattle.emu_model.proofs.ComponentFacts.{codel_keeps_order}
+use Rattle.emu_model.proofs.Cuts.{IsCut}
+use Rattle.emu_model.proofs.Disciplines.{dequeue-cut}
 use Rattle.emu_model.proofs.Ahead.{div-rises, finish_at-none}
 
 -- how far a due can lie above the moment of the last event: 1500 bytes at one bit a second
@@ -25,12 +26,12 @@ reach = 12 * 10 ^ 12
 abbrev pub IsSmall : Packet → Type 0
 IsSmall p = p.size ≤ 1500
 
-abbrev pub LeavesNear : ℕ → Leaving Packet → Type 0
+abbrev pub LeavesNear : ℕ → InFlight Packet → Type 0
 LeavesNear m x = (x.exit ≤ m + reach) × IsSmall x.item
 
 pub record LineNear (m : ℕ) (l : Line Packet) : Type 0 where
   pub last : l.last ≤ m + reach
-  pub flight : AllByRecursion (LeavesNear m) l.flight
+  pub in_flight : AllByRecursion (LeavesNear m) l.in_flight
 
 pub entered-near : (now delay : ℕ) (p : Packet) (l : Line Packet) → delay ≤ reach → IsSmall p → LineNear now l →
     LineNear now (enter p now delay l)
@@ -38,21 +39,21 @@ entered-near now delay p l d small h =
     let exit : exit_after l.last now delay ≤ now + reach = omega (arith, h.last, d) in
     record {
       last = exit;
-      flight = each_joined (LeavesNear now) l.flight
-          (record { item = p; exit = exit_after l.last now delay } ∷ []) h.flight ((exit, small), tt);
+      in_flight = each_joined (LeavesNear now) l.in_flight
+          (record { item = p; exit = exit_after l.last now delay } ∷ []) h.in_flight ((exit, small), tt);
     }
 
 pub left-near : (m : ℕ) (l : Line Packet) → LineNear m l → LineNear m (leave l)
-left-near m l h = record { last = h.last; flight = go l.flight h.flight }
+left-near m l h = record { last = h.last; in_flight = go l.in_flight h.in_flight }
   where
-    go : (xs : List (Leaving Packet)) → AllByRecursion (LeavesNear m) xs → AllByRecursion (LeavesNear m) (tail xs)
+    go : (xs : List (InFlight Packet)) → AllByRecursion (LeavesNear m) xs → AllByRecursion (LeavesNear m) (tail xs)
     go [] q = tt
     go (x ∷ xs) q = q.1
 
-pub leaving-small : (m : ℕ) (p : Packet) (l : Line Packet) → first_item l.flight ≡ Some p → LineNear m l → IsSmall p
-leaving-small m p l e h = go l.flight e h.flight
+pub leaving-small : (m : ℕ) (p : Packet) (l : Line Packet) → first_item l.in_flight ≡ Some p → LineNear m l → IsSmall p
+leaving-small m p l e h = go l.in_flight e h.in_flight
   where
-    go : (xs : List (Leaving Packet)) → first_item xs ≡ Some p → AllByRecursion (LeavesNear m) xs → IsSmall p
+    go : (xs : List (InFlight Packet)) → first_item xs ≡ Some p → AllByRecursion (LeavesNear m) xs → IsSmall p
     go [] g q = absurd (cc g)
     go (x ∷ xs) g q =
         let same : x.item ≡ p = cc g in
@@ -100,7 +101,7 @@ abbrev pub ServiceNear : ℕ → ℕ → Option (InService Packet) → Type 0
 ServiceNear m bw None = Unit {0}
 ServiceNear m bw (Some s) = ServedNear m bw s
 
-abbrev pub WaitsSmall : Waiting Packet → Type 0
+abbrev pub WaitsSmall : Queued Packet → Type 0
 WaitsSmall w = (w.size ≤ 1500) × IsSmall w.item
 
 pub record InstanceNear (m bw : ℕ) (i : Instance) : Type 0 where
@@ -128,34 +129,25 @@ record GivesSmall (d : Dequeued Packet) : Type 0 where
   given : AllByRecursion WaitsSmall (option_to_list d.given)
   rest : AllByRecursion WaitsSmall d.rest
 
-in-order : (d : Dequeued Packet) (ws : List (Waiting Packet)) → d.dropped ++ option_to_list d.given ++ d.rest ≡ ws →
-    AllByRecursion WaitsSmall ws → GivesSmall d
-in-order d ws e h =
-    let all : AllByRecursion WaitsSmall (d.dropped ++ option_to_list d.given ++ d.rest) =
-    subst (AllByRecursion WaitsSmall) (sym e) h in
+in-order : (d : Dequeued Packet) (ws : List (Queued Packet)) → IsCut ws d → AllByRecursion WaitsSmall ws → GivesSmall d
+in-order d ws cut h =
+    let given : List (Queued Packet) = option_to_list d.given in
+    let kept : AllByRecursion WaitsSmall (given ++ d.rest) =
+    each_back WaitsSmall d.dropped (given ++ d.rest) (subst (AllByRecursion WaitsSmall) cut.whole h) in
     record {
-      given = each_back WaitsSmall d.dropped (option_to_list d.given)
-          (each_front WaitsSmall (d.dropped ++ option_to_list d.given) d.rest all);
-      rest = each_back WaitsSmall (d.dropped ++ option_to_list d.given) d.rest all;
+      given = each_front WaitsSmall given d.rest kept;
+      rest = each_back WaitsSmall given d.rest kept;
     }
-
-dequeue-small : (d : Discipline) (now : ℕ) (c : CodelState) (ws : List (Waiting Packet)) →
-    AllByRecursion WaitsSmall ws → GivesSmall (dequeue d now c ws)
-dequeue-small TailDrop now c [] h = record { given = tt; rest = tt }
-dequeue-small TailDrop now c (w ∷ ws) h = record { given = (h.0, tt); rest = h.1 }
-dequeue-small (ControlledDelay target interval) now c ws h =
-    in-order (dequeue (ControlledDelay target interval) now c ws) ws
-    (codel_keeps_order (record { target = target; interval = interval }) now c ws) h
 
 serve_next-near : (config : PipeConfig) (now : ℕ) (i : Instance) → LineNear now i.line →
     IsReady now config.bw i.service → AllByRecursion WaitsSmall i.waiting →
     InstanceNear now config.bw (serve_next config now i).state
 serve_next-near config now i line ready waits =
     let d : Dequeued Packet = dequeue config.discipline now i.control i.waiting in
-    let small : GivesSmall d = dequeue-small config.discipline now i.control i.waiting waits in
+    let small : GivesSmall d = in-order d i.waiting (dequeue-cut config.discipline now i.control i.waiting) waits in
     record { line = line; service = go d.given small.given; waiting = small.rest }
   where
-    go : (o : Option (Waiting Packet)) → AllByRecursion WaitsSmall (option_to_list o) →
+    go : (o : Option (Queued Packet)) → AllByRecursion WaitsSmall (option_to_list o) →
         ServiceNear now config.bw (option_map (λ w. record {
           item = w.item;
           period = period_with config.bw now w.size i.service;
@@ -198,7 +190,7 @@ pub pipe_arrive-near : (seed now : ℕ) (packet : Packet) (p : PipeState) → Is
 pipe_arrive-near seed now packet p small h =
     pipe-near now p.config (pipe_arrive seed now packet p).state h.delay
     (pipe_arrive-each (InstanceNear now p.config.bw) seed now packet p
-    (λ id. record { line = record { last = omega arith; flight = tt }; service = tt; waiting = tt })
+    (λ id. record { line = record { last = omega arith; in_flight = tt }; service = tt; waiting = tt })
     (λ lost i q. instance_arrive-near p.config now packet lost (drawn_one i) small
     (record { line = q.line; service = q.service; waiting = q.waiting })) h.each)
 
@@ -236,7 +228,7 @@ pub flying-small : (m k : ℕ) (q : Packet) (p : PipeState) → flying_in k p �
 flying-small m k q p e h = go (slice_get p.instances k) refl e
   where
     go : (o : Option Instance) → slice_get p.instances k ≡ o →
-        option_and_then (λ i. first_item i.line.flight) o ≡ Some q → IsSmall q
+        option_and_then (λ i. first_item i.line.in_flight) o ≡ Some q → IsSmall q
     go None g f = absurd (cc f)
     go (Some i) g f =
         leaving-small m q i.line f (each_got (InstanceNear m p.config.bw) i p.instances k g h.each).line
@@ -257,7 +249,7 @@ pipe_configure-near m config p d h = record {
 pub line-later : (low m : ℕ) (l : Line Packet) → low ≤ m → LineNear low l → LineNear m l
 line-later low m l e h = record {
   last = omega (arith, h.last);
-  flight = each_weaker (LeavesNear low) (LeavesNear m) (λ x q. (omega (arith, q.0), q.1)) l.flight h.flight;
+  in_flight = each_weaker (LeavesNear low) (LeavesNear m) (λ x q. (omega (arith, q.0), q.1)) l.in_flight h.in_flight;
 }
 
 instance-later : (low m bw : ℕ) (i : Instance) → low ≤ m → InstanceNear low bw i → InstanceNear m bw i

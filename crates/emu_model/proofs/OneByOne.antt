@@ -69,14 +69,14 @@ counted k (r ∷ rs) =
     )
 
 held-counted : (k : ℕ) (n : Net) → count_by (λ p. p.number == k) (held_packets n)
-    ≡ flown (one_at k) n.direct.flight + sum_by (load (one_at k)) n.pipes
+    ≡ flown (one_at k) n.direct.in_flight + sum_by (load (one_at k)) n.pipes
 unfolding flown
 held-counted k n =
     let f : Packet → ℕ = λ p. one_at k p.number in
     omega (
       arith,
-      sum_by-append f (map (λ x. x.item) n.direct.flight) (flat_map pipe_packets n.pipes),
-      sum-of-map f (λ x. x.item) n.direct.flight,
+      sum_by-append f (map (λ x. x.item) n.direct.in_flight) (flat_map pipe_packets n.pipes),
+      sum-of-map f (λ x. x.item) n.direct.in_flight,
       sum-of-flat_map f pipe_packets n.pipes,
       sum-same (λ p. sum_by f (pipe_packets p)) (load (one_at k)) (load_is (one_at k)) n.pipes,
     )

@@ -10,7 +10,7 @@ use Rattle.emu_model.specs.Lists.{replace_first, remove_first}
 use Rattle.emu_model.specs.FlowIds.{flow_id}
 use Rattle.emu_model.specs.Delay.{first_item, leave}
 use Rattle.emu_model.specs.Pipes.{InService, PipeState, After, Drop, pipe_packets, instance_for, pipe_arrive, pipe_finish, pipe_exit, pipe_configure}
-use Rattle.emu_model.specs.Net.{Net, Setting, initial_net, note, note_all, drop_record, note_traced, identify_record, arrive_records, arrivals, make_record, packet_of, find_pipe, put_pipe, put_after, to_direct}
+use Rattle.emu_model.specs.Net.{Net, EventContext, initial_net, note, note_all, drop_record, note_traced, identify_record, arrive_records, arrivals, make_record, packet_of, find_pipe, put_pipe, put_after, to_direct}
 use Rattle.emu_model.specs.Commands.{new_pipe, delete_pipe, obey}
 use Rattle.emu_model.specs.Events.{flying_in, served_in, note_finish}
 use Rattle.emu_model.specs.Step.{initial_state}
@@ -19,7 +19,7 @@ use Rattle.emu_model.specs.TraceLaws.{IsSublist, arrives_in, finishes_in, passes
 use Rattle.emu_model.proofs.Numbers.{one_if, replaced-count, none-found, with_pipe-count, one_more, removed-le, pipe_arrive-kept, pipe_finish-kept}
 use Rattle.emu_model.proofs.Sublists.{sub-refl, sub-same, sub-trans, sub-joined, sub-front}
 use Rattle.emu_model.proofs.InstanceOrder.{served_numbers, first_number}
-use Rattle.emu_model.proofs.PipeOrder.{inside_in, PipeCame, PipeServed, pipe_arrive-came, finish-here, finish-other, exit-here, exit-other, exit-inside, configure-flight, configure-inside}
+use Rattle.emu_model.proofs.PipeOrder.{inside_in, PipeCame, PipeServed, pipe_arrive-came, finish-here, finish-other, exit-here, exit-other, exit-inside, configure-in_flight, configure-inside}
 use Rattle.emu_model.proofs.FoundPipes.{in_pipe, found-number, replaced-here, replaced-other, removed-here, removed-other, inserted-same}
 use Rattle.emu_model.proofs.ChangesWalk.{IsSilent, Keeps, Fits, walks, walks_on, all_fit}
 
@@ -240,7 +240,7 @@ module _ (pipe k : ℕ) where
       passed rs ≡ [] → PipeServed k p y done → Seen p y traced rs
   served-seen p y traced rs done f g s = record {
     left = [];
-    flows = ap (λ x. flight_in k p ++ x) f ∙ s.flight;
+    flows = ap (λ x. flight_in k p ++ x) f ∙ s.in_flight;
     passes = sub-same (passed rs) [] g;
     comes = λ e.
         subst (λ x. IsSublist (x ++ inside_in k y) (inside_in k p ++ arrived rs)) (sym f)
@@ -299,7 +299,7 @@ module _ (pipe k : ℕ) where
       go (Some j) =
           came j (nat_lt j (length q.instances)) (identify_record now q.number j (flow_id q.config.mask p)) refl refl
 
-  arrived-seen : (at : Setting) (p : Packet) (q : PipeState) (traced : Bool) → q.number ≡ pipe →
+  arrived-seen : (at : EventContext) (p : Packet) (q : PipeState) (traced : Bool) → q.number ≡ pipe →
       let a = pipe_arrive at.seed at.now p q in
       Seen q a.state traced ((if traced then arrivals at.now p q else []) ++ map (drop_record at.now) a.dropped)
   unfolding finished passed arrived
@@ -322,7 +322,7 @@ module _ (pipe k : ℕ) where
           ((if b then arrivals at.now p q else []) ++ map (drop_record at.now) (pipe_arrive at.seed at.now p q).dropped)
       go false = record {
         left = [];
-        flows = ap (λ x. flight_in k q ++ x) none.finished_none ∙ append-nil (flight_in k q) ∙ sym c.flight;
+        flows = ap (λ x. flight_in k q ++ x) none.finished_none ∙ append-nil (flight_in k q) ∙ sym c.in_flight;
         passes = sub-same (passed fallen) [] none.passed_none;
         comes = λ e. absurd (cc e);
       }
@@ -338,14 +338,14 @@ module _ (pipe k : ℕ) where
           ∙ append-nil (arrived come) ∙ ap (λ z. flat_map (arrives_in z k) come) (sym same) in
           record {
             left = [];
-            flows = ap (λ x. flight_in k q ++ x) f ∙ append-nil (flight_in k q) ∙ sym c.flight;
+            flows = ap (λ x. flight_in k q ++ x) f ∙ append-nil (flight_in k q) ∙ sym c.in_flight;
             passes = sub-same (passed (come ++ fallen)) [] g;
             comes = λ e.
                 subst (λ x. IsSublist (x ++ inside_in k a.state) (inside_in k q ++ arrived (come ++ fallen))) (sym f)
                 (subst (λ x. IsSublist (inside_in k a.state) (inside_in k q ++ x)) (sym h) c.inside);
           }
 
-  arrived-changes : (at : Setting) (i : ℕ) (p : Packet) (q : PipeState) (n : Net) → find_pipe i n ≡ Some q →
+  arrived-changes : (at : EventContext) (i : ℕ) (p : Packet) (q : PipeState) (n : Net) → find_pipe i n ≡ Some q →
       let a = pipe_arrive at.seed at.now p q in
       Change n (put_after at.now i a (note_traced (arrivals at.now p q) n))
       ((if n.trace then arrivals at.now p q else []) ++ map (drop_record at.now) a.dropped)
@@ -499,7 +499,7 @@ module _ (pipe k : ℕ) where
   configured-changes at config p n e =
       let y : PipeState = pipe_configure config p in
       put-changes at p y n (put_pipe at y n) [] e refl refl refl (sym (append-nil n.records)) (λ h. still-nil)
-      (λ h. left-seen p y n.trace [] [] refl (sym (configure-flight config p k)) tt (configure-inside config p k))
+      (λ h. left-seen p y n.trace [] [] refl (sym (configure-in_flight config p k)) tt (configure-inside config p k))
 
   opened-changes : (at : ℕ) (config : PipeConfig) (n : Net) → find_pipe at n ≡ None → Change n (new_pipe at config n) []
   unfolding inside Few
@@ -579,7 +579,7 @@ module _ (pipe k : ℕ) where
         changed t (Some p) None n (to_direct now p n) [] (same-records n (to_direct now p n) refl refl refl) h;
     left = λ n h.
         let m : Net = record n { direct = leave n.direct } in
-        changed t None (first_item n.direct.flight) n m [] (same-records n m refl refl refl) h;
+        changed t None (first_item n.direct.in_flight) n m [] (same-records n m refl refl refl) h;
     delivered = λ now p n h.
         let r : Record = PacketDelivered now p.number p.load in
         changed t (Some p) None n (note r n) (r ∷ [])
@@ -631,7 +631,7 @@ module _ (pipe k : ℕ) where
   all-suit [] h = tt
   all-suit (t ∷ ts) h = (trace-suits t.command h.0, all-suit ts h.1)
 
-  traced-begun : (at : Setting) → Ordered true None (obey at 0 (Trace true) initial_net)
+  traced-begun : (at : EventContext) → Ordered true None (obey at 0 (Trace true) initial_net)
   unfolding finished arrived inside
   traced-begun at = record {
     few = few-none;

@@ -66,13 +66,13 @@ got g i k is e = ap (λ o. option_map_or g o []) e
 -- a pipe after some came: what is under way in instance j is the same, and what is inside is of what was, and
 -- of those
 pub record PipeCame (j : ℕ) (q r : PipeState) (new : List ℕ) : Type 0 where
-  pub flight : flight_in j r ≡ flight_in j q
+  pub in_flight : flight_in j r ≡ flight_in j q
   pub inside : IsSublist (inside_in j r) (inside_in j q ++ new)
 
 same-came : (j : ℕ) (q r : PipeState) (new : List ℕ) → flight_in j r ≡ flight_in j q → inside_in j r ≡ inside_in j q →
     PipeCame j q r new
 same-came j q r new f i = record {
-  flight = f;
+  in_flight = f;
   inside = subst (λ x. IsSublist x (inside_in j q ++ new)) (sym i) (sub-front (inside_in j q) new);
 }
 
@@ -129,7 +129,7 @@ placed-came p j k q r i new come e c f s one = go (cases_eq k j)
         let a : IsSublist (inside_numbers new) (inside_in j q ++ p.number ∷ []) =
         subst (λ x. IsSublist (inside_numbers new) (x ++ p.number ∷ [])) old c.inside in
         record {
-          flight = is_new flight_numbers h ∙ c.flight ∙ was flight_numbers h ∙ f;
+          in_flight = is_new flight_numbers h ∙ c.in_flight ∙ was flight_numbers h ∙ f;
           inside = subst (λ x. IsSublist x (inside_in j q ++ come)) (sym (is_new inside_numbers h))
               (subst (λ x. IsSublist (inside_numbers new) (inside_in j q ++ x)) (sym (one h)) a);
         }
@@ -157,7 +157,7 @@ arrive_at-came seed now p q k j = go (slice_get (with_instance (flow_id q.config
         let new : Instance = (instance_arrive q.config now p (draw seed q k i) (drawn_one i)).state in
         let c : Came p (drawn_one i) new = instance_arrive-came q.config now p (draw seed q k i) (drawn_one i) in
         placed-came p j k q (with_instance id k q) i new (flat_map (arrives_in q.number j) (arrive_records now p q k)) e
-        (record { flight = c.flight; inside = c.inside })
+        (record { in_flight = c.in_flight; inside = c.inside })
         (made-same flight_numbers id k j q refl) (made-same inside_numbers id k j q refl)
         (λ h. ap (λ z. flat_map (arrives_in q.number z) (arrive_records now p q k)) (sym h) ∙ arrives-here now p q k)
 
@@ -173,13 +173,13 @@ pipe_arrive-came seed now p q j = go (instance_for p q)
 
 -- a pipe after some of it finished: of instance j, these did
 pub record PipeServed (j : ℕ) (q r : PipeState) (done : List ℕ) : Type 0 where
-  pub flight : flight_in j q ++ done ≡ flight_in j r
+  pub in_flight : flight_in j q ++ done ≡ flight_in j r
   pub inside : IsSublist (done ++ inside_in j r) (inside_in j q)
 
 same-served : (j : ℕ) (q r : PipeState) → flight_in j r ≡ flight_in j q → inside_in j r ≡ inside_in j q →
     PipeServed j q r []
 same-served j q r f i = record {
-  flight = append-nil (flight_in j q) ∙ sym f;
+  in_flight = append-nil (flight_in j q) ∙ sym f;
   inside = sub-same (inside_in j r) (inside_in j q) i;
 }
 
@@ -209,7 +209,7 @@ finish-here now q k = go (slice_get q.instances k) refl
         let s : Served i new = instance_finish-served q.config now i in
         let done : List ℕ = served_numbers i.service in
         record {
-          flight = ap (λ x. x ++ done) (got flight_numbers i k is e) ∙ s.flight ∙ sym (put-here flight_numbers new i k is e);
+          in_flight = ap (λ x. x ++ done) (got flight_numbers i k is e) ∙ s.in_flight ∙ sym (put-here flight_numbers new i k is e);
           inside = subst (λ x. IsSublist (done ++ x) (inside_in k q)) (sym (put-here inside_numbers new i k is e))
               (subst (λ x. IsSublist (done ++ inside_numbers new) x) (sym (got inside_numbers i k is e)) s.inside);
         }
@@ -225,7 +225,7 @@ exit-here q k =
     moved i = record i { line = leave i.line }
 
     go : (o : Option Instance) → option_map_or flight_numbers o []
-        ≡ first_number (option_and_then (λ i. first_item i.line.flight) o)
+        ≡ first_number (option_and_then (λ i. first_item i.line.in_flight) o)
         ++ option_map_or flight_numbers (option_map {T = Instance} (λ i. record i { line = leave i.line }) o) []
     go None = refl
     go (Some i) = first_left i.line
@@ -244,9 +244,9 @@ exit-inside q k j = go k j q.instances
     go (suc a) zero (x ∷ xs) = refl
     go (suc a) (suc b) (x ∷ xs) = go a b xs
 
-pub configure-flight : (config : PipeConfig) (q : PipeState) (j : ℕ) →
+pub configure-in_flight : (config : PipeConfig) (q : PipeState) (j : ℕ) →
     flight_in j (pipe_configure config q) ≡ flight_in j q
-configure-flight config q j =
+configure-in_flight config q j =
     mapped-same flight_numbers (instance_configure q.config config) (λ i. refl) q.instances j
 
 pub configure-inside : (config : PipeConfig) (q : PipeState) (j : ℕ) →

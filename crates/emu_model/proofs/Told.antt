@@ -9,7 +9,7 @@ use Rattle.emu_model.specs.Types.{Spec, Timed, Packet, Load, SendSpec, DropCause
 use Rattle.emu_model.specs.FlowIds.{flow_id}
 use Rattle.emu_model.specs.Delay.{first_item, leave}
 use Rattle.emu_model.specs.Pipes.{Instance, InService, PipeState, After, Drop, pipe_packets, instance_for, pipe_arrive, pipe_finish, pipe_exit, pipe_configure}
-use Rattle.emu_model.specs.Net.{Net, Setting, initial_net, note, note_all, drop_record, drop_packet, note_traced, arrive_records, identify_record, arrivals, make_record, packet_of, find_pipe, put_pipe, put_after, to_direct}
+use Rattle.emu_model.specs.Net.{Net, EventContext, initial_net, note, note_all, drop_record, drop_packet, note_traced, arrive_records, identify_record, arrivals, make_record, packet_of, find_pipe, put_pipe, put_after, to_direct}
 use Rattle.emu_model.specs.Commands.{new_pipe, delete_pipe, obey}
 use Rattle.emu_model.specs.Events.{flying_in, served_in, note_finish}
 use Rattle.emu_model.specs.Alone.{alone}
@@ -195,7 +195,7 @@ dropping now ds o n m h t e i even =
     (subst (λ x. Told x (map (drop_record now) ds) m.made) i
     (drops-told now m.made ds (drops-known now n.records m ds e even))) even
 
-arrived-traced : (at : Setting) (k : ℕ) (p : Packet) (q : PipeState) (n : Net) → find_pipe k n ≡ Some q →
+arrived-traced : (at : EventContext) (k : ℕ) (p : Packet) (q : PipeState) (n : Net) → find_pipe k n ≡ Some q →
     Traced (Some p) n →
     Traced None (put_after at.now k (pipe_arrive at.seed at.now p q) (note_traced (arrivals at.now p q) n))
 arrived-traced at k p q n e h =
@@ -299,7 +299,7 @@ traced-keeps = record {
   entered = λ now p n h.
       same (Some p) None n (to_direct now p n) h refl refl refl (λ w. (balanced-keeps w).entered now p n (h.even w));
   left = λ n h.
-      same None (first_item n.direct.flight) n (record n { direct = leave n.direct }) h refl refl refl
+      same None (first_item n.direct.in_flight) n (record n { direct = leave n.direct }) h refl refl refl
       (λ w. (balanced-keeps w).left n (h.even w));
   delivered = delivered-traced;
   arrived = arrived-traced;
@@ -331,7 +331,7 @@ all-suit [] h = tt
 all-suit (t ∷ ts) h = (trace-suits t.command h.0, all-suit ts h.1)
 
 -- it begins with the first command
-begun : (at : Setting) → Traced None (obey at 0 (Trace true) initial_net)
+begun : (at : EventContext) → Traced None (obey at 0 (Trace true) initial_net)
 unfolding Told Fits next Balanced balance gone flown sum_some total weight
 begun at = record { trace = refl; told = (λ k e. absurd (cc e), refl); even = λ w. refl }
 

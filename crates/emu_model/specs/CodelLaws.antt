@@ -1,7 +1,7 @@
 -- Laws of CoDel's dropping state (RFC 8289, section 5), over the definitions alone.
 use Rattle.std.specs.Prelude.{◌≡◌, ℕ, zero, suc, ◌+◌, ◌-◌, ◌*◌, ◌^◌, ◌<◌, ◌≤◌, true, false, List, [], ◌∷◌, length, All}
 use Rattle.emu_model.specs.Types.{Packet}
-use Rattle.emu_model.specs.DropTail.{Waiting}
+use Rattle.emu_model.specs.DropTail.{Queued}
 use Rattle.emu_model.specs.Codel.{Times, CodelState, control_law, codel_dequeue}
 
 -- the moment of the drop number n after one at `moment`, which was counted as `count` before it
@@ -20,7 +20,7 @@ drop_moments interval moment count (suc n) =
 -- come, each is counted, and where dropping goes on the next one is the law's and hasn't come (the
 -- count stays at 2^32 - 1, our choice, so a premise keeps it below)
 abbrev pub DropsAreOnTime : Type 0
-DropsAreOnTime = (times : Times) (now : ℕ) (c : CodelState) (ws : List (Waiting Packet)) →
+DropsAreOnTime = (times : Times) (now : ℕ) (c : CodelState) (ws : List (Queued Packet)) →
     c.dropping ≡ true → c.count + length ws < 2 ^ 32 →
     let d = codel_dequeue times now c ws in
     let n = length d.dropped in
@@ -33,7 +33,7 @@ DropsAreOnTime = (times : Times) (now : ℕ) (c : CodelState) (ws : List (Waitin
 -- outside the dropping state one packet is dropped at most, and where one is, dropping begins: the
 -- next drop is by the control law from now on, with the count that dropping begins with
 abbrev pub DroppingBeginsWithOne : Type 0
-DroppingBeginsWithOne = (times : Times) (now : ℕ) (c : CodelState) (ws : List (Waiting Packet)) →
+DroppingBeginsWithOne = (times : Times) (now : ℕ) (c : CodelState) (ws : List (Queued Packet)) →
     c.dropping ≡ false →
     let d = codel_dequeue times now c ws in
     (length d.dropped ≤ 1)
@@ -43,7 +43,7 @@ DroppingBeginsWithOne = (times : Times) (now : ℕ) (c : CodelState) (ws : List 
 -- dropping that begins again within 16 intervals of the last one's next drop goes on at the rate that
 -- was reached, and later it begins at 1
 abbrev pub ReentryGoesOn : Type 0
-ReentryGoesOn = (times : Times) (now : ℕ) (c : CodelState) (ws : List (Waiting Packet)) →
+ReentryGoesOn = (times : Times) (now : ℕ) (c : CodelState) (ws : List (Queued Packet)) →
     c.dropping ≡ false →
     let d = codel_dequeue times now c ws in
     length d.dropped ≡ 1 →

@@ -8,7 +8,7 @@ use Rattle.emu_model.specs.Rules.{add_refusal, delete_refusal, book_with, book_w
 use Rattle.emu_model.specs.DropTail.{bytes_of}
 use Rattle.emu_model.specs.Reno.{initial_sender}
 use Rattle.emu_model.specs.Pipes.{Instance, PipeState, is_fixed, pipe_configure, pipe_packets}
-use Rattle.emu_model.specs.Net.{Net, Setting, FlowState, note, note_all, note_drops, find_pipe, put_pipe, find_flow, put_flow, make}
+use Rattle.emu_model.specs.Net.{Net, EventContext, FlowState, note, note_all, note_drops, find_pipe, put_pipe, find_flow, put_flow, make}
 
 abbrev pub rule_lines : Net → List Record
 rule_lines n = map (λ c. RuleLine c.rule c.packets c.bytes) n.book.rules
@@ -20,7 +20,7 @@ shown_words drawn = min drawn (2 ^ 64 - 1)
 abbrev pub instance_line : ℕ → ℕ → Instance → Record
 instance_line pipe k i =
     InstanceLine pipe k (length i.waiting) (bytes_of i.waiting) (is_some i.service)
-    (length i.line.flight) (shown_words i.drawn)
+    (length i.line.in_flight) (shown_words i.drawn)
 
 abbrev pub instance_lines : ℕ → ℕ → List Instance → List Record
 instance_lines pipe k [] = []
@@ -102,7 +102,7 @@ refusal_of (Stop k) n = if is_some (find_flow k n) then None else Some NoFlow
 refusal_of _ n = None
 
 -- what a command does that isn't refused
-abbrev pub effect_of : Setting → Command → Net → Net
+abbrev pub effect_of : EventContext → Command → Net → Net
 effect_of at (Add r) n = record n { book = book_with r n.book }
 effect_of at (Delete k) n = record n { book = book_without k n.book }
 effect_of at (Config k config) n = configure k config n
@@ -118,7 +118,7 @@ effect_of at (Trace b) n = record n { trace = b }
 effect_of at End n = n
 
 -- the command numbered k is done, or refused
-abbrev pub obey : Setting → ℕ → Command → Net → Net
+abbrev pub obey : EventContext → ℕ → Command → Net → Net
 obey at k c n =
     option_map_or (λ r. note (CommandRefused at.now k r) n) (refusal_of c n)
     (effect_of at c (note (CommandDone at.now k) n))

@@ -3,7 +3,7 @@
 use Rattle.std.specs.Prelude.{◌≡◌, ℕ, ◌+◌, ◌-◌, ◌*◌, ◌^◌, ◌<◌, ◌≤◌, true, false, Some, option_to_list, List, [], ◌∷◌, ◌++◌, map, length, take, slice_get, sum, All}
 use Rattle.emu_model.specs.Types.{Packet, QueueLimit, Slots, KBytes}
 use Rattle.emu_model.specs.Loss.{is_lost}
-use Rattle.emu_model.specs.DropTail.{Waiting, bytes_of, accepts}
+use Rattle.emu_model.specs.DropTail.{Queued, bytes_of, accepts}
 use Rattle.emu_model.specs.Codel.{Times, CodelState, IsControlStep, control_step, codel_dequeue}
 use Rattle.emu_model.specs.Rate.{Period, follow, finish_at, finishes}
 use Rattle.emu_model.specs.Delay.{Line, enter, exits}
@@ -38,7 +38,7 @@ enter_all [] l = l
 enter_all (e ∷ es) l = enter_all es (enter e.packet e.finish e.delay l)
 
 abbrev pub exits_of : Line Packet → List ℕ
-exits_of l = map (λ x. x.exit) l.flight
+exits_of l = map (λ x. x.exit) l.in_flight
 
 -- the exits of a whole list of entries are those of its steps (our choice)
 abbrev pub ExitsAreFolded : Type 0
@@ -66,22 +66,22 @@ LossHasItsExtremes = (seed pipe instance place : ℕ) →
     (is_lost seed pipe instance place 0 ≡ false)
     × (is_lost seed pipe instance place (10 ^ 6) ≡ true)
 
-abbrev pub IsWithin : QueueLimit → List (Waiting Packet) → Type 0
+abbrev pub IsWithin : QueueLimit → List (Queued Packet) → Type 0
 IsWithin (Slots n) ws = length ws ≤ n
 IsWithin (KBytes n) ws = bytes_of ws ≤ 1024 * n
 
 -- with what it accepts, a queue doesn't exceed its limit of slots or bytes (ipfw(8), queue)
 abbrev pub AcceptsWithinLimit : Type 0
-AcceptsWithinLimit = (limit : QueueLimit) (ws : List (Waiting Packet)) (w : Waiting Packet) →
+AcceptsWithinLimit = (limit : QueueLimit) (ws : List (Queued Packet)) (w : Queued Packet) →
     accepts limit ws w.size ≡ true → IsWithin limit (ws ++ w ∷ [])
 
 -- what CoDel drops, what it gives and what it leaves is what waited, in order (RFC 8289, section 5.5)
 abbrev pub CodelKeepsOrder : Type 0
-CodelKeepsOrder = (times : Times) (now : ℕ) (c : CodelState) (ws : List (Waiting Packet)) →
+CodelKeepsOrder = (times : Times) (now : ℕ) (c : CodelState) (ws : List (Queued Packet)) →
     let d = codel_dequeue times now c ws in
     d.dropped ++ option_to_list d.given ++ d.rest ≡ ws
 
 -- CoDel drops nothing whose sojourn is below the target (RFC 8289, section 5.5)
 abbrev pub CodelSparesTheQuick : Type 0
-CodelSparesTheQuick = (times : Times) (now : ℕ) (c : CodelState) (ws : List (Waiting Packet)) →
+CodelSparesTheQuick = (times : Times) (now : ℕ) (c : CodelState) (ws : List (Queued Packet)) →
     All (λ w. times.target ≤ now - w.stamp) (codel_dequeue times now c ws).dropped

@@ -28,7 +28,7 @@ drops k _ = false
 
 -- what waits, is in service or is under way
 abbrev pub held_packets : Net → List Packet
-held_packets n = map (λ x. x.item) n.direct.flight ++ flat_map pipe_packets n.pipes
+held_packets n = map (λ x. x.item) n.direct.in_flight ++ flat_map pipe_packets n.pipes
 
 -- 1 for a packet that was made
 abbrev pub once_made : ℕ → Net → ℕ
@@ -80,7 +80,7 @@ passes_in pipe k _ = []
 -- the packets under way in instance k of a pipe
 abbrev pub flight_in : ℕ → PipeState → List ℕ
 flight_in k p =
-    option_map_or (λ i. map (λ x. x.item.number) i.line.flight) (slice_get p.instances k) []
+    option_map_or (λ i. map (λ x. x.item.number) i.line.in_flight) (slice_get p.instances k) []
 
 abbrev pub under_way : ℕ → ℕ → Net → List ℕ
 under_way pipe k n = option_map_or (flight_in k) (find_pipe pipe n) []

@@ -17,7 +17,7 @@ mod sources;
 mod trace_laws;
 
 pub use codel_laws::{dropping_begins_with_one, drops_are_on_time, reentry_goes_on};
-pub use commands::{Budget, Command, Setting, Spec, Timed, command_in_range};
+pub use commands::{Budget, Command, EventContext, LATEST_MOMENT, Spec, Timed, command_in_range};
 pub use component_laws::{
     accepts_within_limit, codel_keeps_order, codel_spares_the_quick, control_step_is_greatest,
     exits_are_folded, exits_never_fall, finishes_are_folded, finishes_round_once,

@@ -125,7 +125,7 @@ pub enum Record {
         waiting: u64,
         bytes: u64,
         busy: bool,
-        flight: u64,
+        in_flight: u64,
         drawn: u64,
     },
 }

@@ -11,10 +11,10 @@ use Rattle.emu_model.specs.declared.rules.Action.TheVariants.{Allow, Deny, Count
 use Rattle.emu_model.specs.declared.rules.Rule.{Rule}
 use Rattle.emu_model.specs.declared.records.Refusal.TheVariants.{BadNumber, BadSkip, RulesFull, NoRule}
 use Rattle.emu_model.specs.Rules.{Counted, RuleBook, the_rules, place_of_number, new_rule, with_rule, is_bad_skip, is_rule_number, is_full, add_refusal, start_behind, verdict}
-use Rattle.rule_search.specs.Walk.{Precedes, Ascends, IsOrdered, IsRecounted, AreJumps, GoesForward}
-use Rattle.rule_search.specs.declared.paths.Paths.{Paths}
-use Rattle.rule_search.specs.Paths.{AreTrueOf, settled}
-use Rattle.rule_search.proofs.CallerLemmas.{IsOrdered-recounted, IsRecounted-settled, behind-recounted, length-recounted, older-recounted, rules-recounted, verdict-recounted}
+use Rattle.emu_rules.specs.Walk.{Precedes, Ascends, IsOrdered, IsRecounted, AreJumps, GoesForward}
+use Rattle.emu_rules.specs.declared.cache.RuleCache.{RuleCache}
+use Rattle.emu_rules.specs.RuleCache.{AreTrueOf, settled}
+use Rattle.emu_rules.proofs.CallerLemmas.{IsOrdered-recounted, IsRecounted-settled, behind-recounted, length-recounted, older-recounted, rules-recounted, verdict-recounted}
 use Rattle.emu_rules.specs.Sound.{IsSound}
 
 -- ---- what an adding keeps
@@ -120,8 +120,8 @@ IsOrdered-filter p cs h = record {
 
 -- ---- what counting keeps
 
-pub IsSound-recounted : (cs new : List Counted) (jumps : List ℕ) (added : ℕ) (paths now : Paths) → IsSound cs jumps added paths → IsRecounted cs new → AreTrueOf (the_rules cs) now → IsSound new jumps added now
-IsSound-recounted cs new jumps added paths now h same knows =
+pub IsSound-recounted : (cs new : List Counted) (jumps : List ℕ) (added : ℕ) (cache now : RuleCache) → IsSound cs jumps added cache → IsRecounted cs new → AreTrueOf (the_rules cs) now → IsSound new jumps added now
+IsSound-recounted cs new jumps added cache now h same knows =
     let rs = rules-recounted cs new same in
     record {
       ordered = IsOrdered-recounted cs new same h.ordered;
@@ -131,9 +131,9 @@ IsSound-recounted cs new jumps added paths now h same knows =
     }
 
 -- the rules as a look at them finds them
-pub IsSound-settled : (cs : List Counted) (jumps : List ℕ) (added : ℕ) (paths now : Paths) → IsSound cs jumps added paths → AreTrueOf (the_rules cs) now → IsSound (settled paths cs) jumps added now
-IsSound-settled cs jumps added paths now h knows =
-    IsSound-recounted cs (settled paths cs) jumps added paths now h (IsRecounted-settled paths.held.items cs) knows
+pub IsSound-settled : (cs : List Counted) (jumps : List ℕ) (added : ℕ) (cache now : RuleCache) → IsSound cs jumps added cache → AreTrueOf (the_rules cs) now → IsSound (settled cache cs) jumps added now
+IsSound-settled cs jumps added cache now h knows =
+    IsSound-recounted cs (settled cache cs) jumps added cache now h (IsRecounted-settled cache.held.items cs) knows
 
 abbrev pub book : List Counted → ℕ → RuleBook
 book rules added = record { rules = rules; added = added }
@@ -149,14 +149,14 @@ inserted added r cs now read new n place kept same is own at =
 
 -- ---- what a look at the rules finds
 
-pub verdict-settled : (start : ℕ) (p : Packet) (m : Paths) (cs : List Counted) → verdict start p (settled m cs) ≡ verdict start p cs
+pub verdict-settled : (start : ℕ) (p : Packet) (m : RuleCache) (cs : List Counted) → verdict start p (settled m cs) ≡ verdict start p cs
 verdict-settled start p m cs = verdict-recounted start p cs (settled m cs) (IsRecounted-settled m.held.items cs)
 
-pub behind-settled : (place : Place) (m : Paths) (cs : List Counted) → start_behind place (settled m cs) ≡ start_behind place cs
+pub behind-settled : (place : Place) (m : RuleCache) (cs : List Counted) → start_behind place (settled m cs) ≡ start_behind place cs
 behind-settled place m cs = behind-recounted place cs (settled m cs) (IsRecounted-settled m.held.items cs)
 
-pub length-settled : (m : Paths) (cs : List Counted) → length (settled m cs) ≡ length cs
+pub length-settled : (m : RuleCache) (cs : List Counted) → length (settled m cs) ≡ length cs
 length-settled m cs = length-recounted cs (settled m cs) (IsRecounted-settled m.held.items cs)
 
-pub rules-settled : (m : Paths) (cs : List Counted) → the_rules (settled m cs) ≡ the_rules cs
+pub rules-settled : (m : RuleCache) (cs : List Counted) → the_rules (settled m cs) ≡ the_rules cs
 rules-settled m cs = rules-recounted cs (settled m cs) (IsRecounted-settled m.held.items cs)

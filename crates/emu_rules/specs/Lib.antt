@@ -1,2 +1,4 @@
 pub mod Sound
 pub mod Errors
+pub mod Walk
+pub mod RuleCache

@@ -2,14 +2,15 @@
 
 ghost use Rattle.std.specs.Prelude.{◌≡◌, ◌≢◌, ◌^◌, ◌<◌, ◌∷◌, [], length, slice_get, Some, None, IfOk, OnOk, OnErr, MatchResult};
 ghost use Rattle.emu_model.specs.Rules.{initial_book, add_refusal, book_with, delete_refusal, book_without, verdict, counted_book, start_behind, is_rule_number, the_rules, count_at};
-ghost use Rattle.rule_search.specs.Walk.{CountsAlone};
+ghost use Rattle.emu_rules.specs.Walk.{CountsAlone};
 ghost use Rattle.emu_rules.specs.Errors.{refusal_of};
 
-use emu_model::{Packet, Place, Refusal, Rule, RuleNumber, Verdict};
-use rule_search::{
-    CountedRule, Foreseen, NO_RULE, Paths, aim, count_at, find, first_behind, first_from, foresee,
-    judge_and_count, target_of,
+use crate::cache::RuleCache;
+use crate::counted::{CountedRule, target_of};
+use crate::search::{
+    Match, NO_RULE, aim, classify, count_at, find, first_behind, first_from, judge_and_count,
 };
+use emu_model::{Packet, Place, Refusal, Rule, RuleNumber, Verdict};
 use std::alloc::{AllocError, Global};
 use std::marker::Model;
 
@@ -29,19 +30,19 @@ pub struct RuleList {
     jumps: Vec<usize>,
     added: u64,
     /// What searches among these rules found before, and what it counted.
-    paths: Paths,
+    cache: RuleCache,
 }
 
 impl Model for RuleList {
     ghost use Rattle.emu_model.specs.Rules.{RuleBook};
-    ghost use Rattle.rule_search.specs.Paths.{settled};
+    ghost use Rattle.emu_rules.specs.RuleCache.{settled};
     ghost use Rattle.emu_rules.specs.Sound.{IsSound};
 
     ghost Value = { RuleBook };
 
-    ghost view = { λ l. record { rules = settled l.paths l.rules.items; added = l.added } };
+    ghost view = { λ l. record { rules = settled l.cache l.rules.items; added = l.added } };
 
-    ghost invariant = { λ l. IsSound l.rules.items l.jumps.items l.added l.paths };
+    ghost invariant = { λ l. IsSound l.rules.items l.jumps.items l.added l.cache };
 }
 
 impl RuleList {
@@ -57,7 +58,7 @@ impl RuleList {
             rules,
             jumps,
             added: 0,
-            paths: Paths::new(alloc),
+            cache: RuleCache::new(alloc),
         })
     }
 
@@ -78,16 +79,16 @@ impl RuleList {
         if self.rules.reserve(1).is_err() || self.jumps.reserve(1).is_err() {
             return Err(AddError::NoMemory);
         }
-        // Without places for paths each search is a walk.
-        let _places = self.paths.make_places(self.rules.len() + 1);
-        self.paths.settle(&mut self.rules, &self.jumps); // before a rule comes
+        // Without places for cached searches each search is a walk.
+        let _places = self.cache.make_places(self.rules.len() + 1);
+        self.cache.settle(&mut self.rules, &self.jumps); // before a rule comes
         let place = first_from(&self.rules, counted.number() + 1);
         let Ok(()) = self.rules.insert(place, counted) else {
             unreachable!()
         };
         self.jumps.push_reserved(0);
         aim(&self.rules, &mut self.jumps);
-        self.paths.forget(); // a rule has come
+        self.cache.forget(); // a rule has come
         self.added += 1;
         Ok(())
     }
@@ -123,7 +124,7 @@ impl RuleList {
         if !is_rule_number(number) {
             return Err(Refusal::BadNumber);
         }
-        self.paths.settle(&mut self.rules, &self.jumps); // before rules go
+        self.cache.settle(&mut self.rules, &self.jumps); // before rules go
         let number = number.get();
         if !self.rules.iter().any(|counted| counted.number() == number) {
             return Err(Refusal::NoRule);
@@ -131,7 +132,7 @@ impl RuleList {
         self.rules.retain(|counted| counted.number() != number);
         self.jumps.truncate(self.rules.len());
         aim(&self.rules, &mut self.jumps);
-        self.paths.forget(); // rules have gone
+        self.cache.forget(); // rules have gone
         Ok(())
     }
 
@@ -140,7 +141,7 @@ impl RuleList {
         ensures verdict { result ≡ verdict 0 packet.now self.old.rules }
         ensures counted { self.new ≡ counted_book 0 packet.now self.old }
     {
-        judge_and_count(&mut self.paths, &mut self.rules, &self.jumps, 0, packet)
+        judge_and_count(&mut self.cache, &mut self.rules, &self.jumps, 0, packet)
     }
 
     /// The same verdict; nothing is counted.
@@ -151,12 +152,12 @@ impl RuleList {
     }
 
     /// The same verdict, and nothing is counted; a later search for a packet of this flow goes by
-    /// the path that this one found. Takes no memory.
-    pub fn foresee(&mut self, packet: &Packet) -> Verdict
+    /// the cached search that this one found. Takes no memory.
+    pub fn classify(&mut self, packet: &Packet) -> Verdict
         ensures verdict { result ≡ verdict 0 packet.now self.old.rules }
         ensures same { self.new ≡ self.old }
     {
-        self.foresee_rule(packet).verdict
+        self.classify_rule(packet).verdict
     }
 
     /// The verdict of a search that begins behind the place of a rule, which may be gone: the
@@ -168,7 +169,7 @@ impl RuleList {
             self.new ≡ counted_book start packet.now self.old }
     {
         let start = first_behind(&self.rules, place);
-        judge_and_count(&mut self.paths, &mut self.rules, &self.jumps, start, packet)
+        judge_and_count(&mut self.cache, &mut self.rules, &self.jumps, start, packet)
     }
 
     /// The same verdict; nothing is counted.
@@ -181,28 +182,28 @@ impl RuleList {
     }
 
     /// The same verdict, foreseen.
-    pub fn foresee_after(&mut self, place: Place, packet: &Packet) -> Verdict
+    pub fn classify_after(&mut self, place: Place, packet: &Packet) -> Verdict
         ensures verdict { let start = start_behind place self.old.rules in
             result ≡ verdict start packet.now self.old.rules }
         ensures same { self.new ≡ self.old }
     {
-        self.foresee_rule_after(place, packet).verdict
+        self.classify_rule_after(place, packet).verdict
     }
 
-    /// The verdict of `foresee`, and by which rule.
+    /// The verdict of `classify`, and by which rule.
     #[inline(always)]
-    pub fn foresee_rule(&mut self, packet: &Packet) -> Foreseen
+    pub fn classify_rule(&mut self, packet: &Packet) -> Match
         ensures verdict { result.verdict ≡ verdict 0 packet.now self.old.rules }
         ensures same { self.new ≡ self.old }
         ensures rule { result.rule ≢ NO_RULE →
             CountsAlone 0 packet.now (the_rules self.old.rules) result.rule }
     {
-        foresee(&mut self.paths, &mut self.rules, &self.jumps, 0, packet)
+        classify(&mut self.cache, &mut self.rules, &self.jumps, 0, packet)
     }
 
     /// The same of a search behind the place of a rule.
     #[inline(always)]
-    pub fn foresee_rule_after(&mut self, place: Place, packet: &Packet) -> Foreseen
+    pub fn classify_rule_after(&mut self, place: Place, packet: &Packet) -> Match
         ensures verdict { let start = start_behind place self.old.rules in
             result.verdict ≡ verdict start packet.now self.old.rules }
         ensures same { self.new ≡ self.old }
@@ -210,7 +211,7 @@ impl RuleList {
             CountsAlone start packet.now (the_rules self.old.rules) result.rule }
     {
         let start = first_behind(&self.rules, place);
-        foresee(&mut self.paths, &mut self.rules, &self.jumps, start, packet)
+        classify(&mut self.cache, &mut self.rules, &self.jumps, start, packet)
     }
 
     /// The rule at a place counts a packet, which was foreseen there.
@@ -238,7 +239,7 @@ impl RuleList {
         ensures rule { slice_get self.old.rules place ≡ Some result }
         ensures same { self.new ≡ self.old }
     {
-        self.paths.settle(&mut self.rules, &self.jumps); // before a rule is read
+        self.cache.settle(&mut self.rules, &self.jumps); // before a rule is read
         self.rules[place]
     }
 }

@@ -2,8 +2,8 @@
 use Rattle.std.proofs.Common.{◌≡◌, ℕ, List, [], ◌∷◌, None, ap, ◌∙◌, sym, subst, arith}
 use Rattle.emu_model.specs.declared.packets.Packet.{Packet}
 use Rattle.packet_store.specs.Pocket.{Pocket, empty_pocket, with_packet}
-use Rattle.pipe_instance.proofs.CallerLemmas.{total-nil}
-use Rattle.pipe_instance.specs.Uses.{one_at}
+use Rattle.pipe_core.proofs.CallerLemmas.{total-nil}
+use Rattle.pipe_core.specs.Uses.{one_at}
 use Rattle.pipe_core.specs.declared.slot.Slot.{Slot}
 use Rattle.pipe_core.specs.Moves.{AreNamed, Keeps}
 use Rattle.pipe_core.specs.Keyed.{keys_of}

@@ -3,23 +3,23 @@ use Rattle.std.proofs.Common.{◌≡◌, ℕ, ◌+◌, ◌*◌, ◌^◌, ◌<◌
 use Rattle.emu_model.specs.Moments.{IsMoment}
 use Rattle.emu_model.specs.declared.sources.Due.{Due}
 use Rattle.emu_model.specs.declared.sources.Class.TheVariants.{NextCommand, Exit, Finish, Expiry, Emission}
-use Rattle.emu_model.specs.declared.commands.Setting.{Setting}
+use Rattle.emu_model.specs.declared.commands.EventContext.{EventContext}
 use Rattle.emu_model.specs.Net.{Net}
 use Rattle.emu_model.specs.Dues.{due}
 use Rattle.packet_store.specs.Pocket.{Pocket, empty_pocket}
-use Rattle.pipe_instance.specs.Uses.{uses, one_at}
-use Rattle.pipe_instance.proofs.CallerLemmas.{total-nil}
+use Rattle.pipe_core.specs.Uses.{uses, one_at}
+use Rattle.pipe_core.proofs.CallerLemmas.{total-nil}
 use Rattle.pipe_core.specs.Moves.{found}
 use Rattle.network.specs.Kept.{KeptNet, net_keys, IsHoused, Stands}
 use Rattle.network.specs.Changes.{IsStill}
 use Rattle.network.specs.Due.{IsDue}
 
-pub stands_at : (at : Setting) (room now : ℕ) (p : Pocket) (n : KeptNet) → at ≡ record { seed = 0; packet_budget = room; now = now } →
+pub stands_at : (at : EventContext) (room now : ℕ) (p : Pocket) (n : KeptNet) → at ≡ record { seed = 0; packet_budget = room; now = now } →
     IsMoment now → room ≤ p.budget → n.table.seed ≡ 0 → IsHoused p n → Stands at p n
 stands_at at room now p n is early fits seed housed = record {
-  early = let e : at.now ≡ now = ap (λ (m : Setting). m.now) is in omega (arith, e, early);
-  seed = ap (λ (m : Setting). m.seed) is ∙ sym seed;
-  room = let e : at.packet_budget ≡ room = ap (λ (m : Setting). m.packet_budget) is in omega (arith, e, fits);
+  early = let e : at.now ≡ now = ap (λ (m : EventContext). m.now) is in omega (arith, e, early);
+  seed = ap (λ (m : EventContext). m.seed) is ∙ sym seed;
+  room = let e : at.packet_budget ≡ room = ap (λ (m : EventContext). m.packet_budget) is in omega (arith, e, fits);
   housed = housed;
 }
 

@@ -6,7 +6,7 @@ use Rattle.std.proofs.lemmas.List.{length_push}
 use Rattle.emu_model.specs.declared.commands.Timed.{Timed}
 use Rattle.emu_model.specs.DueLaws.{AreRising, IsInRange, IsEarly}
 use Rattle.packet_store.specs.Pocket.{empty_pocket}
-use Rattle.pipe_instance.specs.Uses.{total, uses, one_at}
+use Rattle.pipe_core.specs.Uses.{total, uses, one_at}
 use Rattle.network.specs.Kept.{KeptNet, net_keys, IsHoused}
 use Rattle.experiment.specs.Kept.{KeptExperiment, IsSound, last_moment}
 

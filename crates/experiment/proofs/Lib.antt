@@ -5,3 +5,8 @@ mod AloneFacts
 mod PassFacts
 mod TouchFacts
 mod DueTimes
+mod WaitLaws
+mod Going
+mod Settling
+pub mod CallerLemmas
+mod Rooms

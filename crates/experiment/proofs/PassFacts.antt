@@ -11,7 +11,7 @@ use Rattle.emu_model.specs.declared.records.Record.{Record}
 use Rattle.emu_model.specs.Dues.{dues_of, least_due}
 use Rattle.emu_model.specs.Step.{State, take_event, count_step}
 use Rattle.emu_model.specs.RunLaws.{with_earlier}
-use Rattle.session_laws.specs.Waits.{event_of_class, event_at, step_before, IsAloneUntil, StepsBeforeWait, WaitsAgree, WaitsRise, WaitsReadNoRecords}
+use Rattle.experiment.specs.Waits.{event_of_class, event_at, step_before, IsAloneUntil, StepsBeforeWait, WaitsAgree, WaitsRise, WaitsReadNoRecords}
 use Rattle.packet_store.specs.Pocket.{Pocket}
 use Rattle.network.specs.Kept.{net_of}
 use Rattle.experiment.specs.Kept.{KeptExperiment, view, shown_ending, IsWaiting, IsAloneAfter}

@@ -7,7 +7,7 @@ use Rattle.emu_model.specs.declared.records.Ending.{Ending}
 use Rattle.emu_model.specs.declared.records.Ending.TheVariants.{Halted}
 use Rattle.emu_model.specs.Net.{Net}
 use Rattle.packet_store.specs.Pocket.{Pocket}
-use Rattle.pipe_instance.specs.Uses.{uses}
+use Rattle.pipe_core.specs.Uses.{uses}
 use Rattle.network.specs.Kept.{KeptNet, net_of, net_keys, IsHoused}
 use Rattle.network.specs.Changes.{Becomes, IsStill}
 use Rattle.experiment.specs.Kept.{KeptExperiment, shown_ending, IsSound}
@@ -96,7 +96,7 @@ module _ (old : KeptExperiment) (latest held : ℕ) (s : IsSound old latest held
 
 -- a step that was refused
 still-keys : (old new : KeptNet) → IsStill old new → net_keys new ≡ net_keys old
-still-keys old new s = λ i. map (λ x. x.item) (s.line i).flight ++ s.keys i
+still-keys old new s = λ i. map (λ x. x.item) (s.line i).in_flight ++ s.keys i
 
 pub halts : (p q : Pocket) (old : KeptExperiment) (new : KeptNet) → old.ending ≡ None → IsStill old.net new → q ≡ p →
     Halts p old q (record old { net = new; ending = Some Halted })

@@ -11,7 +11,7 @@ use Rattle.emu_model.specs.Step.{State}
 use Rattle.emu_model.specs.Alone.{alone}
 use Rattle.emu_model.specs.RunLaws.{with_earlier}
 use Rattle.emu_model.specs.DueLaws.{AreRising, IsEarly}
-use Rattle.session_laws.specs.Waits.{IsAloneUntil}
+use Rattle.experiment.specs.Waits.{IsAloneUntil}
 use Rattle.packet_store.specs.Pocket.{Pocket}
 use Rattle.network.specs.Kept.{KeptNet, net_of, net_keys, IsHoused}
 

@@ -8,7 +8,7 @@ use Rattle.emu_model.specs.declared.records.Record.TheVariants.{StepsSpent}
 use Rattle.emu_model.specs.declared.sources.Class.TheVariants.{NextCommand}
 use Rattle.emu_model.specs.Dues.{due}
 use Rattle.emu_model.specs.Step.{step, take_due, count_step}
-use Rattle.session_laws.specs.Waits.{step_before, IsSettled}
+use Rattle.experiment.specs.Waits.{step_before, IsSettled}
 use Rattle.packet_store.specs.Pocket.{Pocket}
 use Rattle.network.specs.Kept.{KeptNet}
 use Rattle.network.specs.Changes.{Notes}

@@ -16,7 +16,7 @@ ghost use Rattle.experiment.specs.Moves.{Makes, Steps, Halts, IsNext, Closes};
 
 use crate::told::command_due;
 use emu_model::{
-    Class, Command, Due, Ending, Setting, Spec, Timed, command_in_range, later_commands_wait,
+    Class, Command, Due, Ending, EventContext, Spec, Timed, command_in_range, later_commands_wait,
     records_are_not_read, records_grow,
 };
 use network::Network;
@@ -266,7 +266,7 @@ impl Experiment {
         ensures budget { (S.pocket shelf.new owner).budget ≡ (S.pocket shelf.old owner).budget }
         ensures others { OthersStay owner (S.pocket shelf.old) (S.pocket shelf.new) }
     {
-        let due = self.net.settled_earliest(self.clock, first);
+        let due = self.net.next_due(self.clock, first);
         if due.source.class == Class::NextCommand {
             self.take_command(shelf, owner, due)
         } else {
@@ -376,14 +376,14 @@ fn few_steps(spec: &Spec)
 }
 
 // What an event knows besides, at a moment (ns).
-fn setting_of(spec: &Spec, now: u64) -> Setting
+fn setting_of(spec: &Spec, now: u64) -> EventContext
     ensures { result ≡ record {
       seed = spec.now.seed;
       packet_budget = spec.now.budget.packets;
       now = now;
     } }
 {
-    Setting {
+    EventContext {
         seed: spec.seed,
         packet_budget: spec.budget.packets,
         now,

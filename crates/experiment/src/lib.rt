@@ -1,11 +1,29 @@
-//! One experiment by itself, over any shelf of packets: its commands at their moments, its events, and
-//! how it ends. Own.
+//! One experiment by itself, over any shelf of packets: its commands at their moments, its events, and how it ends; its
+//! report, while it runs or packed until it is written; and laws of an experiment whose next command isn't known yet, which
+//! sessions rest on. Our choice.
 #![tactic(auto)]
 
+mod counts;
 mod experiment;
+mod keeper;
 mod rehousing;
+mod room;
+mod sessions;
 mod told;
 mod touched;
 mod waiting;
+mod waits;
+mod writer;
 
+pub use counts::RecordCounts;
 pub use experiment::{ApplyError, Event, Experiment};
+pub use keeper::{BATCH, Report, ReportKeeper};
+pub use room::put_reports;
+pub use sessions::{
+    ended_sessions_are_whole, ended_states_are_whole, sessions_are_alone, transcripts_are_whole,
+};
+pub use waits::{
+    commands_come_alone, commands_go_on, steps_before_wait, waits_agree, waits_begin,
+    waits_pass_events, waits_read_no_records, waits_rise, waits_settle,
+};
+pub use writer::ReportWriter;

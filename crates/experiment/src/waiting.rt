@@ -3,19 +3,19 @@
 ghost use Rattle.std.specs.Prelude.{◌≡◌, ◌*◌, ℕ, ◌^◌, ◌≤◌, List, None, IfSome};
 ghost use Rattle.emu_model.specs.declared.records.Record.{Record};
 ghost use Rattle.emu_model.specs.Dues.{dues_of, least_due};
-ghost use Rattle.session_laws.specs.Waits.{IsSettled};
+ghost use Rattle.experiment.specs.Waits.{IsSettled};
 ghost use Rattle.packet_store.specs.Pocket.{Pocket, OthersStay};
 ghost use Rattle.network.specs.Kept.{net_of};
 ghost use Rattle.experiment.specs.Kept.{view, IsHousedIn, IsWaiting};
 ghost use Rattle.experiment.specs.Moves.{IsPast, Passes};
 
-use crate::{Event, Experiment};
-use emu_model::{Class, Due, Source};
-use packet_store::{Owner, Shelf};
-use session_laws::{
+use crate::waits::{
     steps_before_wait, waits_agree, waits_pass_events, waits_read_no_records, waits_rise,
     waits_settle,
 };
+use crate::{Event, Experiment};
+use emu_model::{Class, Due, Source};
+use packet_store::{Owner, Shelf};
 
 /// What every due lies below (ns).
 const PAST_ALL: u64 = 2_000_000_000_000_000;
@@ -59,7 +59,7 @@ impl Experiment {
             moment: limit,
             source: Source::next_command(),
         };
-        let due = self.net.settled_earliest(self.clock, first);
+        let due = self.net.next_due(self.clock, first);
         if due.source.class == Class::NextCommand {
             return Event::Still;
         }

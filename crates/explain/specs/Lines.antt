@@ -1,13 +1,13 @@
 -- Lines by their numbers, and places in a line.
 use Rattle.std.specs.Prelude.{◌≡◌, ℕ, ◌+◌, ◌-◌, ◌≤◌, List, [], ◌∷◌, length, take, drop, Option, Some, None, if◌then◌else◌, ◌==◌}
 use Rattle.std.specs.List.{prefix_len, position_or_len}
-use Rattle.explain.specs.declared.place.Place.{Place}
+use Rattle.explain.specs.declared.span.Span.{Span}
 use Rattle.control_words.specs.Text.{words}
 use Rattle.control.specs.declared.fault.Cause.{Cause}
 use Rattle.control.specs.declared.fault.Cause.TheVariants.{BadWord, OutOfRange, NoEnd, SameName, NoExperiment, AfterEnd, Backwards}
-use Rattle.control_faults.specs.declared.fault.Check.{Check}
-use Rattle.control_faults.specs.declared.fault.Check.TheVariants.{Forms, Ranges}
-use Rattle.control_faults.specs.FirstWrong.{IsFine, IsFirstWrong}
+use Rattle.control.specs.declared.word_fault.Check.{Check}
+use Rattle.control.specs.declared.word_fault.Check.TheVariants.{Forms, Ranges}
+use Rattle.control.specs.FirstWrong.{IsFine, IsFirstWrong}
 
 -- the line with this number, counted from 1
 abbrev pub nth_line : ℕ → List (List ℕ) → Option (List ℕ)
@@ -21,17 +21,17 @@ nonempty (Some []) = None
 nonempty (Some (b ∷ bs)) = Some (b ∷ bs)
 
 -- a place, if there is one, lies in the line
-abbrev pub IsWithin : Option Place → List ℕ → Type 0
+abbrev pub IsWithin : Option Span → List ℕ → Type 0
 IsWithin None line = Unit {0}
 IsWithin (Some p) line = p.start + p.width ≤ length line
 
 -- the same of the line that is shown, or of no byte where none is
-abbrev pub IsInLine : Option Place → Option (List ℕ) → Type 0
+abbrev pub IsInLine : Option Span → Option (List ℕ) → Type 0
 IsInLine place None = IsWithin place []
 IsInLine place (Some line) = IsWithin place line
 
 -- the place has the first of these words, or, where there is none, no byte behind the line's last
-abbrev pub IsFirstAt : List (List ℕ) → List ℕ → Place → Type 0
+abbrev pub IsFirstAt : List (List ℕ) → List ℕ → Span → Type 0
 IsFirstAt [] line p = (p.start ≡ length line) × (p.width ≡ 0)
 IsFirstAt (w ∷ ws) line p = take p.width (drop p.start line) ≡ w
 
@@ -53,18 +53,18 @@ marked_word Backwards = Some 0
 marked_word _ = None
 
 -- the word with this number is marked, if there is a number
-abbrev pub Marks : Option ℕ → Option Place → List ℕ → Type 0
+abbrev pub Marks : Option ℕ → Option Span → List ℕ → Type 0
 Marks None place line = Unit {0}
 Marks (Some k) None line = ⊥
 Marks (Some k) (Some p) line = IsFirstAt (drop k (words line)) line p
 
 -- the first word at fault is marked; nothing is, where no word is at fault
-abbrev pub MarksWord : Check → Option Place → List ℕ → Type 0
+abbrev pub MarksWord : Check → Option Span → List ℕ → Type 0
 MarksWord check None line = IsFine check (words line)
 MarksWord check (Some p) line = (k : ℕ) × IsFirstWrong check (words line) k × IsFirstAt (drop k (words line)) line p
 
 -- the same, where the cause is one of a word
-abbrev pub MarksBlamed : Cause → Option Place → List ℕ → Type 0
+abbrev pub MarksBlamed : Cause → Option Span → List ℕ → Type 0
 MarksBlamed BadWord place line = MarksWord Forms place line
 MarksBlamed OutOfRange place line = MarksWord Ranges place line
 MarksBlamed _ place line = Unit {0}

@@ -1,7 +1,7 @@
 -- What is printed.
 use Rattle.std.specs.Prelude.{ℕ, List, [], ◌∷◌, ◌++◌, length, take, map, replicate, max, Option, Some, None, if◌then◌else◌, nat_lt, nat_le, codes, decimal}
 use Rattle.explain.specs.declared.past.Earlier.{Earlier}
-use Rattle.explain.specs.declared.place.Place.{Place}
+use Rattle.explain.specs.declared.span.Span.{Span}
 use Rattle.explain.specs.declared.refused.Refused.{Refused}
 
 -- printable ASCII as it is, any other byte as `?`
@@ -16,15 +16,15 @@ abbrev pub row : List ℕ → List ℕ → List ℕ
 row label text = label ++ shown_line text ++ 10 ∷ []
 
 -- marks under a part of a line that stands behind two spaces
-abbrev pub marks : Place → List ℕ
+abbrev pub marks : Span → List ℕ
 marks p = 32 ∷ 32 ∷ replicate p.start 32 ++ replicate (max p.width 1) 94 ++ 10 ∷ []
 
-abbrev pub marked : List ℕ → Option Place → List ℕ
+abbrev pub marked : List ℕ → Option Span → List ℕ
 marked line None = []
 marked line (Some p) = if nat_le (length line) 512 then marks p else []
 
 -- a line, and marks beneath it
-abbrev pub marked_line : List ℕ → Option Place → List ℕ
+abbrev pub marked_line : List ℕ → Option Span → List ℕ
 marked_line line place = row (codes "  ") line ++ marked line place
 
 abbrev pub earlier_row : Earlier → List ℕ
@@ -34,7 +34,7 @@ abbrev pub before_row : Option Earlier → List ℕ
 before_row None = []
 before_row (Some e) = earlier_row e
 
-abbrev pub line_rows : Option (List ℕ) → Option Place → List ℕ
+abbrev pub line_rows : Option (List ℕ) → Option Span → List ℕ
 line_rows None place = []
 line_rows (Some line) place = marked_line line place
 
@@ -43,7 +43,7 @@ optional_row label None = []
 optional_row label (Some text) = row label text
 
 -- what is printed of a fault: its line, the place in it, what was expected, an example, a hint, the line before
-abbrev pub finding_text : Option (List ℕ) → Option Place → List ℕ → Option (List ℕ) → Option (List ℕ) → Option Earlier → List ℕ
+abbrev pub finding_text : Option (List ℕ) → Option Span → List ℕ → Option (List ℕ) → Option (List ℕ) → Option Earlier → List ℕ
 finding_text line place expected example hint before = line_rows line place ++ row (codes "  expected: ") expected ++ optional_row (codes "  example: ") example ++ optional_row (codes "  hint: ") hint ++ before_row before
 
 -- what is printed of a refused command

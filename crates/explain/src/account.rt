@@ -6,7 +6,7 @@ ghost use Rattle.explain.specs.Notes.{notes_of, noted_by};
 ghost use Rattle.explain.specs.Account.{refusals_by};
 
 use crate::notes::{Note, count_record};
-use emu_model::{Record, Refusal as Why};
+use emu_model::{Record, Refusal};
 use report::{Archive, Source};
 use std::alloc::{AllocError, Global};
 use std::marker::Model;
@@ -14,7 +14,7 @@ use std::marker::Model;
 /// A command that was refused: the number of its experiment in the scenario, from 1, its own number there, from 0, and
 /// the code.
 #[derive(Clone, Copy, Debug, PartialEq)]
-pub struct Refusal {
+pub struct RefusedCommand {
     pub experiment: u64,
     pub command: u64,
     pub code: u64,
@@ -24,7 +24,7 @@ pub struct Refusal {
 #[derive(Drop)]
 pub struct Account {
     alloc: Global,
-    refusals: Vec<Refusal>,
+    refusals: Vec<RefusedCommand>,
     notes: Vec<Note>,
 }
 
@@ -36,7 +36,7 @@ impl Model for Account {
     ghost view = { λ a. record { refusals = a.refusals.items; notes = a.notes.items } };
 }
 
-fn code_of(why: Why) -> u64
+fn code_of(why: Refusal) -> u64
     ensures { result ≡ code_of why }
 {
     u64::from(why as u8)
@@ -44,7 +44,7 @@ fn code_of(why: Why) -> u64
 
 // Adds the refusal that a record of the experiment with this number is, if it is one.
 fn add_refusal(
-    refusals: &mut Vec<Refusal>,
+    refusals: &mut Vec<RefusedCommand>,
     experiment: u64,
     entry: &Record,
 ) -> Result<(), AllocError>
@@ -57,7 +57,7 @@ fn add_refusal(
         ..
     } = *entry
     {
-        refusals.push(Refusal {
+        refusals.push(RefusedCommand {
             experiment,
             command,
             code: code_of(refusal),
@@ -79,7 +79,7 @@ impl Account {
     }
 
     /// The commands that were refused, in the order of the reports.
-    pub fn refusals(&self) -> &[Refusal]
+    pub fn refusals(&self) -> &[RefusedCommand]
         ensures { result.now ≡ self.now.refusals }
     {
         self.refusals.as_slice()

@@ -17,16 +17,15 @@ ghost use Rattle.explain.specs.Lines.{
 ghost use Rattle.explain.specs.Past.{IsBefore, IsPastOf, line_for};
 
 use crate::past::{Earlier, Past, name_in, past_of};
-use crate::place::{Place, line_at, part, place_of_word};
-use control::{Cause, Fault};
-use control_faults::{Check, blame};
+use crate::span::{Span, line_at, part, span_of_word};
+use control::{Cause, Check, Fault, blame};
 use explain_line::{byte_hint, hint, range_hint, wanted_at};
 
 /// What is found in a line: where the first word at fault stands, what was expected there, an example, and what to
 /// write instead.
 #[derive(Clone, Copy)]
 pub struct Inside {
-    pub place: Option<Place>,
+    pub place: Option<Span>,
     pub expected: &'static str,
     pub example: Option<&'static str>,
     pub hint: Option<&'static str>,
@@ -64,7 +63,7 @@ fn at_word(
     ensures marks { Marks (Some index) result.place line.now }
 {
     Inside {
-        place: Some(place_of_word(line, index)),
+        place: Some(span_of_word(line, index)),
         expected,
         example,
         hint: None,
@@ -80,7 +79,7 @@ fn bad_byte(line: &[u8]) -> Inside
     for (start, byte) in line.iter().enumerate() {
         if *byte < 32 || *byte > 126 {
             return Inside {
-                place: Some(Place { start, width: 1 }),
+                place: Some(Span { start, width: 1 }),
                 expected,
                 example: None,
                 hint: Some(byte_hint(*byte, start + 1 == line.len())),
@@ -98,7 +97,7 @@ fn bad_word(line: &[u8], check: Check) -> Inside
     let Some(blamed) = blame(line, check) else {
         return whole("a line of docs/reference/scenario.md", None);
     };
-    let place = place_of_word(line, blamed.index);
+    let place = span_of_word(line, blamed.index);
     let word = part(line, place);
     let wanted = wanted_at(blamed.expected, word);
     let hint = if word.is_empty() {
@@ -122,7 +121,7 @@ fn cut_off(line: &[u8]) -> Inside
     ensures { IsWithin result.place line.now }
 {
     Inside {
-        place: Some(Place {
+        place: Some(Span {
             start: line.len(),
             width: 0,
         }),

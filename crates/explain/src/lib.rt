@@ -7,15 +7,15 @@ mod finding;
 mod further;
 mod notes;
 mod past;
-mod place;
 mod refused;
 mod show;
+mod span;
 
-pub use account::{Account, Refusal};
+pub use account::{Account, RefusedCommand};
 pub use finding::{Finding, find};
 pub use further::{faults_behind, next_fault, show_found};
 pub use notes::{Note, Subject};
 pub use past::Earlier;
-pub use place::{Place, line_at, place_of_word};
 pub use refused::{Refused, Stand, Text};
 pub use show::{put_row, show_finding, show_refused};
+pub use span::{Span, line_at, span_of_word};

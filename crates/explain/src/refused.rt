@@ -1,6 +1,6 @@
 //! Where in a scenario a refused command stands, and what its code means.
 
-use crate::account::Refusal;
+use crate::account::RefusedCommand;
 use control_lines::{LineEntry, read_line};
 use control_words::first_line;
 
@@ -190,7 +190,7 @@ impl<'a> Text<'a> {
 
     /// Goes on to the command that was refused. `None` where it doesn't stand in what is left. The refusals of a report
     /// come in the order of the text, so one pass finds them all. Own.
-    pub fn find(&mut self, refusal: &Refusal) -> Option<Refused<'a>> {
+    pub fn find(&mut self, refusal: &RefusedCommand) -> Option<Refused<'a>> {
         let stand = self.seek(refusal.experiment, Some(refusal.command))?;
         Some(Refused {
             number: stand.number,

@@ -5,8 +5,8 @@ ghost use Rattle.explain.specs.Shown.{shown_byte, row, marks, marked_line, earli
 
 use crate::finding::Finding;
 use crate::past::Earlier;
-use crate::place::Place;
 use crate::refused::Refused;
+use crate::span::Span;
 use itoa::Buffer as Digits;
 use std::alloc::{AllocError, Global};
 
@@ -63,7 +63,7 @@ pub fn put_row(out: &mut Vec<u8>, label: &str, text: &[u8]) -> Result<(), AllocE
 }
 
 // The marks under a part of a line.
-fn put_marks(out: &mut Vec<u8>, place: Place) -> Result<(), AllocError>
+fn put_marks(out: &mut Vec<u8>, place: Span) -> Result<(), AllocError>
     ensures { OnOk result (out.new.items ≡ out.old.items ++ marks place) }
 {
     out.extend_from_slice(b"  ")?;
@@ -74,7 +74,7 @@ fn put_marks(out: &mut Vec<u8>, place: Place) -> Result<(), AllocError>
 }
 
 // The line, and marks beneath it.
-fn put_line(out: &mut Vec<u8>, line: &[u8], place: Option<Place>) -> Result<(), AllocError>
+fn put_line(out: &mut Vec<u8>, line: &[u8], place: Option<Span>) -> Result<(), AllocError>
     ensures { OnOk result (out.new.items ≡ out.old.items ++ marked_line line.now place) }
 {
     put_row(out, "  ", line)?;
@@ -85,7 +85,7 @@ fn put_line(out: &mut Vec<u8>, line: &[u8], place: Option<Place>) -> Result<(), 
 }
 
 // The line, if there is one, and marks beneath it.
-fn put_lines(out: &mut Vec<u8>, line: Option<&[u8]>, place: Option<Place>) -> Result<(), AllocError>
+fn put_lines(out: &mut Vec<u8>, line: Option<&[u8]>, place: Option<Span>) -> Result<(), AllocError>
     ensures { OnOk result
         (out.new.items ≡ out.old.items ++ line_rows (option_map (λ l. l.now) line.entry) place) }
 {

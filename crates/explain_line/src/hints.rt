@@ -4,9 +4,7 @@ use crate::slips::{
     ACTIONS, FIRSTS, FOR_NUMBERS, FOR_STEPS, MOMENT, OPTIONS, OWN_ACTIONS, OWN_FIRSTS,
     OWN_FLOW_OPTIONS, OWN_OPTIONS, OWN_VERBS, VERBS, meant_by, said_of,
 };
-use control_faults::{
-    Expected, FlowWord, Form, Keyword, PipeWord, RuleWord, stood_before, value_at,
-};
+use control::{Expected, FlowWord, Form, Keyword, PipeWord, RuleWord, stood_before, value_at};
 use control_words::{addresses, is};
 
 fn has(word: &[u8], byte: u8) -> bool {

@@ -1,6 +1,6 @@
 //! What is expected at each place of a line, with its range and an example.
 
-use control_faults::{
+use control::{
     EndsWord, Expected, FlowWord, HeaderWord, PacketWord, PipeWord, RuleWord, TrainWord,
     stood_before,
 };

@@ -6,7 +6,7 @@ ghost use Rattle.experiment.specs.Kept.{IsHousedIn};
 use control::Experiment as Script;
 use emu_model::{Command, Record, Timed};
 use experiment::{ApplyError, Event, Experiment};
-use explain::Refusal;
+use explain::RefusedCommand;
 use packet_store::OwnShelf;
 use std::alloc::{AllocError, Global};
 
@@ -47,7 +47,7 @@ fn code_of(
 
 // Those of the experiment with this number.
 fn expect_of(
-    out: &mut Vec<Refusal>,
+    out: &mut Vec<RefusedCommand>,
     alloc: Global,
     number: u64,
     script: &Script,
@@ -59,7 +59,7 @@ fn expect_of(
             continue;
         }
         if let Some(code) = code_of(&mut experiment, &mut shelf, timed.command)? {
-            out.push(Refusal {
+            out.push(RefusedCommand {
                 experiment: number,
                 command: place as u64,
                 code,
@@ -72,7 +72,10 @@ fn expect_of(
 /// The commands of a scenario that are refused whatever the packets do, in its order: rules, pipes, flows and trains with
 /// numbers that don't serve, are taken, or that nobody has. One that goes by packets (a mask of a pipe that holds some) is
 /// found by a run alone.
-pub fn refusals_expected(alloc: Global, scripts: &[Script]) -> Result<Vec<Refusal>, AllocError> {
+pub fn refusals_expected(
+    alloc: Global,
+    scripts: &[Script],
+) -> Result<Vec<RefusedCommand>, AllocError> {
     let mut out = Vec::new(alloc);
     for (place, script) in scripts.iter().enumerate() {
         expect_of(&mut out, alloc, (place as u64).saturating_add(1), script)?;

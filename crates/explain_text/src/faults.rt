@@ -1,8 +1,7 @@
 //! What is said of a text that is no scenario.
 
-use control::{Cause, Fault};
-use control_faults::{Behind, Blamed, Check, blame, blame_behind};
-use explain::{faults_behind, find, line_at, place_of_word, put_row, show_finding, show_found};
+use control::{Behind, Blamed, Cause, Check, Fault, blame, blame_behind};
+use explain::{faults_behind, find, line_at, put_row, show_finding, show_found, span_of_word};
 use explain_line::wanted_at;
 use std::alloc::{AllocError, Global};
 
@@ -20,7 +19,7 @@ fn told_word(line: &[u8], cause: Cause) -> Option<usize> {
 
 // A row for another word at fault: the word, and what was expected. Whether there is such a word.
 fn put_word(out: &mut Vec<u8>, line: &[u8], blamed: &Blamed) -> Result<bool, AllocError> {
-    let place = place_of_word(line, blamed.index);
+    let place = span_of_word(line, blamed.index);
     let word = &line[place.start..place.start + place.width];
     out.extend_from_slice(b"  also: `")?;
     out.extend_from_slice(word)?;

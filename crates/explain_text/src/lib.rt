@@ -1,18 +1,27 @@
-//! What `--explain` says, as text: of the faults of a scenario, of the commands that were refused, and of what is likely
-//! wrong. Own.
+//! What `--explain` says, as text: of the faults of a scenario, of the commands that were refused, and of what goes wrong
+//! without a refusal: steps that run out before an experiment's end, packets that the budget or the rules drop, rules that
+//! name no pipe, a seed that nothing uses. Our choice.
 #![tactic(auto)]
 
+mod ends;
 mod expected;
 mod faults;
-mod warnings;
+mod rules;
+mod show;
+mod survey;
+mod texts;
+mod walk;
+mod warning;
 
 use control::{Experiment, ParseError, parse_scenario};
+pub use ends::Ends;
 pub use expected::refusals_expected;
+use experiment::Report;
 use explain::Account;
 pub use faults::faults_text;
-use report_writer::Report;
 use std::alloc::{AllocError, Global};
-pub use warnings::{refusals_text, warnings_text};
+pub use texts::{refusals_text, warnings_text};
+pub use warning::{Concern, Sent, Warning, warnings};
 
 /// What the reports of a scenario say that is told. `AllocError` where memory was refused.
 pub fn account_of(alloc: Global, reports: &[Report]) -> Result<Account, AllocError> {

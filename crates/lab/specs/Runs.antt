@@ -3,7 +3,7 @@ use Rattle.std.specs.Prelude.{◌≡◌, ℕ, ◌⊎◌, ◌≤◌, List, [], �
 use Rattle.emu_model.specs.declared.commands.Timed.{Timed}
 use Rattle.packet_store.specs.Pocket.{Pocket}
 use Rattle.experiment.specs.Kept.{KeptExperiment, IsHousedIn, shown_ending}
-use Rattle.report_writer.specs.Written.{Written, IsWritten}
+use Rattle.experiment.specs.Written.{Written, IsWritten}
 
 -- it has ended, or wants its next command
 abbrev pub IsAtRest : KeptExperiment → Type 0

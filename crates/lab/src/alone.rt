@@ -7,22 +7,18 @@ ghost use Rattle.packet_store.specs.Pocket.{Pocket};
 ghost use Rattle.experiment.specs.Kept.{IsHousedIn};
 ghost use Rattle.control.specs.Order.{AreInOrder};
 ghost use Rattle.lab.specs.Runs.{Advances, IsNew, Plays};
-ghost use Rattle.report_writer.specs.Written.{CanWrite, IsWritten};
+ghost use Rattle.experiment.specs.Written.{CanWrite, IsWritten};
 ghost use Rattle.lab.specs.Reports.{report_alone};
 
 use crate::lone::LoneShelf;
 use crate::progress::Progress;
 use control::Experiment as Script;
 use emu_model::{Timed, later_commands_wait, packets_add_up};
-use experiment::{ApplyError, Event, Experiment};
-use report_writer::{Report, ReportKeeper};
+use experiment::{ApplyError, BATCH, Event, Experiment, Report, ReportKeeper};
 use std::alloc::{AllocError, Global};
 
 /// After how many steps it is told again how many were made.
 const TOLD: u64 = 65_536;
-
-/// So many records are kept together: they stay where they were recorded a moment before.
-const BATCH: usize = 256;
 
 // Tells now and then how many steps were made.
 fn tell<P: Progress>(experiment: &Experiment, progress: &P)

@@ -6,7 +6,7 @@ ghost use Rattle.lab.specs.Within.{steps_of, IsWithin, IsStepsStop, IsOutputStop
 
 use crate::fault::RunFault;
 use control::Experiment;
-use report_writer::{Report, put_reports};
+use experiment::{Report, put_reports};
 use std::alloc::Global;
 
 /// What all experiments of a scenario may have together; `None` is no limit. Own.

@@ -4,8 +4,8 @@ ghost use Rattle.std.specs.Prelude.{◌≡◌, ◌++◌, IfOk};
 ghost use Rattle.report.specs.Lines.{report_of};
 
 use emu_model::{Counters, Record};
+use experiment::Report;
 use report::Archive;
-use report_writer::Report;
 use std::alloc::{AllocError, Global};
 use std::marker::Model;
 

@@ -5,8 +5,8 @@ ghost use Rattle.report.specs.Lines.{line_of};
 ghost use Rattle.lab.specs.Bytes.{Puts, Stops};
 
 use crate::ends::{Failed, Outlet, flush_all, write_all};
+use experiment::Report;
 use report::{Archive, Moments, Source, write_some};
-use report_writer::Report;
 use std::alloc::{AllocError, Global};
 use std::marker::Model;
 

@@ -7,7 +7,7 @@ ghost use Rattle.lab.specs.Reports.{trace_alone, report_alone};
 use crate::fault::RunFault;
 use crate::outcome::Outcome;
 use control::Experiment;
-use report_writer::Report;
+use experiment::Report;
 use std::alloc::Global;
 
 // The report of an experiment, from what it left.

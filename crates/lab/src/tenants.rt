@@ -15,20 +15,17 @@ use crate::worker::Board;
 use bench::{Bench, PostError, Registry, RingMail, Tenant};
 use control::Experiment;
 use emu_model::{Timed, later_commands_wait};
-use shard::Dossier;
+use shard::{Dossier, SLOTS};
 use std::alloc::Global;
 use std::sync::Wait;
 use std::thread;
-
-/// How many letters a tenant reads at a time.
-const LETTERS: usize = 64;
 
 // Reads letters, a few at most.
 fn read_some(tenant: &mut Tenant) -> Result<(), RunFault>
     ensures same { SameTenant tenant.old tenant.new × (posted tenant.new ≡ posted tenant.old) }
     ensures err { IfErr result IsMemory }
 {
-    for _ in 0..LETTERS {
+    for _ in 0..SLOTS {
         match tenant.read() {
             Ok(Some(_)) => {}
             Ok(None) => return Ok(()),

@@ -10,8 +10,8 @@ use crate::alone::run_all;
 use crate::fault::RunFault;
 use crate::progress::{Progress, Silent};
 use control::{Experiment, ParseError, Scenario, parse_scenario};
+use experiment::Report;
 use itoa::Buffer as Digits;
-use report_writer::Report;
 use std::alloc::{AllocError, Global};
 use std::marker::Model;
 

@@ -20,7 +20,7 @@ use crate::progress::Progress;
 use crate::reports::reports_in_turn;
 use crate::together::run_together;
 use control::{ParseError, Scenario, parse_scenario};
-use report_writer::Report;
+use experiment::Report;
 use std::alloc::Global;
 use std::sync::Wait;
 use std::thread::Threads;

@@ -1,7 +1,6 @@
 //! Worked examples over memory: what is written, and the fault of each text that is none.
 
 use control::{Cause, Fault};
-use example_texts as texts;
 use lab::{
     Device, Gate, Inlet, Limits, OpenGate, Outlet, Plan, RunFault, Silent, Stop, Trouble, check,
     run, run_alone, run_alone_within, run_within,
@@ -12,6 +11,7 @@ use std::process::Abort;
 use std::sync::Wait;
 use std::test::Fail;
 use std::thread::Threads;
+use text_examples as texts;
 
 mod crowd;
 mod devices;

@@ -23,7 +23,7 @@ struct Underway<A> {
 /// A contract sees the line, and for how many entries there is room.
 #[derive(Drop)]
 pub struct DelayLine<A> {
-    flight: VecDeque<Underway<A>>,
+    in_flight: VecDeque<Underway<A>>,
     last: u64,
 }
 
@@ -37,8 +37,8 @@ impl<A> Model for DelayLine<A> {
     ghost use Rattle.link_core.specs.Flight.{flight_of};
 
     ghost view = { λ l. record {
-      line = record { flight = flight_of l.flight.items; last = l.last };
-      spare = deque_capacity l.flight - deque_len l.flight;
+      line = record { in_flight = flight_of l.in_flight.items; last = l.last };
+      spare = deque_capacity l.in_flight - deque_len l.in_flight;
     } };
 }
 
@@ -48,7 +48,7 @@ impl<A: Drop> DelayLine<A> {
         ensures { result.line ≡ empty_line }
     {
         DelayLine {
-            flight: VecDeque::new(alloc),
+            in_flight: VecDeque::new(alloc),
             last: 0,
         }
     }
@@ -68,7 +68,7 @@ impl<A: Drop> DelayLine<A> {
         self.room_for_one()?;
         let wait = (u64::from(delay.get()) * NANOSECONDS_PER_MILLISECOND).max(1);
         let exit = self.last.max(finish + wait);
-        self.flight.push_back_reserved(Underway { item, exit });
+        self.in_flight.push_back_reserved(Underway { item, exit });
         self.last = exit;
         Ok(())
     }
@@ -93,37 +93,37 @@ impl<A: Drop> DelayLine<A> {
         ensures line { self.new.line ≡ self.old.line }
         ensures room { self.old.spare ≤ self.new.spare }
     {
-        if self.flight.len() < self.flight.capacity() {
+        if self.in_flight.len() < self.in_flight.capacity() {
             return Ok(());
         }
-        self.flight.reserve(1)
+        self.in_flight.reserve(1)
     }
 
     /// Takes out what leaves first; None where nothing is on its way.
     #[inline(always)]
     pub fn leave(&mut self) -> Option<A>
-        ensures item { result ≡ first_item self.old.line.flight }
+        ensures item { result ≡ first_item self.old.line.in_flight }
         ensures line { self.new.line ≡ leave self.old.line }
         ensures room { self.old.spare ≤ self.new.spare }
     {
-        let gone = self.flight.pop_front()?;
+        let gone = self.in_flight.pop_front()?;
         Some(gone.item)
     }
 
     /// When the first item leaves (ns).
     #[inline(always)]
     pub fn due(&self) -> Option<u64>
-        ensures { result ≡ first_exit self.now.line.flight }
+        ensures { result ≡ first_exit self.now.line.in_flight }
     {
-        self.flight.front().map(|first| first.exit)
+        self.in_flight.front().map(|first| first.exit)
     }
 
     /// How many items are on their way.
-    pub fn flight(&self) -> usize
-        ensures flight { result ≡ length self.now.line.flight }
+    pub fn in_flight(&self) -> usize
+        ensures in_flight { result ≡ length self.now.line.in_flight }
         ensures fits { result < 2 ^ 63 }
     {
-        self.flight.len()
+        self.in_flight.len()
     }
 }
 
@@ -131,16 +131,16 @@ impl<A: Copy> DelayLine<A> {
     /// What leaves first, which stays.
     #[inline(always)]
     pub fn front(&self) -> Option<A>
-        ensures { result ≡ first_item self.now.line.flight }
+        ensures { result ≡ first_item self.now.line.in_flight }
     {
-        self.flight.front().map(|first| first.item)
+        self.in_flight.front().map(|first| first.item)
     }
 
     /// The item on its way at a place, what leaves first at 0.
     pub fn at(&self, place: usize) -> Option<A>
-        ensures { result ≡ slice_get (map (λ x. x.item) self.now.line.flight) place }
+        ensures { result ≡ slice_get (map (λ x. x.item) self.now.line.in_flight) place }
     {
-        match self.flight.get(place) {
+        match self.in_flight.get(place) {
             Some(underway) => Some(underway.item),
             None => None,
         }
@@ -148,11 +148,11 @@ impl<A: Copy> DelayLine<A> {
 
     /// Puts another item at a place, what leaves first at 0. Its exit stays. Takes no memory.
     pub fn replace(&mut self, place: usize, item: A)
-        requires { place < length self.old.line.flight }
+        requires { place < length self.old.line.in_flight }
         ensures { self.new ≡ record self.old {
-          line = record self.old.line { flight = with_item self.old.line.flight place item };
+          line = record self.old.line { in_flight = with_item self.old.line.in_flight place item };
         } }
     {
-        self.flight[place].item = item;
+        self.in_flight[place].item = item;
     }
 }

@@ -9,7 +9,7 @@ use Rattle.emu_model.specs.declared.sources.Due.{Due}
 use Rattle.emu_model.specs.Dues.{due, dues_of, is_before, least_due, rank}
 use Rattle.emu_model.specs.Step.{State, take_event, count_step, spend, is_last_step}
 use Rattle.emu_model.specs.RunLaws.{RecordsAreNotRead}
-use Rattle.session_laws.specs.Waits.{event_of_class, event_at, step_before, CommandsGoOn, WaitsSettle}
+use Rattle.experiment.specs.Waits.{event_of_class, event_at, step_before, CommandsGoOn, WaitsSettle}
 use Rattle.experiment.specs.Kept.{shown_ending}
 use Rattle.live.specs.Runs.{KeptRun, IsQuiet, state_of}
 use Rattle.live.specs.RunLaws.{EarlierCommandsCome}

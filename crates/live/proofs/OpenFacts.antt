@@ -13,7 +13,7 @@ use Rattle.live.specs.declared.open.Phase.TheVariants.{Going, Over, Lost}
 use Rattle.live.specs.declared.open.Phase.{Phase}
 use Rattle.live.specs.Runs.{KeptRun, IsProper, IsAt, IsAfter, IsQuiet, state_of, first_moment, Forgets, Goes, closing_of}
 use Rattle.live.specs.Runs as runs
-use Rattle.report_writer.specs.Written.{Written}
+use Rattle.experiment.specs.Written.{Written}
 use Rattle.live.specs.declared.fates.Stop.{Stop}
 use Rattle.live.specs.declared.fates.Stop.TheVariants.{Moment}
 use Rattle.live.specs.Stops.{StopsAt}

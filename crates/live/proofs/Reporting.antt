@@ -5,10 +5,10 @@ use Rattle.emu_model.specs.Net.{counters_of}
 use Rattle.emu_model.specs.Step.{State}
 use Rattle.emu_model.specs.Alone.{alone, trace_of}
 use Rattle.emu_model.specs.RunLaws.{with_more, with_earlier, LaterCommandsWait}
-use Rattle.session_laws.specs.Sessions.{EndedStatesAreWhole}
+use Rattle.experiment.specs.Sessions.{EndedStatesAreWhole}
 use Rattle.packet_store.specs.Own.{own_pocket}
 use Rattle.experiment.specs.Kept.{view}
-use Rattle.report_writer.proofs.CallerLemmas.{counted-report}
+use Rattle.experiment.proofs.CallerLemmas.{counted-report}
 use Rattle.live.specs.Runs.{KeptRun}
 use Rattle.live.specs.RunLaws.{EndedRunsAreReports, SpentRunsAreReports}
 

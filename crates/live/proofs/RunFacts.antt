@@ -10,13 +10,13 @@ use Rattle.emu_model.specs.declared.records.Record.{Record}
 use Rattle.emu_model.specs.declared.records.Ending.{Ending}
 use Rattle.emu_model.specs.Step.{State, step}
 use Rattle.emu_model.specs.RunLaws.{PacketsAddUp, RecordsAreNotRead, with_earlier, with_more}
-use Rattle.session_laws.specs.Waits.{IsAloneUntil, WaitsBegin, CommandsGoOn, GoesOn, IsSettled}
+use Rattle.experiment.specs.Waits.{IsAloneUntil, WaitsBegin, CommandsGoOn, GoesOn, IsSettled}
 use Rattle.packet_store.specs.Pocket.{Pocket}
 use Rattle.packet_store.specs.Own.{Own, own_pocket}
 use Rattle.experiment.specs.Kept.{KeptExperiment, view, IsHousedIn, IsWaiting, IsAloneAfter, last_moment}
 use Rattle.report.specs.Lines.{line_of}
-use Rattle.report_writer.specs.Written.{Written, Counts, CanWrite}
-use Rattle.report_writer.proofs.CallerLemmas.{adds_alone, adds_waiting}
+use Rattle.experiment.specs.Written.{Written, Counts, CanWrite}
+use Rattle.experiment.proofs.CallerLemmas.{adds_alone, adds_waiting}
 use Rattle.std.specs.Prelude.{IsSome}
 use Rattle.experiment.specs.Kept.{shown_ending}
 use Rattle.experiment.specs.Moves.{Passes}

@@ -6,13 +6,13 @@ use Rattle.emu_model.specs.declared.records.Record.{Record}
 use Rattle.emu_model.specs.declared.records.Ending.{Ending}
 use Rattle.emu_model.specs.Step.{State}
 use Rattle.emu_model.specs.RunLaws.{with_earlier}
-use Rattle.session_laws.specs.Waits.{step_before, IsSettled, WaitsReadNoRecords}
+use Rattle.experiment.specs.Waits.{step_before, IsSettled, WaitsReadNoRecords}
 use Rattle.packet_store.specs.Own.{Own, own_pocket}
 use Rattle.packet_store.specs.Pocket.{Pocket}
 use Rattle.experiment.specs.Kept.{view, shown_ending}
 use Rattle.experiment.specs.Moves.{Passes, IsPassed}
 use Rattle.experiment.specs.declared.experiment.Event.TheVariants as events
-use Rattle.report_writer.specs.Written.{Written, Counts}
+use Rattle.experiment.specs.Written.{Written, Counts}
 use Rattle.live.specs.declared.fates.Stop.{Stop}
 use Rattle.live.specs.declared.fates.Stop.TheVariants.{Moment}
 use Rattle.live.specs.Marking.{Marks}

@@ -8,7 +8,7 @@ use Rattle.emu_model.specs.Step.{initial_state, step}
 use Rattle.emu_model.specs.RunLaws.{with_more}
 use Rattle.control_lines.specs.Entries.{Entry, Nothing, Begins, Does, IsEntry}
 use Rattle.report.specs.Lines.{heading_of}
-use Rattle.report_writer.specs.Written.{Counts}
+use Rattle.experiment.specs.Written.{Counts}
 use Rattle.live.specs.declared.answer.Answer.{Answer}
 use Rattle.live.specs.declared.answer.Answer.TheVariants as answers
 use Rattle.live.specs.declared.open.Phase.{Phase}

@@ -39,7 +39,7 @@ concerns mine (CommandRefused moment command refusal) = true
 concerns mine (StepsSpent moment) = true
 concerns mine (RuleLine rule packets bytes) = true
 concerns mine (PipeLine pipe config) = true
-concerns mine (InstanceLine pipe instance waiting bytes busy flight drawn) = true
+concerns mine (InstanceLine pipe instance waiting bytes busy in_flight drawn) = true
 concerns mine _ = false
 
 -- how long after its moment a record stops time, if it does

@@ -6,7 +6,7 @@ use Rattle.emu_model.specs.declared.records.Record.{Record}
 use Rattle.emu_model.specs.Alone.{Trace, alone, trace_of}
 use Rattle.emu_model.specs.Step.{step}
 use Rattle.emu_model.specs.RunLaws.{with_more}
-use Rattle.session_laws.specs.Waits.{step_before}
+use Rattle.experiment.specs.Waits.{step_before}
 use Rattle.experiment.specs.Kept.{shown_ending}
 use Rattle.report.specs.Lines.{heading_of, line_of, report_of}
 use Rattle.live.specs.Runs.{KeptRun, IsAt, IsAfter, state_of, closing_of}

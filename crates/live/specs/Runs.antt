@@ -11,8 +11,8 @@ use Rattle.report.specs.Lines as lines
 use Rattle.emu_model.specs.Net.{counters_of}
 use Rattle.emu_model.specs.Dues.{dues_of, least_due}
 use Rattle.emu_model.specs.Step.{State}
-use Rattle.session_laws.specs.Waits.{IsSettled}
-use Rattle.report_writer.specs.Written.{Written, Counts}
+use Rattle.experiment.specs.Waits.{IsSettled}
+use Rattle.experiment.specs.Written.{Written, Counts}
 use Rattle.live.specs.Fates.{concerns}
 use Rattle.live.specs.Marking.{Marks}
 

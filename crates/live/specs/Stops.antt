@@ -4,10 +4,10 @@ use Rattle.emu_model.specs.declared.records.Record.{Record}
 use Rattle.emu_model.specs.declared.records.Ending.{Ending}
 use Rattle.emu_model.specs.RunLaws.{with_earlier}
 use Rattle.emu_model.specs.Step.{State}
-use Rattle.session_laws.specs.Waits.{step_before, IsSettled}
+use Rattle.experiment.specs.Waits.{step_before, IsSettled}
 use Rattle.packet_store.specs.Own.{own_pocket}
 use Rattle.experiment.specs.Kept.{view, shown_ending}
-use Rattle.report_writer.specs.Written.{Counts}
+use Rattle.experiment.specs.Written.{Counts}
 use Rattle.live.specs.declared.fates.Stop.{Stop}
 use Rattle.live.specs.declared.fates.Stop.TheVariants.{Moment}
 use Rattle.live.specs.Marking.{Marks}

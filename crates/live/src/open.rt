@@ -9,7 +9,7 @@ ghost use Rattle.packet_store.specs.Own.{own_pocket};
 ghost use Rattle.experiment.specs.Kept.{IsHousedIn};
 ghost use Rattle.report.specs.Lines.{heading_of};
 ghost use Rattle.emu_model.specs.Step.{initial_state};
-ghost use Rattle.report_writer.specs.Written.{CanWrite, Counts};
+ghost use Rattle.experiment.specs.Written.{CanWrite, Counts};
 ghost use Rattle.live.specs.Runs.{IsAt, state_of};
 ghost use Rattle.live.specs.Faults.{Answers, command_fault, time_fault};
 ghost use Rattle.live.specs.Opens.{IsTold, Tells, Takes, Settles, IsSame, IsFault, stand_of};

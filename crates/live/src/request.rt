@@ -9,9 +9,7 @@ use control::Cause;
 use control_words::addresses::name as name_in;
 use control_words::numbers::{moment, number};
 use control_words::{Words, is};
-
-// The latest moment (ns).
-const LATEST: u64 = 1_000_000_000_000_000;
+use emu_model::LATEST_MOMENT;
 
 /// A line that asks.
 #[derive(Clone, Copy)]
@@ -160,7 +158,7 @@ fn in_range(number: u128, least: u64) -> Option<u64>
     ensures value { result ≡ time_within least number }
     ensures range { IfSome result (λ n. (least ≤ n) × (n ≤ 10 ^ 15)) }
 {
-    if number < u128::from(least) || number > u128::from(LATEST) {
+    if number < u128::from(least) || number > u128::from(LATEST_MOMENT) {
         return None;
     }
     Some(number as u64)

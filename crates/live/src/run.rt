@@ -5,7 +5,7 @@ ghost use Rattle.std.specs.List.{filter};
 ghost use Rattle.live.specs.Fates.{concerns, first_hold, refusal_in, taken_by, MarkedBy};
 ghost use Rattle.emu_model.specs.declared.records.Record.{Record};
 ghost use Rattle.report.specs.Lines.{heading_of, line_of};
-ghost use Rattle.report_writer.specs.Written.{CanWrite};
+ghost use Rattle.experiment.specs.Written.{CanWrite};
 ghost use Rattle.live.specs.Runs.{KeptRun, IsAt, IsProper, Forgets, Goes, Takes, IsQuiet, IsQuietAfter, state_of, made_of, closing_of, first_moment};
 ghost use Rattle.live.specs.Stops.{StopsAt, IsEvent, Keeps};
 ghost use Rattle.packet_store.specs.Own.{own_pocket};
@@ -17,15 +17,13 @@ ghost use Rattle.live.specs.declared.fates.Stop.TheVariants.{Moment};
 use crate::fates::{Stop, Taken, concerns, first_hold, mark_injected, taken_by};
 use crate::marks::Marks;
 use emu_model::{Ending, Record, Spec, Timed, packets_add_up, records_are_not_read};
-use experiment::{ApplyError, Event, Experiment};
+use experiment::{
+    ApplyError, BATCH, Event, Experiment, ReportWriter, commands_go_on, waits_begin,
+    waits_read_no_records,
+};
 use packet_store::OwnShelf;
-use report_writer::ReportWriter;
-use session_laws::{commands_go_on, waits_begin, waits_read_no_records};
 use std::alloc::{AllocError, Global};
 use std::marker::Model;
-
-/// So many records are written together.
-const BATCH: usize = 256;
 
 /// What every due lies below (ns).
 const PAST_ALL: u64 = 2_000_000_000_000_000;

@@ -4,7 +4,7 @@
 ghost use Rattle.live.specs.RunLaws.{EndedRunsAreReports, SpentRunsAreReports, EarlierCommandsCome};
 
 use emu_model::{later_commands_wait, records_are_not_read};
-use session_laws::{commands_go_on, ended_states_are_whole, waits_settle};
+use experiment::{commands_go_on, ended_states_are_whole, waits_settle};
 
 /// Of one that a command ended, or spent the steps of, it is that of the commands that came, whatever comes after them.
 pub fn ended_runs_are_reports()

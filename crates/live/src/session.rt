@@ -15,7 +15,7 @@ use crate::answer::{Answer, put_answer};
 use crate::fates::Stop;
 use crate::open::Open;
 use crate::request::{Request, asked_in, read_request};
-use control::Cause;
+use control::{Cause, MOST_EXPERIMENTS};
 use control_lines::{LineEntry, LineFault, lines_say_one, read_line};
 use emu_model::{Spec, Timed};
 use std::alloc::{AllocError, Global};
@@ -23,9 +23,6 @@ use std::marker::Model;
 
 /// How many bytes a line has at most, before its line feed.
 pub const MAX_LINE: usize = 512;
-
-/// How many experiments a session has at most, as a scenario.
-const MOST_EXPERIMENTS: usize = 256;
 
 // What can be asked, as comments.
 const HELP: &[u8] = b"\

@@ -13,19 +13,19 @@ use Rattle.emu_model.specs.declared.packets.Load.TheVariants.{Plain}
 use Rattle.emu_model.specs.declared.packets.Packet.{Packet}
 use Rattle.emu_model.specs.declared.packets.Place.{Place}
 use Rattle.emu_model.specs.declared.records.DropCause.{DropCause}
-use Rattle.emu_model.specs.declared.records.DropCause.TheVariants.{Budget}
+use Rattle.emu_model.specs.declared.records.DropCause.TheVariants.{Budget, NoPipe}
 use Rattle.emu_model.specs.declared.rules.Verdict.{Verdict}
 use Rattle.emu_model.specs.declared.rules.Verdict.TheVariants.{OverTheLink, Dropped, IntoPipe}
 use Rattle.emu_model.specs.declared.sources.SendSpec.{SendSpec}
 use Rattle.emu_model.specs.Rules.{Counted, RuleBook, verdict, count_at, counted_book}
-use Rattle.rule_search.proofs.CallerLemmas.{verdict-alike, counted-alone}
-use Rattle.emu_model.specs.Delay.{Line, Leaving, enter}
-use Rattle.emu_model.specs.Pipes.{PipeState, pipe_packets}
-use Rattle.emu_model.specs.declared.commands.Setting.{Setting}
-use Rattle.emu_model.specs.Net.{Net, held, note_all, note_drops, note_traced, note_arrival, arrivals, find_pipe, make_record, drop_record, to_direct, enter_pipe, to_pipe, by_verdict, pass_rules_from, packet_of, make, pass_rules}
+use Rattle.emu_rules.proofs.CallerLemmas.{verdict-alike, counted-alone}
+use Rattle.emu_model.specs.Delay.{Line, InFlight, enter}
+use Rattle.emu_model.specs.Pipes.{PipeState, pipe_arrive, pipe_packets}
+use Rattle.emu_model.specs.declared.commands.EventContext.{EventContext}
+use Rattle.emu_model.specs.Net.{Net, held, note_all, note_drops, note_traced, note_arrival, arrivals, find_pipe, put_after, drop_packet, make_record, drop_record, to_direct, enter_pipe, to_pipe, by_verdict, pass_rules_from, packet_of, make, pass_rules}
 use Rattle.link_core.specs.Lane.{Lane}
 use Rattle.packet_store.specs.Pocket.{Pocket, with_packet}
-use Rattle.pipe_instance.specs.Keyed.{seen_leaving, seen_line}
+use Rattle.pipe_core.specs.KeyedInstance.{seen_leaving, seen_line}
 use Rattle.pipe_core.specs.Moves.{packet_at, Keeps}
 use Rattle.pipe_core.specs.Keyed.{KeyedPipe, seen_pipe, keys_of}
 use Rattle.pipe_core.specs.Steps.{drops_of, HasRoomAt}
@@ -33,15 +33,15 @@ use Rattle.pipe_core.specs.Views.{ViewsAgree, PacketsAreNamed}
 use Rattle.pipe_table.specs.Table.{Table, with_pipes, pipe_keys, seen_pipes, HasRoomIn}
 use Rattle.network.specs.Kept.{KeptNet, net_of, line_keys, IsHoused}
 use Rattle.network.specs.Changes.{Becomes, Notes}
-use Rattle.network.specs.declared.ways.Way.{Way}
-use Rattle.network.specs.declared.ways.Remembered.{Remembered}
-use Rattle.network.specs.declared.ways.Passage.TheVariants.{OnLine, Searched}
-use Rattle.network.specs.Ways.{IsWay, AreKnown, plain}
-use Rattle.network.specs.Ready.{Foresees, IsReady, CanGo, CanPass, HasWay, CanMake}
-use Rattle.rule_search.specs.declared.search.Foreseen.{Foreseen}
+use Rattle.network.specs.declared.flow_cache.Route.{Route}
+use Rattle.network.specs.declared.flow_cache.CacheEntry.{CacheEntry}
+use Rattle.network.specs.declared.flow_cache.Lookup.TheVariants.{Cached, Searched}
+use Rattle.network.specs.FlowCache.{IsRoute, AreKnown, plain}
+use Rattle.network.specs.Ready.{IsMatch, IsReady, CanGo, CanPass, HasRoute, CanMake}
+use Rattle.emu_rules.specs.declared.search.Match.{Match}
 use Rattle.std.specs.Prelude.{IfSome}
 use Rattle.std.proofs.lemmas.Option.{same_Some}
-use Rattle.network.proofs.WayFacts.{alike-made, way-made}
+use Rattle.network.proofs.RouteFacts.{alike-made, route-made}
 use Rattle.network.proofs.Frame.{direct-housed, direct-shown}
 use Rattle.network.proofs.AsReady.{IsRoomy, as-make}
 use Rattle.network.proofs.Direct.{enter-keeps, enter-seen}
@@ -70,7 +70,7 @@ enters agree p q n key now delay packet l h none put nought line =
     enters-at agree p q n key now packet l h none put (line ∙ ap (λ d. enter key now (milliseconds d) n.direct.line) nought)
 
 -- a packet comes to a pipe, and is taken in, or dropped
-module _ (at : Setting) (p q : Pocket) (n : KeptNet) (t : Table) (k now : ℕ) (packet : Packet) (h : IsHoused p n)
+module _ (at : EventContext) (p q : Pocket) (n : KeptNet) (t : Table) (k now : ℕ) (packet : Packet) (h : IsHoused p n)
     (keeps : Keeps p q (pipe_keys n.table.pipes) (pipe_keys t.pipes)) (seed : t.seed ≡ n.table.seed) where
   pub taken-in : enter_pipe at k packet (net_of p n) ≡ note_drops now (drops_of packet None) (with_pipes q t (net_of p n)) →
       Becomes 0 (enter_pipe at k packet (net_of p n)) p q n (record n { table = t })
@@ -87,6 +87,15 @@ module _ (at : Setting) (p q : Pocket) (n : KeptNet) (t : Table) (k now : ℕ) (
       (follow (note_all (drop_record now (record { packet = packet; cause = cause }) ∷ [])) 0 0 0 (with_pipes q t (net_of p n)) p q q n (record n { table = t }) new (omega arith) b
       (notes-becomes q (drop_record now (record { packet = packet; cause = cause }) ∷ []) (record n { table = t }) new b.housed noted))
 
+-- a packet comes to no pipe
+pub finds-none : (at : EventContext) (p : Pocket) (n new : KeptNet) (k : ℕ) (packet : Packet) → IsHoused p n → find_pipe k (net_of p n) ≡ None →
+    Notes (drop_record at.now (record { packet = packet; cause = NoPipe }) ∷ []) n new →
+    Becomes 0 (enter_pipe at k packet (net_of p n)) p p n new
+finds-none at p n new k packet h none noted =
+    shown-as 0 (note_all (drop_record at.now (record { packet = packet; cause = NoPipe }) ∷ []) (net_of p n)) (enter_pipe at k packet (net_of p n)) p p n new
+    (sym (ap (λ o. option_map_or (λ pipe. put_after at.now k (pipe_arrive at.seed at.now packet pipe) (net_of p n)) o (drop_packet at.now NoPipe packet (net_of p n))) none))
+    (notes-becomes p (drop_record at.now (record { packet = packet; cause = NoPipe }) ∷ []) n new h noted)
+
 -- records came that the pockets decide
 logged-becomes : (p : Pocket) (rs : List Record) (old new : KeptNet) → IsHoused p old → new ≡ record old { log = new.log } →
     new.log.records ≡ old.log.records ++ rs → Becomes 0 (note_all rs (net_of p old)) p p old new
@@ -99,7 +108,7 @@ logged-becomes p rs old new h rest records = record {
 }
 
 -- what a trace says of an arrival, and the arrival
-pub arrives : (at : Setting) (p q : Pocket) (n x new : KeptNet) (k : ℕ) (packet : Packet) → IsHoused p n →
+pub arrives : (at : EventContext) (p q : Pocket) (n x new : KeptNet) (k : ℕ) (packet : Packet) → IsHoused p n →
     x ≡ record n { log = x.log } →
     x.log.records ≡ n.log.records ++ (if n.trace then option_map_or (arrivals at.now packet) (find_pipe k (net_of p n)) [] else []) →
     Becomes 0 (enter_pipe at k packet (net_of p x)) p q x new →
@@ -113,28 +122,28 @@ pub ready-placed : (k : ℕ) (packet : Packet) (place : Place) (ps : List KeyedP
 ready-placed k packet place ps ready p e =
     let r : HasRoomAt packet p = ready p e in record { there = r.there; new = r.new }
 
--- a packet goes by its way
-module _ (at : Setting) (p q : Pocket) (n x new : KeptNet) (start : ℕ) (packet sent : Packet) (w : Way) (book : RuleBook) (h : IsHoused p n)
-    (way : IsWay start packet w n.book.rules n.table.pipes)
+-- a packet goes by its route
+module _ (at : EventContext) (p q : Pocket) (n x new : KeptNet) (start : ℕ) (packet sent : Packet) (w : Route) (book : RuleBook) (h : IsHoused p n)
+    (route : IsRoute start packet w n.book.rules n.table.pipes)
     (counted : book ≡ record n.book { rules = count_at (w.rule ∷ []) packet 0 n.book.rules })
     (placed : sent ≡ record packet { place = w.place }) where
   abbrev behind : KeptNet
   behind = record n { book = book }
 
-  by-way : to_pipe at w.number sent (net_of p behind) ≡ pass_rules_from at start packet (net_of p n)
-  by-way =
+  by-route : to_pipe at w.number sent (net_of p behind) ≡ pass_rules_from at start packet (net_of p n)
+  by-route =
       ap (λ s. to_pipe at w.number s (net_of p behind)) placed
       ∙ ap (λ b. to_pipe at w.number (record packet { place = w.place }) (record (net_of p n) { book = b }))
-      (counted ∙ sym (ap (λ (cs : List Counted). record n.book { rules = cs }) (counted-alone start packet n.book.rules w.rule way.alone)))
-      ∙ ap (λ v. by_verdict at v packet (record (net_of p n) { book = counted_book start packet n.book })) (sym way.verdict)
+      (counted ∙ sym (ap (λ (cs : List Counted). record n.book { rules = cs }) (counted-alone start packet n.book.rules w.rule route.alone)))
+      ∙ ap (λ v. by_verdict at v packet (record (net_of p n) { book = counted_book start packet n.book })) (sym route.verdict)
 
-  pub passes-by-way : x ≡ record behind { log = x.log } →
+  pub passes-by-route : x ≡ record behind { log = x.log } →
       x.log.records ≡ n.log.records ++ (if n.trace then option_map_or (arrivals at.now sent) (find_pipe w.number (net_of p behind)) [] else []) →
       Becomes 0 (enter_pipe at w.number sent (net_of p x)) p q x new →
       Becomes 0 (pass_rules_from at start packet (net_of p n)) p q n new
-  passes-by-way rest records entered =
+  passes-by-route rest records entered =
       rebase 0 (pass_rules_from at start packet (net_of p n)) p q behind n new refl refl
-      (shown-as 0 (to_pipe at w.number sent (net_of p behind)) (pass_rules_from at start packet (net_of p n)) p q behind new by-way
+      (shown-as 0 (to_pipe at w.number sent (net_of p behind)) (pass_rules_from at start packet (net_of p n)) p q behind new by-route
       (arrives at p q behind x new w.number sent (record { each = h.each; count = h.count }) rest records entered))
 
 ready-same : (a b : Load) (send : SendSpec) (i j : ℕ) (v : Verdict) (n : KeptNet) → IsReady v (packet_of a send i) n → IsReady v (packet_of b send j) n
@@ -154,25 +163,25 @@ packet-ready load send number x n m same e ready =
     subst (λ y. CanPass 0 y None m) (sym e) made
 
 pub packet-known : (load : Load) (send : SendSpec) (number line : ℕ) (x : Packet) (n m : KeptNet) → IsRoomy n m → x ≡ packet_of load send number →
-    CanMake send (OnLine line) n → HasWay x line m
+    CanMake send (Cached line) n → HasRoute x line m
 packet-known load send number line x n m same e ready =
-    record { load = load; send = send; number = number; made = e; holds = as-make n m same send (OnLine line) ready }
+    record { load = load; send = send; number = number; made = e; holds = as-make n m same send (Cached line) ready }
 
--- what stands on the line is the packet's way
-pub on-line : (x : Packet) (line : ℕ) (held : Remembered) (n : KeptNet) → AreKnown n.book.rules n.table.pipes n.ways → HasWay x line n →
-    slice_get n.ways line ≡ Some (Some held) → CanGo 0 x held.way n
+-- what stands on the line is the packet's route
+pub on-line : (x : Packet) (line : ℕ) (held : CacheEntry) (n : KeptNet) → AreKnown n.book.rules n.table.pipes n.flow_cache → HasRoute x line n →
+    slice_get n.flow_cache line ≡ Some (Some held) → CanGo 0 x held.route n
 on-line x line held n known h there =
-    let same : record { send = h.send; way = h.holds.way } ≡ held = same_Some _ _ (same_Some _ _ (sym h.holds.there ∙ there)) in
-    let way : IsWay 0 (plain h.send) h.holds.way n.book.rules n.table.pipes = known.each line _ h.holds.there in
-    let go : CanGo 0 (packet_of h.load h.send h.number) h.holds.way n =
-    record { way = way-made h.load h.send h.number h.holds.way n.book.rules n.table.pipes way; room = h.holds.room } in
-    subst (λ y. CanGo 0 y held.way n) (sym h.made)
-    (subst (λ (r : Remembered). CanGo 0 (packet_of h.load h.send h.number) r.way n) same go)
+    let same : record { send = h.send; route = h.holds.route } ≡ held = same_Some _ _ (same_Some _ _ (sym h.holds.there ∙ there)) in
+    let route : IsRoute 0 (plain h.send) h.holds.route n.book.rules n.table.pipes = known.each line _ h.holds.there in
+    let go : CanGo 0 (packet_of h.load h.send h.number) h.holds.route n =
+    record { route = route-made h.load h.send h.number h.holds.route n.book.rules n.table.pipes route; room = h.holds.room } in
+    subst (λ y. CanGo 0 y held.route n) (sym h.made)
+    (subst (λ (r : CacheEntry). CanGo 0 (packet_of h.load h.send h.number) r.route n) same go)
 
 -- what was foreseen of a packet that goes on
-pub can-pass : (start : ℕ) (x : Packet) (f : Foreseen) (known : Option Way) (b : RuleBook) (m : KeptNet) → m.book ≡ b →
-    Foresees start x f b.rules → IsReady f.verdict x m →
-    IfSome known (λ w. (s : ℕ) → Foresees s x f b.rules → CanGo s x w m) → CanPass start x known m
+pub can-pass : (start : ℕ) (x : Packet) (f : Match) (known : Option Route) (b : RuleBook) (m : KeptNet) → m.book ≡ b →
+    IsMatch start x f b.rules → IsReady f.verdict x m →
+    IfSome known (λ w. (s : ℕ) → IsMatch s x f b.rules → CanGo s x w m) → CanPass start x known m
 can-pass start x f (Some w) b m book foreseen ready go = go start foreseen
 can-pass start x f None b m book foreseen ready go =
     subst (λ (c : RuleBook). IsReady (verdict start x c.rules) x m) (sym book)
@@ -199,12 +208,12 @@ held-is named p n h =
       h.count,
       held-pipes named (packet_at p.find) n.table.pipes,
       length-append (line_keys n.direct.line) (pipe_keys n.table.pipes),
-      length-map n.direct.line.flight (seen_leaving (packet_at p.find)),
-      length-map n.direct.line.flight (λ (x : Leaving ℕ). x.item),
+      length-map n.direct.line.in_flight (seen_leaving (packet_at p.find)),
+      length-map n.direct.line.in_flight (λ (x : InFlight ℕ). x.item),
     )
 
 -- one more was made
-module _ (named : PacketsAreNamed) (at : Setting) (p : Pocket) (n : KeptNet) (load : Load) (send : SendSpec) (x : Packet) (h : IsHoused p n) (is : x ≡ packet_of load send n.made) where
+module _ (named : PacketsAreNamed) (at : EventContext) (p : Pocket) (n : KeptNet) (load : Load) (send : SendSpec) (x : Packet) (h : IsHoused p n) (is : x ≡ packet_of load send n.made) where
   abbrev one-more : KeptNet
   one-more = record n { made = n.made + 1 }
 

@@ -12,14 +12,14 @@ use Rattle.pipe_table.specs.Table.{Table, HasRoomIn}
 use Rattle.pipe_table.specs.Places.{HasRoomAtPlace, KeepsPlaces}
 use Rattle.traffic.specs.Kept.{KeptTraffic, with_traffic, HasRoomFor}
 use Rattle.traffic.specs.Sends.{reply_send}
-use Rattle.network.specs.declared.ways.Passage.{Passage}
-use Rattle.network.specs.declared.ways.Passage.TheVariants.{OnLine, Searched}
-use Rattle.network.specs.declared.ways.Way.{Way}
-use Rattle.network.specs.declared.ways.Remembered.{Remembered}
+use Rattle.network.specs.declared.flow_cache.Lookup.{Lookup}
+use Rattle.network.specs.declared.flow_cache.Lookup.TheVariants.{Cached, Searched}
+use Rattle.network.specs.declared.flow_cache.Route.{Route}
+use Rattle.network.specs.declared.flow_cache.CacheEntry.{CacheEntry}
 use Rattle.network.specs.Kept.{KeptNet}
-use Rattle.network.specs.Ways.{IsWay, plain}
+use Rattle.network.specs.FlowCache.{IsRoute, plain}
 use Rattle.network.specs.Ready.{IsReady, CanPass, start_after, CanMake, CanDeliver}
-use Rattle.network.proofs.WayFacts.{way-grown}
+use Rattle.network.proofs.RouteFacts.{route-grown}
 
 -- a packet that could be handed on in n can be in m
 pub record IsRoomy (n m : KeptNet) : Type 0 where
@@ -28,7 +28,7 @@ pub record IsRoomy (n m : KeptNet) : Type 0 where
   pub places : KeepsPlaces n.table.pipes m.table.pipes
   pub spare : n.direct.spare ≤ m.direct.spare
   pub book : m.book ≡ n.book
-  pub ways : m.ways ≡ n.ways
+  pub flow_cache : m.flow_cache ≡ n.flow_cache
 
 -- what needed no memory in n needs none in m
 pub record IsAsReady (n m : KeptNet) : Type 0 where
@@ -46,29 +46,29 @@ module _ (n m : KeptNet) (a : IsRoomy n m) where
       subst (λ (b : RuleBook). IsReady (verdict start x b.rules) x m) (sym a.book)
       (as-ready (verdict start x n.book.rules) x ready)
 
-  pub as-pass : (start : ℕ) (x : Packet) (known : Option Way) → CanPass start x known n → CanPass start x known m
+  pub as-pass : (start : ℕ) (x : Packet) (known : Option Route) → CanPass start x known n → CanPass start x known m
   as-pass start x (Some w) ready = record {
-    way = subst (λ (b : RuleBook). IsWay start x w b.rules m.table.pipes) (sym a.book)
-        (way-grown start x w n.book.rules n.table.pipes m.table.pipes a.places ready.way);
+    route = subst (λ (b : RuleBook). IsRoute start x w b.rules m.table.pipes) (sym a.book)
+        (route-grown start x w n.book.rules n.table.pipes m.table.pipes a.places ready.route);
     room = a.rooms_at x.size w.pipe w.instance ready.room;
   }
   as-pass start x None ready = by-search start x ready
 
-  pub as-make : (send : SendSpec) (passage : Passage) → CanMake send passage n → CanMake send passage m
-  as-make send (OnLine line) h = record {
-    way = h.way;
-    there = ap (λ (ls : List (Option Remembered)). slice_get ls line) a.ways ∙ h.there;
-    room = a.rooms_at send.size h.way.pipe h.way.instance h.room;
+  pub as-make : (send : SendSpec) (passage : Lookup) → CanMake send passage n → CanMake send passage m
+  as-make send (Cached line) h = record {
+    route = h.route;
+    there = ap (λ (ls : List (Option CacheEntry)). slice_get ls line) a.flow_cache ∙ h.there;
+    room = a.rooms_at send.size h.route.pipe h.route.instance h.room;
   }
   as-make send Searched ready = by-search 0 (plain send) ready
 
   -- behind the place of a packet that goes on
-  pub as-behind : (x : Packet) (known : Option Way) → CanPass (start_after x n) x known n → CanPass (start_after x m) x known m
+  pub as-behind : (x : Packet) (known : Option Route) → CanPass (start_after x n) x known n → CanPass (start_after x m) x known m
   as-behind x known ready =
       subst (λ (b : RuleBook). CanPass (start_behind x.place b.rules) x known m) (sym a.book) (as-pass (start_after x n) x known ready)
 
 module _ (n m : KeptNet) (a : IsAsReady n m) where
-  pub as-deliver : (load : Load) (passage : Passage) → CanDeliver load passage n → CanDeliver load passage m
+  pub as-deliver : (load : Load) (passage : Lookup) → CanDeliver load passage n → CanDeliver load passage m
   as-deliver Plain passage ready = ready
   as-deliver (Ack k upto) passage ready = ready
   as-deliver (Seg k first) passage (room, make) = (
@@ -77,8 +77,8 @@ module _ (n m : KeptNet) (a : IsAsReady n m) where
   )
 
 -- the pipes and the rules are the same
-pub roomy-same : (n m : KeptNet) → m.table ≡ n.table → n.direct.spare ≤ m.direct.spare → m.book ≡ n.book → m.ways ≡ n.ways → IsRoomy n m
-roomy-same n m same spare book ways =
+pub roomy-same : (n m : KeptNet) → m.table ≡ n.table → n.direct.spare ≤ m.direct.spare → m.book ≡ n.book → m.flow_cache ≡ n.flow_cache → IsRoomy n m
+roomy-same n m same spare book flow_cache =
     let t : Table → Type 0 = λ u. ((k : ℕ) (packet : Packet) → HasRoomIn k packet n.table.pipes → HasRoomIn k packet u.pipes)
     × (((size i j : ℕ) → HasRoomAtPlace size i j n.table.pipes → HasRoomAtPlace size i j u.pipes)
     × KeepsPlaces n.table.pipes u.pipes) in
@@ -86,7 +86,7 @@ roomy-same n m same spare book ways =
       (λ k x h. h),
       ((λ size i j h. h), record { places = λ k. refl; inside = λ i j h. h; routes = λ k x i j h. h }),
     ) in
-    record { rooms = all.0; rooms_at = all.1.0; places = all.1.1; spare = spare; book = book; ways = ways }
+    record { rooms = all.0; rooms_at = all.1.0; places = all.1.1; spare = spare; book = book; flow_cache = flow_cache }
 
 pub roomy-refl : (n : KeptNet) → IsRoomy n n
 roomy-refl n = roomy-same n n refl (omega arith) refl refl
@@ -94,13 +94,13 @@ roomy-refl n = roomy-same n n refl (omega arith) refl refl
 -- only the link changed, and has as much room
 pub direct-as-ready : (n m : KeptNet) → m ≡ record n { direct = m.direct } → n.direct.spare ≤ m.direct.spare → IsAsReady n m
 direct-as-ready n m rest spare = record {
-  roomy = roomy-same n m (ap (λ (o : KeptNet). o.table) rest) spare (ap (λ (o : KeptNet). o.book) rest) (ap (λ (o : KeptNet). o.ways) rest);
+  roomy = roomy-same n m (ap (λ (o : KeptNet). o.table) rest) spare (ap (λ (o : KeptNet). o.book) rest) (ap (λ (o : KeptNet). o.flow_cache) rest);
   traffic = ap (λ (o : KeptNet). o.traffic) rest;
 }
 
 -- only records came
 pub noted-as-ready : (n m : KeptNet) → m ≡ record n { log = m.log } → IsAsReady n m
 noted-as-ready n m rest = record {
-  roomy = roomy-same n m (ap (λ (o : KeptNet). o.table) rest) (omega (arith, ap (λ (o : KeptNet). o.direct.spare) rest)) (ap (λ (o : KeptNet). o.book) rest) (ap (λ (o : KeptNet). o.ways) rest);
+  roomy = roomy-same n m (ap (λ (o : KeptNet). o.table) rest) (omega (arith, ap (λ (o : KeptNet). o.direct.spare) rest)) (ap (λ (o : KeptNet). o.book) rest) (ap (λ (o : KeptNet). o.flow_cache) rest);
   traffic = ap (λ (o : KeptNet). o.traffic) rest;
 }

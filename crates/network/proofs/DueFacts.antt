@@ -10,10 +10,10 @@ use Rattle.emu_model.specs.declared.sources.Class.{Class}
 use Rattle.emu_model.specs.declared.sources.Class.TheVariants.{Exit, Finish, Expiry, Emission}
 use Rattle.emu_model.specs.Reno.{may_emit}
 use Rattle.emu_model.specs.Pipes.{PipeState, Instance, InService}
-use Rattle.emu_model.specs.Delay.{Leaving, Line, first_exit}
+use Rattle.emu_model.specs.Delay.{InFlight, Line, first_exit}
 use Rattle.emu_model.specs.Net.{Net, FlowState, TrainState}
 use Rattle.emu_model.specs.Dues.{due, dues_of, is_before, line_dues, service_dues, instances_dues, pipe_dues, flow_dues, train_dues}
-use Rattle.pipe_instance.specs.Keyed.{seen_leaving, seen_line}
+use Rattle.pipe_core.specs.KeyedInstance.{seen_leaving, seen_line}
 use Rattle.pipe_core.specs.Keyed.{KeyedPipe}
 use Rattle.pipe_table.specs.Table.{IsFinishDue, IsPiped}
 use Rattle.traffic.specs.Kept.{KeptTraffic}
@@ -23,15 +23,15 @@ best-append : (a : Due) (xs ys : List Due) → best_of is_before a (xs ++ ys) �
 best-append a [] ys = refl
 best-append a (x ∷ xs) ys = best-append (cond (is_before x a) x a) xs ys
 
-seen-exit : (f : ℕ → Packet) (xs : List (Leaving ℕ)) → first_exit (map (seen_leaving f) xs) ≡ first_exit xs
+seen-exit : (f : ℕ → Packet) (xs : List (InFlight ℕ)) → first_exit (map (seen_leaving f) xs) ≡ first_exit xs
 seen-exit f [] = refl
 seen-exit f (x ∷ xs) = refl
 
-pub line-none : (f : ℕ → Packet) (l : Line ℕ) → None ≡ first_exit l.flight → line_dues 0 (seen_line f l) ≡ []
-line-none f l none = ap (λ o. option_to_list (option_map (due Exit 0) o)) (seen-exit f l.flight ∙ sym none)
+pub line-none : (f : ℕ → Packet) (l : Line ℕ) → None ≡ first_exit l.in_flight → line_dues 0 (seen_line f l) ≡ []
+line-none f l none = ap (λ o. option_to_list (option_map (due Exit 0) o)) (seen-exit f l.in_flight ∙ sym none)
 
-pub line-some : (f : ℕ → Packet) (l : Line ℕ) (moment : ℕ) → Some moment ≡ first_exit l.flight → line_dues 0 (seen_line f l) ≡ due Exit 0 moment ∷ []
-line-some f l moment some = ap (λ o. option_to_list (option_map (due Exit 0) o)) (seen-exit f l.flight ∙ sym some)
+pub line-some : (f : ℕ → Packet) (l : Line ℕ) (moment : ℕ) → Some moment ≡ first_exit l.in_flight → line_dues 0 (seen_line f l) ≡ due Exit 0 moment ∷ []
+line-some f l moment some = ap (λ o. option_to_list (option_map (due Exit 0) o)) (seen-exit f l.in_flight ∙ sym some)
 
 -- the dues of a net, part by part
 parts : (clock : ℕ) (m : Net) → dues_of clock m ≡ (line_dues 0 m.direct ++ flat_map pipe_dues m.pipes) ++ source_dues clock m
@@ -103,7 +103,7 @@ module _ (P : Due → Type 0) where
   instances-all number [] e f = tt
   instances-all number (i ∷ is) e f =
       all-append P (line_dues number i.line ++ service_dues number i) (instances_dues (number + 1) is)
-      (all-append P (line_dues number i.line) (service_dues number i) (option-all number Exit (first_exit i.line.flight) (e number)) (service-all number i.service (f number)))
+      (all-append P (line_dues number i.line) (service_dues number i) (option-all number Exit (first_exit i.line.in_flight) (e number)) (service-all number i.service (f number)))
       (instances-all (number + 1) is e f)
 
   pub pipes-all : (ps : List PipeState) → ((k moment : ℕ) → P (due Exit k moment)) → ((k moment : ℕ) → P (due Finish k moment)) → AllDues P (flat_map pipe_dues ps)

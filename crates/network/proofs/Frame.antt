@@ -3,11 +3,11 @@ use Rattle.std.proofs.Common.{◌≡◌, ℕ, ◌+◌, ◌<◌, refl, sym, ap, �
 use Rattle.std.specs.Prelude.{unwrap_or}
 use Rattle.std.proofs.lemmas.List.{length-append}
 use Rattle.emu_model.specs.declared.packets.Packet.{Packet}
-use Rattle.emu_model.specs.Delay.{Line, Leaving}
+use Rattle.emu_model.specs.Delay.{Line, InFlight}
 use Rattle.link_core.specs.Lane.{Lane}
 use Rattle.packet_store.specs.Pocket.{Pocket}
-use Rattle.pipe_instance.specs.Uses.{uses}
-use Rattle.pipe_instance.specs.Keyed.{seen_leaving, seen_line}
+use Rattle.pipe_core.specs.Uses.{uses}
+use Rattle.pipe_core.specs.KeyedInstance.{seen_leaving, seen_line}
 use Rattle.pipe_core.specs.Moves.{some_packet, packet_at, found, AreNamed, Keeps}
 use Rattle.pipe_core.specs.Keyed.{KeyedPipe, keys_of}
 use Rattle.pipe_core.specs.Views.{ViewsAgree}
@@ -16,15 +16,15 @@ use Rattle.network.specs.Kept.{KeptNet, net_of, line_keys, IsHoused}
 use Rattle.network.proofs.KeyCounts.{uses-cons, uses-append, one_at-same, found-le, found-some}
 
 -- names that agree on the keys of a line show it alike
-flight-agrees : (f g : ℕ → Packet) (xs : List (Leaving ℕ)) →
+in_flight-agrees : (f g : ℕ → Packet) (xs : List (InFlight ℕ)) →
     ((k : ℕ) → 0 < uses k (map (λ x. x.item) xs) → g k ≡ f k) → map (seen_leaving g) xs ≡ map (seen_leaving f) xs
-flight-agrees f g [] same = refl
-flight-agrees f g (x ∷ xs) same = λ i.
-    record { item = same x.item (omega (arith, uses-cons x.item x.item (map (λ (y : Leaving ℕ). y.item) xs), one_at-same x.item)) i; exit = x.exit }
-    ∷ flight-agrees f g xs (λ k within. same k (omega (arith, within, uses-cons k x.item (map (λ (y : Leaving ℕ). y.item) xs)))) i
+in_flight-agrees f g [] same = refl
+in_flight-agrees f g (x ∷ xs) same = λ i.
+    record { item = same x.item (omega (arith, uses-cons x.item x.item (map (λ (y : InFlight ℕ). y.item) xs), one_at-same x.item)) i; exit = x.exit }
+    ∷ in_flight-agrees f g xs (λ k within. same k (omega (arith, within, uses-cons k x.item (map (λ (y : InFlight ℕ). y.item) xs)))) i
 
 pub line-agrees : (f g : ℕ → Packet) (l : Line ℕ) → ((k : ℕ) → 0 < uses k (line_keys l) → g k ≡ f k) → seen_line g l ≡ seen_line f l
-line-agrees f g l same = λ i. record { flight = flight-agrees f g l.flight same i; last = l.last }
+line-agrees f g l same = λ i. record { in_flight = in_flight-agrees f g l.in_flight same i; last = l.last }
 
 keys-cons : (p : KeyedPipe) (ps : List KeyedPipe) → pipe_keys (p ∷ ps) ≡ keys_of p.slots ++ pipe_keys ps
 unfolding pipe_keys

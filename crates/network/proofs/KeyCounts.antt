@@ -2,11 +2,11 @@
 use Rattle.std.proofs.Common.{◌≡◌, ℕ, ◌+◌, refl, ap, List, [], ◌∷◌, ◌++◌, Option, Some, None, arith}
 use Rattle.emu_model.specs.declared.packets.Packet.{Packet}
 use Rattle.packet_store.specs.Pocket.{Pocket, with_packet, without}
-use Rattle.pipe_instance.specs.Uses.{total, uses, one_at}
+use Rattle.pipe_core.specs.Uses.{total, uses, one_at}
 use Rattle.pipe_core.specs.Moves.{found, AreNamed, Keeps}
-use Rattle.pipe_instance.proofs.CallerLemmas.{total-nil, total-cons, total-append}
+use Rattle.pipe_core.proofs.CallerLemmas.{total-nil, total-cons, total-append}
 use Rattle.pipe_core.proofs.CallerLemmas.{Keeps-put as Keeps-more, Keeps-taken, Takes-first}
-pub use Rattle.pipe_instance.proofs.CallerLemmas.{one_at-same}
+pub use Rattle.pipe_core.proofs.CallerLemmas.{one_at-same}
 pub use Rattle.pipe_core.proofs.CallerLemmas.{at_same, at_other, found-le, found-some, one_at-other}
 
 pub uses-nil : (k : ℕ) → uses k [] ≡ 0

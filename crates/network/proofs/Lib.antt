@@ -2,13 +2,13 @@ mod KeyCounts
 mod Frame
 mod Direct
 mod Steps
-mod WayFacts
+mod RouteFacts
 mod AsReady
 mod Arriving
 mod Sources
 mod Obeying
 mod Readied
-mod Leaving
+mod InFlight
 mod DueFacts
 mod Settling
 mod Rehoused

@@ -14,7 +14,7 @@ use Rattle.emu_model.specs.declared.records.Refusal.TheVariants.{NoSuchPipe}
 use Rattle.emu_model.specs.declared.rules.Rule.{Rule}
 use Rattle.emu_model.specs.declared.sources.SendSpec.{SendSpec}
 use Rattle.emu_model.specs.Rules.{RuleBook, add_refusal, delete_refusal, book_with, book_without}
-use Rattle.emu_model.specs.declared.commands.Setting.{Setting}
+use Rattle.emu_model.specs.declared.commands.EventContext.{EventContext}
 use Rattle.emu_model.specs.Net.{Net, note, note_all, note_drops, drop_record, find_pipe, make}
 use Rattle.emu_model.specs.Commands.{refusal_of, effect_of, obey, config_refusal, configure, delete_pipe}
 use Rattle.emu_model.specs.declared.sources.Class.TheVariants.{Exit}
@@ -23,7 +23,7 @@ use Rattle.packet_store.specs.Pocket.{Pocket}
 use Rattle.pipe_core.specs.Moves.{Keeps}
 use Rattle.pipe_table.specs.Table.{Table, IsPipeNumber, with_pipes, pipe_keys, drops_by_deletion}
 use Rattle.traffic.specs.Kept.{KeptTraffic, with_traffic}
-use Rattle.pipe_instance.specs.Uses.{uses}
+use Rattle.pipe_core.specs.Uses.{uses}
 use Rattle.network.specs.Kept.{KeptNet, net_of, line_keys, net_keys, IsHoused}
 use Rattle.network.specs.Changes.{Becomes, IsStill, Notes, Obeys}
 use Rattle.network.proofs.Sources.{on_ok}
@@ -36,27 +36,27 @@ weaker m p q x y b = record { shown = b.shown; housed = b.housed; budget = b.bud
 pub from_still : (f : Net → Net) (c : ℕ) (p q : Pocket) (x y z : KeptNet) → IsHoused p x → IsStill x y → Becomes c (f (net_of p y)) p q y z → Becomes c (f (net_of p x)) p q x z
 from_still f c p q x y z h s b = follow f 0 c c (net_of p x) p p q x y z (omega arith) (still-becomes p x y h s) b
 
-pub obeyed-done : (at : Setting) (k : ℕ) (c : Command) (m : Net) → refusal_of c m ≡ None → obey at k c m ≡ effect_of at c (note (CommandDone at.now k) m)
+pub obeyed-done : (at : EventContext) (k : ℕ) (c : Command) (m : Net) → refusal_of c m ≡ None → obey at k c m ≡ effect_of at c (note (CommandDone at.now k) m)
 obeyed-done at k c m e = ap (λ o. option_map_or (λ r. note (CommandRefused at.now k r) m) o (effect_of at c (note (CommandDone at.now k) m))) e
 
-pub obeyed-refused : (at : Setting) (k : ℕ) (c : Command) (m : Net) (r : Refusal) → refusal_of c m ≡ Some r → obey at k c m ≡ note (CommandRefused at.now k r) m
+pub obeyed-refused : (at : EventContext) (k : ℕ) (c : Command) (m : Net) (r : Refusal) → refusal_of c m ≡ Some r → obey at k c m ≡ note (CommandRefused at.now k r) m
 obeyed-refused at k c m r e = ap (λ o. option_map_or (λ r. note (CommandRefused at.now k r) m) o (effect_of at c (note (CommandDone at.now k) m))) e
 
-pub refuse-obeys : (at : Setting) (k : ℕ) (c : Command) (r : Refusal) (n new : KeptNet) → ((p : Pocket) → refusal_of c (net_of p n) ≡ Some r) →
+pub refuse-obeys : (at : EventContext) (k : ℕ) (c : Command) (r : Refusal) (n new : KeptNet) → ((p : Pocket) → refusal_of c (net_of p n) ≡ Some r) →
     Notes (CommandRefused at.now k r ∷ []) n new → Obeys at k c n new
 refuse-obeys at k c r n new why notes p h =
     shown-as 1 (note_all (CommandRefused at.now k r ∷ []) (net_of p n)) (obey at k c (net_of p n)) p p n new (sym (obeyed-refused at k c (net_of p n) r (why p)))
     (weaker (note_all (CommandRefused at.now k r ∷ []) (net_of p n)) p p n new (notes-becomes p (CommandRefused at.now k r ∷ []) n new h notes))
 
 -- a change within the net, and then it is recorded that the command is done
-pub record Works (at : Setting) (k : ℕ) (c : Command) (n mid : KeptNet) : Type 0 where
+pub record Works (at : EventContext) (k : ℕ) (c : Command) (n mid : KeptNet) : Type 0 where
   pub moved : (p : Pocket) → effect_of at c (note (CommandDone at.now k) (net_of p n)) ≡ note (CommandDone at.now k) (net_of p mid)
   pub line : mid.direct ≡ n.direct
   pub keys : pipe_keys mid.table.pipes ≡ pipe_keys n.table.pipes
   pub seed : mid.table.seed ≡ n.table.seed
   pub made : mid.made ≡ n.made
 
-pub done-obeys : (at : Setting) (k : ℕ) (c : Command) (n mid new : KeptNet) → ((p : Pocket) → refusal_of c (net_of p n) ≡ None) →
+pub done-obeys : (at : EventContext) (k : ℕ) (c : Command) (n mid new : KeptNet) → ((p : Pocket) → refusal_of c (net_of p n) ≡ None) →
     Works at k c n mid → Notes (CommandDone at.now k ∷ []) mid new → Obeys at k c n new
 done-obeys at k c n mid new why w notes p h =
     let keys : net_keys mid ≡ net_keys n = λ i. line_keys (w.line i).line ++ w.keys i in
@@ -70,7 +70,7 @@ done-obeys at k c n mid new why w notes p h =
       made = omega (arith, b.made, w.made);
     }
 
-module _ (at : Setting) (k : ℕ) (n new : KeptNet) where
+module _ (at : EventContext) (k : ℕ) (n new : KeptNet) where
   pub add-done : (r : Rule) (b : RuleBook) → b ≡ book_with r n.book → add_refusal r n.book ≡ None →
       Notes (CommandDone at.now k ∷ []) (record n { book = b }) new → Obeys at k (Add r) n new
   add-done r b is why notes = done-obeys at k (Add r) n (record n { book = b }) new (λ p. why)
@@ -124,7 +124,7 @@ module _ (at : Setting) (k : ℕ) (n new : KeptNet) where
 
 -- a command that is of this kind is obeyed, once room was made
 pub kind-obeyed : {E : Type 0} {kind command : Command} {p : Pocket} {old mid : KeptNet} → command ≡ kind → IsHoused p old → IsStill old mid →
-    (at : Setting) (k : ℕ) (q : Pocket) (new : KeptNet) (r : Result (Unit {0}) E) →
+    (at : EventContext) (k : ℕ) (q : Pocket) (new : KeptNet) (r : Result (Unit {0}) E) →
     OnOk r (Becomes 1 (obey at k kind (net_of p mid)) p q mid new) → OnOk r (Becomes 1 (obey at k command (net_of p old)) p q old new)
 kind-obeyed {kind = kind} {command = command} {p = p} {old = old} {mid = mid} is housed still at k q new r =
     on_ok (Becomes 1 (obey at k kind (net_of p mid)) p q mid new) (Becomes 1 (obey at k command (net_of p old)) p q old new) r
@@ -132,14 +132,14 @@ kind-obeyed {kind = kind} {command = command} {p = p} {old = old} {mid = mid} is
 
 -- the same, of one that asks for no packets
 pub kind-obeys : {E : Type 0} {kind command : Command} {p : Pocket} {old mid : KeptNet} → command ≡ kind → IsHoused p old → IsStill old mid →
-    (at : Setting) (k : ℕ) (new : KeptNet) (r : Result (Unit {0}) E) →
+    (at : EventContext) (k : ℕ) (new : KeptNet) (r : Result (Unit {0}) E) →
     OnOk r (Obeys at k kind mid new) → OnOk r (Becomes 1 (obey at k command (net_of p old)) p p old new)
 kind-obeys {kind = kind} {p = p} {old = old} {mid = mid} is housed still at k new r obeys =
     kind-obeyed is housed still at k p new r
     (on_ok (Obeys at k kind mid new) (Becomes 1 (obey at k kind (net_of p mid)) p p mid new) r (λ b. b p (still-housed p old mid housed still)) obeys)
 
 -- it is recorded that the command is done, and then lines are listed
-pub listed-obeys : (at : Setting) (k : ℕ) (c : Command) (n mid new : KeptNet) (rs : Pocket → List Record) → ((p : Pocket) → refusal_of c (net_of p n) ≡ None) →
+pub listed-obeys : (at : EventContext) (k : ℕ) (c : Command) (n mid new : KeptNet) (rs : Pocket → List Record) → ((p : Pocket) → refusal_of c (net_of p n) ≡ None) →
     ((p : Pocket) → effect_of at c (note (CommandDone at.now k) (net_of p n)) ≡ note_all (rs p) (note (CommandDone at.now k) (net_of p n))) →
     Notes (CommandDone at.now k ∷ []) n mid → ((p : Pocket) → Notes (rs p) mid new) → Obeys at k c n new
 listed-obeys at k c n mid new rs why effect done listed p h =
@@ -150,7 +150,7 @@ listed-obeys at k c n mid new rs why effect done listed p h =
     (follow (note_all (rs p)) 0 0 1 (note_all (CommandDone at.now k ∷ []) (net_of p n)) p p p n mid new (omega arith) a b)
 
 -- a packet is injected
-pub injected : (at : Setting) (k : ℕ) (send : SendSpec) (p q : Pocket) (n mid last new : KeptNet) → IsHoused p n → IsStill n mid →
+pub injected : (at : EventContext) (k : ℕ) (send : SendSpec) (p q : Pocket) (n mid last new : KeptNet) → IsHoused p n → IsStill n mid →
     Notes (CommandDone at.now k ∷ []) mid last → Becomes 1 (make at Plain send (net_of p last)) p q last new → Becomes 1 (obey at k (Inject send) (net_of p n)) p q n new
 injected at k send p q n mid last new h still done made =
     let a = notes-becomes p (CommandDone at.now k ∷ []) mid last (still-housed p n mid h still) done in
@@ -162,7 +162,7 @@ none-from None e = refl
 none-from (Some x) e = absurd (cc)
 
 -- a pipe is deleted
-module _ (at : Setting) (k j : ℕ) (p q : Pocket) (n : KeptNet) (t : Table) (h : IsHoused p n)
+module _ (at : EventContext) (k j : ℕ) (p q : Pocket) (n : KeptNet) (t : Table) (h : IsHoused p n)
     (keeps : Keeps p q (pipe_keys n.table.pipes) (pipe_keys t.pipes)) (seed : t.seed ≡ n.table.seed) where
   pub deleted : (gone : List Packet) (mid new : KeptNet) →
       ((now : ℕ) (m : Net) → option_map_or (delete_pipe now j (with_pipes p n.table m)) (find_pipe j (with_pipes p n.table m)) (with_pipes p n.table m)
@@ -199,7 +199,7 @@ module _ (at : Setting) (k j : ℕ) (p q : Pocket) (n : KeptNet) (t : Table) (h 
       ∙ sym (obeyed-refused at k (PipeDelete j) (net_of p n) NoSuchPipe (ap (λ (b : Bool). cond b None (Some NoSuchPipe)) (sym (there (net_of p n)))))) b1
 
 -- an event by its source
-pub event-exit : (at : Setting) (k : ℕ) (m : Net) → (k ≡ 0 → ⊥) → event_of at Exit k m ≡ option_map_or (pipe_exits at (k / 256) (k % 256) m) (find_pipe (k / 256) m) m
+pub event-exit : (at : EventContext) (k : ℕ) (m : Net) → (k ≡ 0 → ⊥) → event_of at Exit k m ≡ option_map_or (pipe_exits at (k / 256) (k % 256) m) (find_pipe (k / 256) m) m
 event-exit at zero m h = absurd (h refl)
 event-exit at (suc k) m h = refl
 

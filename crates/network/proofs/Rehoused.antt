@@ -3,7 +3,7 @@ use Rattle.std.proofs.Common.{◌≡◌, ℕ, ◌+◌, ap, sym, subst, ◌∙◌
 use Rattle.emu_model.specs.Net.{Net}
 use Rattle.link_core.specs.Lane.{Lane}
 use Rattle.packet_store.specs.Pocket.{Pocket, empty_pocket}
-use Rattle.pipe_instance.specs.Keyed.{seen_line}
+use Rattle.pipe_core.specs.KeyedInstance.{seen_line}
 use Rattle.pipe_core.specs.Moves.{packet_at, found, AreNamed}
 use Rattle.pipe_core.specs.Views.{ViewsAgree}
 use Rattle.pipe_core.specs.Rehousing.{Rehouses}

@@ -98,3 +98,22 @@ module _ (clock : ℕ) (m : Net) (a : Due) (o b c d : Option Due) (line : option
         numbered = subst (λ x. IfSome x IsNumbered) third-is number;
         piped = pipes.1;
       })
+
+-- the same where the last part is told as a due
+module _ (clock : ℕ) (m : Net) (a : Due) (o b c : Option Due) (s r : Due) (line : option_to_list o ≡ line_dues 0 m.direct)
+    (e : b ≡ lesser (Some a) o) (f : c ≡ least_of (option_to_list b ++ flat_map pipe_dues m.pipes)) (some : c ≡ Some s)
+    (told : r ≡ best_of is_before s (source_dues clock m)) where
+  numbered-told : Some r ≡ least_of (option_to_list c ++ source_dues clock m)
+  numbered-told = ap Some told ∙ ap (λ x. least_of (option_to_list x ++ source_dues clock m)) (sym some)
+
+  pub told-is : r ≡ best_of is_before a (dues_of clock m)
+  told-is = same_Some _ _ (least-is clock m a o b c (Some r) line e f numbered-told)
+
+  pub told-due : (n : KeptNet) → IsDue a n → IfSome o (λ x. IsDue x n) →
+      (IfSome b (λ x. IsFinishDue x n.table.pipes) → IfSome c (λ x. IsFinishDue x n.table.pipes)) →
+      (IfSome b IsPiped → IfSome c IsPiped) →
+      (IsAllowed n.traffic s → IsAllowed n.traffic r) → (IsNumbered s → IsNumbered r) → IsDue r n
+  told-due n due direct finishing piped allowed numbered =
+      settled-due clock m a o b c (Some r) line e f numbered-told n due direct finishing piped
+      (subst (λ x. IfSome x (λ y. IsAllowed n.traffic y → IsAllowed n.traffic r)) (sym some) allowed)
+      (subst (λ x. IfSome x (λ y. IsNumbered y → IsNumbered r)) (sym some) numbered) r refl

@@ -10,7 +10,7 @@ use Rattle.traffic.specs.Kept.{KeptTraffic, with_traffic, HasRoomFor}
 use Rattle.traffic.specs.Sends.{reply_send}
 use Rattle.network.specs.Kept.{KeptNet, net_of, line_keys}
 use Rattle.network.specs.Changes.{IsStill, Notes, Turns}
-use Rattle.network.specs.declared.ways.Passage.{Passage}
+use Rattle.network.specs.declared.flow_cache.Lookup.{Lookup}
 use Rattle.network.specs.Ready.{CanMake, CanDeliver}
 use Rattle.network.proofs.Steps.{notes-shown}
 
@@ -49,7 +49,7 @@ traffic-still n t same = record {
 }
 
 -- a flow that answers with this header
-pub can-segment : (k first : ℕ) (send : SendSpec) (passage : Passage) (n : KeptNet) (t : KeptTraffic) → n.traffic ≡ t → HasRoomFor k t →
+pub can-segment : (k first : ℕ) (send : SendSpec) (passage : Lookup) (n : KeptNet) (t : KeptTraffic) → n.traffic ≡ t → HasRoomFor k t →
     ((m : Net) → Some send ≡ reply_send k (with_traffic t m)) → CanMake send passage n → CanDeliver (Seg k first) passage n
 can-segment k first send passage n t is room reply ready =
     let P : KeptTraffic → Type 0 = λ u. HasRoomFor k u × ((s : SendSpec) → ((m : Net) → reply_send k (with_traffic u m) ≡ Some s) → CanMake s passage n) in
@@ -58,7 +58,7 @@ can-segment k first send passage n t is room reply ready =
       (λ s there. only_one (λ x. CanMake x passage n) send (reply_send k (with_traffic t initial_net)) (reply initial_net) ready s (there initial_net)),
     )
 
-pub can-nothing : (k first : ℕ) (passage : Passage) (n : KeptNet) → HasRoomFor k n.traffic →
+pub can-nothing : (k first : ℕ) (passage : Lookup) (n : KeptNet) → HasRoomFor k n.traffic →
     ((m : Net) → None ≡ reply_send k (with_traffic n.traffic m)) → CanDeliver (Seg k first) passage n
 can-nothing k first passage n room reply = (
   room,

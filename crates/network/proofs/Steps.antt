@@ -3,10 +3,10 @@ use Rattle.std.proofs.Common.{◌≡◌, ℕ, ◌+◌, ◌≤◌, refl, sym, ap,
 use Rattle.std.proofs.lemmas.List.{append-nil, append_assoc, length-append}
 use Rattle.emu_model.specs.declared.records.Record.{Record}
 use Rattle.emu_model.specs.declared.commands.Command.{Command}
-use Rattle.emu_model.specs.declared.commands.Setting.{Setting}
+use Rattle.emu_model.specs.declared.commands.EventContext.{EventContext}
 use Rattle.emu_model.specs.Net.{Net, note_all}
 use Rattle.packet_store.specs.Pocket.{Pocket}
-use Rattle.pipe_instance.specs.Uses.{uses}
+use Rattle.pipe_core.specs.Uses.{uses}
 use Rattle.pipe_core.specs.Moves.{Keeps}
 use Rattle.pipe_table.specs.Table.{Table, with_pipes, pipe_keys}
 use Rattle.network.specs.Kept.{KeptNet, net_of, line_keys, net_keys, IsHoused, Stands}
@@ -26,7 +26,7 @@ turns_view f n old new e t = subst (λ o. Turns f o new) e t
 pub still_view : (n old new : KeptNet) → n ≡ old → IsStill n new → IsStill old new
 still_view n old new e s = subst (λ o. IsStill o new) e s
 
-pub obeys_view : (at : Setting) (k : ℕ) (c : Command) (n old new : KeptNet) → n ≡ old → Obeys at k c n new → Obeys at k c old new
+pub obeys_view : (at : EventContext) (k : ℕ) (c : Command) (n old new : KeptNet) → n ≡ old → Obeys at k c n new → Obeys at k c old new
 obeys_view at k c n old new e o = subst (λ m. Obeys at k c m new) e o
 
 pub still-housed : (p : Pocket) (old new : KeptNet) → IsHoused p old → IsStill old new → IsHoused p new
@@ -83,7 +83,7 @@ follow f c d k m p q r x y z le a b = record {
 pub shown-as : (c : ℕ) (m n : Net) (p q : Pocket) (x y : KeptNet) → m ≡ n → Becomes c m p q x y → Becomes c n p q x y
 shown-as c m n p q x y e b = subst (λ o. Becomes c o p q x y) e b
 
-pub stands-after : (at : Setting) (c : ℕ) (m : Net) (p q : Pocket) (old new : KeptNet) → Stands at p old → Becomes c m p q old new → Stands at q new
+pub stands-after : (at : EventContext) (c : ℕ) (m : Net) (p q : Pocket) (old new : KeptNet) → Stands at p old → Becomes c m p q old new → Stands at q new
 stands-after at c m p q old new s b = record {
   early = s.early;
   seed = s.seed ∙ sym b.seed;

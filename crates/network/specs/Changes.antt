@@ -2,11 +2,12 @@
 use Rattle.std.specs.Prelude.{◌≡◌, ℕ, ◌+◌, ◌≤◌, List, ◌++◌, length}
 use Rattle.emu_model.specs.declared.records.Record.{Record}
 use Rattle.emu_model.specs.declared.commands.Command.{Command}
-use Rattle.emu_model.specs.declared.commands.Setting.{Setting}
+use Rattle.emu_model.specs.declared.commands.EventContext.{EventContext}
 use Rattle.emu_model.specs.Net.{Net}
 use Rattle.emu_model.specs.Commands.{obey}
 use Rattle.packet_store.specs.Pocket.{Pocket}
 use Rattle.pipe_table.specs.Table.{pipe_keys}
+use Rattle.pipe_table.specs.Log.{Log}
 use Rattle.network.specs.Kept.{KeptNet, net_of, line_keys, IsHoused}
 
 -- it is shown as m then, and at most c packets were made
@@ -30,6 +31,11 @@ pub record Notes (rs : List Record) (old new : KeptNet) : Type 0 where
   pub records : new.log.records ≡ old.log.records ++ rs
   pub room : old.log.spare ≤ new.log.spare + length rs
 
+-- these records came to a log
+pub record NotesIn (rs : List Record) (old new : Log) : Type 0 where
+  pub records : new.records ≡ old.records ++ rs
+  pub room : old.spare ≤ new.spare + length rs
+
 -- it is shown as f makes of it, and its keys stay
 pub record Turns (f : Net → Net) (old new : KeptNet) : Type 0 where
   pub shown : (p : Pocket) → net_of p new ≡ f (net_of p old)
@@ -39,7 +45,7 @@ pub record Turns (f : Net → Net) (old new : KeptNet) : Type 0 where
   pub made : new.made ≡ old.made
 
 -- a command is obeyed, whatever packets the net shows
-abbrev pub Obeys : Setting → ℕ → Command → KeptNet → KeptNet → Type 0
+abbrev pub Obeys : EventContext → ℕ → Command → KeptNet → KeptNet → Type 0
 Obeys at number command old new = (p : Pocket) → IsHoused p old →
     Becomes 1 (obey at number command (net_of p old)) p p old new
 

@@ -3,21 +3,21 @@ use Rattle.std.specs.Prelude.{◌≡◌, ℕ, ◌*◌, ◌^◌, ◌<◌, ◌≤�
 use Rattle.emu_model.specs.Moments.{IsMoment}
 use Rattle.emu_model.specs.Rules.{RuleBook}
 use Rattle.emu_model.specs.Delay.{Line}
-use Rattle.emu_model.specs.declared.commands.Setting.{Setting}
+use Rattle.emu_model.specs.declared.commands.EventContext.{EventContext}
 use Rattle.emu_model.specs.Net.{Net}
 use Rattle.link_core.specs.Lane.{Lane}
 use Rattle.packet_store.specs.Pocket.{Pocket}
-use Rattle.pipe_instance.specs.Keyed.{seen_line}
-use Rattle.pipe_instance.specs.Uses.{uses}
+use Rattle.pipe_core.specs.KeyedInstance.{seen_line}
+use Rattle.pipe_core.specs.Uses.{uses}
 use Rattle.pipe_core.specs.Moves.{packet_at, found}
 use Rattle.pipe_table.specs.Table.{Table, seen_pipes, pipe_keys}
-use Rattle.record_log.specs.Log.{Log}
+use Rattle.pipe_table.specs.Log.{Log}
 use Rattle.traffic.specs.Kept.{KeptTraffic, states_of}
-use Rattle.network.specs.declared.ways.Remembered.{Remembered}
+use Rattle.network.specs.declared.flow_cache.CacheEntry.{CacheEntry}
 
 -- the rules, the pipes, the link of `allow` with its packets' keys, the flows and trains, how many
 -- packets were made, whether one that leaves a pipe is delivered at once, whether packets are traced,
--- what was recorded, and the ways that are remembered
+-- what was recorded, and the routes that are remembered
 pub record KeptNet : Type 0 where
   pub book : RuleBook
   pub table : Table
@@ -27,7 +27,7 @@ pub record KeptNet : Type 0 where
   pub one_pass : Bool
   pub trace : Bool
   pub log : Log
-  pub ways : List (Option Remembered)
+  pub flow_cache : List (Option CacheEntry)
 
 -- the net that is shown over an owner's packets
 abbrev pub net_of : Pocket → KeptNet → Net
@@ -45,7 +45,7 @@ net_of p n = record {
 
 -- the keys that stand in a delay line, from its front
 abbrev pub line_keys : Line ℕ → List ℕ
-line_keys l = map (λ x. x.item) l.flight
+line_keys l = map (λ x. x.item) l.in_flight
 
 -- the keys that stand in the link of `allow`, and in the pipes
 abbrev pub net_keys : KeptNet → List ℕ
@@ -57,7 +57,7 @@ pub record IsHoused (p : Pocket) (n : KeptNet) : Type 0 where
   pub count : p.count ≡ length (net_keys n)
 
 -- a net at a moment at which an event may come
-pub record Stands (at : Setting) (p : Pocket) (n : KeptNet) : Type 0 where
+pub record Stands (at : EventContext) (p : Pocket) (n : KeptNet) : Type 0 where
   pub early : IsMoment at.now
   pub seed : at.seed ≡ n.table.seed
   pub room : at.packet_budget ≤ p.budget

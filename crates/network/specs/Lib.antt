@@ -1,6 +1,6 @@
 pub mod Kept
 pub mod Changes
 pub mod Frames
-pub mod Ways
+pub mod FlowCache
 pub mod Ready
 pub mod Due

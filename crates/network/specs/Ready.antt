@@ -10,18 +10,18 @@ use Rattle.emu_model.specs.declared.rules.Verdict.TheVariants.{OverTheLink, Drop
 use Rattle.emu_model.specs.declared.sources.SendSpec.{SendSpec}
 use Rattle.emu_model.specs.Commands.{refusal_of}
 use Rattle.emu_model.specs.Rules.{Counted, verdict, start_behind, the_rules}
-use Rattle.rule_search.specs.declared.search.Foreseen.{Foreseen}
-use Rattle.rule_search.specs.Walk.{CountsAlone}
+use Rattle.emu_rules.specs.declared.search.Match.{Match}
+use Rattle.emu_rules.specs.Walk.{CountsAlone}
 use Rattle.emu_model.specs.Net.{Net, packet_of}
 use Rattle.pipe_table.specs.Table.{HasRoomIn}
 use Rattle.traffic.specs.Kept.{with_traffic, HasRoomFor}
 use Rattle.traffic.specs.Sends.{reply_send}
 use Rattle.pipe_table.specs.Places.{HasRoomAtPlace}
-use Rattle.network.specs.declared.ways.Way.{Way}
-use Rattle.network.specs.declared.ways.Passage.{Passage}
-use Rattle.network.specs.declared.ways.Passage.TheVariants.{OnLine, Searched}
+use Rattle.network.specs.declared.flow_cache.Route.{Route}
+use Rattle.network.specs.declared.flow_cache.Lookup.{Lookup}
+use Rattle.network.specs.declared.flow_cache.Lookup.TheVariants.{Cached, Searched}
 use Rattle.network.specs.Kept.{KeptNet}
-use Rattle.network.specs.Ways.{IsWay, plain}
+use Rattle.network.specs.FlowCache.{IsRoute, plain}
 
 -- a packet can be handed on by this verdict
 abbrev pub IsReady : Verdict → Packet → KeptNet → Type 0
@@ -30,7 +30,7 @@ IsReady Dropped packet n = Unit {0}
 IsReady (IntoPipe k place) packet n = HasRoomIn k packet n.table.pipes
 
 -- what was foreseen of a packet, whose search begins at place `start`
-pub record Foresees (start : ℕ) (packet : Packet) (f : Foreseen) (cs : List Counted) : Type 0 where
+pub record IsMatch (start : ℕ) (packet : Packet) (f : Match) (cs : List Counted) : Type 0 where
   pub verdict : f.verdict ≡ verdict start packet cs
   pub rule : f.rule ≢ 2 ^ 64 - 1 → CountsAlone start packet (the_rules cs) f.rule
 
@@ -38,24 +38,24 @@ pub record Foresees (start : ℕ) (packet : Packet) (f : Foreseen) (cs : List Co
 abbrev pub start_after : Packet → KeptNet → ℕ
 start_after packet n = start_behind packet.place n.book.rules
 
--- a packet can go by its way, where its search begins at place `start`
-pub record CanGo (start : ℕ) (packet : Packet) (w : Way) (n : KeptNet) : Type 0 where
-  pub way : IsWay start packet w n.book.rules n.table.pipes
+-- a packet can go by its route, where its search begins at place `start`
+pub record CanGo (start : ℕ) (packet : Packet) (w : Route) (n : KeptNet) : Type 0 where
+  pub route : IsRoute start packet w n.book.rules n.table.pipes
   pub room : HasRoomAtPlace packet.size w.pipe w.instance n.table.pipes
 
 -- and where it is known so
-abbrev pub CanPass : ℕ → Packet → Option Way → KeptNet → Type 0
+abbrev pub CanPass : ℕ → Packet → Option Route → KeptNet → Type 0
 CanPass start packet (Some w) n = CanGo start packet w n
 CanPass start packet None n = IsReady (verdict start packet n.book.rules) packet n
 
--- the way of packets with this header is remembered on this line, and there is room on it
+-- the route of packets with this header is remembered on this line, and there is room on it
 pub record HoldsWay (send : SendSpec) (line : ℕ) (n : KeptNet) : Type 0 where
-  pub way : Way
-  pub there : slice_get n.ways line ≡ Some (Some (record { send = send; way = way }))
-  pub room : HasRoomAtPlace send.size way.pipe way.instance n.table.pipes
+  pub route : Route
+  pub there : slice_get n.flow_cache line ≡ Some (Some (record { send = send; route = route }))
+  pub room : HasRoomAtPlace send.size route.pipe route.instance n.table.pipes
 
--- a packet has the header whose way is remembered on this line
-pub record HasWay (packet : Packet) (line : ℕ) (n : KeptNet) : Type 0 where
+-- a packet has the header whose route is remembered on this line
+pub record HasRoute (packet : Packet) (line : ℕ) (n : KeptNet) : Type 0 where
   pub load : Load
   pub send : SendSpec
   pub number : ℕ
@@ -63,12 +63,12 @@ pub record HasWay (packet : Packet) (line : ℕ) (n : KeptNet) : Type 0 where
   pub holds : HoldsWay send line n
 
 -- a packet with this header can be made, and pass the rules
-abbrev pub CanMake : SendSpec → Passage → KeptNet → Type 0
-CanMake send (OnLine line) n = HoldsWay send line n
+abbrev pub CanMake : SendSpec → Lookup → KeptNet → Type 0
+CanMake send (Cached line) n = HoldsWay send line n
 CanMake send Searched n = IsReady (verdict 0 (plain send) n.book.rules) (plain send) n
 
 -- this load can be delivered, and answered
-abbrev pub CanDeliver : Load → Passage → KeptNet → Type 0
+abbrev pub CanDeliver : Load → Lookup → KeptNet → Type 0
 CanDeliver Plain passage n = Unit {0}
 CanDeliver (Seg k first) passage n = HasRoomFor k n.traffic
     × ((send : SendSpec) → ((m : Net) → reply_send k (with_traffic n.traffic m) ≡ Some send) →

@@ -4,22 +4,22 @@ ghost use Rattle.std.specs.Prelude.{◌≡◌, ℕ, ◌+◌, ◌*◌, ◌^◌, �
 ghost use Rattle.std.specs.Option.{option_map_or};
 ghost use Rattle.emu_model.specs.Moments.{IsMoment};
 ghost use Rattle.packet_store.specs.Pocket.{Pocket, OthersStay, AllStay};
-ghost use Rattle.emu_model.specs.Net.{arrivals, by_verdict, drop_record, enter_pipe, find_pipe, go_on, make, make_record, packet_of, pass_rules, pass_rules_from, to_direct, to_pipe};
+ghost use Rattle.emu_model.specs.Net.{arrivals, by_verdict, drop_record, enter_pipe, find_pipe, reinject, make, make_record, packet_of, pass_rules, pass_rules_from, to_direct, to_pipe};
 ghost use Rattle.network.specs.Kept.{net_of, IsHoused, Stands};
 ghost use Rattle.network.specs.Changes.{Becomes, IsStill, Notes};
 ghost use Rattle.network.specs.Frames.{TakesRoom};
-ghost use Rattle.network.specs.Ready.{Foresees, IsReady, CanGo, CanPass, HasWay, start_after, CanMake};
+ghost use Rattle.network.specs.Ready.{IsMatch, IsReady, CanGo, CanPass, HasRoute, start_after, CanMake};
 ghost use Rattle.pipe_table.specs.Table.{HasRoomIn};
 ghost use Rattle.pipe_table.specs.Places.{IsRouted, HasRoomAtPlace, KeepsPlaces};
 ghost use Rattle.emu_model.specs.declared.rules.Verdict.TheVariants.{IntoPipe};
 
+use crate::flow_cache::{Lookup, Route};
 use crate::state::Network;
-use crate::ways::{Passage, Way};
 use emu_model::{
-    Delay, DropCause, Load, Packet, PipeNumber, Place, Record, RuleNumber, SendSpec, Setting,
+    Delay, DropCause, EventContext, Load, Packet, PipeNumber, Place, Record, RuleNumber, SendSpec,
     Verdict,
 };
-use emu_rules::{Foreseen, NO_RULE};
+use emu_rules::{Match, NO_RULE};
 use packet_store::{Owner, Shelf};
 use pipe_core::{NO_INSTANCE, keys_say_all};
 use std::alloc::AllocError;
@@ -54,16 +54,16 @@ fn no_delay() -> Delay
 }
 
 impl Network {
-    // Makes the growths of handing on a packet as it was foreseen, and tells its way where it has one.
+    // Makes the growths of handing on a packet as it was foreseen, and tells its route where it has one.
     #[inline(always)]
     pub(crate) fn arrival_ready<S: Shelf>(
         &mut self,
         shelf: &mut S,
         owner: Owner,
         now: u64,
-        found: Foreseen,
+        found: Match,
         packet: &Packet,
-    ) -> Result<Option<Way>, AllocError>
+    ) -> Result<Option<Route>, AllocError>
         ensures still { IsStill self.old self.new }
         ensures rest { self.new
             ≡ record self.old { table = self.new.table; direct = self.new.direct } }
@@ -72,7 +72,7 @@ impl Network {
         ensures places { OnOk result (KeepsPlaces self.old.table.pipes self.new.table.pipes) }
         ensures ready { OnOk result (IsReady found.verdict packet.now self.new) }
         ensures known { IfOk result (λ known. IfSome known (λ w. (start : ℕ) →
-            Foresees start packet.now found self.old.book.rules →
+            IsMatch start packet.now found self.old.book.rules →
             CanGo start packet.now w self.new)) }
     {
         let verdict = found.verdict;
@@ -87,7 +87,7 @@ impl Network {
     }
 
     // The same of a packet that comes to a pipe.
-    #[tactic(auto, using(crate::proofs::WayFacts::known_grown))]
+    #[tactic(auto, using(crate::proofs::RouteFacts::known_grown))]
     #[inline(always)]
     fn pipe_ready<S: Shelf>(
         &mut self,
@@ -98,7 +98,7 @@ impl Network {
         number: PipeNumber,
         place: Place,
         packet: &Packet,
-    ) -> Result<Option<Way>, AllocError>
+    ) -> Result<Option<Route>, AllocError>
         ensures still { IsStill self.old self.new }
         ensures rest { self.new ≡ record self.old { table = self.new.table } }
         ensures pockets { AllStay (S.pocket shelf.old) (S.pocket shelf.new) }
@@ -106,7 +106,7 @@ impl Network {
         ensures places { OnOk result (KeepsPlaces self.old.table.pipes self.new.table.pipes) }
         ensures ready { OnOk result (HasRoomIn number packet.now self.new.table.pipes) }
         ensures known { IfOk result (λ known. IfSome known (λ w. (start : ℕ) →
-            Foresees start packet.now (record { verdict = IntoPipe number place; rule = rule })
+            IsMatch start packet.now (record { verdict = IntoPipe number place; rule = rule })
             self.old.book.rules → CanGo start packet.now w self.new)) }
     {
         let Some(pipe) = self.table.place_of(number) else {
@@ -116,7 +116,7 @@ impl Network {
         if rule == NO_RULE || instance == NO_INSTANCE {
             return Ok(None);
         }
-        Ok(Some(Way {
+        Ok(Some(Route {
             rule,
             place,
             number,
@@ -125,8 +125,8 @@ impl Network {
         }))
     }
 
-    // Makes the growths of making a packet with this header, whose way may be remembered on a line.
-    #[tactic(auto, using(crate::proofs::WayFacts::known_grown))]
+    // Makes the growths of making a packet with this header, whose route may be remembered on a line.
+    #[tactic(auto, using(crate::proofs::RouteFacts::known_grown))]
     #[inline(always)]
     pub(crate) fn make_ready<S: Shelf>(
         &mut self,
@@ -135,30 +135,30 @@ impl Network {
         now: u64,
         line: usize,
         send: &SendSpec,
-    ) -> Result<Passage, AllocError>
+    ) -> Result<Lookup, AllocError>
         requires { line < 512 }
         ensures still { IsStill self.old self.new }
         ensures rest { self.new
             ≡ record self.old {
               table = self.new.table;
               direct = self.new.direct;
-              ways = self.new.ways;
+              flow_cache = self.new.flow_cache;
             } }
         ensures pockets { AllStay (S.pocket shelf.old) (S.pocket shelf.new) }
         ensures rooms { (o : ℕ) → S.room shelf.old o ≤ S.room shelf.new o }
         ensures places { OnOk result (KeepsPlaces self.old.table.pipes self.new.table.pipes) }
         ensures ready { IfOk result (λ passage. CanMake send.now passage self.new) }
     {
-        let Some(held) = self.ways.recall(line, send) else {
+        let Some(held) = self.flow_cache.get(line, send) else {
             return self.make_searched(shelf, owner, now, line, *send);
         };
         self.table
-            .accept_ready_at(held.way.pipe, held.way.instance, send.size, now)?;
-        Ok(Passage::OnLine(line))
+            .accept_ready_at(held.route.pipe, held.route.instance, send.size, now)?;
+        Ok(Lookup::Cached(line))
     }
 
-    // The same where its way isn't remembered.
-    #[tactic(auto, using(crate::proofs::WayFacts::known_grown))]
+    // The same where its route isn't remembered.
+    #[tactic(auto, using(crate::proofs::RouteFacts::known_grown))]
     #[inline(never)]
     fn make_searched<S: Shelf>(
         &mut self,
@@ -167,14 +167,14 @@ impl Network {
         now: u64,
         line: usize,
         send: SendSpec,
-    ) -> Result<Passage, AllocError>
+    ) -> Result<Lookup, AllocError>
         requires { line < 512 }
         ensures still { IsStill self.old self.new }
         ensures rest { self.new
             ≡ record self.old {
               table = self.new.table;
               direct = self.new.direct;
-              ways = self.new.ways;
+              flow_cache = self.new.flow_cache;
             } }
         ensures pockets { AllStay (S.pocket shelf.old) (S.pocket shelf.new) }
         ensures rooms { (o : ℕ) → S.room shelf.old o ≤ S.room shelf.new o }
@@ -182,18 +182,18 @@ impl Network {
         ensures ready { IfOk result (λ passage. CanMake send passage self.new) }
     {
         let packet = packet_of(Load::Plain, &send, 0);
-        let found = self.book.foresee_rule(&packet);
+        let found = self.book.classify_rule(&packet);
         let known = self.arrival_ready(shelf, owner, now, found, &packet)?;
-        let Some(way) = known else {
-            return Ok(Passage::Searched);
+        let Some(route) = known else {
+            return Ok(Lookup::Searched);
         };
-        if self.ways.learn(line, &send, &way) {
-            return Ok(Passage::OnLine(line));
+        if self.flow_cache.insert(line, &send, &route) {
+            return Ok(Lookup::Cached(line));
         }
-        Ok(Passage::Searched)
+        Ok(Lookup::Searched)
     }
 
-    // The same of a packet whose way isn't to be remembered.
+    // The same of a packet whose route isn't to be remembered.
     pub(crate) fn inject_ready<S: Shelf>(
         &mut self,
         shelf: &mut S,
@@ -206,10 +206,10 @@ impl Network {
             ≡ record self.old { table = self.new.table; direct = self.new.direct } }
         ensures pockets { AllStay (S.pocket shelf.old) (S.pocket shelf.new) }
         ensures rooms { (o : ℕ) → S.room shelf.old o ≤ S.room shelf.new o }
-        ensures ready { OnOk result (CanMake send.now Passage.Searched self.new) }
+        ensures ready { OnOk result (CanMake send.now Lookup.Searched self.new) }
     {
         let packet = packet_of(Load::Plain, send, 0);
-        let found = self.book.foresee_rule(&packet);
+        let found = self.book.classify_rule(&packet);
         self.arrival_ready(shelf, owner, now, found, &packet)?;
         Ok(())
     }
@@ -293,13 +293,13 @@ impl Network {
     }
 
     // A packet comes into a pipe.
-    #[tactic(auto, using(crate::proofs::WayFacts::known_grown))]
+    #[tactic(auto, using(crate::proofs::RouteFacts::known_grown))]
     #[inline(always)]
     fn enter_pipe<S: Shelf>(
         &mut self,
         shelf: &mut S,
         owner: Owner,
-        at: Setting,
+        at: EventContext,
         number: PipeNumber,
         packet: &Packet,
     )
@@ -314,7 +314,11 @@ impl Network {
         ensures takes { TakesRoom 1 owner (S.pocket shelf.old) (S.pocket shelf.new)
             self.old self.new }
     {
-        let answer = self.table.arrive(shelf, owner, at.now, number, packet);
+        let Some(place) = self.table.place_of(number) else {
+            self.drop_packet(at.now, packet, DropCause::NoPipe);
+            return;
+        };
+        let answer = self.table.arrive(place, shelf, owner, at.now, packet);
         match answer {
             Some(cause) => {
                 self.drop_packet(at.now, packet, cause);
@@ -330,7 +334,7 @@ impl Network {
         &mut self,
         shelf: &mut S,
         owner: Owner,
-        at: Setting,
+        at: EventContext,
         number: PipeNumber,
         packet: &Packet,
     )
@@ -349,32 +353,32 @@ impl Network {
         self.enter_pipe(shelf, owner, at, number, packet);
     }
 
-    // A packet comes into a pipe by its way.
-    #[tactic(auto, using(crate::proofs::WayFacts::known_grown))]
+    // A packet comes into a pipe by its route.
+    #[tactic(auto, using(crate::proofs::RouteFacts::known_grown))]
     #[inline(always)]
     fn enter_by_way<S: Shelf>(
         &mut self,
         shelf: &mut S,
         owner: Owner,
-        at: Setting,
-        way: &Way,
+        at: EventContext,
+        route: &Route,
         packet: &Packet,
     )
         requires stands { Stands at (S.pocket shelf.old owner) self.old }
         requires budget { (S.pocket shelf.old owner).count < (S.pocket shelf.old owner).budget }
         requires room { 0 < S.room shelf.old owner }
         requires log { 0 < self.old.log.spare }
-        requires routed { IsRouted way.now.number packet.now way.now.pipe way.now.instance
+        requires routed { IsRouted route.now.number packet.now route.now.pipe route.now.instance
             self.old.table.pipes }
-        requires ready { HasRoomAtPlace packet.now.size way.now.pipe way.now.instance
+        requires ready { HasRoomAtPlace packet.now.size route.now.pipe route.now.instance
             self.old.table.pipes }
         ensures becomes { Becomes 0
-            (enter_pipe at way.now.number packet.now (net_of (S.pocket shelf.old owner) self.old))
+            (enter_pipe at route.now.number packet.now (net_of (S.pocket shelf.old owner) self.old))
             (S.pocket shelf.old owner) (S.pocket shelf.new owner) self.old self.new }
         ensures takes { TakesRoom 1 owner (S.pocket shelf.old) (S.pocket shelf.new)
             self.old self.new }
     {
-        let (pipe, instance) = (way.pipe, way.instance);
+        let (pipe, instance) = (route.pipe, route.instance);
         let answer = self
             .table
             .arrive_at(pipe, instance, shelf, owner, at.now, packet);
@@ -387,35 +391,35 @@ impl Network {
         }
     }
 
-    // A packet passes the rules by its way.
-    #[tactic(auto, using(crate::proofs::WayFacts::known_counted))]
+    // A packet passes the rules by its route.
+    #[tactic(auto, using(crate::proofs::RouteFacts::known_counted))]
     #[inline(always)]
     fn pass_by_way<S: Shelf>(
         &mut self,
         shelf: &mut S,
         owner: Owner,
-        at: Setting,
-        way: &Way,
+        at: EventContext,
+        route: &Route,
         packet: &Packet,
     )
         requires stands { Stands at (S.pocket shelf.old owner) self.old }
         requires budget { (S.pocket shelf.old owner).count < (S.pocket shelf.old owner).budget }
         requires room { 0 < S.room shelf.old owner }
         requires log { 2 < self.old.log.spare }
-        requires ready { (start : ℕ) × CanGo start packet.now way.now self.old }
-        ensures becomes { (start : ℕ) → CanGo start packet.now way.now self.old → Becomes 0
+        requires ready { (start : ℕ) × CanGo start packet.now route.now self.old }
+        ensures becomes { (start : ℕ) → CanGo start packet.now route.now self.old → Becomes 0
             (pass_rules_from at start packet.now (net_of (S.pocket shelf.old owner) self.old))
             (S.pocket shelf.old owner) (S.pocket shelf.new owner) self.old self.new }
         ensures takes { TakesRoom 3 owner (S.pocket shelf.old) (S.pocket shelf.new)
             self.old self.new }
     {
-        self.book.count_at(way.rule, packet);
+        self.book.count_at(route.rule, packet);
         let sent = Packet {
-            place: way.place,
+            place: route.place,
             ..*packet
         };
-        self.note_arrival(at.now, way.number, &sent);
-        self.enter_by_way(shelf, owner, at, way, &sent);
+        self.note_arrival(at.now, route.number, &sent);
+        self.enter_by_way(shelf, owner, at, route, &sent);
     }
 
     // A packet is handed on by a verdict.
@@ -424,7 +428,7 @@ impl Network {
         &mut self,
         shelf: &mut S,
         owner: Owner,
-        at: Setting,
+        at: EventContext,
         verdict: Verdict,
         packet: &Packet,
     )
@@ -456,13 +460,13 @@ impl Network {
         }
     }
 
-    // A packet whose way is remembered on a line passes the rules from the first on.
+    // A packet whose route is remembered on a line passes the rules from the first on.
     #[inline(always)]
     fn pass_on_line<S: Shelf>(
         &mut self,
         shelf: &mut S,
         owner: Owner,
-        at: Setting,
+        at: EventContext,
         line: usize,
         packet: &Packet,
     )
@@ -470,24 +474,30 @@ impl Network {
         requires budget { (S.pocket shelf.old owner).count < (S.pocket shelf.old owner).budget }
         requires room { 0 < S.room shelf.old owner }
         requires log { 2 < self.old.log.spare }
-        requires ready { HasWay packet.now line self.old }
+        requires ready { HasRoute packet.now line self.old }
         ensures becomes { Becomes 0
             (pass_rules at packet.now (net_of (S.pocket shelf.old owner) self.old))
             (S.pocket shelf.old owner) (S.pocket shelf.new owner) self.old self.new }
         ensures takes { TakesRoom 3 owner (S.pocket shelf.old) (S.pocket shelf.new)
             self.old self.new }
     {
-        let Some(held) = self.ways.at(line) else {
+        let Some(held) = self.flow_cache.at(line) else {
             unreachable!();
         };
-        let way = held.way;
-        self.pass_by_way(shelf, owner, at, &way, packet);
+        let route = held.route;
+        self.pass_by_way(shelf, owner, at, &route, packet);
     }
 
     // A packet passes the rules from the first on, by a search.
-    #[tactic(auto, using(crate::proofs::WayFacts::known_searched))]
+    #[tactic(auto, using(crate::proofs::RouteFacts::known_searched))]
     #[inline(never)]
-    fn pass_rules<S: Shelf>(&mut self, shelf: &mut S, owner: Owner, at: Setting, packet: Packet)
+    fn pass_rules<S: Shelf>(
+        &mut self,
+        shelf: &mut S,
+        owner: Owner,
+        at: EventContext,
+        packet: Packet,
+    )
         requires stands { Stands at (S.pocket shelf.old owner) self.old }
         requires budget { (S.pocket shelf.old owner).count < (S.pocket shelf.old owner).budget }
         requires room { 0 < S.room shelf.old owner }
@@ -504,13 +514,13 @@ impl Network {
     }
 
     // A packet that left a pipe passes the rules behind the one that sent it there.
-    pub(crate) fn go_on<S: Shelf>(
+    pub(crate) fn reinject<S: Shelf>(
         &mut self,
         shelf: &mut S,
         owner: Owner,
-        at: Setting,
+        at: EventContext,
         packet: &Packet,
-        known: &Option<Way>,
+        known: &Option<Route>,
     )
         requires stands { Stands at (S.pocket shelf.old owner) self.old }
         requires budget { (S.pocket shelf.old owner).count < (S.pocket shelf.old owner).budget }
@@ -518,14 +528,14 @@ impl Network {
         requires log { 2 < self.old.log.spare }
         requires ready { CanPass (start_after packet.now self.old) packet.now known.now self.old }
         ensures becomes { Becomes 0
-            (go_on at packet.now (net_of (S.pocket shelf.old owner) self.old))
+            (reinject at packet.now (net_of (S.pocket shelf.old owner) self.old))
             (S.pocket shelf.old owner) (S.pocket shelf.new owner) self.old self.new }
         ensures takes { TakesRoom 3 owner (S.pocket shelf.old) (S.pocket shelf.new)
             self.old self.new }
     {
         match known {
-            Some(way) => {
-                self.pass_by_way(shelf, owner, at, way, packet);
+            Some(route) => {
+                self.pass_by_way(shelf, owner, at, route, packet);
                 return;
             }
             None => {
@@ -536,16 +546,22 @@ impl Network {
     }
 
     // The same by a search.
-    #[tactic(auto, using(crate::proofs::WayFacts::known_searched))]
+    #[tactic(auto, using(crate::proofs::RouteFacts::known_searched))]
     #[inline(never)]
-    fn search_behind<S: Shelf>(&mut self, shelf: &mut S, owner: Owner, at: Setting, packet: Packet)
+    fn search_behind<S: Shelf>(
+        &mut self,
+        shelf: &mut S,
+        owner: Owner,
+        at: EventContext,
+        packet: Packet,
+    )
         requires stands { Stands at (S.pocket shelf.old owner) self.old }
         requires budget { (S.pocket shelf.old owner).count < (S.pocket shelf.old owner).budget }
         requires room { 0 < S.room shelf.old owner }
         requires log { 2 < self.old.log.spare }
         requires ready { CanPass (start_after packet self.old) packet None self.old }
         ensures becomes { Becomes 0
-            (go_on at packet (net_of (S.pocket shelf.old owner) self.old))
+            (reinject at packet (net_of (S.pocket shelf.old owner) self.old))
             (S.pocket shelf.old owner) (S.pocket shelf.new owner) self.old self.new }
         ensures takes { TakesRoom 3 owner (S.pocket shelf.old) (S.pocket shelf.new)
             self.old self.new }
@@ -560,9 +576,9 @@ impl Network {
         &mut self,
         shelf: &mut S,
         owner: Owner,
-        at: Setting,
+        at: EventContext,
         sending: &Sending,
-        passage: &Passage,
+        passage: &Lookup,
     )
         requires stands { Stands at (S.pocket shelf.old owner) self.old }
         requires made { self.old.made < 2 ^ 63 }
@@ -583,11 +599,11 @@ impl Network {
         self.note_made(at.now, &packet);
         if shelf.count(owner) < at.packet_budget.get() as usize {
             match passage {
-                Passage::OnLine(line) => {
+                Lookup::Cached(line) => {
                     self.pass_on_line(shelf, owner, at, *line, &packet);
                     return;
                 }
-                Passage::Searched => {
+                Lookup::Searched => {
                     self.pass_rules(shelf, owner, at, packet);
                     return;
                 }

@@ -13,16 +13,15 @@ ghost use Rattle.network.specs.Frames.{Frame};
 ghost use Rattle.network.specs.Ready.{TakesNoMemory};
 ghost use Rattle.pipe_table.specs.Table.{pipe_of};
 
+use crate::flow_cache::Lookup;
 use crate::state::Network;
-use crate::ways::Passage;
 use emu_model::{
-    Command, DropCause, FlowNumber, FlowSpec, Load, PipeConfig, PipeNumber, Record, Refusal, Rule,
-    RuleNumber, SendSpec, Setting, TrainSpec,
+    Command, DropCause, EventContext, FlowNumber, FlowSpec, Load, PipeConfig, PipeNumber, Record,
+    Refusal, Rule, RuleNumber, SendSpec, TrainSpec,
 };
 use emu_rules::{AddError, RuleList};
 use packet_store::{Owner, Shelf};
-use pipe_table::ConfigureError;
-use record_log::RecordLog;
+use pipe_table::{ConfigureError, RecordLog};
 use std::alloc::AllocError;
 use traffic::Sending;
 
@@ -34,7 +33,7 @@ impl Network {
         &mut self,
         shelf: &mut S,
         owner: Owner,
-        at: Setting,
+        at: EventContext,
         number: u64,
         command: &Command,
     ) -> Result<(), AllocError>
@@ -100,10 +99,10 @@ impl Network {
     }
 
     // A rule is added.
-    #[tactic(auto, using(crate::proofs::WayFacts::known_none))]
-    fn add(&mut self, at: Setting, number: u64, rule: &Rule) -> Result<(), AllocError>
+    #[tactic(auto, using(crate::proofs::RouteFacts::known_none))]
+    fn add(&mut self, at: EventContext, number: u64, rule: &Rule) -> Result<(), AllocError>
         requires log { 1 < self.old.log.spare }
-        requires forgot { self.old.ways ≡ [] }
+        requires forgot { self.old.flow_cache ≡ [] }
         ensures ok { OnOk result (Obeys at number (Add rule.now) self.old self.new) }
         ensures room { OnOk result (0 < self.new.log.spare) }
         ensures refused { OnErr result (IsStill self.old self.new) }
@@ -123,10 +122,10 @@ impl Network {
     }
 
     // The rules of a number are deleted.
-    #[tactic(auto, using(crate::proofs::WayFacts::known_none))]
-    fn delete(&mut self, at: Setting, number: u64, rule: RuleNumber) -> Result<(), AllocError>
+    #[tactic(auto, using(crate::proofs::RouteFacts::known_none))]
+    fn delete(&mut self, at: EventContext, number: u64, rule: RuleNumber) -> Result<(), AllocError>
         requires log { 1 < self.old.log.spare }
-        requires forgot { self.old.ways ≡ [] }
+        requires forgot { self.old.flow_cache ≡ [] }
         ensures ok { OnOk result (Obeys at number (Delete rule) self.old self.new) }
         ensures room { OnOk result (0 < self.new.log.spare) }
         ensures refused { OnErr result (IsStill self.old self.new) }
@@ -145,16 +144,16 @@ impl Network {
     }
 
     // A pipe is configured.
-    #[tactic(auto, using(crate::proofs::WayFacts::known_none))]
+    #[tactic(auto, using(crate::proofs::RouteFacts::known_none))]
     fn configure(
         &mut self,
-        at: Setting,
+        at: EventContext,
         number: u64,
         pipe: PipeNumber,
         config: &PipeConfig,
     ) -> Result<(), AllocError>
         requires log { 1 < self.old.log.spare }
-        requires forgot { self.old.ways ≡ [] }
+        requires forgot { self.old.flow_cache ≡ [] }
         ensures ok { OnOk result (Obeys at number (Config pipe config.now) self.old self.new) }
         ensures room { OnOk result (0 < self.new.log.spare) }
         ensures refused { OnErr result (IsStill self.old self.new) }
@@ -176,18 +175,18 @@ impl Network {
     }
 
     // A pipe is deleted, and all that it held is dropped.
-    #[tactic(auto, using(crate::proofs::WayFacts::known_none))]
+    #[tactic(auto, using(crate::proofs::RouteFacts::known_none))]
     fn delete_pipe<S: Shelf>(
         &mut self,
         shelf: &mut S,
         owner: Owner,
-        at: Setting,
+        at: EventContext,
         number: u64,
         pipe: PipeNumber,
     ) -> Result<(), AllocError>
         requires stands { Stands at (S.pocket shelf.old owner) self.old }
         requires log { 1 < self.old.log.spare }
-        requires forgot { self.old.ways ≡ [] }
+        requires forgot { self.old.flow_cache ≡ [] }
         ensures ok { OnOk result
             (Becomes 1
             (obey at number (PipeDelete pipe) (net_of (S.pocket shelf.old owner) self.old))
@@ -218,7 +217,7 @@ impl Network {
     }
 
     // The pipes are listed.
-    fn show_pipes(&mut self, at: Setting, number: u64) -> Result<(), AllocError>
+    fn show_pipes(&mut self, at: EventContext, number: u64) -> Result<(), AllocError>
         ensures ok { OnOk result (Obeys at number PipeShow self.old self.new) }
         ensures room { OnOk result (0 < self.new.log.spare) }
         ensures refused { OnErr result (IsStill self.old self.new) }
@@ -231,7 +230,7 @@ impl Network {
     }
 
     // The rules are listed.
-    fn show_rules(&mut self, at: Setting, number: u64) -> Result<(), AllocError>
+    fn show_rules(&mut self, at: EventContext, number: u64) -> Result<(), AllocError>
         ensures ok { OnOk result (Obeys at number Show self.old self.new) }
         ensures room { OnOk result (0 < self.new.log.spare) }
         ensures refused { OnErr result (IsStill self.old self.new) }
@@ -249,7 +248,7 @@ impl Network {
         &mut self,
         shelf: &mut S,
         owner: Owner,
-        at: Setting,
+        at: EventContext,
         number: u64,
         send: &SendSpec,
     ) -> Result<(), AllocError>
@@ -267,14 +266,14 @@ impl Network {
         self.inject_ready(shelf, owner, at.now, send)?;
         self.done(at.now, number);
         let sending = plain_sending(send);
-        self.make(shelf, owner, at, &sending, &Passage::Searched);
+        self.make(shelf, owner, at, &sending, &Lookup::Searched);
         Ok(())
     }
 
     // A train begins.
     fn start_train(
         &mut self,
-        at: Setting,
+        at: EventContext,
         number: u64,
         source: FlowNumber,
         train: &TrainSpec,
@@ -299,7 +298,7 @@ impl Network {
     // A flow begins.
     fn start_flow(
         &mut self,
-        at: Setting,
+        at: EventContext,
         number: u64,
         source: FlowNumber,
         flow: &FlowSpec,
@@ -321,7 +320,7 @@ impl Network {
     }
 
     // A flow is stopped.
-    fn stop(&mut self, at: Setting, number: u64, flow: FlowNumber) -> Result<(), AllocError>
+    fn stop(&mut self, at: EventContext, number: u64, flow: FlowNumber) -> Result<(), AllocError>
         requires { 1 < self.old.log.spare }
         ensures ok { OnOk result (Obeys at number (Stop flow) self.old self.new) }
         ensures room { OnOk result (0 < self.new.log.spare) }
@@ -338,7 +337,12 @@ impl Network {
     }
 
     // Whether a packet that leaves a pipe is delivered at once is set.
-    fn set_one_pass(&mut self, at: Setting, number: u64, one_pass: bool) -> Result<(), AllocError>
+    fn set_one_pass(
+        &mut self,
+        at: EventContext,
+        number: u64,
+        one_pass: bool,
+    ) -> Result<(), AllocError>
         requires { 1 < self.old.log.spare }
         ensures ok { OnOk result (Obeys at number (OnePass one_pass) self.old self.new) }
         ensures room { OnOk result (0 < self.new.log.spare) }
@@ -351,7 +355,7 @@ impl Network {
     }
 
     // Whether packets are traced is set.
-    fn set_trace(&mut self, at: Setting, number: u64, trace: bool) -> Result<(), AllocError>
+    fn set_trace(&mut self, at: EventContext, number: u64, trace: bool) -> Result<(), AllocError>
         requires { 1 < self.old.log.spare }
         ensures ok { OnOk result (Obeys at number (Trace trace) self.old self.new) }
         ensures room { OnOk result (0 < self.new.log.spare) }
@@ -364,7 +368,7 @@ impl Network {
     }
 
     // The last command.
-    fn end(&mut self, at: Setting, number: u64) -> Result<(), AllocError>
+    fn end(&mut self, at: EventContext, number: u64) -> Result<(), AllocError>
         requires { 1 < self.old.log.spare }
         ensures ok { OnOk result (Obeys at number End self.old self.new) }
         ensures room { OnOk result (0 < self.new.log.spare) }

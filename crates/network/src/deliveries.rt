@@ -12,9 +12,9 @@ ghost use Rattle.network.specs.Changes.{Becomes, IsStill, Turns};
 ghost use Rattle.network.specs.Frames.{TakesRoom};
 ghost use Rattle.network.specs.Ready.{CanDeliver};
 
+use crate::flow_cache::{Lookup, reply_line_of};
 use crate::state::Network;
-use crate::ways::{Passage, reply_line_of};
-use emu_model::{FlowNumber, Load, Packet, Record, Setting};
+use emu_model::{EventContext, FlowNumber, Load, Packet, Record};
 use packet_store::{Owner, Shelf};
 use std::alloc::AllocError;
 
@@ -27,14 +27,14 @@ impl Network {
         owner: Owner,
         now: u64,
         load: Load,
-    ) -> Result<Passage, AllocError>
+    ) -> Result<Lookup, AllocError>
         ensures still { IsStill self.old self.new }
         ensures rest { self.new
             ≡ record self.old {
               table = self.new.table;
               direct = self.new.direct;
               traffic = self.new.traffic;
-              ways = self.new.ways;
+              flow_cache = self.new.flow_cache;
             } }
         ensures pockets { AllStay (S.pocket shelf.old) (S.pocket shelf.new) }
         ensures rooms { (o : ℕ) → S.room shelf.old o ≤ S.room shelf.new o }
@@ -43,8 +43,8 @@ impl Network {
         ensures plain { load ≡ Plain → IsOk result }
     {
         match load {
-            Load::Plain => return Ok(Passage::Searched),
-            Load::Ack { .. } => return Ok(Passage::Searched),
+            Load::Plain => return Ok(Lookup::Searched),
+            Load::Ack { .. } => return Ok(Lookup::Searched),
             Load::Seg { flow, first } => {
                 return self.segment_ready(shelf, owner, now, flow, first);
             }
@@ -60,14 +60,14 @@ impl Network {
         now: u64,
         flow: FlowNumber,
         first: u64,
-    ) -> Result<Passage, AllocError>
+    ) -> Result<Lookup, AllocError>
         ensures still { IsStill self.old self.new }
         ensures rest { self.new
             ≡ record self.old {
               table = self.new.table;
               direct = self.new.direct;
               traffic = self.new.traffic;
-              ways = self.new.ways;
+              flow_cache = self.new.flow_cache;
             } }
         ensures pockets { AllStay (S.pocket shelf.old) (S.pocket shelf.new) }
         ensures rooms { (o : ℕ) → S.room shelf.old o ≤ S.room shelf.new o }
@@ -76,7 +76,7 @@ impl Network {
     {
         self.traffic.take_ready(flow, first)?;
         let Some(send) = self.traffic.reply(flow) else {
-            return Ok(Passage::Searched);
+            return Ok(Lookup::Searched);
         };
         self.make_ready(shelf, owner, now, reply_line_of(flow), &send)
     }
@@ -87,9 +87,9 @@ impl Network {
         &mut self,
         shelf: &mut S,
         owner: Owner,
-        at: Setting,
+        at: EventContext,
         packet: &Packet,
-        passage: &Passage,
+        passage: &Lookup,
     )
         requires stands { Stands at (S.pocket shelf.old owner) self.old }
         requires made { self.old.made < 2 ^ 63 }
@@ -116,9 +116,9 @@ impl Network {
         &mut self,
         shelf: &mut S,
         owner: Owner,
-        at: Setting,
+        at: EventContext,
         load: Load,
-        passage: &Passage,
+        passage: &Lookup,
     )
         requires stands { Stands at (S.pocket shelf.old owner) self.old }
         requires made { self.old.made < 2 ^ 63 }
@@ -149,10 +149,10 @@ impl Network {
         &mut self,
         shelf: &mut S,
         owner: Owner,
-        at: Setting,
+        at: EventContext,
         flow: FlowNumber,
         first: u64,
-        passage: &Passage,
+        passage: &Lookup,
     )
         requires stands { Stands at (S.pocket shelf.old owner) self.old }
         requires made { self.old.made < 2 ^ 63 }

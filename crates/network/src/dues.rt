@@ -25,15 +25,16 @@ impl Network {
         ensures moment { result.moment ≤ best.moment }
         ensures due { IsDue best self.now → IsDue result self.now }
     {
-        let best = self.direct_earliest(best);
-        let best = self.table.earliest(best);
-        self.traffic.earliest(clock, best)
+        let first = DueNumber::at(best.moment, best.source);
+        let direct = DueNumber::of(self.direct_due());
+        let least = self.table.earliest(first.or_earlier(direct));
+        self.traffic.earliest(clock, least.some())
     }
 
     /// The same. Only what is kept of timers changes, which nothing shows: where nothing changes else, the next call finds
     /// the least at once.
     #[inline(always)]
-    pub fn settled_earliest(&mut self, clock: u64, best: Due) -> Due
+    pub fn next_due(&mut self, clock: u64, best: Due) -> Due
         ensures least { (p : Pocket) →
             result ≡ best_of is_before best (dues_of clock (net_of p self.old)) }
         ensures moment { result.moment ≤ best.moment }
@@ -42,8 +43,8 @@ impl Network {
     {
         let first = DueNumber::at(best.moment, best.source);
         let direct = DueNumber::of(self.direct_due());
-        let least = self.table.earliest_number(first.or_earlier(direct));
-        self.traffic.settled_earliest(clock, least).some()
+        let least = self.table.earliest(first.or_earlier(direct));
+        self.traffic.next_due(clock, least).some()
     }
 
     // The due of the link of `allow`, where something is on its way there.
@@ -60,16 +61,6 @@ impl Network {
             }),
             None => None,
         }
-    }
-
-    // The lesser of a due and that of the link of `allow`.
-    fn direct_earliest(&self, best: Due) -> Due
-        ensures least { (p : Pocket) →
-            result ≡ best_of is_before best (line_dues 0 (net_of p self.now).direct) }
-        ensures moment { result.moment ≤ best.moment }
-        ensures due { IsDue best self.now → IsDue result self.now }
-    {
-        best.or_earlier(self.direct_due())
     }
 
     // Appends the due of the link of `allow`.

@@ -10,7 +10,7 @@ ghost use Rattle.emu_model.specs.Net.{Net, drop_record, find_flow, find_pipe};
 ghost use Rattle.emu_model.specs.Events.{direct_exit, emission, event_of, expire_flow, flying_in, pipe_exits, pipe_finishes};
 ghost use Rattle.packet_store.specs.Pocket.{OthersStay, AllStay};
 ghost use Rattle.network.specs.Kept.{net_of, IsHoused, Stands};
-ghost use Rattle.network.specs.Changes.{Becomes, IsStill, Notes, Turns};
+ghost use Rattle.network.specs.Changes.{Becomes, IsStill, Notes, NotesIn, Turns};
 ghost use Rattle.network.specs.Frames.{Frame};
 ghost use Rattle.network.specs.Ready.{CanDeliver, CanPass, start_after};
 ghost use Rattle.network.specs.Due.{IsDue};
@@ -19,17 +19,33 @@ ghost use Rattle.pipe_table.specs.Places.{StandsAt, KeepsPlaces};
 ghost use Rattle.traffic.specs.Kept.{with_traffic};
 ghost use Rattle.traffic.specs.Sends.{IsEmitting, next_send};
 
+use crate::flow_cache::{Lookup, Route, line_of};
 use crate::state::Network;
-use crate::ways::{Passage, Way, line_of};
-use emu_model::{Class, DropCause, Due, FlowNumber, Packet, PipeNumber, Record, Setting};
+use emu_model::{Class, DropCause, Due, EventContext, FlowNumber, Packet, PipeNumber, Record};
 use packet_store::{Owner, Shelf};
 use pipe_core::keys_say_all;
+use pipe_table::RecordLog;
 use std::alloc::AllocError;
-use std::mem;
 
 /// How many records an event makes at most, besides a line for each thing that is listed or dropped
 /// with others, and one that tells of the last step.
 pub(crate) const MOST_RECORDS: usize = 6;
+
+// Records that packets were dropped, in order.
+pub(crate) fn note_drops(log: &mut RecordLog, now: u64, packets: &[Packet], cause: DropCause)
+    requires { length packets.now ≤ log.old.spare }
+    ensures { NotesIn (map (drop_record now)
+        (map (λ p. record { packet = p; cause = cause }) packets.now)) log.old log.new }
+{
+    for packet in packets {
+        log.note(&Record::PacketDropped {
+            moment: now,
+            packet: packet.number,
+            load: packet.load,
+            cause,
+        });
+    }
+}
 
 impl Network {
     /// The event of something that is due now, as `earliest` told. Each growth comes first: refused,
@@ -39,7 +55,7 @@ impl Network {
         &mut self,
         shelf: &mut S,
         owner: Owner,
-        at: Setting,
+        at: EventContext,
         due: Due,
     ) -> Result<(), AllocError>
         requires stands { Stands at (S.pocket shelf.old owner) self.old }
@@ -90,7 +106,7 @@ impl Network {
     // What leaves the link of `allow` first.
     fn direct_front<S: Shelf>(&self, shelf: &S, owner: Owner) -> Option<Packet>
         requires { IsHoused (S.pocket shelf.now owner) self.now }
-        ensures { result ≡ first_item (net_of (S.pocket shelf.now owner) self.now).direct.flight }
+        ensures { result ≡ first_item (net_of (S.pocket shelf.now owner) self.now).direct.in_flight }
     {
         let Some(key) = self.direct.front() else {
             return None;
@@ -104,7 +120,7 @@ impl Network {
         shelf: &mut S,
         owner: Owner,
         now: u64,
-    ) -> Result<Passage, AllocError>
+    ) -> Result<Lookup, AllocError>
         requires { IsHoused (S.pocket shelf.old owner) self.old }
         ensures still { IsStill self.old self.new }
         ensures rest { self.new
@@ -112,16 +128,16 @@ impl Network {
               table = self.new.table;
               direct = self.new.direct;
               traffic = self.new.traffic;
-              ways = self.new.ways;
+              flow_cache = self.new.flow_cache;
             } }
         ensures pockets { AllStay (S.pocket shelf.old) (S.pocket shelf.new) }
         ensures ready { IfOk result
             (λ passage. (p : Packet) →
-            first_item (net_of (S.pocket shelf.old owner) self.old).direct.flight ≡ Some p →
+            first_item (net_of (S.pocket shelf.old owner) self.old).direct.in_flight ≡ Some p →
             CanDeliver p.load passage self.new) }
     {
         let Some(packet) = self.direct_front(shelf, owner) else {
-            return Ok(Passage::Searched);
+            return Ok(Lookup::Searched);
         };
         self.deliver_ready(shelf, owner, now, packet.load)
     }
@@ -130,7 +146,7 @@ impl Network {
     fn leave_direct<S: Shelf>(&mut self, shelf: &mut S, owner: Owner) -> Option<Packet>
         requires { IsHoused (S.pocket shelf.old owner) self.old }
         ensures packet { result ≡ first_item
-            (net_of (S.pocket shelf.old owner) self.old).direct.flight }
+            (net_of (S.pocket shelf.old owner) self.old).direct.in_flight }
         ensures becomes { let n = net_of (S.pocket shelf.old owner) self.old in
             Becomes 0 (record n { direct = leave n.direct })
             (S.pocket shelf.old owner) (S.pocket shelf.new owner) self.old self.new }
@@ -156,7 +172,7 @@ impl Network {
         &mut self,
         shelf: &mut S,
         owner: Owner,
-        at: Setting,
+        at: EventContext,
     ) -> Result<(), AllocError>
         requires stands { Stands at (S.pocket shelf.old owner) self.old }
         requires made { self.old.made < 2 ^ 63 }
@@ -181,7 +197,7 @@ impl Network {
         &mut self,
         shelf: &mut S,
         owner: Owner,
-        at: Setting,
+        at: EventContext,
         pipe: PipeNumber,
         instance: u8,
     ) -> Result<(), AllocError>
@@ -209,37 +225,32 @@ impl Network {
         self.pass_front(shelf, owner, at, pipe, place, instance)
     }
 
-    // Nothing leaves an instance in which nothing is on its way.
-    #[tactic(auto, using(crate::proofs::WayFacts::known_grown))]
-    #[inline(never)]
+    // Nothing leaves an instance in which nothing is on its way, and nothing changes.
+    #[inline(always)]
     fn exit_nothing<S: Shelf>(
-        &mut self,
-        shelf: &mut S,
+        &self,
+        shelf: &S,
         owner: Owner,
-        at: Setting,
+        at: EventContext,
         pipe: PipeNumber,
         instance: u8,
     )
-        requires stands { Stands at (S.pocket shelf.old owner) self.old }
+        requires stands { Stands at (S.pocket shelf.now owner) self.now }
         requires none { option_and_then (flying_in instance)
-            (find_pipe pipe (net_of (S.pocket shelf.old owner) self.old)) ≡ None }
-        ensures becomes { let n = net_of (S.pocket shelf.old owner) self.old in
+            (find_pipe pipe (net_of (S.pocket shelf.now owner) self.now)) ≡ None }
+        ensures { let n = net_of (S.pocket shelf.now owner) self.now in
             Becomes 1 (option_map_or (pipe_exits at pipe instance n) (find_pipe pipe n) n)
-            (S.pocket shelf.old owner) (S.pocket shelf.new owner) self.old self.new }
-        ensures log { self.new.log ≡ self.old.log }
-        ensures others { OthersStay owner (S.pocket shelf.old) (S.pocket shelf.new) }
-    {
-        let _none = self.table.exit(shelf, owner, pipe, instance);
-    }
+            (S.pocket shelf.now owner) (S.pocket shelf.now owner) self.now self.now }
+    {}
 
     // The same of a pipe that stands at a place, where the packet is delivered.
-    #[tactic(auto, using(crate::proofs::WayFacts::known_grown))]
+    #[tactic(auto, using(crate::proofs::RouteFacts::known_grown))]
     #[inline(always)]
     fn deliver_front<S: Shelf>(
         &mut self,
         shelf: &mut S,
         owner: Owner,
-        at: Setting,
+        at: EventContext,
         pipe: PipeNumber,
         place: usize,
         instance: u8,
@@ -261,24 +272,24 @@ impl Network {
             self.old self.new }
     {
         let index = usize::from(instance);
-        let Some(packet) = self.table.front_at(place, index, shelf, owner) else {
+        let Some(packet) = self.table.front(place, index, shelf, owner) else {
             self.exit_nothing(shelf, owner, at, pipe, instance);
             return Ok(());
         };
         let passage = self.deliver_ready(shelf, owner, at.now, packet.load)?;
-        let _gone = self.table.exit_at(place, index, shelf, owner);
+        let _gone = self.table.exit(place, index, shelf, owner);
         self.deliver(shelf, owner, at, &packet, &passage);
         Ok(())
     }
 
-    // Makes the growths of a packet that goes on in the rules, and tells its way where it has one.
+    // Makes the growths of a packet that goes on in the rules, and tells its route where it has one.
     fn pass_ready<S: Shelf>(
         &mut self,
         shelf: &mut S,
         owner: Owner,
         now: u64,
         packet: &Packet,
-    ) -> Result<Option<Way>, AllocError>
+    ) -> Result<Option<Route>, AllocError>
         ensures still { IsStill self.old self.new }
         ensures rest { self.new
             ≡ record self.old { table = self.new.table; direct = self.new.direct } }
@@ -288,18 +299,18 @@ impl Network {
         ensures pass { IfOk result (λ known.
             CanPass (start_after packet.now self.new) packet.now known self.new) }
     {
-        let found = self.book.foresee_rule_after(packet.place, packet);
+        let found = self.book.classify_rule_after(packet.place, packet);
         self.arrival_ready(shelf, owner, now, found, packet)
     }
 
     // The same where the packet goes on in the rules.
-    #[tactic(auto, using(crate::proofs::WayFacts::known_grown))]
+    #[tactic(auto, using(crate::proofs::RouteFacts::known_grown))]
     #[inline(never)]
     fn pass_front<S: Shelf>(
         &mut self,
         shelf: &mut S,
         owner: Owner,
-        at: Setting,
+        at: EventContext,
         pipe: PipeNumber,
         place: usize,
         instance: u8,
@@ -317,30 +328,30 @@ impl Network {
             self.old self.new }
     {
         let index = usize::from(instance);
-        let Some(packet) = self.table.front_at(place, index, shelf, owner) else {
+        let Some(packet) = self.table.front(place, index, shelf, owner) else {
             self.exit_nothing(shelf, owner, at, pipe, instance);
             return Ok(());
         };
         let known = self.pass_ready(shelf, owner, at.now, &packet)?;
-        let _gone = self.table.exit_at(place, index, shelf, owner);
+        let _gone = self.table.exit(place, index, shelf, owner);
         self.note(&Record::PacketPassed {
             moment: at.now,
             packet: packet.number,
             pipe,
             instance,
         });
-        self.go_on(shelf, owner, at, &packet, &known);
+        self.reinject(shelf, owner, at, &packet, &known);
         Ok(())
     }
 
     // The packet in service in an instance of a pipe finishes.
-    #[tactic(auto, using(crate::proofs::WayFacts::known_grown))]
+    #[tactic(auto, using(crate::proofs::RouteFacts::known_grown))]
     #[inline(always)]
     fn pipe_finish<S: Shelf>(
         &mut self,
         shelf: &mut S,
         owner: Owner,
-        at: Setting,
+        at: EventContext,
         pipe: PipeNumber,
         instance: u8,
     ) -> Result<(), AllocError>
@@ -358,15 +369,16 @@ impl Network {
             unreachable!();
         };
         let index = usize::from(instance);
-        if !self.table.drops_none_at(place, index, at.now) {
-            return self.finish_dropping(shelf, owner, at, pipe, instance);
+        if !self.table.drops_none(place, index, at.now) {
+            return self.finish_dropping(shelf, owner, at, pipe, place, instance);
         }
+        let drops = &mut self.drops;
         let packet = self
             .table
-            .finish_plainly_at(place, index, shelf, owner, at.now)?;
+            .finish(place, index, shelf, owner, at.now, true, drops)?;
         self.note(&Record::PacketFinished {
             moment: at.now,
-            packet,
+            packet: packet.number,
             pipe,
             instance,
         });
@@ -374,42 +386,19 @@ impl Network {
     }
 
     // The same where CoDel may drop.
+    #[tactic(auto, using(crate::proofs::RouteFacts::known_grown))]
     #[inline(never)]
     fn finish_dropping<S: Shelf>(
         &mut self,
         shelf: &mut S,
         owner: Owner,
-        at: Setting,
+        at: EventContext,
         pipe: PipeNumber,
+        place: usize,
         instance: u8,
     ) -> Result<(), AllocError>
         requires stands { Stands at (S.pocket shelf.old owner) self.old }
-        requires due { IsFinishing pipe instance at.now self.old.table.pipes }
-        ensures ok { let n = net_of (S.pocket shelf.old owner) self.old in
-            OnOk result
-            (Becomes 0 (option_map_or (pipe_finishes at pipe instance n) (find_pipe pipe n) n)
-            (S.pocket shelf.old owner) (S.pocket shelf.new owner) self.old self.new) }
-        ensures frame { Frame result owner (S.pocket shelf.old) (S.pocket shelf.new)
-            self.old self.new }
-    {
-        let mut drops = mem::replace(&mut self.drops, Vec::new(self.alloc));
-        let finished = self.finish_into(shelf, owner, at, pipe, instance, &mut drops);
-        self.drops = drops;
-        finished
-    }
-
-    // The same, with a list for what CoDel drops.
-    #[tactic(auto, using(crate::proofs::WayFacts::known_grown))]
-    fn finish_into<S: Shelf>(
-        &mut self,
-        shelf: &mut S,
-        owner: Owner,
-        at: Setting,
-        pipe: PipeNumber,
-        instance: u8,
-        drops: &mut Vec<Packet>,
-    ) -> Result<(), AllocError>
-        requires stands { Stands at (S.pocket shelf.old owner) self.old }
+        requires place { StandsAt pipe place self.old.table.pipes }
         requires due { IsFinishing pipe instance at.now self.old.table.pipes }
         ensures ok { let n = net_of (S.pocket shelf.old owner) self.old in
             OnOk result
@@ -419,16 +408,18 @@ impl Network {
             self.old self.new }
     {
         self.reserve_besides(shelf.count(owner))?;
+        let index = usize::from(instance);
+        let drops = &mut self.drops;
         let packet = self
             .table
-            .finish(shelf, owner, at.now, pipe, instance, drops)?;
-        self.note(&Record::PacketFinished {
+            .finish(place, index, shelf, owner, at.now, false, drops)?;
+        self.log.note(&Record::PacketFinished {
             moment: at.now,
             packet: packet.number,
             pipe,
             instance,
         });
-        self.drop_all(at.now, drops, DropCause::Codel);
+        note_drops(&mut self.log, at.now, &self.drops, DropCause::Codel);
         Ok(())
     }
 
@@ -438,14 +429,12 @@ impl Network {
         ensures { Notes (map (drop_record now)
             (map (λ p. record { packet = p; cause = cause }) packets.now)) self.old self.new }
     {
-        for packet in packets {
-            self.drop_packet(now, packet, cause);
-        }
+        note_drops(&mut self.log, now, packets, cause);
     }
 
     // A flow's timer came due.
     #[inline(never)]
-    fn expire(&mut self, at: Setting, flow: FlowNumber)
+    fn expire(&mut self, at: EventContext, flow: FlowNumber)
         requires early { IsMoment at.now }
         requires log { 0 < self.old.log.spare }
         ensures turns { Turns (λ n. option_map_or (expire_flow at n)
@@ -473,7 +462,7 @@ impl Network {
         &mut self,
         shelf: &mut S,
         owner: Owner,
-        at: Setting,
+        at: EventContext,
         source: FlowNumber,
     ) -> Result<(), AllocError>
         requires stands { Stands at (S.pocket shelf.old owner) self.old }

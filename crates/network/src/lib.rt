@@ -7,11 +7,11 @@ mod commands;
 mod deliveries;
 mod dues;
 mod events;
+mod flow_cache;
 mod housing_law;
 mod rehousing;
 mod state;
-mod ways;
 
+pub use flow_cache::{CacheEntry, FlowCache, Lookup, Route};
 pub use housing_law::still_is_housed;
 pub use state::Network;
-pub use ways::{Passage, Remembered, Way, Ways};

@@ -11,7 +11,7 @@ use pipe_core::{keys_say_all, rehouse_line};
 impl Network {
     /// Moves all packets from one shelf to another, where the other owner has none and there is room for
     /// them, and keeps the keys that they have there. Nothing else changes. Takes no memory.
-    #[tactic(auto, using(crate::proofs::WayFacts::known_grown))]
+    #[tactic(auto, using(crate::proofs::RouteFacts::known_grown))]
     pub fn rehouse<S: Shelf, T: Shelf>(
         &mut self,
         from: &mut S,

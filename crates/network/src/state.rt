@@ -7,13 +7,12 @@ ghost use Rattle.network.specs.Kept.{net_of, net_keys};
 ghost use Rattle.network.specs.Changes.{IsStill, Notes};
 
 use crate::events::MOST_RECORDS;
-use crate::ways::Ways;
+use crate::flow_cache::FlowCache;
 use emu_model::{Packet, Record};
 use emu_rules::RuleList;
 use link_core::DelayLine;
 use packet_store::Key;
-use pipe_table::PipeTable;
-use record_log::RecordLog;
+use pipe_table::{PipeTable, RecordLog};
 use std::alloc::{AllocError, Global};
 use std::marker::Model;
 use traffic::Traffic;
@@ -33,13 +32,13 @@ pub struct Network {
     pub(crate) log: RecordLog,
     // Room for what CoDel drops at a finish.
     pub(crate) drops: Vec<Packet>,
-    // The ways of sources' packets.
-    pub(crate) ways: Ways,
+    // The routes of sources' packets.
+    pub(crate) flow_cache: FlowCache,
 }
 
 impl Model for Network {
     ghost use Rattle.network.specs.Kept.{KeptNet};
-    ghost use Rattle.network.specs.Ways.{AreKnown};
+    ghost use Rattle.network.specs.FlowCache.{AreKnown};
 
     ghost Value = { KeptNet };
 
@@ -52,10 +51,10 @@ impl Model for Network {
       one_pass = n.one_pass;
       trace = n.trace;
       log = n.log;
-      ways = n.ways;
+      flow_cache = n.flow_cache;
     } };
 
-    ghost invariant = { λ n. AreKnown n.book.rules n.table.pipes n.ways };
+    ghost invariant = { λ n. AreKnown n.book.rules n.table.pipes n.flow_cache };
 }
 
 impl Network {
@@ -79,7 +78,7 @@ impl Network {
             trace: false,
             log: RecordLog::new(alloc),
             drops: Vec::new(alloc),
-            ways: Ways::new(alloc),
+            flow_cache: FlowCache::new(alloc),
         })
     }
 
@@ -107,19 +106,19 @@ impl Network {
         Ok(())
     }
 
-    // Makes room for the records of a command, and forgets the ways, which may be others after it.
-    #[tactic(auto, using(crate::proofs::WayFacts::known_none))]
+    // Makes room for the records of a command, and forgets the routes, which may be others after it.
+    #[tactic(auto, using(crate::proofs::RouteFacts::known_none))]
     pub(crate) fn obey_ready(&mut self) -> Result<(), AllocError>
         ensures rest { self.new
-            ≡ record self.old { log = self.new.log; ways = self.new.ways } }
+            ≡ record self.old { log = self.new.log; flow_cache = self.new.flow_cache } }
         ensures records { self.new.log.records ≡ self.old.log.records }
         ensures still { IsStill self.old self.new }
         ensures ready { OnOk result (6 ≤ self.new.log.spare) }
-        ensures forgot { OnOk result (self.new.ways ≡ []) }
+        ensures forgot { OnOk result (self.new.flow_cache ≡ []) }
         ensures succeeds { 6 ≤ self.old.log.spare → IsOk result }
     {
         self.reserve(MOST_RECORDS)?;
-        self.ways.clear();
+        self.flow_cache.clear();
         Ok(())
     }
 

@@ -55,8 +55,8 @@ due-busy config now packet answer p q x y busy came =
     let line : (seen_slot f y).line ≡ (seen_slot f x).line = sym (ap (λ (a : After Instance). a.state.line) came.shown) ∙ kept.0 in
     let service : (seen_slot f y).service ≡ (seen_slot f x).service = sym (ap (λ (a : After Instance). a.state.service) came.shown) ∙ kept.1 in
     let number : instance_number y ≡ instance_number x = λ t. came.place.pipe t * 256 + came.place.number t in
-    let exit : first_exit y.instance.lane.line.flight ≡ first_exit x.instance.lane.line.flight =
-    sym (first_exit-seen f y.instance.lane.line.flight) ∙ ap (λ l. first_exit l.flight) line ∙ first_exit-seen f x.instance.lane.line.flight in
+    let exit : first_exit y.instance.delay_line.line.in_flight ≡ first_exit x.instance.delay_line.line.in_flight =
+    sym (first_exit-seen f y.instance.delay_line.line.in_flight) ∙ ap (λ l. first_exit l.in_flight) line ∙ first_exit-seen f x.instance.delay_line.line.in_flight in
     let finish : option_map (λ b. b.period.finish) y.instance.service.busy ≡ option_map (λ b. b.period.finish) x.instance.service.busy =
     sym (finish-seen f y.instance.service.busy) ∙ ap (option_map (λ s. s.period.finish)) service ∙ finish-seen f x.instance.service.busy in
     λ t. due_by (number t) (exit t) (finish t)

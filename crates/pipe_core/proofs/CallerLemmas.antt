@@ -3,3 +3,4 @@ pub use Rattle.pipe_core.proofs.KeyMoves.{AreNamed-after, AreNamed-kept, AreName
 pub use Rattle.pipe_core.proofs.PipeFacts.{finish-seen, first_exit-seen, ids-seen, keys_of-nil}
 pub use Rattle.pipe_core.proofs.Rehousings.{AreNamed-front, AreNamed-given, Gives-put, Rehouses-none, Rehouses-then}
 pub use Rattle.pipe_core.proofs.MaskFacts.{keeps-same}
+pub use Rattle.pipe_core.proofs.UseCounts.{one_at-same, total-append, total-cons, total-nil}

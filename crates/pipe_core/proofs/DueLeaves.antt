@@ -8,15 +8,15 @@ use Rattle.emu_model.specs.declared.packets.Packet.{Packet}
 use Rattle.emu_model.specs.declared.pipes.PipeConfig.{PipeConfig}
 use Rattle.emu_model.specs.declared.sources.Due.{Due}
 use Rattle.emu_model.specs.declared.sources.Class.TheVariants.{Exit, Finish}
-use Rattle.emu_model.specs.Delay.{Leaving, first_exit}
+use Rattle.emu_model.specs.Delay.{InFlight, first_exit}
 use Rattle.emu_model.specs.Dues.{due, line_dues, service_dues, instances_dues, pipe_dues}
 use Rattle.emu_model.specs.FlowIds.{FlowId}
 use Rattle.emu_model.specs.Pipes.{InService, Instance, initial_instance}
 use Rattle.due_index.specs.Least.{dues_in, least_of, lesser}
 use Rattle.due_index.specs.Places.{Places}
 use Rattle.due_index.proofs.CallerLemmas.{least_all, least_of-all, least_all-append, least_all-option, least_leaf, least_of-leaf}
-use Rattle.pipe_instance.specs.Keyed.{KeyedInstance, seen_instance, seen_service}
-use Rattle.pipe_instance.specs.Blanks.{blank_leaving, blank_service}
+use Rattle.pipe_core.specs.KeyedInstance.{KeyedInstance, seen_instance, seen_service}
+use Rattle.pipe_core.specs.Blanks.{blank_leaving, blank_service}
 use Rattle.pipe_core.specs.declared.slot.Slot.{Slot}
 use Rattle.pipe_core.specs.Moves.{some_packet}
 use Rattle.pipe_core.specs.Keyed.{KeyedPipe, seen_slot, seen_pipe, IsSlot, AreSlots}
@@ -57,9 +57,9 @@ initial_due : (id : FlowId) (i : KeyedInstance) →
 initial_due id i opening =
     let f : ℕ → Packet = λ k. some_packet in
     let s : Slot = record { id = id; instance = i } in
-    let exit : first_exit i.lane.line.flight ≡ None =
-    sym (first_exit-seen f i.lane.line.flight)
-    ∙ ap (λ (j : Instance). first_exit j.line.flight) (opening f id) in
+    let exit : first_exit i.delay_line.line.in_flight ≡ None =
+    sym (first_exit-seen f i.delay_line.line.in_flight)
+    ∙ ap (λ (j : Instance). first_exit j.line.in_flight) (opening f id) in
     let finish : option_map (λ s. s.period.finish) i.service.busy ≡ None =
     sym (finish-seen f i.service.busy)
     ∙ ap (λ (j : Instance). option_map (λ s. s.period.finish) j.service) (opening f id) in
@@ -75,7 +75,7 @@ leaves_push slots id i x z n h opening e =
     ∙ sym (map-append slot_due slots (record { id = id; instance = i } ∷ []))
 
 -- keys have no part in what is due
-exit-blank : (flight : List (Leaving ℕ)) → first_exit (map blank_leaving flight) ≡ first_exit flight
+exit-blank : (in_flight : List (InFlight ℕ)) → first_exit (map blank_leaving in_flight) ≡ first_exit in_flight
 exit-blank [] = refl
 exit-blank (x ∷ xs) = refl
 
@@ -88,7 +88,7 @@ finish-blank (Some s) = refl
 due-blank : (slots : List Slot) → map slot_due (map blank_slot slots) ≡ map slot_due slots
 due-blank [] = refl
 due-blank (s ∷ ss) = λ t.
-    due_by (instance_number s) (exit-blank s.instance.lane.line.flight t)
+    due_by (instance_number s) (exit-blank s.instance.delay_line.line.in_flight t)
     (finish-blank s.instance.service.busy t)
     ∷ due-blank ss t
 
@@ -130,17 +130,17 @@ instance_least : (f : ℕ → Packet) (n : ℕ) (s : Slot) → n ≡ instance_nu
     least_all (line_dues n (seen_slot f s).line ++ service_dues n (seen_slot f s)) ≡ slot_due s
 instance_least f n s own =
     let i : Instance = seen_slot f s in
-    let exit : Option Due = option_map (due Exit n) (first_exit i.line.flight) in
+    let exit : Option Due = option_map (due Exit n) (first_exit i.line.in_flight) in
     let finish : Option Due = option_map (λ s. due Finish n s.period.finish) i.service in
     let parts : least_all (line_dues n i.line ++ service_dues n i) ≡ lesser exit finish =
     least_all-append (line_dues n i.line) (service_dues n i)
     ∙ (λ t. lesser (least_all-option exit t) (least_all-option finish t)) in
-    let shown : lesser exit finish ≡ due_by n (first_exit s.instance.lane.line.flight)
+    let shown : lesser exit finish ≡ due_by n (first_exit s.instance.delay_line.line.in_flight)
     (option_map (λ b. b.period.finish) s.instance.service.busy) =
-    λ t. lesser (option_map (due Exit n) (first_exit-seen f s.instance.lane.line.flight t))
+    λ t. lesser (option_map (due Exit n) (first_exit-seen f s.instance.delay_line.line.in_flight t))
     (service-due f n s.instance.service.busy t) in
     parts ∙ shown
-    ∙ (λ t. due_by (own t) (first_exit s.instance.lane.line.flight)
+    ∙ (λ t. due_by (own t) (first_exit s.instance.delay_line.line.in_flight)
     (option_map (λ b. b.period.finish) s.instance.service.busy))
 
 -- the least of a pipe's dues is that of its instances

@@ -7,7 +7,7 @@ use Rattle.emu_model.specs.declared.pipes.PipeConfig.{PipeConfig}
 use Rattle.emu_model.specs.Events.{served_in}
 use Rattle.emu_model.specs.Pipes.{Instance, instance_finish, pipe_finish}
 use Rattle.packet_store.specs.Pocket.{Pocket}
-use Rattle.pipe_instance.specs.Keyed.{keys_in}
+use Rattle.pipe_core.specs.KeyedInstance.{keys_in}
 use Rattle.pipe_core.specs.declared.slot.Slot.{Slot}
 use Rattle.pipe_core.specs.Moves.{packet_at, AreNamed, Keeps}
 use Rattle.pipe_core.specs.Keyed.{KeyedPipe, seen_slot, seen_pipe, view, keys_of}
@@ -47,7 +47,7 @@ due_at {e = e} p k {now = now} {x = x} is due value =
 
 -- a slot whose line has other room
 abbrev pub respaced : ℕ → Slot → Slot
-respaced n s = record s { instance = record s.instance { lane = record s.instance.lane { spare = n } } }
+respaced n s = record s { instance = record s.instance { delay_line = record s.instance.delay_line { spare = n } } }
 
 pub respaced_place : (x y : Slot) (n : ℕ) → y ≡ respaced n x → IsSamePlace x y
 respaced_place x y n e =

@@ -1,22 +1,21 @@
 -- A packet that finishes in an instance.
-use Rattle.std.proofs.Common.{◌≡◌, ℕ, ◌≤◌, refl, sym, ap, ◌∙◌, List, [], ◌∷◌, ◌++◌, map, length, Option, Some, None, arith}
-use Rattle.std.specs.Prelude.{option_map, option_to_list, unwrap_or}
+use Rattle.std.proofs.Common.{◌≡◌, ℕ, ◌≤◌, Bool, true, false, IsTrue, refl, sym, ap, ◌∙◌, List, [], ◌∷◌, ◌++◌, map, length, Option, Some, None, arith}
+use Rattle.std.specs.Prelude.{if◌then◌else◌, option_map, option_to_list, unwrap_or}
 use Rattle.std.proofs.lemmas.List.{length-map, length-append}
 use Rattle.emu_model.specs.declared.packets.Packet.{Packet}
 use Rattle.emu_model.specs.declared.pipes.PipeConfig.{PipeConfig}
 use Rattle.emu_model.specs.declared.pipes.Discipline.{Discipline}
-use Rattle.emu_model.specs.declared.pipes.Discipline.TheVariants.{TailDrop, ControlledDelay}
 use Rattle.emu_model.specs.declared.records.DropCause.TheVariants.{Codel}
 use Rattle.emu_model.specs.FlowIds.{FlowId}
-use Rattle.emu_model.specs.DropTail.{Waiting}
+use Rattle.emu_model.specs.DropTail.{Queued}
 use Rattle.emu_model.specs.Codel.{CodelState, Dequeued}
-use Rattle.emu_model.specs.Pipes.{InService, dequeue, Drop, codel_drops}
+use Rattle.emu_model.specs.Pipes.{InService, may_drop, dequeue, Drop, codel_drops}
 use Rattle.packet_store.specs.Pocket.{Pocket}
-use Rattle.pipe_instance.specs.Uses.{uses, one_at, one}
-use Rattle.pipe_instance.specs.Keyed.{KeyedInstance, seen_waiting, seen_service, keys_in, IsTuned}
-use Rattle.pipe_instance.specs.Turns.{IsFinish}
-use Rattle.pipe_instance.proofs.CallerLemmas.{total-one, total-three, one_at-same, total-length}
-use Rattle.emu_model.proofs.CallerLemmas.{IsCut, dequeue-cut}
+use Rattle.pipe_core.specs.Uses.{uses, one_at, one}
+use Rattle.pipe_core.specs.KeyedInstance.{KeyedInstance, seen_waiting, seen_service, keys_in, IsTuned}
+use Rattle.pipe_core.specs.Turns.{IsFinish}
+use Rattle.pipe_core.proofs.UseCounts.{total-one, total-three, one_at-same, total-length}
+use Rattle.emu_model.proofs.CallerLemmas.{IsCut, dequeue-cut, none_dropped}
 use Rattle.pipe_core.specs.declared.slot.Slot.{Slot}
 use Rattle.pipe_core.specs.Moves.{some_packet, packet_at, found, AreNamed, Taking}
 use Rattle.pipe_core.specs.Keyed.{seen_slot}
@@ -25,18 +24,25 @@ use Rattle.pipe_core.proofs.KeyMoves.{Keeps-taken}
 use Rattle.pipe_core.proofs.TakeFacts.{all_taken, all_came}
 
 -- no more is dropped than was waited for
-cut_length : {A : Type 0} (ws : List (Waiting A)) (d : Dequeued A) → IsCut ws d → length d.dropped ≤ length ws
+cut_length : {A : Type 0} (ws : List (Queued A)) (d : Dequeued A) → IsCut ws d → length d.dropped ≤ length ws
 cut_length ws d h =
     omega (arith, ap length h.whole, length-append d.dropped (option_to_list d.given ++ d.rest))
 
-pub dropped_within : (d : Discipline) (now : ℕ) (c : CodelState) (ws : List (Waiting ℕ)) →
+pub dropped_within : (d : Discipline) (now : ℕ) (c : CodelState) (ws : List (Queued ℕ)) →
     length (dequeue d now c ws).dropped ≤ most_of d (length ws)
-dropped_within TailDrop now c [] = omega arith
-dropped_within TailDrop now c (w ∷ ws) = omega arith
-dropped_within (ControlledDelay target interval) now c ws =
-    cut_length ws (dequeue (ControlledDelay target interval) now c ws) (dequeue-cut (ControlledDelay target interval) now c ws)
+dropped_within d now c ws = go (may_drop d) refl
+  where
+    go : (b : Bool) → may_drop d ≡ b → length (dequeue d now c ws).dropped ≤ (if b then length ws else 0)
+    go true e = cut_length ws (dequeue d now c ws) (dequeue-cut d now c ws)
+    go false e = omega (arith, ap length (none_dropped d now c ws e))
 
-abbrev items : List (Waiting ℕ) → List ℕ
+-- there is room for what is dropped: nothing where that is known
+pub room_known : (plain : Bool) (room most dropped : ℕ) → (plain ≡ false → room ≡ most) → (IsTrue plain → dropped ≡ 0) →
+    dropped ≤ most → dropped ≤ room
+room_known true room most dropped is none le = let e : dropped ≡ 0 = none refl in omega (arith, e)
+room_known false room most dropped is none le = let e : room ≡ most = is refl in omega (arith, e, le)
+
+abbrev items : List (Queued ℕ) → List ℕ
 items ws = map (λ w. w.item) ws
 
 -- the key that was served is named
@@ -54,19 +60,19 @@ served_found p i key n served none =
       arith,
       n.each key,
       key_uses i.service.busy key served,
-      total-three (one_at key) (map (λ x. x.item) i.lane.line.flight) (option_to_list (option_map (λ s. s.item) i.service.busy)) (items i.queue.waiting),
+      total-three (one_at key) (map (λ x. x.item) i.delay_line.line.in_flight) (option_to_list (option_map (λ s. s.item) i.service.busy)) (items i.queue.waiting),
       ap found none,
     )
 
 -- what is dropped is named
-pub dropped_named : (p : Pocket) (now delay key : ℕ) (dropped : List (Waiting ℕ)) (i j : KeyedInstance) → AreNamed p (keys_in i) →
+pub dropped_named : (p : Pocket) (now delay key : ℕ) (dropped : List (Queued ℕ)) (i j : KeyedInstance) → AreNamed p (keys_in i) →
     IsFinish now delay key dropped i j → AreNamed p (items dropped)
 dropped_named p now delay key dropped i j n h = record {
   each = λ k. omega (arith, n.each k, h.keys (one_at k));
   within = omega (arith, n.within, h.keys one, total-length (keys_in i), total-length (items dropped));
 }
 
-drops-seen : (f : ℕ → Packet) (ws : List (Waiting ℕ)) → codel_drops (map (seen_waiting f) ws) ≡ drops_by_codel (map f (items ws))
+drops-seen : (f : ℕ → Packet) (ws : List (Queued ℕ)) → codel_drops (map (seen_waiting f) ws) ≡ drops_by_codel (map f (items ws))
 drops-seen f [] = refl
 drops-seen f (w ∷ ws) = ap (λ (l : List Drop). record { packet = f w.item; cause = Codel } ∷ l) (drops-seen f ws)
 
@@ -78,7 +84,7 @@ served-packet f (Some s) key e = let same : s.item ≡ key = cc in ap (λ k. Som
 abbrev slot : FlowId → KeyedInstance → Slot
 slot id i = record { id = id; instance = i }
 
-pub finish-is : (config : PipeConfig) (now key : ℕ) (dropped : List (Waiting ℕ)) (packet : Packet) (drops : List Packet) (p q : Pocket) (id : FlowId) (i j : KeyedInstance) →
+pub finish-is : (config : PipeConfig) (now key : ℕ) (dropped : List (Queued ℕ)) (packet : Packet) (drops : List Packet) (p q : Pocket) (id : FlowId) (i j : KeyedInstance) →
     IsFinish now config.delay key dropped i j → IsTuned config i → Some packet ≡ p.find key →
     Taking p q (items dropped) [] [] drops → Finishes config now packet drops p q (slot id i) (slot id j)
 finish-is config now key dropped packet drops p q id i j h tuned value t =

@@ -5,7 +5,7 @@ use Rattle.emu_model.specs.declared.packets.Packet.{Packet}
 use Rattle.std.proofs.lemmas.List.{length-map}
 use Rattle.emu_model.specs.FlowIds.{FlowId, flow_id, same_flow}
 use Rattle.emu_model.specs.DropTail.{accepts}
-use Rattle.pipe_instance.specs.Keyed.{KeyedInstance, seen_instance, keys_in}
+use Rattle.pipe_core.specs.KeyedInstance.{KeyedInstance, seen_instance, keys_in}
 use Rattle.pipe_core.specs.declared.slot.Slot.{Slot}
 use Rattle.pipe_core.specs.Keyed.{KeyedPipe, ids_of}
 use Rattle.pipe_core.specs.Steps.{HasRoom, HasRoomAt, IsGrown, IsSamePlace}

@@ -9,7 +9,7 @@ use Rattle.emu_model.specs.Delay.{leave, first_item, first_exit}
 use Rattle.emu_model.specs.FlowIds.{FlowId, flow_id, instance_of}
 use Rattle.emu_model.specs.Pipes.{pipe_exit}
 use Rattle.packet_store.specs.Pocket.{Pocket}
-use Rattle.pipe_instance.specs.Keyed.{keys_in}
+use Rattle.pipe_core.specs.KeyedInstance.{keys_in}
 use Rattle.pipe_core.specs.declared.slot.Slot.{Slot}
 use Rattle.pipe_core.specs.Moves.{packet_at, AreNamed, Keeps}
 use Rattle.pipe_core.specs.Keyed.{KeyedPipe, seen_slot, view, ids_of, keys_of, IsSlot, IsPipe}
@@ -87,11 +87,11 @@ module _ (k : ℕ) (slots : List Slot) (x : Slot) (at : IsPlace k slots x) where
   pub seen_at : (f : ℕ → Packet) → slice_get (map (seen_slot f) slots) k ≡ Some (seen_slot f x)
   seen_at f = (λ t. slice_get (map (seen_slot f) (at.was t)) (at.place t)) ∙ slice_get-at (seen_slot f) at.before x at.behind
 
-  pub exit_due : (f : ℕ → Packet) (due : Option ℕ) → due ≡ first_exit x.instance.lane.line.flight →
-      due ≡ option_and_then (λ i. first_exit i.line.flight) (slice_get (map (seen_slot f) slots) k)
+  pub exit_due : (f : ℕ → Packet) (due : Option ℕ) → due ≡ first_exit x.instance.delay_line.line.in_flight →
+      due ≡ option_and_then (λ i. first_exit i.line.in_flight) (slice_get (map (seen_slot f) slots) k)
   exit_due f due e =
-      e ∙ sym (first_exit-seen f x.instance.lane.line.flight)
-      ∙ ap (option_and_then (λ i. first_exit i.line.flight)) (sym (seen_at f))
+      e ∙ sym (first_exit-seen f x.instance.delay_line.line.in_flight)
+      ∙ ap (option_and_then (λ i. first_exit i.line.in_flight)) (sym (seen_at f))
 
   pub finish_due : (f : ℕ → Packet) →
       option_map (λ s. s.period.finish) (option_and_then (λ i. i.service) (slice_get (map (seen_slot f) slots) k))
@@ -169,6 +169,6 @@ module _ (k : ℕ) (slots : List Slot) (x : Slot) (at : IsPlace k slots x) where
       })
 
   pub exit_packet : (p q : Pocket) (y : Slot) (answer : Option Packet) → Exits answer p q x y →
-      answer ≡ option_and_then (λ i. first_item i.line.flight) (slice_get (map (seen_slot (packet_at p.find)) slots) k)
+      answer ≡ option_and_then (λ i. first_item i.line.in_flight) (slice_get (map (seen_slot (packet_at p.find)) slots) k)
   exit_packet p q y answer e =
-      e.packet ∙ ap (option_and_then (λ i. first_item i.line.flight)) (sym (seen_at (packet_at p.find)))
+      e.packet ∙ ap (option_and_then (λ i. first_item i.line.in_flight)) (sym (seen_at (packet_at p.find)))

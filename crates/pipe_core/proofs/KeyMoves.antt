@@ -4,8 +4,8 @@ use Rattle.std.proofs.lemmas.Bool.{cases_eq}
 use Rattle.std.proofs.lemmas.Bool.Decides.{nat_tests}
 use Rattle.emu_model.specs.declared.packets.Packet.{Packet}
 use Rattle.packet_store.specs.Pocket.{Pocket, with_packet, without}
-use Rattle.pipe_instance.specs.Uses.{total, uses, one_at, one}
-use Rattle.pipe_instance.proofs.CallerLemmas.{total-nil, total-cons, total-append, total-length, one_at-same}
+use Rattle.pipe_core.specs.Uses.{total, uses, one_at, one}
+use Rattle.pipe_core.proofs.UseCounts.{total-nil, total-cons, total-append, total-length, one_at-same}
 use Rattle.pipe_core.specs.Moves.{found, AreNamed, Keeps, Takes}
 
 pub at_other : {X : Type 0} (k key : ℕ) (x y : X) → k ≢ key → cond (k == key) x y ≡ y

@@ -16,3 +16,8 @@ mod DueLeaves
 mod MaskFacts
 mod Busy
 pub mod CallerLemmas
+mod UseCounts
+mod Dequeues
+mod Shows
+mod KeyPlaces
+mod Blanked

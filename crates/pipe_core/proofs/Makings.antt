@@ -10,7 +10,7 @@ use Rattle.emu_model.specs.declared.packets.Packet.{Packet}
 use Rattle.emu_model.specs.declared.pipes.PipeConfig.{PipeConfig}
 use Rattle.emu_model.specs.FlowIds.{FlowId, same_flow, different, new_instance, instance_of}
 use Rattle.emu_model.specs.Pipes.{InService, Instance, PipeState, initial_instance, with_instance}
-use Rattle.pipe_instance.specs.Keyed.{KeyedInstance, seen_service, seen_instance, keys_in}
+use Rattle.pipe_core.specs.KeyedInstance.{KeyedInstance, seen_service, seen_instance, keys_in}
 use Rattle.pipe_core.specs.declared.slot.Slot.{Slot}
 use Rattle.pipe_core.specs.Moves.{some_packet}
 use Rattle.pipe_core.specs.Steps.{HasRoom}

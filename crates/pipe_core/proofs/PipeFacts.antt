@@ -10,16 +10,18 @@ use Rattle.emu_model.specs.declared.packets.Packet.{Packet}
 use Rattle.emu_model.specs.declared.pipes.PipeConfig.{PipeConfig}
 use Rattle.emu_model.specs.declared.records.DropCause.TheVariants.{NoInstance}
 use Rattle.emu_model.specs.Lists.{change_at}
-use Rattle.emu_model.specs.Delay.{Leaving, first_exit}
-use Rattle.emu_model.specs.DropTail.{Waiting, bytes_of}
+use Rattle.emu_model.specs.Delay.{InFlight, first_exit}
+use Rattle.emu_model.specs.DropTail.{Queued, bytes_of}
 use Rattle.emu_model.specs.Commands.{shown_words}
 use Rattle.emu_model.specs.FlowIds.{FlowId, flow_id, instance_of}
 use Rattle.emu_model.specs.Loss.{is_lost}
 use Rattle.emu_model.specs.Pipes.{InService, Instance, PipeState, After, Drop, no_drop, drop_one, drawn_one, instance_arrive, put_instance, change_one, with_instance, draw, arrive_at, pipe_arrive, instance_configure, held_in, pipe_packets}
 use Rattle.packet_store.specs.Pocket.{Pocket}
-use Rattle.pipe_instance.specs.Uses.{total, uses, one_at, one}
-use Rattle.pipe_instance.specs.Keyed.{seen_waiting, seen_leaving, seen_service, keys_in, IsTuned}
-use Rattle.pipe_instance.proofs.CallerLemmas.{total-nil, total-append, total-length, bytes-seen, seen_instance-agree, configure-shown, configure-keys}
+use Rattle.pipe_core.specs.Uses.{total, uses, one_at, one}
+use Rattle.pipe_core.specs.KeyedInstance.{seen_waiting, seen_leaving, seen_service, keys_in, IsTuned}
+use Rattle.pipe_core.proofs.Dequeues.{bytes-seen}
+use Rattle.pipe_core.proofs.Shows.{seen_instance-agree, configure-shown, configure-keys}
+use Rattle.pipe_core.proofs.UseCounts.{total-nil, total-append, total-length}
 use Rattle.pipe_core.specs.declared.slot.Slot.{Slot}
 use Rattle.pipe_core.specs.Moves.{packet_at, some_packet, AreNamed, Keeps}
 use Rattle.pipe_core.specs.Keyed.{KeyedPipe, seen_slot, seen_pipe, view, shown_of, ids_of, keys_of, IsSlot, AreSlots, IsPipe}
@@ -214,7 +216,7 @@ unfolding AreSlots
 IsPipe-none config seed number ids slots e f =
     rw (e, f) (record { ids_are = refl; few = omega arith; slots_are = tt })
 
-pub first_exit-seen : (f : ℕ → Packet) (flight : List (Leaving ℕ)) → first_exit (map (seen_leaving f) flight) ≡ first_exit flight
+pub first_exit-seen : (f : ℕ → Packet) (in_flight : List (InFlight ℕ)) → first_exit (map (seen_leaving f) in_flight) ≡ first_exit in_flight
 first_exit-seen f [] = refl
 first_exit-seen f (x ∷ xs) = refl
 
@@ -232,14 +234,14 @@ pub numbers-seen : (f : ℕ → Packet) (s : Slot) → shown_of (seen_slot f s) 
   waiting = length s.instance.queue.waiting;
   bytes = bytes_of s.instance.queue.waiting;
   busy = is_some s.instance.service.busy;
-  flight = length s.instance.lane.line.flight;
+  in_flight = length s.instance.delay_line.line.in_flight;
   drawn = shown_words s.instance.draws.drawn;
 }
 numbers-seen f s = λ i. record {
   waiting = length-map s.instance.queue.waiting (seen_waiting f) i;
   bytes = bytes-seen f s.instance.queue.waiting i;
   busy = is_some-seen f s.instance.service.busy i;
-  flight = length-map s.instance.lane.line.flight (seen_leaving f) i;
+  in_flight = length-map s.instance.delay_line.line.in_flight (seen_leaving f) i;
   drawn = shown_words s.instance.draws.drawn;
 }
 
@@ -257,11 +259,11 @@ keys-change (b ∷ before) behind x y e =
     ∙ sym (keys_of-cons b (before ++ x ∷ behind))
 
 -- what a pipe is shown to hold is what its keys name
-items-seen : (f : ℕ → Packet) (ws : List (Waiting ℕ)) → map (λ w. w.item) (map (seen_waiting f) ws) ≡ map f (map (λ w. w.item) ws)
+items-seen : (f : ℕ → Packet) (ws : List (Queued ℕ)) → map (λ w. w.item) (map (seen_waiting f) ws) ≡ map f (map (λ w. w.item) ws)
 items-seen f [] = refl
 items-seen f (w ∷ ws) = ap (λ l. f w.item ∷ l) (items-seen f ws)
 
-line-seen : (f : ℕ → Packet) (xs : List (Leaving ℕ)) → map (λ x. x.item) (map (seen_leaving f) xs) ≡ map f (map (λ x. x.item) xs)
+line-seen : (f : ℕ → Packet) (xs : List (InFlight ℕ)) → map (λ x. x.item) (map (seen_leaving f) xs) ≡ map f (map (λ x. x.item) xs)
 line-seen f [] = refl
 line-seen f (x ∷ xs) = ap (λ l. f x.item ∷ l) (line-seen f xs)
 
@@ -272,12 +274,12 @@ served-seen f (Some s) = refl
 
 instance-packets : (f : ℕ → Packet) (s : Slot) → held_in (seen_slot f s) ≡ map f (keys_in s.instance)
 instance-packets f s =
-    let flight : List ℕ = map (λ x. x.item) s.instance.lane.line.flight in
+    let in_flight : List ℕ = map (λ x. x.item) s.instance.delay_line.line.in_flight in
     let served : List ℕ = option_to_list (option_map (λ t. t.item) s.instance.service.busy) in
     let ws : List ℕ = map (λ w. w.item) s.instance.queue.waiting in
-    (λ i. line-seen f s.instance.lane.line.flight i ++ served-seen f s.instance.service.busy i ++ items-seen f s.instance.queue.waiting i)
-    ∙ (λ i. sym (map-append f flight served) i ++ map f ws)
-    ∙ sym (map-append f (flight ++ served) ws)
+    (λ i. line-seen f s.instance.delay_line.line.in_flight i ++ served-seen f s.instance.service.busy i ++ items-seen f s.instance.queue.waiting i)
+    ∙ (λ i. sym (map-append f in_flight served) i ++ map f ws)
+    ∙ sym (map-append f (in_flight ++ served) ws)
 
 packets-by : (f : ℕ → Packet) (ss : List Slot) → flat_map held_in (map (seen_slot f) ss) ≡ map f (keys_of ss)
 packets-by f [] = ap (map f) (sym keys_of-nil)

@@ -5,9 +5,10 @@ use Rattle.std.proofs.lemmas.List.{map-append, length-append}
 use Rattle.emu_model.specs.declared.packets.Packet.{Packet}
 use Rattle.emu_model.specs.Delay.{Line}
 use Rattle.packet_store.specs.Pocket.{Pocket, with_packet, without}
-use Rattle.pipe_instance.specs.Uses.{one_at}
-use Rattle.pipe_instance.specs.Keyed.{seen_line}
-use Rattle.pipe_instance.proofs.CallerLemmas.{total-nil, total-cons, total-append, seen_line-same}
+use Rattle.pipe_core.specs.Uses.{one_at}
+use Rattle.pipe_core.specs.KeyedInstance.{seen_line}
+use Rattle.pipe_core.proofs.Blanked.{seen_line-same}
+use Rattle.pipe_core.proofs.UseCounts.{total-nil, total-cons, total-append}
 use Rattle.pipe_core.specs.Moves.{packet_at, some_packet, AreNamed, Keeps, Takes}
 use Rattle.pipe_core.specs.Keyed.{KeyedPipe, view, keys_of}
 use Rattle.pipe_core.specs.Rehousing.{Gives, Rehouses}
@@ -99,19 +100,19 @@ pub view-given : (p q : Pocket) (more : List ℕ) (pipe : KeyedPipe) → AreName
     view q pipe ≡ view p pipe
 view-given p q more pipe n g = view-stays p q pipe n g.stays
 
-pub line-given : (p q : Pocket) (more : List ℕ) (line : Line ℕ) → AreNamed p (map (λ x. x.item) line.flight) → Gives p q more →
+pub line-given : (p q : Pocket) (more : List ℕ) (line : Line ℕ) → AreNamed p (map (λ x. x.item) line.in_flight) → Gives p q more →
     seen_line (packet_at q.find) line ≡ seen_line (packet_at p.find) line
 line-given p q more line n g =
     seen_line-same (packet_at p.find) (packet_at q.find) line line refl
-    (sym (named_alike q p (map (λ x. x.item) line.flight) n (λ k some. sym (g.stays k some))))
+    (sym (named_alike q p (map (λ x. x.item) line.in_flight) n (λ k some. sym (g.stays k some))))
 
 -- and where others were taken
 pub view-taken : (p q : Pocket) (gone : List ℕ) (pipe : KeyedPipe) → AreNamed q (keys_of pipe.slots) → Takes p q gone →
     view q pipe ≡ view p pipe
 view-taken p q gone pipe n t = view-left p q pipe n t.stays
 
-pub line-taken : (p q : Pocket) (gone : List ℕ) (line : Line ℕ) → AreNamed q (map (λ x. x.item) line.flight) → Takes p q gone →
+pub line-taken : (p q : Pocket) (gone : List ℕ) (line : Line ℕ) → AreNamed q (map (λ x. x.item) line.in_flight) → Takes p q gone →
     seen_line (packet_at q.find) line ≡ seen_line (packet_at p.find) line
 line-taken p q gone line n t =
     seen_line-same (packet_at p.find) (packet_at q.find) line line refl
-    (named_alike p q (map (λ x. x.item) line.flight) n t.stays)
+    (named_alike p q (map (λ x. x.item) line.in_flight) n t.stays)

@@ -1,7 +1,7 @@
 -- A packet that comes to an instance.
 use Rattle.std.proofs.Common.{◌≡◌, ℕ, ◌+◌, Bool, true, false, refl, sym, ap, ◌∙◌, subst, List, map, Some, None}
 use Rattle.std.specs.Prelude.{min, ◌-◌, ◌^◌, ◌*◌, nat_lt, nat_le, if◌then◌else◌, unwrap_or}
-use Rattle.pipe_instance.specs.Uses.{total}
+use Rattle.pipe_core.specs.Uses.{total}
 use Rattle.std.proofs.lemmas.List.{length-map}
 use Rattle.emu_model.specs.declared.packets.Packet.{Packet}
 use Rattle.emu_model.specs.declared.pipes.PipeConfig.{PipeConfig}
@@ -10,12 +10,12 @@ use Rattle.emu_model.specs.declared.pipes.QueueLimit.TheVariants.{Slots, KBytes}
 use Rattle.emu_model.specs.declared.records.DropCause.TheVariants.{Lost, Full}
 use Rattle.emu_model.specs.FlowIds.{FlowId}
 use Rattle.emu_model.specs.Loss.{is_lost}
-use Rattle.emu_model.specs.DropTail.{Waiting, accepts}
+use Rattle.emu_model.specs.DropTail.{Queued, accepts}
 use Rattle.emu_model.specs.Pipes.{Instance, After, accept, drop_one, drawn_one, instance_arrive}
 use Rattle.packet_store.specs.Pocket.{Pocket, with_packet}
-use Rattle.pipe_instance.specs.Keyed.{KeyedInstance, seen_waiting, seen_instance, keys_in, IsTuned}
-use Rattle.pipe_instance.specs.Turns.{IsAccept}
-use Rattle.pipe_instance.proofs.CallerLemmas.{bytes-seen}
+use Rattle.pipe_core.specs.KeyedInstance.{KeyedInstance, seen_waiting, seen_instance, keys_in, IsTuned}
+use Rattle.pipe_core.specs.Turns.{IsAccept}
+use Rattle.pipe_core.proofs.Dequeues.{bytes-seen}
 use Rattle.pipe_core.specs.declared.slot.Slot.{Slot}
 use Rattle.pipe_core.specs.Moves.{some_packet, packet_at}
 use Rattle.pipe_core.specs.Keyed.{seen_slot}
@@ -26,7 +26,7 @@ use Rattle.pipe_core.proofs.KeyMoves.{Keeps-put, Keeps-same, stays-put, at_same}
 abbrev pub drawn_more : KeyedInstance → KeyedInstance
 drawn_more i = record i { draws = record i.draws { drawn = min (i.draws.drawn + 1) (2 ^ 128 - 1) } }
 
-accepts-seen : (f : ℕ → Packet) (limit : QueueLimit) (ws : List (Waiting ℕ)) (size : ℕ) →
+accepts-seen : (f : ℕ → Packet) (limit : QueueLimit) (ws : List (Queued ℕ)) (size : ℕ) →
     accepts limit (map (seen_waiting f) ws) size ≡ accepts limit ws size
 accepts-seen f (Slots n) ws size = ap (λ m. nat_lt m n) (length-map ws (seen_waiting f))
 accepts-seen f (KBytes n) ws size = ap (λ m. nat_le (m + size) (1024 * n)) (bytes-seen f ws)

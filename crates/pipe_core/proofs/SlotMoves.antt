@@ -5,9 +5,9 @@ use Rattle.emu_model.specs.declared.packets.Packet.{Packet}
 use Rattle.emu_model.specs.declared.pipes.PipeConfig.{PipeConfig}
 use Rattle.emu_model.specs.FlowIds.{FlowId}
 use Rattle.packet_store.specs.Pocket.{Pocket}
-use Rattle.pipe_instance.specs.Keyed.{keys_in}
-use Rattle.pipe_instance.specs.Blanks.{blank}
-use Rattle.pipe_instance.proofs.CallerLemmas.{split_alike, seen_instance-same, keys_in-long}
+use Rattle.pipe_core.specs.KeyedInstance.{keys_in}
+use Rattle.pipe_core.specs.Blanks.{blank}
+use Rattle.pipe_core.proofs.Blanked.{split_alike, seen_instance-same, keys_in-long}
 use Rattle.pipe_core.specs.declared.slot.Slot.{Slot}
 use Rattle.pipe_core.specs.Moves.{packet_at, AreNamed}
 use Rattle.pipe_core.specs.Keyed.{seen_slot, ids_of, keys_of, IsSlot, AreSlots, IsPipe}

@@ -3,11 +3,11 @@ use Rattle.std.proofs.Common.{◌≡◌, ℕ, ◌+◌, ◌<◌, refl, sym, ap, �
 use Rattle.std.specs.Prelude.{unwrap_or}
 use Rattle.std.proofs.lemmas.List.{map-append}
 use Rattle.emu_model.specs.declared.packets.Packet.{Packet}
-use Rattle.emu_model.specs.DropTail.{Waiting}
+use Rattle.emu_model.specs.DropTail.{Queued}
 use Rattle.packet_store.specs.Pocket.{Pocket, without}
-use Rattle.pipe_instance.specs.Uses.{total, uses, one_at, one}
-use Rattle.pipe_instance.proofs.CallerLemmas.{total-nil, total-cons, total-append, total-length, one_at-same}
-use Rattle.pipe_instance.specs.Keyed.{keys_in}
+use Rattle.pipe_core.specs.Uses.{total, uses, one_at, one}
+use Rattle.pipe_core.proofs.UseCounts.{total-nil, total-cons, total-append, total-length, one_at-same}
+use Rattle.pipe_core.specs.KeyedInstance.{keys_in}
 use Rattle.pipe_core.specs.declared.slot.Slot.{Slot}
 use Rattle.pipe_core.specs.Keyed.{keys_of}
 use Rattle.pipe_core.specs.Moves.{some_packet, packet_at, AreNamed, Keeps, Takes, Taking}
@@ -126,7 +126,7 @@ pub none_left : (p q : Pocket) (all left : List ℕ) (start now : List Packet) �
 none_left p q all left start now e t = subst (λ ks. Taking p q all ks start now) e t
 
 -- the next of what was dropped
-pub dropped_next : (p q : Pocket) (ws : List (Waiting ℕ)) (i : ℕ) (w : Waiting ℕ) (start now : List Packet) → w ≡ get_or ws i w → i < length ws →
+pub dropped_next : (p q : Pocket) (ws : List (Queued ℕ)) (i : ℕ) (w : Queued ℕ) (start now : List Packet) → w ≡ get_or ws i w → i < length ws →
     Taking p q (map (λ v. v.item) ws) (map (λ v. v.item) (drop i ws)) start now →
     Taking p q (map (λ v. v.item) ws) (w.item ∷ map (λ v. v.item) (drop (i + 1) ws)) start now
 dropped_next p q ws i w start now value within t =

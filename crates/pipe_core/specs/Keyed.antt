@@ -7,8 +7,8 @@ use Rattle.emu_model.specs.DropTail.{bytes_of}
 use Rattle.emu_model.specs.Commands.{shown_words}
 use Rattle.emu_model.specs.Pipes.{InstanceOf, Instance, PipeState}
 use Rattle.packet_store.specs.Pocket.{Pocket}
-use Rattle.pipe_instance.specs.declared.instance.Shown.{Shown}
-use Rattle.pipe_instance.specs.Keyed.{seen, kept, keys_in, IsTuned}
+use Rattle.pipe_core.specs.declared.instance.Shown.{Shown}
+use Rattle.pipe_core.specs.KeyedInstance.{seen, kept, keys_in, IsTuned}
 use Rattle.pipe_core.specs.declared.slot.Slot.{Slot}
 use Rattle.pipe_core.specs.Moves.{packet_at}
 
@@ -44,7 +44,7 @@ shown_of i = record {
   waiting = length i.waiting;
   bytes = bytes_of i.waiting;
   busy = is_some i.service;
-  flight = length i.line.flight;
+  in_flight = length i.line.in_flight;
   drawn = shown_words i.drawn;
 }
 

@@ -17,7 +17,7 @@ instance_number s = s.instance.draws.pipe * 256 + s.instance.draws.instance
 -- its next exit or its finish
 abbrev pub slot_due : Slot → Option Due
 slot_due s =
-    lesser (option_map (due Exit (instance_number s)) (first_exit s.instance.lane.line.flight))
+    lesser (option_map (due Exit (instance_number s)) (first_exit s.instance.delay_line.line.in_flight))
     (option_map (due Finish (instance_number s))
     (option_map (λ b. b.period.finish) s.instance.service.busy))
 

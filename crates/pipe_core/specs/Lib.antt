@@ -5,3 +5,8 @@ pub mod Views
 pub mod Rehousing
 pub mod Leaves
 pub mod Masks
+pub mod KeyedInstance
+pub mod Uses
+pub mod Serving
+pub mod Turns
+pub mod Blanks

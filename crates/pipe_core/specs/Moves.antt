@@ -5,7 +5,7 @@ use Rattle.emu_model.specs.declared.packets.Packet.{Packet}
 use Rattle.emu_model.specs.declared.packets.Protocol.TheVariants.{Udp}
 use Rattle.emu_model.specs.declared.packets.Load.TheVariants.{Plain}
 use Rattle.packet_store.specs.Pocket.{Pocket}
-use Rattle.pipe_instance.specs.Uses.{uses}
+use Rattle.pipe_core.specs.Uses.{uses}
 
 abbrev pub some_packet : Packet
 some_packet = record {

@@ -1,8 +1,8 @@
 -- Packets that move from one shelf to another, told by the keys that they have there.
 use Rattle.std.specs.Prelude.{◌≡◌, ℕ, ◌+◌, IsSome, List, length, map}
 use Rattle.packet_store.specs.Pocket.{Pocket}
-use Rattle.pipe_instance.specs.Uses.{uses}
-use Rattle.pipe_instance.specs.Blanks.{blank}
+use Rattle.pipe_core.specs.Uses.{uses}
+use Rattle.pipe_core.specs.Blanks.{blank}
 use Rattle.pipe_core.specs.declared.slot.Slot.{Slot}
 use Rattle.pipe_core.specs.Moves.{packet_at, found, Takes}
 

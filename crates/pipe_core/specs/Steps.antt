@@ -1,20 +1,19 @@
 -- What the calls of a pipe do, instance by instance.
-use Rattle.std.specs.Prelude.{◌≡◌, ℕ, ◌+◌, ◌<◌, ◌≤◌, true, Option, Some, None, IsSome, option_map, List, [], ◌∷◌, ◌++◌, map, length, slice_get}
+use Rattle.std.specs.Prelude.{◌≡◌, ℕ, ◌+◌, ◌<◌, ◌≤◌, true, if◌then◌else◌, Option, Some, None, IsSome, option_map, List, [], ◌∷◌, ◌++◌, map, length, slice_get}
 use Rattle.emu_model.specs.declared.packets.Packet.{Packet}
 use Rattle.emu_model.specs.declared.pipes.PipeConfig.{PipeConfig}
 use Rattle.emu_model.specs.declared.pipes.Discipline.{Discipline}
-use Rattle.emu_model.specs.declared.pipes.Discipline.TheVariants.{TailDrop, ControlledDelay}
 use Rattle.emu_model.specs.declared.records.DropCause.{DropCause}
 use Rattle.emu_model.specs.declared.records.DropCause.TheVariants.{Codel}
 use Rattle.emu_model.specs.Loss.{is_lost}
 use Rattle.emu_model.specs.FlowIds.{flow_id, instance_of}
 use Rattle.emu_model.specs.Delay.{first_item, leave}
 use Rattle.emu_model.specs.DropTail.{accepts}
-use Rattle.emu_model.specs.Pipes.{dequeue, Drop, drawn_one, instance_arrive, instance_finish}
+use Rattle.emu_model.specs.Pipes.{may_drop, dequeue, Drop, drawn_one, instance_arrive, instance_finish}
 use Rattle.packet_store.specs.Pocket.{Pocket}
 use Rattle.queue_disc.specs.Queues.{is_plain}
-use Rattle.pipe_instance.specs.Keyed.{KeyedInstance, KeyedQueue, keys_in}
-use Rattle.pipe_instance.specs.Turns.{configured}
+use Rattle.pipe_core.specs.KeyedInstance.{KeyedInstance, KeyedQueue, keys_in}
+use Rattle.pipe_core.specs.Turns.{configured}
 use Rattle.pipe_core.specs.declared.slot.Slot.{Slot}
 use Rattle.pipe_core.specs.Moves.{packet_at, Keeps}
 use Rattle.pipe_core.specs.Keyed.{seen_slot, seen_pipe, KeyedPipe, IsSlot, ids_of, keys_of}
@@ -60,15 +59,14 @@ pub record IsGrown (old new : KeyedPipe) : Type 0 where
 
 -- how many packets a finish can drop at most, where so many wait
 abbrev pub most_of : Discipline → ℕ → ℕ
-most_of TailDrop n = 0
-most_of (ControlledDelay target interval) n = n
+most_of d n = if may_drop d then n else 0
 
 abbrev pub most_dropped : KeyedQueue → ℕ
 most_dropped q = most_of q.discipline (length q.waiting)
 
 -- a finish at this moment needs no memory, where the list of drops has this capacity
 pub record IsFree (now capacity : ℕ) (i : KeyedInstance) : Type 0 where
-  pub line : 0 < i.lane.spare
+  pub line : 0 < i.delay_line.spare
   pub none : (dequeue i.queue.discipline now i.queue.control i.queue.waiting).dropped ≡ []
   pub list : most_dropped i.queue ≤ capacity
 
@@ -78,7 +76,7 @@ IsFreeAt k now capacity p = (s : Slot) → slice_get p.slots k ≡ Some s → Is
 
 -- the line of instance k has room
 abbrev pub HasLineRoomAt : ℕ → KeyedPipe → Type 0
-HasLineRoomAt k p = (s : Slot) → slice_get p.slots k ≡ Some s → 0 < s.instance.lane.spare
+HasLineRoomAt k p = (s : Slot) → slice_get p.slots k ≡ Some s → 0 < s.instance.delay_line.spare
 
 -- a finish at this moment drops nothing for sure
 abbrev pub IsPlain : ℕ → Slot → Type 0
@@ -119,7 +117,7 @@ pub record Finishes (config : PipeConfig) (now : ℕ) (answer : Packet) (drops :
 
 -- what leaves first in an instance has left
 pub record Exits (answer : Option Packet) (p q : Pocket) (old new : Slot) : Type 0 where
-  pub packet : answer ≡ first_item (seen_slot (packet_at p.find) old).line.flight
+  pub packet : answer ≡ first_item (seen_slot (packet_at p.find) old).line.in_flight
   pub shown : (f : ℕ → Packet) → seen_slot f new ≡ (let i = seen_slot f old in record i { line = leave i.line })
   pub keys : Keeps p q (keys_in old.instance) (keys_in new.instance)
   pub stays : (k : ℕ) → IsSome (q.find k) → q.find k ≡ p.find k

@@ -2,7 +2,7 @@
 use Rattle.std.specs.Prelude.{◌≡◌, ℕ, ◌<◌, map}
 use Rattle.emu_model.specs.declared.packets.Packet.{Packet}
 use Rattle.emu_model.specs.Pipes.{pipe_packets}
-use Rattle.pipe_instance.specs.Uses.{uses}
+use Rattle.pipe_core.specs.Uses.{uses}
 use Rattle.pipe_core.specs.Keyed.{KeyedPipe, seen_pipe, keys_of}
 
 -- names that agree on the keys of a pipe show it alike

@@ -10,7 +10,7 @@ ghost use Rattle.emu_model.specs.Pipes.{instance_for, pipe_arrive, pipe_finish, 
 ghost use Rattle.emu_model.specs.Events.{flying_in, served_in};
 ghost use Rattle.emu_model.specs.Commands.{mask_refusal};
 ghost use Rattle.packet_store.specs.Pocket.{OthersStay, AllStay};
-ghost use Rattle.pipe_instance.specs.Keyed.{IsTuned};
+ghost use Rattle.pipe_core.specs.KeyedInstance.{IsTuned};
 ghost use Rattle.pipe_core.specs.Masks.{IsUnder, IsZero, KeepsIds};
 ghost use Rattle.pipe_core.specs.Moves.{AreNamed, Keeps};
 ghost use Rattle.pipe_core.specs.Keyed.{seen_pipe, view, shown_of, ids_of, keys_of};
@@ -21,11 +21,11 @@ ghost use Rattle.pipe_core.specs.Steps.{drops_of, drops_by_codel, IsGrown, HasRo
 use crate::rehouse::rehouse_all;
 use crate::slot::Slot;
 use crate::takes::take_all;
+use crate::{Instance, InstanceDues, Shown};
 use due_index::{DueIndex, DueNumber};
 use emu_model::{DropCause, Mask, Packet, PipeConfig, PipeNumber, Refusal, Size};
 use flow_mask::{ApplyMask, FlowId, InstanceError, Instances};
 use packet_store::{Owner, Shelf};
-use pipe_instance::{Instance, InstanceDues, Shown};
 use std::alloc::{AllocError, Global};
 use std::marker::Model;
 use std::mem;
@@ -119,7 +119,7 @@ impl Pipe {
     pub fn dues(&self, instance: usize) -> InstanceDues
         requires { instance < length self.now.slots }
         ensures exit { (f : ℕ → Packet) → result.exit
-            ≡ option_and_then (λ i. first_exit i.line.flight)
+            ≡ option_and_then (λ i. first_exit i.line.in_flight)
             (slice_get (seen_pipe f self.now).instances instance) }
         ensures finish { (f : ℕ → Packet) → result.finish
             ≡ option_map (λ s. s.period.finish) (served_in instance (seen_pipe f self.now)) }
@@ -130,17 +130,8 @@ impl Pipe {
 
     /// What it has due first of all exits and finishes; None where nothing is due. Tells the ranges of
     /// its number and of how many instances it has.
-    pub fn least(&self) -> DueNumber
-        ensures due { (f : ℕ → Packet) → result ≡ pipe_due f self.now }
-        ensures number { (1 ≤ self.now.number) × (self.now.number ≤ 65535) }
-        ensures few { length self.now.slots ≤ 256 }
-    {
-        self.least_number()
-    }
-
-    /// The same as one number.
     #[inline(always)]
-    pub fn least_number(&self) -> DueNumber
+    pub fn least(&self) -> DueNumber
         ensures due { (f : ℕ → Packet) → result ≡ pipe_due f self.now }
         ensures number { (1 ≤ self.now.number) × (self.now.number ≤ 65535) }
         ensures few { length self.now.slots ≤ 256 }
@@ -406,7 +397,8 @@ impl Pipe {
     /// told: it goes on its way, and the next is served. What CoDel drops, in order, is taken from the
     /// shelf into `drops`, which loses what it held and keeps its room, so that a list that once had
     /// room enough has it ever after. All growths come first: of the delay line, and where CoDel is the
-    /// discipline of lists of drops; refused, only room has grown.
+    /// discipline of lists of drops; refused, only room has grown. Where the caller knows that it is
+    /// `plain`, as `drops_none` told, nothing is dropped and the lists don't grow; `false` is right too.
     #[inline(always)]
     pub fn finish<S: Shelf>(
         &mut self,
@@ -414,12 +406,14 @@ impl Pipe {
         owner: Owner,
         instance: usize,
         now: u64,
+        plain: bool,
         drops: &mut Vec<Packet>,
     ) -> Result<Packet, AllocError>
         requires early { IsMoment now }
         requires due { option_map (λ s. s.period.finish)
             (served_in instance (view (S.pocket shelf.old owner) self.old)) ≡ Some now }
         requires named { AreNamed (S.pocket shelf.old owner) (keys_of self.old.slots) }
+        requires plain { IsTrue plain → IsPlainAt instance now self.old }
         ensures served { IfOk result (λ packet.
             option_map (λ s. s.item) (served_in instance (view (S.pocket shelf.old owner) self.old))
             ≡ Some packet) }
@@ -440,10 +434,12 @@ impl Pipe {
             ((S.pocket shelf.new owner).count + length drops.new.items
             ≡ (S.pocket shelf.old owner).count) }
         ensures succeeds { IsFreeAt instance now (vec_capacity drops.old) self.old → IsOk result }
+        ensures plainly { IsTrue plain → HasLineRoomAt instance self.old → IsOk result }
+        ensures none { IsTrue plain → OnOk result (drops.new.items ≡ []) }
         ensures capacity { vec_capacity drops.old ≤ vec_capacity drops.new }
     {
         let slot = &mut self.slots[instance];
-        let finished = slot.finish(shelf, owner, now, &self.config, drops);
+        let finished = slot.finish(shelf, owner, now, plain, &self.config, drops);
         self.dues
             .set(instance, slot.due(self.number, instance as u8));
         finished
@@ -468,68 +464,6 @@ impl Pipe {
     {
         let slot = &self.slots[instance];
         slot.instance.drops_none(now)
-    }
-
-    /// The same as `finish`, at a moment (ns) at which nothing is dropped, as `drops_none` told: the number of the packet
-    /// that finished.
-    #[inline(always)]
-    pub fn finish_plainly<S: Shelf>(
-        &mut self,
-        shelf: &S,
-        owner: Owner,
-        instance: usize,
-        now: u64,
-    ) -> Result<u64, AllocError>
-        requires early { IsMoment now }
-        requires due { option_map (λ s. s.period.finish)
-            (served_in instance (view (S.pocket shelf.now owner) self.old)) ≡ Some now }
-        requires named { AreNamed (S.pocket shelf.now owner) (keys_of self.old.slots) }
-        requires plain { IsPlainAt instance now self.old }
-        ensures served { IfOk result (λ number. option_map (λ s. s.item.number)
-            (served_in instance (view (S.pocket shelf.now owner) self.old)) ≡ Some number) }
-        ensures ok { OnOk result (pipe_finish now instance (view (S.pocket shelf.now owner) self.old)
-            ≡ record { state = view (S.pocket shelf.now owner) self.new; dropped = [] }) }
-        ensures keys { Keeps (S.pocket shelf.now owner) (S.pocket shelf.now owner)
-            (keys_of self.old.slots) (keys_of self.new.slots) }
-        ensures same { self.new ≡ record self.old { slots = self.new.slots } }
-        ensures ids { ids_of self.new.slots ≡ ids_of self.old.slots }
-        ensures refused { OnErr result (IsGrown self.old self.new) }
-        ensures succeeds { HasLineRoomAt instance self.old → IsOk result }
-    {
-        let packet = self.finish_kept(shelf, owner, instance, now)?;
-        Ok(packet.number)
-    }
-
-    // The same, and the packet.
-    #[inline(always)]
-    fn finish_kept<S: Shelf>(
-        &mut self,
-        shelf: &S,
-        owner: Owner,
-        instance: usize,
-        now: u64,
-    ) -> Result<Packet, AllocError>
-        requires early { IsMoment now }
-        requires due { option_map (λ s. s.period.finish)
-            (served_in instance (view (S.pocket shelf.now owner) self.old)) ≡ Some now }
-        requires named { AreNamed (S.pocket shelf.now owner) (keys_of self.old.slots) }
-        requires plain { IsPlainAt instance now self.old }
-        ensures served { IfOk result (λ packet. option_map (λ s. s.item)
-            (served_in instance (view (S.pocket shelf.now owner) self.old)) ≡ Some packet) }
-        ensures ok { OnOk result (pipe_finish now instance (view (S.pocket shelf.now owner) self.old)
-            ≡ record { state = view (S.pocket shelf.now owner) self.new; dropped = [] }) }
-        ensures keys { Keeps (S.pocket shelf.now owner) (S.pocket shelf.now owner)
-            (keys_of self.old.slots) (keys_of self.new.slots) }
-        ensures same { self.new ≡ record self.old { slots = self.new.slots } }
-        ensures ids { ids_of self.new.slots ≡ ids_of self.old.slots }
-        ensures refused { OnErr result (IsGrown self.old self.new) }
-        ensures succeeds { HasLineRoomAt instance self.old → IsOk result }
-    {
-        let slot = &mut self.slots[instance];
-        let finished = slot.finish_plainly(shelf, owner, now, &self.config);
-        self.dues
-            .set(instance, slot.due(self.number, instance as u8));
-        finished
     }
 
     /// The packet that leaves first in an instance, which stays; None where nothing is on its way.

@@ -2,16 +2,16 @@
 
 ghost use Rattle.std.specs.Prelude.{◌≡◌, ◌+◌, ◌<◌, ◌≤◌, [], ◌∷◌, map, length};
 ghost use Rattle.packet_store.specs.Pocket.{OthersStay};
-ghost use Rattle.pipe_instance.specs.Keyed.{keys_in, seen_line};
-ghost use Rattle.pipe_instance.specs.Blanks.{blank};
+ghost use Rattle.pipe_core.specs.KeyedInstance.{keys_in, seen_line};
+ghost use Rattle.pipe_core.specs.Blanks.{blank};
 ghost use Rattle.pipe_core.specs.Moves.{packet_at, AreNamed};
 ghost use Rattle.pipe_core.specs.Keyed.{keys_of};
 ghost use Rattle.pipe_core.specs.Rehousing.{Rehouses, blank_slot};
 
+use crate::Instance;
 use crate::slot::Slot;
 use link_core::DelayLine;
 use packet_store::{Key, Owner, Shelf};
-use pipe_instance::Instance;
 
 /// Moves one packet to a shelf that has room for it, and tells the key that it has there.
 fn rehouse_one<S: Shelf, T: Shelf>(
@@ -48,22 +48,22 @@ pub fn rehouse_line<S: Shelf, T: Shelf>(
     to: &mut T,
     other: Owner,
 )
-    requires named { AreNamed (S.pocket from.old owner) (map (λ x. x.item) line.old.line.flight) }
+    requires named { AreNamed (S.pocket from.old owner) (map (λ x. x.item) line.old.line.in_flight) }
     requires budget { (T.pocket to.old other).count
-        + length (map (λ x. x.item) line.old.line.flight) ≤ (T.pocket to.old other).budget }
-    requires room { length (map (λ x. x.item) line.old.line.flight) ≤ T.room to.old other }
+        + length (map (λ x. x.item) line.old.line.in_flight) ≤ (T.pocket to.old other).budget }
+    requires room { length (map (λ x. x.item) line.old.line.in_flight) ≤ T.room to.old other }
     ensures shown { seen_line (packet_at (T.pocket to.new other).find) line.new.line
         ≡ seen_line (packet_at (S.pocket from.old owner).find) line.old.line }
     ensures moved { Rehouses (S.pocket from.old owner) (S.pocket from.new owner)
         (T.pocket to.old other) (T.pocket to.new other)
-        (map (λ x. x.item) line.old.line.flight) (map (λ x. x.item) line.new.line.flight) }
+        (map (λ x. x.item) line.old.line.in_flight) (map (λ x. x.item) line.new.line.in_flight) }
     ensures same { line.new.spare ≡ line.old.spare }
     ensures room { T.room to.old other
-        ≤ T.room to.new other + length (map (λ x. x.item) line.old.line.flight) }
+        ≤ T.room to.new other + length (map (λ x. x.item) line.old.line.in_flight) }
     ensures others_from { OthersStay owner (S.pocket from.old) (S.pocket from.new) }
     ensures others_to { OthersStay other (T.pocket to.old) (T.pocket to.new) }
 {
-    for place in 0..line.flight() {
+    for place in 0..line.in_flight() {
         let Some(key) = line.at(place) else {
             unreachable!();
         };

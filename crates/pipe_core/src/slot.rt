@@ -1,8 +1,8 @@
 //! One instance of a pipe beside its flow identifier, and what a packet does there.
 
-ghost use Rattle.std.specs.Prelude.{◌≡◌, ◌+◌, ◌-◌, ◌*◌, ◌^◌, ◌<◌, ◌≤◌, [], Some, None, length, option_map, IfSome, OnSome, IfOk, OnErr, IsOk, vec_capacity};
+ghost use Rattle.std.specs.Prelude.{◌≡◌, ◌+◌, ◌-◌, ◌*◌, ◌^◌, ◌<◌, ◌≤◌, false, [], Some, None, length, option_map, IfSome, OnSome, IfOk, OnOk, OnErr, IsOk, IsTrue, vec_capacity};
 ghost use Rattle.emu_model.specs.Moments.{IsMoment};
-ghost use Rattle.pipe_instance.specs.Keyed.{IsTuned, keys_in};
+ghost use Rattle.pipe_core.specs.KeyedInstance.{IsTuned, keys_in};
 ghost use Rattle.pipe_core.specs.Steps.{Arrives, Exits, Finishes, HasRoom, IsFree, IsPlain, most_dropped};
 ghost use Rattle.emu_model.specs.Delay.{first_item};
 ghost use Rattle.packet_store.specs.Pocket.{OthersStay};
@@ -10,12 +10,12 @@ ghost use Rattle.pipe_core.specs.Keyed.{seen_slot};
 ghost use Rattle.pipe_core.specs.Leaves.{instance_number, slot_due};
 ghost use Rattle.pipe_core.specs.Moves.{packet_at, AreNamed};
 
+use crate::Instance;
 use crate::takes::{clear_for, take_dropped};
 use due_index::DueNumber;
-use emu_model::{Discipline, DropCause, Packet, PipeConfig, PipeNumber, Source};
+use emu_model::{DropCause, Packet, PipeConfig, PipeNumber, Source};
 use flow_mask::FlowId;
 use packet_store::{Owner, Shelf};
-use pipe_instance::Instance;
 use std::alloc::AllocError;
 
 #[derive(Drop)]
@@ -72,13 +72,14 @@ impl Slot {
 
     /// The packet in service finishes, at the moment at which it is due, and is told; the next is
     /// served. What CoDel drops is taken from the shelf into `drops`, which loses what it held and
-    /// keeps its room. All growths come first.
+    /// keeps its room: nothing where the caller knows that the finish is `plain`. All growths come first.
     #[inline(always)]
     pub(crate) fn finish<S: Shelf>(
         &mut self,
         shelf: &mut S,
         owner: Owner,
         now: u64,
+        plain: bool,
         config: &PipeConfig,
         drops: &mut Vec<Packet>,
     ) -> Result<Packet, AllocError>
@@ -86,23 +87,26 @@ impl Slot {
         requires tuned { IsTuned config.now self.old.instance }
         requires due { option_map (λ s. s.period.finish) self.old.instance.service.busy ≡ Some now }
         requires named { AreNamed (S.pocket shelf.old owner) (keys_in self.old.instance) }
+        requires plain { IsTrue plain → IsPlain now self.old }
         ensures finished { IfOk result
             (λ packet. Finishes config.now now packet drops.new.items (S.pocket shelf.old owner)
             (S.pocket shelf.new owner) self.old self.new) }
         ensures refused { OnErr result (self.new ≡ record self.old {
           instance = record self.old.instance {
-            lane = record self.old.instance.lane { spare = self.new.instance.lane.spare };
+            delay_line = record self.old.instance.delay_line { spare = self.new.instance.delay_line.spare };
           };
         }) }
         ensures refused_pocket { OnErr result
             (S.pocket shelf.new owner ≡ S.pocket shelf.old owner) }
         ensures others { OthersStay owner (S.pocket shelf.old) (S.pocket shelf.new) }
         ensures succeeds { IsFree now (vec_capacity drops.old) self.old.instance → IsOk result }
+        ensures plainly { IsTrue plain → 0 < self.old.instance.delay_line.spare → IsOk result }
+        ensures none { IsTrue plain → OnOk result (drops.new.items ≡ []) }
         ensures capacity { vec_capacity drops.old ≤ vec_capacity drops.new }
     {
-        let most = self.most_dropped(config);
+        let most = self.most_dropped(plain, config);
         clear_for(most, drops)?;
-        let done = self.instance.finish(now, config.delay)?;
+        let done = self.instance.finish(now, config.delay, plain)?;
         let Some(packet) = shelf.look(owner, done.key) else {
             unreachable!();
         };
@@ -110,49 +114,21 @@ impl Slot {
         Ok(packet)
     }
 
-    /// The same where nothing is dropped: the packet that finished.
-    #[inline(always)]
-    pub(crate) fn finish_plainly<S: Shelf>(
-        &mut self,
-        shelf: &S,
-        owner: Owner,
-        now: u64,
-        config: &PipeConfig,
-    ) -> Result<Packet, AllocError>
-        requires early { IsMoment now }
-        requires tuned { IsTuned config.now self.old.instance }
-        requires due { option_map (λ s. s.period.finish) self.old.instance.service.busy ≡ Some now }
-        requires named { AreNamed (S.pocket shelf.now owner) (keys_in self.old.instance) }
-        requires plain { IsPlain now self.old }
-        ensures finished { IfOk result
-            (λ packet. Finishes config.now now packet [] (S.pocket shelf.now owner)
-            (S.pocket shelf.now owner) self.old self.new) }
-        ensures refused { OnErr result (self.new ≡ record self.old {
-          instance = record self.old.instance {
-            lane = record self.old.instance.lane { spare = self.new.instance.lane.spare };
-          };
-        }) }
-        ensures succeeds { 0 < self.old.instance.lane.spare → IsOk result }
-    {
-        let key = self.instance.finish_plainly(now, config.delay)?;
-        let Some(packet) = shelf.look(owner, key) else {
-            unreachable!();
-        };
-        Ok(packet)
-    }
-
     // How many packets a finish can drop, at most.
     #[inline(always)]
-    fn most_dropped(&self, config: &PipeConfig) -> usize
+    fn most_dropped(&self, plain: bool, config: &PipeConfig) -> usize
         requires { IsTuned config.now self.now.instance }
-        ensures { result ≡ most_dropped self.now.instance.queue }
+        ensures none { IsTrue plain → result ≡ 0 }
+        ensures most { plain ≡ false → result ≡ most_dropped self.now.instance.queue }
+        ensures few { result ≤ most_dropped self.now.instance.queue }
     {
-        match config.discipline {
-            Discipline::TailDrop => 0,
-            Discipline::ControlledDelay {
-                target: _,
-                interval: _,
-            } => self.instance.waiting(),
+        if plain {
+            return 0;
+        }
+        if config.discipline.may_drop() {
+            self.instance.waiting()
+        } else {
+            0
         }
     }
 
@@ -161,7 +137,7 @@ impl Slot {
     pub(crate) fn front<S: Shelf>(&self, shelf: &S, owner: Owner) -> Option<Packet>
         requires { AreNamed (S.pocket shelf.now owner) (keys_in self.now.instance) }
         ensures { result ≡ first_item
-            (seen_slot (packet_at (S.pocket shelf.now owner).find) self.now).line.flight }
+            (seen_slot (packet_at (S.pocket shelf.now owner).find) self.now).line.in_flight }
     {
         let key = self.instance.front()?;
         let Some(packet) = shelf.look(owner, key) else {
@@ -194,7 +170,7 @@ impl Slot {
         ensures { IfSome result (λ n. n ≡ length (keys_in self.now.instance)) }
     {
         let shown = self.instance.shown();
-        let moving = (shown.flight as usize).checked_add(usize::from(shown.busy))?;
+        let moving = (shown.in_flight as usize).checked_add(usize::from(shown.busy))?;
         moving.checked_add(shown.waiting as usize)
     }
 }

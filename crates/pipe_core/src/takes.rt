@@ -5,11 +5,11 @@ ghost use Rattle.packet_store.specs.Pocket.{OthersStay};
 ghost use Rattle.pipe_core.specs.Moves.{AreNamed, Taking};
 ghost use Rattle.pipe_core.specs.Keyed.{keys_of};
 
+use crate::Leftovers;
 use crate::slot::Slot;
 use emu_model::Packet;
 use packet_store::{Key, Owner, Shelf};
-use pipe_instance::Leftovers;
-use queue_disc::Waiting;
+use queue_disc::Queued;
 use std::alloc::AllocError;
 
 /// Empties a list, and makes room in it for so many.
@@ -31,7 +31,7 @@ pub(crate) fn clear_for(most: usize, drops: &mut Vec<Packet>) -> Result<(), Allo
 /// Takes the packets of what was dropped, to the end of a list that has room for them.
 #[inline(always)]
 pub(crate) fn take_dropped<S: Shelf>(
-    dropped: &[Waiting<Key>],
+    dropped: &[Queued<Key>],
     shelf: &mut S,
     owner: Owner,
     drops: &mut Vec<Packet>,
@@ -52,7 +52,7 @@ pub(crate) fn take_dropped<S: Shelf>(
 
 // Takes them one by one.
 fn take_each<S: Shelf>(
-    dropped: &[Waiting<Key>],
+    dropped: &[Queued<Key>],
     shelf: &mut S,
     owner: Owner,
     drops: &mut Vec<Packet>,

@@ -9,7 +9,7 @@ use Rattle.emu_model.specs.Delay.{first_item, leave}
 use Rattle.emu_model.specs.declared.packets.Packet.{Packet}
 use Rattle.emu_model.specs.Pipes.{PipeState, Instance, InService, Drop, pipe_arrive, pipe_finish, pipe_exit, pipe_configure, pipe_packets}
 use Rattle.emu_model.specs.declared.records.Record.TheVariants.{PacketFinished}
-use Rattle.emu_model.specs.declared.commands.Setting.{Setting}
+use Rattle.emu_model.specs.declared.commands.EventContext.{EventContext}
 use Rattle.emu_model.specs.Net.{Net, find_pipe, put_pipe, note, note_drops, enter_pipe}
 use Rattle.emu_model.specs.Commands.{configure, config_refusal, mask_refusal, new_pipe, new_pipe_refusal, delete_pipe}
 use Rattle.emu_model.specs.declared.pipes.PipeConfig.{PipeConfig}
@@ -220,7 +220,7 @@ module _ (k i : ℕ) (ps : List KeyedPipe) (x : KeyedPipe) (at : Some i ≡ posi
     named_too : AreNamed p (pipe_keys (before ++ x ∷ behind))
     named_too = subst (λ l. AreNamed p (pipe_keys l)) whole named
 
-    pub arrive-at : (at : Setting) (packet : Packet) (ds : List Drop) (n : Net) (seed : ℕ) →
+    pub arrive-at : (at : EventContext) (packet : Packet) (ds : List Drop) (n : Net) (seed : ℕ) →
         pipe_arrive at.seed at.now packet (view p x) ≡ record { state = view q y; dropped = ds } →
         enter_pipe at k packet (with_pipes p (record { seed = seed; pipes = ps }) n)
         ≡ note_drops at.now ds (with_pipes q (record { seed = seed; pipes = set ps i y }) n)
@@ -229,7 +229,7 @@ module _ (k i : ℕ) (ps : List KeyedPipe) (x : KeyedPipe) (at : Some i ≡ posi
         ∙ arrive-is agree p q before behind x y named_too keeps k first passes at packet ds n came
         ∙ (λ i. note_drops at.now ds (with_pipes q (record { seed = seed; pipes = sym (changed y) i }) n))
 
-    pub exit-at : (at : Setting) (j : ℕ) (o : Option Packet) (n : Net) (seed : ℕ) →
+    pub exit-at : (at : EventContext) (j : ℕ) (o : Option Packet) (n : Net) (seed : ℕ) →
         o ≡ flying_in j (view p x) → view q y ≡ pipe_exit j (view p x) →
         (let m = with_pipes p (record { seed = seed; pipes = ps }) n in
         option_map_or (pipe_exits at k j m) (find_pipe k m) m)
@@ -239,7 +239,7 @@ module _ (k i : ℕ) (ps : List KeyedPipe) (x : KeyedPipe) (at : Some i ≡ posi
         ∙ exit-is agree p q before behind x y named_too keeps k first passes at j o n flying gone
         ∙ (λ i. leave_pipe_some at k j o (with_pipes q (record { seed = seed; pipes = sym (changed y) i }) n))
 
-    pub finish-at : (at : Setting) (j : ℕ) (packet : Packet) (ds : List Drop) (n : Net) (seed : ℕ) →
+    pub finish-at : (at : EventContext) (j : ℕ) (packet : Packet) (ds : List Drop) (n : Net) (seed : ℕ) →
         option_map (λ (s : InService Packet). s.item) (served_in j (view p x)) ≡ Some packet →
         pipe_finish at.now j (view p x) ≡ record { state = view q y; dropped = ds } →
         (let m = with_pipes p (record { seed = seed; pipes = ps }) n in
@@ -262,7 +262,7 @@ module _ (k i : ℕ) (ps : List KeyedPipe) (x : KeyedPipe) (at : Some i ≡ posi
     pub finish-ok : {E : Type 0} (j now seed : ℕ) (t : Table) → t ≡ record { seed = seed; pipes = ps } → (drops : List Packet) (r : Result Packet E) →
         IfOk r (λ packet. option_map (λ (s : InService Packet). s.item) (served_in j (view p x)) ≡ Some packet) →
         OnOk r (pipe_finish now j (view p x) ≡ record { state = view q y; dropped = drops_by_codel drops }) →
-        IfOk r (λ packet. (at : Setting) (n : Net) → at.now ≡ now → (let m = with_pipes p t n in
+        IfOk r (λ packet. (at : EventContext) (n : Net) → at.now ≡ now → (let m = with_pipes p t n in
         option_map_or (pipe_finishes at k j m) (find_pipe k m) m)
         ≡ note_drops now (drops_by_codel drops) (with_pipes q (record { seed = seed; pipes = set ps i y }) (note (PacketFinished now packet.number k j) n)))
     finish-ok j now seed t e drops (Err x) served done = tt
@@ -314,7 +314,7 @@ change_at-beyond f (x ∷ xs) (suc n) le = ap (λ l. x ∷ l) (change_at-beyond 
 
 pub flying-beyond : (p : Pocket) (x : KeyedPipe) (j : ℕ) → length x.slots ≤ j → None ≡ flying_in j (view p x)
 flying-beyond p x j le =
-    sym (ap (λ o. option_and_then (λ (i : Instance). first_item i.line.flight) o)
+    sym (ap (λ o. option_and_then (λ (i : Instance). first_item i.line.in_flight) o)
     (slice_get-beyond (map (seen_slot (packet_at p.find)) x.slots) j (omega (arith, le, length-map x.slots (seen_slot (packet_at p.find))))))
 
 pub exit-beyond : (p : Pocket) (x : KeyedPipe) (j : ℕ) → length x.slots ≤ j → view p x ≡ pipe_exit j (view p x)
@@ -392,27 +392,16 @@ place-fits k ps = subst (λ j. j ≤ length ps) (place-is k ps) (go ps)
     go : (xs : List KeyedPipe) → place k xs ≤ length xs
     go xs = place-within k xs
 
--- a finish that was made and dropped nothing, over the table as it is seen
-module _ (p : Pocket) (ps : List KeyedPipe) (i : ℕ) (x : KeyedPipe) (seed : ℕ) (t : Table) (whole_is : t ≡ record { seed = seed; pipes = ps })
-    (read : x ≡ get_or ps i x) (agree : ViewsAgree) (y : KeyedPipe) (named : AreNamed p (pipe_keys ps)) (keeps : Keeps p p (keys_of x.slots) (keys_of y.slots)) where
-  pub finish-plain : {E : Type 0} (j now : ℕ) (r : Result ℕ E) →
-      IfOk r (λ number. option_map (λ (s : InService Packet). s.item.number) (served_in j (view p x)) ≡ Some number) →
-      OnOk r (pipe_finish now j (view p x) ≡ record { state = view p y; dropped = [] }) →
-      IfOk r (λ number. (k : ℕ) → Some i ≡ position (has_number k) t.pipes → (at : Setting) (n : Net) → at.now ≡ now → (let m = with_pipes p t n in
+-- a finish that was made, over the table as it is seen, by the pipe's place
+module _ (p q : Pocket) (ps : List KeyedPipe) (i : ℕ) (x : KeyedPipe) (seed : ℕ) (t : Table) (whole_is : t ≡ record { seed = seed; pipes = ps })
+    (read : x ≡ get_or ps i x) (agree : ViewsAgree) (y : KeyedPipe) (named : AreNamed p (pipe_keys ps)) (keeps : Keeps p q (keys_of x.slots) (keys_of y.slots)) where
+  pub finish-told : {E : Type 0} (j now : ℕ) (drops : List Packet) (r : Result Packet E) →
+      IfOk r (λ packet. option_map (λ (s : InService Packet). s.item) (served_in j (view p x)) ≡ Some packet) →
+      OnOk r (pipe_finish now j (view p x) ≡ record { state = view q y; dropped = drops_by_codel drops }) →
+      IfOk r (λ packet. (k : ℕ) → Some i ≡ position (has_number k) t.pipes → (at : EventContext) (n : Net) → at.now ≡ now → (let m = with_pipes p t n in
       option_map_or (pipe_finishes at k j m) (find_pipe k m) m)
-      ≡ note_drops now [] (with_pipes p (record { seed = seed; pipes = set ps i y }) (note (PacketFinished now number k j) n)))
-  finish-plain j now (Err x) served done = tt
-  finish-plain j now (Ok number) served done = λ k stands at n same.
+      ≡ note_drops now (drops_by_codel drops) (with_pipes q (record { seed = seed; pipes = set ps i y }) (note (PacketFinished now packet.number k j) n)))
+  finish-told j now drops (Err x) served done = tt
+  finish-told j now drops (Ok packet) served done = λ k stands at n same.
       let here : Some i ≡ position (has_number k) ps = subst (λ (u : Table). Some i ≡ position (has_number k) u.pipes) whole_is stands in
-      go k here at n same (served_in j (view p x)) refl served
-    where
-      go : (k : ℕ) → Some i ≡ position (has_number k) ps → (at : Setting) (n : Net) → at.now ≡ now → (o : Option (InService Packet)) → served_in j (view p x) ≡ o →
-          option_map (λ (s : InService Packet). s.item.number) o ≡ Some number → (let m = with_pipes p t n in
-          option_map_or (pipe_finishes at k j m) (find_pipe k m) m)
-          ≡ note_drops now [] (with_pipes p (record { seed = seed; pipes = set ps i y }) (note (PacketFinished now number k j) n))
-      go k here at n same None is e = absurd (cc)
-      go k here at n same (Some s) is e =
-          let told : s.item.number ≡ number = cc in
-          finish-ok k i ps x here read agree p p y named keeps {E = Unit {0}} j now seed t whole_is [] (Ok s.item)
-          (ap (option_map (λ (s : InService Packet). s.item)) is) done at n same
-          ∙ (λ z. note_drops now [] (with_pipes p (record { seed = seed; pipes = set ps i y }) (note (PacketFinished now (told z) k j) n)))
+      finish-ok k i ps x here read agree p q y named keeps {E = Unit {0}} j now seed t whole_is drops (Ok packet) served done at n same

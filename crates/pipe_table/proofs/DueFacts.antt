@@ -69,7 +69,7 @@ index-of n i h = omega (arith, h)
 -- the dues of an instance of a pipe that stands in the table
 pub Reaches-at : (ps : List KeyedPipe) (pipe : KeyedPipe) (index : ℕ) (best sooner last : Due) (exit finish : Option ℕ) → index < 256 → IsPipeNumber pipe.number →
     pipe_of pipe.number ps ≡ Some pipe →
-    ((f : ℕ → Packet) → exit ≡ option_and_then (λ (i : Instance). first_exit i.line.flight) (slice_get (seen_pipe f pipe).instances index)) →
+    ((f : ℕ → Packet) → exit ≡ option_and_then (λ (i : Instance). first_exit i.line.in_flight) (slice_get (seen_pipe f pipe).instances index)) →
     ((f : ℕ → Packet) → finish ≡ option_map (λ (s : InService Packet). s.period.finish) (served_in index (seen_pipe f pipe))) →
     sooner ≡ best_of is_before best (option_to_list (option_map (due Exit (pipe.number * 256 + index)) exit)) →
     (sooner ≡ best) ⊎ (option_map (due Exit (pipe.number * 256 + index)) exit ≡ Some sooner) →
@@ -144,7 +144,7 @@ Reaches-at ps pipe index best sooner last exit finish few range here exits finis
 -- the dues of an instance that may be there
 abbrev one_dues : ℕ → Option Instance → List Due
 one_dues n o =
-    option_to_list (option_map (due Exit n) (option_and_then (λ (i : Instance). first_exit i.line.flight) o))
+    option_to_list (option_map (due Exit n) (option_and_then (λ (i : Instance). first_exit i.line.in_flight) o))
     ++ option_to_list (option_map (due Finish n) (option_map (λ (s : InService Packet). s.period.finish) (option_and_then (λ (i : Instance). i.service) o)))
 
 finish-two : (n : ℕ) (o : Option (InService Packet)) →

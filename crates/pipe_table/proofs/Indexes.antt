@@ -13,7 +13,7 @@ use Rattle.emu_model.specs.Pipes.{InService, PipeState}
 use Rattle.due_index.specs.Least.{dues_in, least_of, lesser}
 use Rattle.due_index.specs.Places.{Places}
 use Rattle.due_index.proofs.CallerLemmas.{least_all, least_of-all, least_all-append, least_all-option, least_leaf, least_of-leaf, best_of-same}
-use Rattle.pipe_instance.specs.Keyed.{seen_service}
+use Rattle.pipe_core.specs.KeyedInstance.{seen_service}
 use Rattle.pipe_core.specs.declared.slot.Slot.{Slot}
 use Rattle.pipe_core.specs.Moves.{some_packet}
 use Rattle.pipe_core.specs.Keyed.{KeyedPipe, seen_slot, seen_pipe}
@@ -33,8 +33,8 @@ module _ (f g : ℕ → Packet) where
       instances_dues n (map (seen_slot f) slots) ≡ instances_dues n (map (seen_slot g) slots)
   dues-alike n [] = refl
   dues-alike n (s ∷ ss) =
-      let flight = s.instance.lane.line.flight in
-      let exit = first_exit-seen f flight ∙ sym (first_exit-seen g flight) in
+      let in_flight = s.instance.delay_line.line.in_flight in
+      let exit = first_exit-seen f in_flight ∙ sym (first_exit-seen g in_flight) in
       let finish = service-alike n s.instance.service.busy in
       (λ t. option_to_list (option_map (due Exit n) (exit t)) ++ option_to_list
       (finish t) ++ dues-alike (n + 1) ss t)
@@ -146,15 +146,6 @@ all-leaf [] = refl
 all-leaf (s ∷ ss) =
     least_all-append (pipe_dues s) (flat_map pipe_dues ss)
     ∙ (λ t. lesser (sym (least_of-all (pipe_dues s)) t) (all-leaf ss t))
-
-pub least-is : (ps : List KeyedPipe) (x : Places) (best r : Due) (o : Option Due) →
-    AreIndexed ps x →
-    o ≡ least_of (dues_in x.leaves) → r ≡ best_of is_before best (option_to_list o) →
-    (f : ℕ → Packet) → r ≡ best_of is_before best (flat_map pipe_dues (seen_pipes f ps))
-least-is ps x best r o h e is f =
-    is ∙ best_of-same best (option_to_list o) (flat_map pipe_dues (seen_pipes f ps))
-    (least_all-option o ∙ e ∙ least_of-leaf x.leaves ∙ ap least_leaf (h f).leaves
-    ∙ sym (all-leaf (seen_pipes f ps)))
 
 -- the least of a due that may be there and all dues
 pub number-least : (ps : List KeyedPipe) (x : Places) (best o r : Option Due) → AreIndexed ps x →

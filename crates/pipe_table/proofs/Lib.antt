@@ -11,3 +11,4 @@ mod Indexes
 mod Reaching
 mod PlaceFacts
 pub mod CallerLemmas
+mod LogFacts

@@ -11,11 +11,11 @@ use Rattle.emu_model.specs.declared.records.Record.TheVariants.{InstanceLine}
 use Rattle.emu_model.specs.Commands.{instance_line, instance_lines, pipe_lines}
 use Rattle.emu_model.specs.Pipes.{Instance}
 use Rattle.pipe_core.specs.Keyed.{KeyedPipe, seen_pipe, seen_slot, shown_of}
-use Rattle.pipe_instance.specs.declared.instance.Shown.{Shown}
+use Rattle.pipe_core.specs.declared.instance.Shown.{Shown}
 use Rattle.pipe_table.specs.Table.{seen_pipes}
 
 abbrev pub line_of : ℕ → ℕ → Shown → Record
-line_of pipe k s = InstanceLine pipe k s.waiting s.bytes s.busy s.flight s.drawn
+line_of pipe k s = InstanceLine pipe k s.waiting s.bytes s.busy s.in_flight s.drawn
 
 more : (n k : ℕ) (xs : List Instance) (i : ℕ) (s : Shown) → Some s ≡ option_map shown_of (slice_get xs i) →
     instance_lines n k (take i xs) ++ line_of n (k + i) s ∷ [] ≡ instance_lines n k (take (suc i) xs)

@@ -4,7 +4,7 @@ use Rattle.std.specs.Prelude.{unwrap_or}
 use Rattle.std.proofs.lemmas.Grind.{drop_more_same}
 use Rattle.std.proofs.lemmas.List.{map-append, drop_more, take_more, take_more_set, drop-set-lt, set_split, set-get_or, length-append, length-map, length-set, take_all, take-append-drop}
 use Rattle.packet_store.specs.Pocket.{Pocket}
-use Rattle.pipe_instance.specs.Uses.{uses}
+use Rattle.pipe_core.specs.Uses.{uses}
 use Rattle.pipe_core.proofs.CallerLemmas.{AreNamed-after, AreNamed-front, found-some, Rehouses-none, Rehouses-then}
 use Rattle.pipe_core.specs.Moves.{some_packet, packet_at, found, AreNamed, Takes}
 use Rattle.pipe_core.specs.Keyed.{KeyedPipe, seen_pipe, view, keys_of}

@@ -6,7 +6,7 @@ use Rattle.emu_model.specs.declared.packets.Packet.{Packet}
 use Rattle.emu_model.specs.declared.records.DropCause.TheVariants.{NoPipe}
 use Rattle.emu_model.specs.declared.records.Record.TheVariants.{PacketFinished}
 use Rattle.emu_model.specs.Pipes.{PipeState, InService, Drop, After, pipe_arrive, pipe_finish, pipe_exit}
-use Rattle.emu_model.specs.declared.commands.Setting.{Setting}
+use Rattle.emu_model.specs.declared.commands.EventContext.{EventContext}
 use Rattle.emu_model.specs.Net.{Net, find_pipe, put_pipe, put_after, note, note_drops, drop_packet, enter_pipe}
 use Rattle.emu_model.specs.Events.{flying_in, served_in, leave_pipe_some, pipe_exits, pipe_finishes}
 use Rattle.packet_store.specs.Pocket.{Pocket}
@@ -33,7 +33,7 @@ seen-is f (Some x) = refl
 pub has-is : (p : Pocket) (k : ℕ) (ps : List KeyedPipe) (n : Net) → is_some (pipe_of k ps) ≡ is_some (find_pipe k (net p ps n))
 has-is p k ps n = sym (ap is_some (seen-find (packet_at p.find) k ps) ∙ seen-is (packet_at p.find) (pipe_of k ps))
 
-pub arrive-nowhere : (at : Setting) (p : Pocket) (k : ℕ) (packet : Packet) (ps : List KeyedPipe) (n : Net) → pipe_of k ps ≡ None →
+pub arrive-nowhere : (at : EventContext) (p : Pocket) (k : ℕ) (packet : Packet) (ps : List KeyedPipe) (n : Net) → pipe_of k ps ≡ None →
     enter_pipe at k packet (net p ps n) ≡ drop_packet at.now NoPipe packet (net p ps n)
 arrive-nowhere at p k packet ps n none =
     ap (λ o. option_map_or (λ pipe. put_after at.now k (pipe_arrive at.seed at.now packet pipe) (net p ps n)) o
@@ -49,7 +49,7 @@ module _ (agree : ViewsAgree) (p q : Pocket) (before behind : List KeyedPipe) (x
   put-is : (n : Net) → put_pipe k (view q y) (net p (before ++ x ∷ behind) n) ≡ net q (before ++ y ∷ behind) n
   put-is n = λ i. record n { pipes = sym (shown-changed agree p q before behind x y named keeps k first passes) i }
 
-  pub arrive-is : (at : Setting) (packet : Packet) (ds : List Drop) (n : Net) →
+  pub arrive-is : (at : EventContext) (packet : Packet) (ds : List Drop) (n : Net) →
       pipe_arrive at.seed at.now packet (view p x) ≡ record { state = view q y; dropped = ds } →
       enter_pipe at k packet (net p (before ++ x ∷ behind) n) ≡ note_drops at.now ds (net q (before ++ y ∷ behind) n)
   arrive-is at packet ds n came =
@@ -58,7 +58,7 @@ module _ (agree : ViewsAgree) (p q : Pocket) (before behind : List KeyedPipe) (x
       ∙ ap (λ (a : After PipeState). put_after at.now k a (net p (before ++ x ∷ behind) n)) came
       ∙ ap (note_drops at.now ds) (put-is n)
 
-  pub exit-is : (at : Setting) (j : ℕ) (o : Option Packet) (n : Net) →
+  pub exit-is : (at : EventContext) (j : ℕ) (o : Option Packet) (n : Net) →
       o ≡ flying_in j (view p x) → view q y ≡ pipe_exit j (view p x) →
       option_map_or (pipe_exits at k j (net p (before ++ x ∷ behind) n)) (find_pipe k (net p (before ++ x ∷ behind) n)) (net p (before ++ x ∷ behind) n)
       ≡ leave_pipe_some at k j o (net q (before ++ y ∷ behind) n)
@@ -67,7 +67,7 @@ module _ (agree : ViewsAgree) (p q : Pocket) (before behind : List KeyedPipe) (x
       ∙ ap (λ s. leave_pipe_some at k j (flying_in j (view p x)) (put_pipe k s (net p (before ++ x ∷ behind) n))) (sym gone)
       ∙ (λ i. leave_pipe_some at k j (sym flying i) (put-is n i))
 
-  pub finish-is : (at : Setting) (j : ℕ) (packet : Packet) (ds : List Drop) (n : Net) →
+  pub finish-is : (at : EventContext) (j : ℕ) (packet : Packet) (ds : List Drop) (n : Net) →
       option_map (λ (s : InService Packet). s.item) (served_in j (view p x)) ≡ Some packet →
       pipe_finish at.now j (view p x) ≡ record { state = view q y; dropped = ds } →
       option_map_or (pipe_finishes at k j (net p (before ++ x ∷ behind) n)) (find_pipe k (net p (before ++ x ∷ behind) n)) (net p (before ++ x ∷ behind) n)

@@ -16,7 +16,7 @@ use Rattle.emu_model.specs.Delay.{first_item}
 use Rattle.emu_model.specs.Events.{flying_in}
 use Rattle.emu_model.specs.Pipes.{PipeState, Instance, InService}
 use Rattle.packet_store.specs.Pocket.{Pocket}
-use Rattle.number_table.specs.Places.{place_in}
+use Rattle.due_index.specs.Table.{place_in}
 use Rattle.pipe_core.specs.Moves.{some_packet, packet_at}
 use Rattle.pipe_core.specs.Masks.{KeepsIds}
 use Rattle.pipe_core.specs.Steps.{HasRoomAtSlot}
@@ -384,7 +384,7 @@ finishing-inside k i j now (p ∷ ps) at due =
 pub flying-inside : (p : Pocket) (x : KeyedPipe) (j : ℕ) (packet : Packet) → Some packet ≡ flying_in j (view p x) → j < length x.slots
 flying-inside p x j packet e = omega (arith, within (map (seen_slot (packet_at p.find)) x.slots) j e, length-map x.slots (seen_slot (packet_at p.find)))
   where
-    within : (is : List Instance) (k : ℕ) → Some packet ≡ option_and_then (λ (i : Instance). first_item i.line.flight) (slice_get is k) → k < length is
+    within : (is : List Instance) (k : ℕ) → Some packet ≡ option_and_then (λ (i : Instance). first_item i.line.in_flight) (slice_get is k) → k < length is
     within [] k e = absurd (cc)
     within (i ∷ is) zero e = omega arith
     within (i ∷ is) (suc k) e = omega (arith, within is k e)

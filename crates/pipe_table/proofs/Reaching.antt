@@ -42,25 +42,25 @@ finish_of o =
 
 -- when an instance exits and finishes, however its keys are named
 module _ (f g : ℕ → Packet) (slots : List Slot) (index : ℕ) where
-  exit-alike : option_and_then (λ (i : Instance). first_exit i.line.flight)
+  exit-alike : option_and_then (λ (i : Instance). first_exit i.line.in_flight)
       (slice_get (map (seen_slot f) slots) index)
-      ≡ option_and_then (λ (i : Instance). first_exit i.line.flight)
+      ≡ option_and_then (λ (i : Instance). first_exit i.line.in_flight)
       (slice_get (map (seen_slot g) slots) index)
   exit-alike =
-      ap (option_and_then (λ (i : Instance). first_exit i.line.flight))
+      ap (option_and_then (λ (i : Instance). first_exit i.line.in_flight))
       (slice_get-map (seen_slot f) slots index)
       ∙ by (slice_get slots index)
-      ∙ sym (ap (option_and_then (λ (i : Instance). first_exit i.line.flight))
+      ∙ sym (ap (option_and_then (λ (i : Instance). first_exit i.line.in_flight))
       (slice_get-map (seen_slot g) slots index))
     where
       by : (o : Option Slot) →
-          option_and_then (λ (i : Instance). first_exit i.line.flight) (option_map (seen_slot f) o)
-          ≡ option_and_then (λ (i : Instance). first_exit i.line.flight)
+          option_and_then (λ (i : Instance). first_exit i.line.in_flight) (option_map (seen_slot f) o)
+          ≡ option_and_then (λ (i : Instance). first_exit i.line.in_flight)
           (option_map (seen_slot g) o)
       by None = refl
       by (Some s) =
-          first_exit-seen f s.instance.lane.line.flight
-          ∙ sym (first_exit-seen g s.instance.lane.line.flight)
+          first_exit-seen f s.instance.delay_line.line.in_flight
+          ∙ sym (first_exit-seen g s.instance.delay_line.line.in_flight)
 
   finish-alike : option_map (λ (s : InService Packet). s.period.finish)
       (option_and_then (λ (i : Instance). i.service) (slice_get (map (seen_slot f) slots) index))
@@ -86,7 +86,7 @@ reach_instance : (ps : List KeyedPipe) (pipe : KeyedPipe) (index : ℕ) (best : 
 reach_instance ps pipe index best few range here =
     let g : ℕ → Packet = λ k. some_packet in
     let exit : Option ℕ =
-    option_and_then (λ (i : Instance). first_exit i.line.flight)
+    option_and_then (λ (i : Instance). first_exit i.line.in_flight)
     (slice_get (seen_pipe g pipe).instances index) in
     let finish : Option ℕ =
     option_map (λ (s : InService Packet). s.period.finish) (served_in index (seen_pipe g pipe)) in

@@ -1,7 +1,7 @@
 -- How often a key stands in the pipes.
 use Rattle.std.proofs.Common.{◌≡◌, ℕ, ◌+◌, refl, ap, ◌∙◌, List, [], ◌∷◌, ◌++◌, arith}
-use Rattle.pipe_instance.specs.Uses.{total}
-use Rattle.pipe_instance.proofs.CallerLemmas.{total-nil, total-append}
+use Rattle.pipe_core.specs.Uses.{total}
+use Rattle.pipe_core.proofs.CallerLemmas.{total-nil, total-append}
 use Rattle.pipe_core.specs.Keyed.{KeyedPipe, keys_of}
 use Rattle.pipe_table.specs.Table.{pipe_keys}
 

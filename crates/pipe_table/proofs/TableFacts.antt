@@ -6,13 +6,13 @@ use Rattle.emu_model.specs.declared.packets.Packet.{Packet}
 use Rattle.emu_model.specs.Lists.{replace_first, remove_first}
 use Rattle.emu_model.specs.Pipes.{PipeState}
 use Rattle.packet_store.specs.Pocket.{Pocket}
-use Rattle.pipe_instance.specs.Uses.{uses, one_at}
+use Rattle.pipe_core.specs.Uses.{uses, one_at}
 use Rattle.pipe_core.specs.Moves.{some_packet, packet_at, AreNamed, Keeps}
 use Rattle.pipe_core.specs.Keyed.{KeyedPipe, seen_pipe, view, keys_of}
 use Rattle.pipe_core.specs.Views.{ViewsAgree}
 use Rattle.pipe_table.specs.Table.{seen_pipes, pipe_keys, has_number, pipe_of}
 use Rattle.pipe_table.proofs.Splits.{find-behind, replace-behind, remove-behind, find-map}
-use Rattle.pipe_instance.specs.Uses.{total}
+use Rattle.pipe_core.specs.Uses.{total}
 use Rattle.pipe_core.proofs.CallerLemmas.{found-le, found-some, Keeps-part, AreNamed-part}
 use Rattle.pipe_table.proofs.Sums.{total-pipes, total-split}
 

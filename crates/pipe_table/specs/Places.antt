@@ -2,9 +2,9 @@
 use Rattle.std.specs.Prelude.{◌≡◌, ℕ, ◌<◌, Option, Some, List, length, position, slice_get}
 use Rattle.emu_model.specs.declared.packets.Packet.{Packet}
 use Rattle.emu_model.specs.FlowIds.{flow_id, instance_of}
-use Rattle.number_table.specs.Places.{place_in}
+use Rattle.due_index.specs.Table.{place_in}
 use Rattle.pipe_core.specs.Keyed.{KeyedPipe, ids_of}
-use Rattle.pipe_core.specs.Steps.{HasRoomAtSlot, HasLineRoomAt, IsPlainAt}
+use Rattle.pipe_core.specs.Steps.{HasRoomAtSlot, HasLineRoomAt, IsFreeAt, IsPlainAt}
 use Rattle.pipe_table.specs.Table.{has_number}
 
 -- the pipe of number k stands at this place
@@ -38,6 +38,11 @@ HasRoomAtPlace size place instance ps =
 abbrev pub HasLineRoomIn : ℕ → ℕ → List KeyedPipe → Type 0
 HasLineRoomIn place instance ps =
     (p : KeyedPipe) → slice_get ps place ≡ Some p → HasLineRoomAt instance p
+
+-- a finish of an instance needs no memory, where the list of drops has this capacity
+abbrev pub IsFreeIn : ℕ → ℕ → ℕ → ℕ → List KeyedPipe → Type 0
+IsFreeIn place instance now capacity ps =
+    (p : KeyedPipe) → slice_get ps place ≡ Some p → IsFreeAt instance now capacity p
 
 -- a finish of an instance at this moment drops nothing for sure
 abbrev pub IsPlainIn : ℕ → ℕ → ℕ → List KeyedPipe → Type 0

@@ -21,6 +21,6 @@ pub record Reaches (ps : List KeyedPipe) (dues : (ℕ → Packet) → List Due) 
 abbrev pub instance_dues : (ℕ → Packet) → KeyedPipe → ℕ → List Due
 instance_dues f pipe index =
     option_to_list (option_map (due Exit (pipe.number * 256 + index))
-    (option_and_then (λ i. first_exit i.line.flight) (slice_get (seen_pipe f pipe).instances index)))
+    (option_and_then (λ i. first_exit i.line.in_flight) (slice_get (seen_pipe f pipe).instances index)))
     ++ option_to_list (option_map (due Finish (pipe.number * 256 + index))
     (option_map (λ s. s.period.finish) (served_in index (seen_pipe f pipe))))

@@ -13,7 +13,7 @@ use Rattle.pipe_table.specs.declared.table.ConfigureError.TheVariants.{Refused, 
 use Rattle.packet_store.specs.Pocket.{Pocket}
 use Rattle.pipe_core.specs.Moves.{packet_at}
 use Rattle.pipe_core.specs.Keyed.{KeyedPipe, seen_pipe, keys_of}
-use Rattle.pipe_core.specs.Steps.{HasRoomAt, IsFreeAt}
+use Rattle.pipe_core.specs.Steps.{HasRoomAt}
 
 -- the experiment's seed, and its pipes by number
 pub record Table : Type 0 where
@@ -46,10 +46,6 @@ is_above k p = nat_lt k p.number
 -- a packet can come to pipe k without memory, where the shelf has room for it
 abbrev pub HasRoomIn : ℕ → Packet → List KeyedPipe → Type 0
 HasRoomIn k packet ps = (p : KeyedPipe) → pipe_of k ps ≡ Some p → HasRoomAt packet p
-
--- a finish of an instance of pipe k needs no memory, where the list of drops has this capacity
-abbrev pub IsFreeIn : ℕ → ℕ → ℕ → ℕ → List KeyedPipe → Type 0
-IsFreeIn k i now capacity ps = (p : KeyedPipe) → pipe_of k ps ≡ Some p → IsFreeAt i now capacity p
 
 -- only room has grown
 pub record HasGrown (old new : List KeyedPipe) : Type 0 where

@@ -8,10 +8,9 @@ ghost use Rattle.packet_store.specs.Pocket.{Pocket};
 ghost use Rattle.pipe_core.specs.Keyed.{seen_pipe};
 ghost use Rattle.pipe_table.specs.Table.{with_pipes};
 
-use crate::PipeTable;
+use crate::{PipeTable, RecordLog};
 use emu_model::{Mask, Packet, PipeNumber, Record};
 use pipe_core::Pipe;
-use record_log::RecordLog;
 
 // The line of the instance that a packet makes.
 fn identified(pipe: &Pipe, now: u64, instance: u8, packet: &Packet) -> Record

@@ -1,10 +1,10 @@
 //! What is due first among the pipes.
 
 ghost use Rattle.std.specs.Prelude.{◌≡◌, ℕ, ◌+◌, ◌*◌, ◌<◌, ◌≤◌, ◌++◌, ◌⊎◌, List, length, Some, option_map, option_and_then, option_to_list, flat_map, slice_get, slice_set, IsTrue, IfSome, vec_len, vec_capacity, OnOk, OnErr};
-ghost use Rattle.std.specs.List.{best_of, sum_by};
+ghost use Rattle.std.specs.List.{sum_by};
 ghost use Rattle.emu_model.specs.declared.packets.Packet.{Packet};
 ghost use Rattle.emu_model.specs.Delay.{first_exit};
-ghost use Rattle.emu_model.specs.Dues.{due, is_before, pipe_dues, line_dues, service_dues};
+ghost use Rattle.emu_model.specs.Dues.{due, pipe_dues, line_dues, service_dues};
 ghost use Rattle.due_index.specs.Least.{least_of};
 ghost use Rattle.emu_model.specs.Events.{served_in};
 ghost use Rattle.emu_model.specs.Net.{Net};
@@ -47,7 +47,7 @@ pub(crate) fn set_unless(same: bool, dues: &mut DueIndex, place: usize, pipe: &P
     let _number = pipe.number().get();
     let _instances = pipe.instances();
     if !same {
-        dues.set(place, pipe.least_number());
+        dues.set(place, pipe.least());
     }
 }
 
@@ -94,21 +94,10 @@ fn add_in(pipe: &Pipe, dues: &mut Vec<Due>)
 }
 
 impl PipeTable {
-    /// The least of a due and those of all pipes, by moment, class and number; the first of equal
-    /// ones. Walks nothing.
-    pub fn earliest(&self, best: Due) -> Due
-        ensures least { (p : Pocket) (n : Net) →
-            result ≡ best_of is_before best (flat_map pipe_dues (with_pipes p self.now n).pipes) }
-        ensures moment { result.moment ≤ best.moment }
-        ensures finishing { IsFinishDue best self.now.pipes → IsFinishDue result self.now.pipes }
-        ensures piped { IsPiped best → IsPiped result }
-    {
-        best.or_earlier(self.dues.least().due())
-    }
-
-    /// The same as one number.
+    /// The least of a due, if there is one, and those of all pipes, by moment, class and number; the
+    /// first of equal ones. Walks nothing.
     #[inline(always)]
-    pub fn earliest_number(&self, best: DueNumber) -> DueNumber
+    pub fn earliest(&self, best: DueNumber) -> DueNumber
         ensures least { (p : Pocket) (n : Net) → result
             ≡ least_of (option_to_list best ++ flat_map pipe_dues (with_pipes p self.now n).pipes) }
         ensures finishing { IfSome best (λ d. IsFinishDue d self.now.pipes) →

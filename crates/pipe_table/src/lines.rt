@@ -9,16 +9,15 @@ ghost use Rattle.pipe_core.specs.Keyed.{seen_pipe};
 ghost use Rattle.emu_model.specs.declared.records.Record.TheVariants.{InstanceLine};
 ghost use Rattle.pipe_table.specs.Table.{with_pipes};
 
-use crate::PipeTable;
+use crate::{PipeTable, RecordLog};
 use emu_model::{PipeNumber, Record};
 use pipe_core::{Pipe, Shown};
-use record_log::RecordLog;
 
 // The line of an instance.
 fn instance_line(pipe: PipeNumber, index: usize, shown: Shown) -> Record
     requires { index < 256 }
     ensures { result
-        ≡ InstanceLine pipe index shown.waiting shown.bytes shown.busy shown.flight shown.drawn }
+        ≡ InstanceLine pipe index shown.waiting shown.bytes shown.busy shown.in_flight shown.drawn }
 {
     Record::InstanceLine {
         pipe,
@@ -26,7 +25,7 @@ fn instance_line(pipe: PipeNumber, index: usize, shown: Shown) -> Record
         waiting: shown.waiting,
         bytes: shown.bytes,
         busy: shown.busy,
-        flight: shown.flight,
+        in_flight: shown.in_flight,
         drawn: shown.drawn,
     }
 }

@@ -5,7 +5,7 @@ ghost use Rattle.pipe_core.specs.Keyed.{KeyedPipe};
 ghost use Rattle.pipe_table.specs.Places.{AreLed};
 ghost use Rattle.pipe_table.specs.Table.{IsTable};
 
-use number_table::NumberTable;
+use due_index::NumberTable;
 use pipe_core::Pipe;
 
 /// Each pipe's number leads to its place from now on.

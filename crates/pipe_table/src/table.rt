@@ -5,7 +5,7 @@ ghost use Rattle.std.specs.List.{position_or_len};
 ghost use Rattle.std.specs.Option.{option_map_or};
 ghost use Rattle.emu_model.specs.FlowIds.{flow_id, same_flow};
 ghost use Rattle.emu_model.specs.Moments.{IsMoment};
-ghost use Rattle.emu_model.specs.declared.commands.Setting.{Setting};
+ghost use Rattle.emu_model.specs.declared.commands.EventContext.{EventContext};
 ghost use Rattle.emu_model.specs.Net.{Net, find_pipe, note, note_drops, enter_pipe};
 ghost use Rattle.emu_model.specs.declared.records.Record.TheVariants.{PacketFinished};
 ghost use Rattle.emu_model.specs.Commands.{config_refusal, configure, new_pipe, new_pipe_refusal, delete_pipe};
@@ -14,14 +14,13 @@ ghost use Rattle.packet_store.specs.Pocket.{Pocket, OthersStay, AllStay};
 ghost use Rattle.pipe_core.specs.Keyed.{KeyedPipe, ids_of};
 ghost use Rattle.pipe_core.specs.Moves.{AreNamed, Keeps};
 ghost use Rattle.pipe_core.specs.Steps.{drops_of, drops_by_codel};
-ghost use Rattle.pipe_table.specs.Table.{with_pipes, pipe_keys, pipe_of, has_number, HasRoomIn, HasGrown, IsFinishing, IsFreeIn, is_above, drops_by_deletion, refusal_in};
-ghost use Rattle.pipe_table.specs.Places.{StandsAt, IsInside, IsRouted, HasRoomAtPlace, HasLineRoomIn, IsPlainIn, KeepsPlaces};
+ghost use Rattle.pipe_table.specs.Table.{with_pipes, pipe_keys, pipe_of, has_number, HasRoomIn, HasGrown, IsFinishing, is_above, drops_by_deletion, refusal_in};
+ghost use Rattle.pipe_table.specs.Places.{StandsAt, IsInside, IsRouted, HasRoomAtPlace, HasLineRoomIn, IsFreeIn, IsPlainIn, KeepsPlaces};
 
 use crate::dues::{index_all, set_unless};
 use crate::places::lead_all;
-use due_index::DueIndex;
+use due_index::{DueIndex, NumberTable};
 use emu_model::{DropCause, Packet, PipeConfig, PipeNumber, Refusal, Size};
-use number_table::NumberTable;
 use packet_store::{Owner, Shelf};
 use pipe_core::{NO_INSTANCE, Pipe, keys_say_all};
 use std::alloc::{AllocError, Global};
@@ -163,7 +162,7 @@ impl PipeTable {
         requires room { 0 < S.room shelf.old owner }
         requires ready { HasRoomAtPlace packet.now.size place instance self.old.pipes }
         ensures seed { self.new.seed ≡ self.old.seed }
-        ensures arrived { (k : ℕ) → StandsAt k place self.old.pipes → (at : Setting) (n : Net) →
+        ensures arrived { (k : ℕ) → StandsAt k place self.old.pipes → (at : EventContext) (n : Net) →
             at.seed ≡ self.old.seed → at.now ≡ now →
             enter_pipe at k packet.now (with_pipes (S.pocket shelf.old owner) self.old n)
             ≡ note_drops now (drops_of packet.now result)
@@ -183,53 +182,68 @@ impl PipeTable {
 
     /// A finish of an instance at this moment (ns) drops nothing for sure, by the places of pipe and instance.
     #[inline(always)]
-    pub fn drops_none_at(&self, place: usize, instance: usize, now: u64) -> bool
+    pub fn drops_none(&self, place: usize, instance: usize, now: u64) -> bool
         requires { IsInside place instance self.now.pipes }
         ensures { IsTrue result ↔ IsPlainIn place instance now self.now.pipes }
     {
         self.pipes[place].drops_none(instance, now)
     }
 
-    /// The same as `finish`, where nothing is dropped, as `drops_none_at` told: the number of the packet that finished.
+    /// The packet in service in an instance finishes at the moment `now` (ns), at which it is due, and
+    /// is told. What CoDel drops stands in `drops` then, in order; the list keeps its room. Refused, only
+    /// room has grown. Where the caller knows that it is `plain`, as `drops_none` told, nothing is dropped.
     #[inline(always)]
-    pub fn finish_plainly_at<S: Shelf>(
+    pub fn finish<S: Shelf>(
         &mut self,
         place: usize,
         instance: usize,
-        shelf: &S,
+        shelf: &mut S,
         owner: Owner,
         now: u64,
-    ) -> Result<u64, AllocError>
+        plain: bool,
+        drops: &mut Vec<Packet>,
+    ) -> Result<Packet, AllocError>
         requires early { IsMoment now }
         requires due { (k : ℕ) × StandsAt k place self.old.pipes
             × IsFinishing k instance now self.old.pipes }
-        requires named { AreNamed (S.pocket shelf.now owner) (pipe_keys self.old.pipes) }
-        requires plain { IsPlainIn place instance now self.old.pipes }
+        requires named { AreNamed (S.pocket shelf.old owner) (pipe_keys self.old.pipes) }
+        requires plain { IsTrue plain → IsPlainIn place instance now self.old.pipes }
         ensures seed { self.new.seed ≡ self.old.seed }
         ensures ok { IfOk result
-            (λ number. (k : ℕ) → StandsAt k place self.old.pipes → (at : Setting) (n : Net) →
+            (λ packet. (k : ℕ) → StandsAt k place self.old.pipes → (at : EventContext) (n : Net) →
             at.now ≡ now →
-            let m = with_pipes (S.pocket shelf.now owner) self.old n in
+            let m = with_pipes (S.pocket shelf.old owner) self.old n in
             option_map_or (pipe_finishes at k instance m) (find_pipe k m) m
-            ≡ note_drops now []
-            (with_pipes (S.pocket shelf.now owner) self.new
-            (note (PacketFinished now number k instance) n))) }
-        ensures keys { Keeps (S.pocket shelf.now owner) (S.pocket shelf.now owner)
+            ≡ note_drops now (drops_by_codel drops.new.items)
+            (with_pipes (S.pocket shelf.new owner) self.new
+            (note (PacketFinished now packet.number k instance) n))) }
+        ensures keys { Keeps (S.pocket shelf.old owner) (S.pocket shelf.new owner)
             (pipe_keys self.old.pipes) (pipe_keys self.new.pipes) }
         ensures places { KeepsPlaces self.old.pipes self.new.pipes }
+        ensures others { OthersStay owner (S.pocket shelf.old) (S.pocket shelf.new) }
+        ensures count { OnOk result
+            ((S.pocket shelf.new owner).count + length drops.new.items
+            ≡ (S.pocket shelf.old owner).count) }
         ensures refused { OnErr result (HasGrown self.old.pipes self.new.pipes) }
-        ensures succeeds { HasLineRoomIn place instance self.old.pipes → IsOk result }
+        ensures refused_pocket { OnErr result
+            (S.pocket shelf.new owner ≡ S.pocket shelf.old owner) }
+        ensures succeeds { IsFreeIn place instance now (vec_capacity drops.old) self.old.pipes →
+            IsOk result }
+        ensures plainly { IsTrue plain → HasLineRoomIn place instance self.old.pipes →
+            IsOk result }
+        ensures none { IsTrue plain → OnOk result (drops.new.items ≡ []) }
+        ensures capacity { vec_capacity drops.old ≤ vec_capacity drops.new }
     {
         keys_say_all();
         let pipe = &mut self.pipes[place];
-        let finished = pipe.finish_plainly(shelf, owner, instance, now);
+        let finished = pipe.finish(shelf, owner, instance, now, plain, drops);
         set_unless(false, &mut self.dues, place, pipe);
         finished
     }
 
-    /// The packet that `exit_at` would give.
+    /// The packet that `exit` would give; None where there is no such instance.
     #[inline(always)]
-    pub fn front_at<S: Shelf>(
+    pub fn front<S: Shelf>(
         &self,
         place: usize,
         instance: usize,
@@ -250,9 +264,11 @@ impl PipeTable {
         pipe.front(shelf, owner, instance)
     }
 
-    /// The packet that leaves first in an instance goes, by the places of pipe and instance, which are there.
+    /// The packet that leaves first in an instance goes, by the places of pipe and instance, which are there:
+    /// it is taken from the shelf. None where nothing is on its way. Takes no memory, and keeps room for
+    /// arrivals.
     #[inline(always)]
-    pub fn exit_at<S: Shelf>(
+    pub fn exit<S: Shelf>(
         &mut self,
         place: usize,
         instance: usize,
@@ -262,7 +278,7 @@ impl PipeTable {
         requires inside { IsInside place instance self.old.pipes }
         requires named { AreNamed (S.pocket shelf.old owner) (pipe_keys self.old.pipes) }
         ensures seed { self.new.seed ≡ self.old.seed }
-        ensures gone { (k : ℕ) → StandsAt k place self.old.pipes → (at : Setting) (n : Net) →
+        ensures gone { (k : ℕ) → StandsAt k place self.old.pipes → (at : EventContext) (n : Net) →
             let m = with_pipes (S.pocket shelf.old owner) self.old n in
             option_map_or (pipe_exits at k instance m) (find_pipe k m) m
             ≡ leave_pipe_some at k instance result
@@ -300,54 +316,26 @@ impl PipeTable {
         true
     }
 
-    /// Makes the growths that `arrive` of this packet at this pipe needs, or of one that differs in its
-    /// load, number or place. Only room grows, also where one is refused.
-    pub fn arrive_ready<S: Shelf>(
-        &mut self,
-        shelf: &mut S,
-        owner: Owner,
-        now: u64,
-        number: PipeNumber,
-        packet: &Packet,
-    ) -> Result<(), AllocError>
-        ensures seed { self.new.seed ≡ self.old.seed }
-        ensures grown { HasGrown self.old.pipes self.new.pipes }
-        ensures places { KeepsPlaces self.old.pipes self.new.pipes }
-        ensures pockets { AllStay (S.pocket shelf.old) (S.pocket shelf.new) }
-        ensures rooms { (o : ℕ) → S.room shelf.old o ≤ S.room shelf.new o }
-        ensures room { OnOk result
-            (IsSome (pipe_of number self.new.pipes) →
-            (S.pocket shelf.old owner).count < (S.pocket shelf.old owner).budget →
-            0 < S.room shelf.new owner) }
-        ensures ready { OnOk result (HasRoomIn number packet.now self.new.pipes) }
-        ensures succeeds { (IsSome (pipe_of number self.old.pipes) → 0 < S.room shelf.old owner) →
-            HasRoomIn number packet.now self.old.pipes → IsOk result }
-    {
-        let Some(place) = self.place_of(number) else {
-            return Ok(());
-        };
-        self.route_ready(shelf, owner, now, place, packet)?;
-        Ok(())
-    }
-
-    /// A packet is handed to a pipe at the moment `now` (ns): None where it is taken in, else why it is
-    /// dropped, `NoPipe` where there is no such pipe. `arrive_ready` came before.
+    /// A packet comes to the pipe at a place at the moment `now` (ns), where its instance is found or made:
+    /// None where it is taken in, else why it is dropped. `route_ready` came before.
     pub fn arrive<S: Shelf>(
         &mut self,
+        place: usize,
         shelf: &mut S,
         owner: Owner,
         now: u64,
-        number: PipeNumber,
         packet: &Packet,
     ) -> Option<DropCause>
         requires early { IsMoment now }
+        requires there { (k : ℕ) × StandsAt k place self.old.pipes
+            × HasRoomIn k packet.now self.old.pipes }
         requires named { AreNamed (S.pocket shelf.old owner) (pipe_keys self.old.pipes) }
         requires budget { (S.pocket shelf.old owner).count < (S.pocket shelf.old owner).budget }
-        requires room { IsSome (pipe_of number self.old.pipes) → 0 < S.room shelf.old owner }
-        requires ready { HasRoomIn number packet.now self.old.pipes }
+        requires room { 0 < S.room shelf.old owner }
         ensures seed { self.new.seed ≡ self.old.seed }
-        ensures arrived { (at : Setting) (n : Net) → at.seed ≡ self.old.seed → at.now ≡ now →
-            enter_pipe at number packet.now (with_pipes (S.pocket shelf.old owner) self.old n)
+        ensures arrived { (k : ℕ) → StandsAt k place self.old.pipes → (at : EventContext) (n : Net) →
+            at.seed ≡ self.old.seed → at.now ≡ now →
+            enter_pipe at k packet.now (with_pipes (S.pocket shelf.old owner) self.old n)
             ≡ note_drops now (drops_of packet.now result)
             (with_pipes (S.pocket shelf.new owner) self.new n) }
         ensures keys { Keeps (S.pocket shelf.old owner) (S.pocket shelf.new owner)
@@ -356,122 +344,10 @@ impl PipeTable {
         ensures others { OthersStay owner (S.pocket shelf.old) (S.pocket shelf.new) }
     {
         keys_say_all();
-        let Some(place) = self.place_of(number) else {
-            return Some(DropCause::NoPipe);
-        };
-        let answer = self.pipes[place].arrive(shelf, owner, now, packet);
-        self.dues.set(place, self.pipes[place].least());
+        let pipe = &mut self.pipes[place];
+        let answer = pipe.arrive(shelf, owner, now, packet);
+        set_unless(false, &mut self.dues, place, pipe);
         answer
-    }
-
-    /// The packet that `exit` would give.
-    pub fn front<S: Shelf>(
-        &self,
-        shelf: &S,
-        owner: Owner,
-        number: PipeNumber,
-        instance: u8,
-    ) -> Option<Packet>
-        requires { AreNamed (S.pocket shelf.now owner) (pipe_keys self.now.pipes) }
-        ensures { (n : Net) →
-            result ≡ option_and_then (flying_in instance)
-            (find_pipe number (with_pipes (S.pocket shelf.now owner) self.now n)) }
-    {
-        let Some(place) = self.place_of(number) else {
-            return None;
-        };
-        self.front_at(place, instance as usize, shelf, owner)
-    }
-
-    /// The packet that leaves first in an instance goes: it is taken from the shelf. None where there is
-    /// none. Takes no memory, and keeps room for arrivals.
-    pub fn exit<S: Shelf>(
-        &mut self,
-        shelf: &mut S,
-        owner: Owner,
-        number: PipeNumber,
-        instance: u8,
-    ) -> Option<Packet>
-        requires named { AreNamed (S.pocket shelf.old owner) (pipe_keys self.old.pipes) }
-        ensures seed { self.new.seed ≡ self.old.seed }
-        ensures gone { (at : Setting) (n : Net) →
-            let m = with_pipes (S.pocket shelf.old owner) self.old n in
-            option_map_or (pipe_exits at number instance m) (find_pipe number m) m
-            ≡ leave_pipe_some at number instance result
-            (with_pipes (S.pocket shelf.new owner) self.new n) }
-        ensures packet { (n : Net) →
-            result ≡ option_and_then (flying_in instance)
-            (find_pipe number (with_pipes (S.pocket shelf.old owner) self.old n)) }
-        ensures keys { Keeps (S.pocket shelf.old owner) (S.pocket shelf.new owner)
-            (pipe_keys self.old.pipes) (pipe_keys self.new.pipes) }
-        ensures places { KeepsPlaces self.old.pipes self.new.pipes }
-        ensures ready { (k : ℕ) (p : Packet) → HasRoomIn k p self.old.pipes →
-            HasRoomIn k p self.new.pipes }
-        ensures ready_at { (size i j : ℕ) → HasRoomAtPlace size i j self.old.pipes →
-            HasRoomAtPlace size i j self.new.pipes }
-        ensures freed { OnSome result (0 < S.room shelf.new owner) }
-        ensures below { OnSome result
-            ((S.pocket shelf.new owner).count < (S.pocket shelf.new owner).budget) }
-        ensures others { OthersStay owner (S.pocket shelf.old) (S.pocket shelf.new) }
-    {
-        keys_say_all();
-        let Some(place) = self.place_of(number) else {
-            return None;
-        };
-        let index = instance as usize;
-        if self.pipes[place].instances() <= index {
-            return None;
-        }
-        let packet = self.pipes[place].exit(shelf, owner, index);
-        self.dues.set(place, self.pipes[place].least());
-        packet
-    }
-
-    /// The packet in service in an instance finishes at the moment `now` (ns), at which it is due, and
-    /// is told. What CoDel drops stands in `drops` then, in order; the list keeps its room. Refused, only
-    /// room has grown.
-    #[inline(always)]
-    pub fn finish<S: Shelf>(
-        &mut self,
-        shelf: &mut S,
-        owner: Owner,
-        now: u64,
-        number: PipeNumber,
-        instance: u8,
-        drops: &mut Vec<Packet>,
-    ) -> Result<Packet, AllocError>
-        requires early { IsMoment now }
-        requires due { IsFinishing number instance now self.old.pipes }
-        requires named { AreNamed (S.pocket shelf.old owner) (pipe_keys self.old.pipes) }
-        ensures seed { self.new.seed ≡ self.old.seed }
-        ensures ok { IfOk result
-            (λ packet. (at : Setting) (n : Net) → at.now ≡ now →
-            let m = with_pipes (S.pocket shelf.old owner) self.old n in
-            option_map_or (pipe_finishes at number instance m) (find_pipe number m) m
-            ≡ note_drops now (drops_by_codel drops.new.items)
-            (with_pipes (S.pocket shelf.new owner) self.new
-            (note (PacketFinished now packet.number number instance) n))) }
-        ensures keys { Keeps (S.pocket shelf.old owner) (S.pocket shelf.new owner)
-            (pipe_keys self.old.pipes) (pipe_keys self.new.pipes) }
-        ensures places { KeepsPlaces self.old.pipes self.new.pipes }
-        ensures others { OthersStay owner (S.pocket shelf.old) (S.pocket shelf.new) }
-        ensures count { OnOk result
-            ((S.pocket shelf.new owner).count + length drops.new.items
-            ≡ (S.pocket shelf.old owner).count) }
-        ensures refused { OnErr result (HasGrown self.old.pipes self.new.pipes) }
-        ensures refused_pocket { OnErr result
-            (S.pocket shelf.new owner ≡ S.pocket shelf.old owner) }
-        ensures succeeds { IsFreeIn number instance now (vec_capacity drops.old) self.old.pipes →
-            IsOk result }
-        ensures capacity { vec_capacity drops.old ≤ vec_capacity drops.new }
-    {
-        keys_say_all();
-        let Some(place) = self.place_of(number) else {
-            unreachable!();
-        };
-        let finished = self.pipes[place].finish(shelf, owner, instance as usize, now, drops);
-        self.dues.set(place, self.pipes[place].least());
-        finished
     }
 
     /// A pipe's new configuration, or a new pipe; refused as `MaskFixed` where a pipe with instances is

@@ -3,25 +3,25 @@ use Rattle.std.proofs.Common.{◌≡◌, ℕ, zero, suc, ◌+◌, ◌-◌, ◌*�
 use Rattle.std.specs.Prelude.{All, sum}
 use Rattle.std.proofs.lemmas.List.Sums.{sum-map, sum_by-cons, sum_by_push, sum_by-le}
 use Rattle.std.proofs.lemmas.List.Elements.{All-push, All-cons, All-head, All-tail}
-use Rattle.emu_model.specs.DropTail.{Waiting, bytes_of}
+use Rattle.emu_model.specs.DropTail.{Queued, bytes_of}
 use Rattle.queue_disc.specs.Queues.{IsCounted, with_item}
 
-pub bytes_of-cons : {A : Type 0} (w : Waiting A) (ws : List (Waiting A)) →
+pub bytes_of-cons : {A : Type 0} (w : Queued A) (ws : List (Queued A)) →
     bytes_of (w ∷ ws) ≡ w.size + bytes_of ws
 bytes_of-cons w ws =
     omega (arith, sum-map (λ v. v.size) (w ∷ ws), sum_by-cons (λ v. v.size) w ws, sum-map (λ v. v.size) ws)
 
-bytes_of-push : {A : Type 0} (ws : List (Waiting A)) (w : Waiting A) →
+bytes_of-push : {A : Type 0} (ws : List (Queued A)) (w : Queued A) →
     bytes_of (ws ++ w ∷ []) ≡ bytes_of ws + w.size
 bytes_of-push ws w =
     omega (arith, sum-map (λ v. v.size) (ws ++ w ∷ []), sum_by_push (λ v. v.size) ws w, sum-map (λ v. v.size) ws)
 
 -- items of up to 1500 bytes have so many in all
-pub bytes_of-le : {A : Type 0} (ws : List (Waiting A)) → All (λ v. v.size ≤ 1500) ws →
+pub bytes_of-le : {A : Type 0} (ws : List (Queued A)) → All (λ v. v.size ≤ 1500) ws →
     bytes_of ws ≤ length ws * 1500
 bytes_of-le ws h = omega (arith, sum-map (λ v. v.size) ws, sum_by-le (λ v. v.size) 1500 ws h)
 
-pub IsCounted-push : {A : Type 0} (bytes : ℕ) (ws : List (Waiting A)) (w : Waiting A) →
+pub IsCounted-push : {A : Type 0} (bytes : ℕ) (ws : List (Queued A)) (w : Queued A) →
     IsCounted bytes ws → w.size ≤ 1500 → bytes_of ws + w.size ≤ 1500000 →
     IsCounted (bytes + w.size) (ws ++ w ∷ [])
 IsCounted-push bytes ws w h small few = record {
@@ -30,7 +30,7 @@ IsCounted-push bytes ws w h small few = record {
   sizes = All-push (λ v. v.size ≤ 1500) ws w h.sizes small;
 }
 
-pub IsCounted-tail : {A : Type 0} (bytes : ℕ) (w : Waiting A) (ws : List (Waiting A)) →
+pub IsCounted-tail : {A : Type 0} (bytes : ℕ) (w : Queued A) (ws : List (Queued A)) →
     IsCounted bytes (w ∷ ws) → IsCounted (bytes - w.size) ws
 IsCounted-tail bytes w ws h = record {
   sum = omega (arith, h.sum, bytes_of-cons w ws);
@@ -39,20 +39,20 @@ IsCounted-tail bytes w ws h = record {
 }
 
 -- another item at a place
-pub with_item-set : {A : Type 0} (ws : List (Waiting A)) (n : ℕ) (w : Waiting A) (item : A) → n < length ws →
+pub with_item-set : {A : Type 0} (ws : List (Queued A)) (n : ℕ) (w : Queued A) (item : A) → n < length ws →
     w ≡ slice_index_or ws n w → set ws n (record w { item = item }) ≡ with_item ws n item
 with_item-set [] n w item within value = absurd (omega (arith, within))
-with_item-set {A} (x ∷ ws) zero w item within value = ap (λ (v : Waiting A). record v { item = item } ∷ ws) value
+with_item-set {A} (x ∷ ws) zero w item within value = ap (λ (v : Queued A). record v { item = item } ∷ ws) value
 with_item-set {A} (x ∷ ws) (suc n) w item within value =
-    ap (λ (l : List (Waiting A)). x ∷ l) (with_item-set ws n w item (omega (arith, within)) value)
+    ap (λ (l : List (Queued A)). x ∷ l) (with_item-set ws n w item (omega (arith, within)) value)
 
-with_item-sizes : {A : Type 0} (ws : List (Waiting A)) (n : ℕ) (item : A) →
+with_item-sizes : {A : Type 0} (ws : List (Queued A)) (n : ℕ) (item : A) →
     map (λ w. w.size) (with_item ws n item) ≡ map (λ w. w.size) ws
 with_item-sizes [] n item = refl
 with_item-sizes (w ∷ ws) zero item = refl
 with_item-sizes (w ∷ ws) (suc n) item = ap (λ l. w.size ∷ l) (with_item-sizes ws n item)
 
-with_item-small : {A : Type 0} (ws : List (Waiting A)) (n : ℕ) (item : A) → All (λ w. w.size ≤ 1500) ws →
+with_item-small : {A : Type 0} (ws : List (Queued A)) (n : ℕ) (item : A) → All (λ w. w.size ≤ 1500) ws →
     All (λ w. w.size ≤ 1500) (with_item ws n item)
 with_item-small [] n item h = h
 with_item-small (w ∷ ws) zero item h =
@@ -61,7 +61,7 @@ with_item-small (w ∷ ws) (suc n) item h =
     All-cons (λ v. v.size ≤ 1500) w (with_item ws n item) (All-head (λ v. v.size ≤ 1500) w ws h)
     (with_item-small ws n item (All-tail (λ v. v.size ≤ 1500) w ws h))
 
-pub IsCounted-replaced : {A : Type 0} (bytes : ℕ) (ws : List (Waiting A)) (n : ℕ) (item : A) → IsCounted bytes ws →
+pub IsCounted-replaced : {A : Type 0} (bytes : ℕ) (ws : List (Queued A)) (n : ℕ) (item : A) → IsCounted bytes ws →
     IsCounted bytes (with_item ws n item)
 IsCounted-replaced bytes ws n item h = record {
   sum = h.sum ∙ ap sum (sym (with_item-sizes ws n item));

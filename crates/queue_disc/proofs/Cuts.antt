@@ -4,17 +4,17 @@ use Rattle.std.specs.Prelude.{option_to_list, MatchOption}
 use Rattle.std.proofs.lemmas.List.{take_more, take_at, drop_at, get_or-drop, length-drop, length-append, append_assoc, drop-drop}
 use Rattle.emu_model.specs.declared.pipes.QueueLimit.{QueueLimit}
 use Rattle.queue_disc.specs.Queues.{TailQueue}
-use Rattle.emu_model.specs.DropTail.{Waiting}
+use Rattle.emu_model.specs.DropTail.{Queued}
 use Rattle.emu_model.specs.Codel.{CodelState, Dequeued}
 use Rattle.emu_model.proofs.CallerLemmas.{IsCut}
 
 -- no more is dropped than waits
-pub dropped-le : {A : Type 0} (ws : List (Waiting A)) (d : Dequeued A) → IsCut ws d → length d.dropped ≤ length ws
+pub dropped-le : {A : Type 0} (ws : List (Queued A)) (d : Dequeued A) → IsCut ws d → length d.dropped ≤ length ws
 dropped-le ws d h =
     omega (arith, ap length h.whole, length-append d.dropped (option_to_list d.given ++ d.rest))
 
 -- the head of what is left once the dropped are gone, and what is behind it
-left-is : {A : Type 0} (given goal : Option (Waiting A)) (rest ends left : List (Waiting A)) →
+left-is : {A : Type 0} (given goal : Option (Queued A)) (rest ends left : List (Queued A)) →
     left ≡ option_to_list goal ++ ends → (goal ≡ None → ends ≡ []) →
     MatchOption given (left ≡ []) (λ w. left ≡ w ∷ rest) → rest ≡ drop 1 left →
     (given ≡ goal) × (rest ≡ ends)
@@ -24,7 +24,7 @@ left-is (Some v) None rest ends left e none m r = let nil = none refl in absurd 
 left-is (Some v) (Some w) rest ends left e none m r = (cc, cc)
 
 -- to take as many as are dropped, and then the head, is the dequeue
-pub taken-is : {A : Type 0} (ws : List (Waiting A)) (d : Dequeued A) (n : ℕ) (control : CodelState) (dropped : List (Waiting A)) (given : Option (Waiting A)) (rest left : List (Waiting A)) →
+pub taken-is : {A : Type 0} (ws : List (Queued A)) (d : Dequeued A) (n : ℕ) (control : CodelState) (dropped : List (Queued A)) (given : Option (Queued A)) (rest left : List (Queued A)) →
     IsCut ws d → n ≡ length d.dropped → control ≡ d.control → dropped ≡ take n ws → left ≡ drop n ws →
     MatchOption given (left ≡ []) (λ w. left ≡ w ∷ rest) → rest ≡ drop 1 left →
     (let r : Dequeued A = record { dropped = dropped; given = given; rest = rest; control = control } in r) ≡ d
@@ -52,7 +52,7 @@ list_more first ws list more k w rest e f h =
     f ∙ ap (λ xs. xs ++ w ∷ []) e ∙ append_assoc first (take k ws) (w ∷ [])
     ∙ ap (λ xs. first ++ xs) (sym (take_next ws k w rest h))
 
-pub rest_more : {A : Type 0} (limit : QueueLimit) (capacity : ℕ) (ws : List (Waiting A)) (k : ℕ) (q r : TailQueue A) →
+pub rest_more : {A : Type 0} (limit : QueueLimit) (capacity : ℕ) (ws : List (Queued A)) (k : ℕ) (q r : TailQueue A) →
     q ≡ record { limit = limit; waiting = drop k ws; capacity = capacity } →
     r ≡ record q { waiting = drop 1 q.waiting } →
     r ≡ record { limit = limit; waiting = drop (k + 1) ws; capacity = capacity }

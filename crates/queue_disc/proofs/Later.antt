@@ -2,19 +2,19 @@
 use Rattle.std.proofs.Common.{◌≡◌, ℕ, ◌+◌, ◌∙◌, ap, sym, refl, Bool, true, false, List, [], ◌∷◌, arith}
 use Rattle.std.specs.Prelude.{nat_lt, nat_le, not, ◌==◌, if◌then◌else◌}
 use Rattle.std.proofs.lemmas.Bool.Decides.{nat_tests}
-use Rattle.emu_model.specs.DropTail.{Waiting}
+use Rattle.emu_model.specs.DropTail.{Queued}
 use Rattle.emu_model.specs.Codel.{Times, CodelState, Dequeued, codel_dequeue}
 use Rattle.emu_model.proofs.CodelParts.{Found, found_by, found_of, is_short, stop_dropping, give_head, drop_on, first_dropped, by_parts}
 use Rattle.queue_disc.specs.Queues.{drops_later, given}
 
 -- while dropping, before the moment of the next drop
-drop_on-waits : {A : Type 0} (times : Times) (now : ℕ) (c : CodelState) (w : Waiting A) (rest : List (Waiting A)) →
+drop_on-waits : {A : Type 0} (times : Times) (now : ℕ) (c : CodelState) (w : Queued A) (rest : List (Queued A)) →
     nat_lt now c.drop_next ≡ true → drop_on times now c w rest ≡ give_head c w rest
 drop_on-waits times now c w [] e = rw e
 drop_on-waits times now c w (v ∷ rest) e = rw e
 
 -- what is found of a head whose stay was long before
-found_of-long : {A : Type 0} (times : Times) (now : ℕ) (c : CodelState) (w : Waiting A) (rest : List (Waiting A)) →
+found_of-long : {A : Type 0} (times : Times) (now : ℕ) (c : CodelState) (w : Queued A) (rest : List (Queued A)) →
     is_short times now w rest ≡ false → c.first_above_time == 0 ≡ false →
     found_of times now c w rest
     ≡ record { ok_to_drop = nat_le c.first_above_time now; first_above_time = c.first_above_time }
@@ -24,7 +24,7 @@ found_of-long times now c w rest long before =
     else record { ok_to_drop = nat_le c.first_above_time now; first_above_time = c.first_above_time }) before
 
 -- the head is given, and the state is as after it
-pub later_gives : {A : Type 0} (times : Times) (now : ℕ) (c : CodelState) (w : Waiting A) (rest : List (Waiting A)) →
+pub later_gives : {A : Type 0} (times : Times) (now : ℕ) (c : CodelState) (w : Queued A) (rest : List (Queued A)) →
     is_short times now w rest ≡ false → drops_later c now ≡ true →
     codel_dequeue times now c (w ∷ rest) ≡ give_head (given false now c) w rest
 later_gives {A = A} times now c w rest long later =

@@ -3,7 +3,7 @@ use Rattle.std.specs.Prelude.{◌≡◌, ℕ, zero, suc, ◌≤◌, ◌==◌, �
 use Rattle.emu_model.specs.declared.pipes.QueueLimit.{QueueLimit}
 use Rattle.emu_model.specs.declared.pipes.Discipline.{Discipline}
 use Rattle.emu_model.specs.declared.pipes.Discipline.TheVariants.{TailDrop, ControlledDelay}
-use Rattle.emu_model.specs.DropTail.{Waiting, bytes_of}
+use Rattle.emu_model.specs.DropTail.{Queued, bytes_of}
 use Rattle.emu_model.specs.Codel.{Times, CodelState, Dequeued}
 use Rattle.emu_model.specs.Pipes.{dequeue}
 use Rattle.emu_model.proofs.CodelParts.{is_short, look_empty, stop_dropping}
@@ -13,13 +13,13 @@ pub record DisciplinedQueue (A : Type 0) : Type 0 where
   pub limit : QueueLimit
   pub discipline : Discipline
   pub control : CodelState
-  pub waiting : List (Waiting A)
+  pub waiting : List (Queued A)
   pub capacity : ℕ
 
 -- a drop-tail queue
 pub record TailQueue (A : Type 0) : Type 0 where
   pub limit : QueueLimit
-  pub waiting : List (Waiting A)
+  pub waiting : List (Queued A)
   pub capacity : ℕ
 
 -- a CoDel queue
@@ -27,7 +27,7 @@ pub record CodelQueue (A : Type 0) : Type 0 where
   pub times : Times
   pub limit : QueueLimit
   pub control : CodelState
-  pub waiting : List (Waiting A)
+  pub waiting : List (Queued A)
   pub capacity : ℕ
 
 -- the times of a discipline that is CoDel
@@ -58,18 +58,18 @@ abbrev pub passed : {A : Type 0} → ℕ → DisciplinedQueue A → DisciplinedQ
 passed {A} now q = record q { control = (dequeue {A = A} q.discipline now q.control []).control }
 
 -- the discipline's dequeue at `now`: these were dropped, this one given, and the rest waits
-abbrev pub IsDequeue : {A : Type 0} → ℕ → List (Waiting A) → Option (Waiting A) → DisciplinedQueue A → DisciplinedQueue A → Type 0
+abbrev pub IsDequeue : {A : Type 0} → ℕ → List (Queued A) → Option (Queued A) → DisciplinedQueue A → DisciplinedQueue A → Type 0
 IsDequeue {A} now dropped given old new =
     let d : Dequeued A = record { dropped = dropped; given = given; rest = new.waiting; control = new.control } in
     d ≡ dequeue old.discipline now old.control old.waiting
 
 -- nothing waits, or the head's stay is short
-abbrev pub stays_short : {A : Type 0} → Times → ℕ → List (Waiting A) → Bool
+abbrev pub stays_short : {A : Type 0} → Times → ℕ → List (Queued A) → Bool
 stays_short times now [] = true
 stays_short times now (w ∷ ws) = is_short times now w ws
 
 -- the same under a discipline; under the limit alone no stay is long
-abbrev pub head_is_short : {A : Type 0} → Discipline → ℕ → List (Waiting A) → Bool
+abbrev pub head_is_short : {A : Type 0} → Discipline → ℕ → List (Queued A) → Bool
 head_is_short TailDrop now ws = true
 head_is_short (ControlledDelay target interval) now ws =
     stays_short (record { target = target; interval = interval }) now ws
@@ -86,20 +86,20 @@ given true now c = stop_dropping (look_empty c)
 given false now c = if nat_lt now c.first_above_time then stop_dropping c else c
 
 -- a dequeue drops nothing for sure
-abbrev pub is_plain : {A : Type 0} → Discipline → CodelState → ℕ → List (Waiting A) → Bool
+abbrev pub is_plain : {A : Type 0} → Discipline → CodelState → ℕ → List (Queued A) → Bool
 is_plain TailDrop c now ws = true
 is_plain (ControlledDelay target interval) c now ws =
     drops_later c now || head_is_short (ControlledDelay target interval) now ws
 
 -- the sum that is kept beside what waits. Each limit lets at most 1,500,000 bytes wait, and a change
 -- of limit drops nothing
-pub record IsCounted {A : Type 0} (bytes : ℕ) (ws : List (Waiting A)) : Type 0 where
+pub record IsCounted {A : Type 0} (bytes : ℕ) (ws : List (Queued A)) : Type 0 where
   pub sum : bytes ≡ bytes_of ws
   pub few : bytes ≤ 1500000
   pub sizes : All (λ w. w.size ≤ 1500) ws
 
 -- another item at a place; its size and its stamp stay
-abbrev pub with_item : {A : Type 0} → List (Waiting A) → ℕ → A → List (Waiting A)
+abbrev pub with_item : {A : Type 0} → List (Queued A) → ℕ → A → List (Queued A)
 with_item [] place item = []
 with_item (w ∷ ws) zero item = record w { item = item } ∷ ws
 with_item (w ∷ ws) (suc place) item = w ∷ with_item ws place item

@@ -6,9 +6,8 @@ ghost use Rattle.emu_model.specs.DropTail.{bytes_of, accepts};
 ghost use Rattle.emu_model.specs.Codel.{codel_dequeue, initial_control};
 ghost use Rattle.queue_disc.specs.Queues.{with_item};
 
-use crate::entries::{EnqueueError, Refused, Waiting};
+use crate::entries::{EnqueueError, Queued, Refused};
 use crate::queue::{Dequeued, Queue};
-use crate::state::CodelState;
 use crate::tail::DropTail;
 use emu_model::{CodelTime, Discipline, QueueLimit, Size};
 use std::alloc::{AllocError, Global};
@@ -135,7 +134,7 @@ impl<A> Codel<A> {
     }
 
     /// Takes the head as it is, past CoDel's law. Takes no memory.
-    pub fn take(&mut self) -> Option<Waiting<A>>
+    pub fn take(&mut self) -> Option<Queued<A>>
         ensures given { MatchOption result (self.old.waiting ≡ [])
             (λ w. self.old.waiting ≡ w ∷ self.new.waiting) }
         ensures rest { self.new ≡ record self.old { waiting = drop 1 self.old.waiting } }
@@ -182,13 +181,6 @@ impl<A> Codel<A> {
             ≡ record self.old { times = record { target = target; interval = interval } } }
     {
         self.queue.discipline = Discipline::ControlledDelay { target, interval };
-    }
-
-    /// Puts CoDel back to its opening state. What waits stays.
-    pub fn reset_control(&mut self)
-        ensures { self.new ≡ record self.old { control = initial_control } }
-    {
-        self.queue.control = CodelState::initial();
     }
 }
 

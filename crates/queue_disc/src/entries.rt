@@ -5,14 +5,14 @@ use std::marker::Model;
 
 /// What waits, its bytes, and the moment at which it came, in nanoseconds.
 #[derive(Drop)]
-pub struct Waiting<A> {
+pub struct Queued<A> {
     pub item: A,
     pub size: Size,
     pub stamp: u64,
 }
 
-impl<A> Model for Waiting<A> {
-    ghost use Rattle.emu_model.specs.DropTail.{Waiting as Entry};
+impl<A> Model for Queued<A> {
+    ghost use Rattle.emu_model.specs.DropTail.{Queued as Entry};
 
     ghost Value = { Entry A };
 

@@ -6,13 +6,13 @@
 mod controlled;
 mod entries;
 mod law;
+mod plan;
 mod queue;
 mod state;
 mod tail;
-mod verdict;
 
 pub use controlled::Codel;
-pub use entries::{EnqueueError, Refused, Waiting};
+pub use entries::{EnqueueError, Queued, Refused};
 pub use law::control_law;
 pub use queue::{Dequeued, Queue};
 pub use tail::DropTail;

@@ -7,10 +7,10 @@ ghost use Rattle.emu_model.specs.Codel.{initial_control};
 ghost use Rattle.emu_model.specs.Pipes.{dequeue, configured_control};
 ghost use Rattle.queue_disc.specs.Queues.{with_item, put_last, passed, head_is_short, is_plain, IsDequeue};
 
-use crate::entries::Waiting;
+use crate::entries::Queued;
+use crate::plan::{DropPlan, plan_drops, stays_short};
 use crate::state::{CodelState, Times};
 use crate::tail::DropTail;
-use crate::verdict::{Verdict, judge, stays_short};
 use emu_model::{Discipline, QueueLimit, Size};
 use std::alloc::{AllocError, Global};
 use std::marker::Model;
@@ -40,8 +40,8 @@ impl<A> Model for Queue<A> {
 /// What a dequeue dropped, in order, and what it gave to the server.
 #[derive(Drop)]
 pub struct Dequeued<A> {
-    pub dropped: Vec<Waiting<A>>,
-    pub given: Option<Waiting<A>>,
+    pub dropped: Vec<Queued<A>>,
+    pub given: Option<Queued<A>>,
 }
 
 impl<A> Queue<A> {
@@ -111,7 +111,26 @@ impl<A> Queue<A> {
             (dequeue q.discipline now q.control q.waiting).dropped ≡ [] → IsOk result }
         ensures lone { length self.old.waiting ≤ 1 → IsOk result }
     {
-        if self.drops_none(now) {
+        let plain = self.drops_none(now);
+        self.dequeue_knowing(now, plain)
+    }
+
+    /// The same for a caller who knows that it drops nothing for sure, as `drops_none` told, or doesn't know it.
+    #[inline(always)]
+    pub fn dequeue_knowing(&mut self, now: u64, plain: bool) -> Result<Dequeued<A>, AllocError>
+        requires early { IsMoment now }
+        requires plain { IsTrue plain → is_plain self.old.discipline self.old.control now self.old.waiting ≡ true }
+        ensures ok { IfOk result
+            (λ d. IsDequeue now d.dropped.items d.given self.old self.new) }
+        ensures same { self.new
+            ≡ record self.old { control = self.new.control; waiting = self.new.waiting } }
+        ensures unchanged { OnErr result (self.new ≡ self.old) }
+        ensures no_drop { let q = self.old in
+            (dequeue q.discipline now q.control q.waiting).dropped ≡ [] → IsOk result }
+        ensures plainly { IsTrue plain → IsOk result }
+        ensures none { IsTrue plain → IfOk result (λ d. d.dropped.items ≡ []) }
+    {
+        if plain {
             let given = self.dequeue_plainly(now);
             let dropped = Vec::new(self.tail.allocator());
             return Ok(Dequeued { dropped, given });
@@ -148,10 +167,10 @@ impl<A> Queue<A> {
         }
     }
 
-    /// The dequeue at a moment (ns) at which `drops_none` is true. Takes no memory.
+    // The dequeue at a moment (ns) at which `drops_none` is true. Takes no memory.
     #[tactic(auto, using(crate::proofs::Later::later_gives))]
     #[inline(always)]
-    pub fn dequeue_plainly(&mut self, now: u64) -> Option<Waiting<A>>
+    fn dequeue_plainly(&mut self, now: u64) -> Option<Queued<A>>
         requires { is_plain self.old.discipline self.old.control now self.old.waiting ≡ true }
         ensures given { IsDequeue now [] result self.old self.new }
         ensures same { self.new
@@ -164,7 +183,7 @@ impl<A> Queue<A> {
         self.tail.dequeue()
     }
 
-    /// The same where the head is judged, and those behind it.
+    // The same where the head is judged, and those behind it.
     #[inline(never)]
     fn dequeue_long(&mut self, now: u64) -> Result<Dequeued<A>, AllocError>
         requires early { IsMoment now }
@@ -176,7 +195,12 @@ impl<A> Queue<A> {
         ensures no_drop { let q = self.old in
             (dequeue q.discipline now q.control q.waiting).dropped ≡ [] → IsOk result }
     {
-        let Verdict { drops, control } = judge(&self.tail, self.discipline, self.control, now);
+        let DropPlan { drops, control } = plan_drops(
+            &self.tail,
+            self.discipline,
+            self.control,
+            now,
+        );
         let mut dropped = Vec::with_capacity(self.tail.allocator(), drops)?;
         self.tail.take_into(drops, &mut dropped);
         let given = self.tail.dequeue();
@@ -196,7 +220,7 @@ impl<A> Queue<A> {
     }
 
     /// Takes the head as it is, past the discipline. Takes no memory.
-    pub fn take(&mut self) -> Option<Waiting<A>>
+    pub fn take(&mut self) -> Option<Queued<A>>
         ensures given { MatchOption result (self.old.waiting ≡ [])
             (λ w. self.old.waiting ≡ w ∷ self.new.waiting) }
         ensures rest { self.new ≡ record self.old { waiting = drop 1 self.old.waiting } }

@@ -6,7 +6,7 @@ ghost use Rattle.emu_model.specs.Codel.{initial_control};
 ghost use Rattle.queue_disc.specs.Queues.{with_item};
 
 use crate::controlled::Codel;
-use crate::entries::{EnqueueError, Refused, Waiting};
+use crate::entries::{EnqueueError, Queued, Refused};
 use crate::queue::Queue;
 use crate::state::CodelState;
 use emu_model::{CodelTime, Discipline, QueueLimit, Size};
@@ -21,7 +21,7 @@ const LEAST_GROWTH: usize = 4;
 #[derive(Drop)]
 pub struct DropTail<A> {
     limit: QueueLimit,
-    waiting: VecDeque<Waiting<A>>,
+    waiting: VecDeque<Queued<A>>,
     bytes: u64,
 }
 
@@ -104,7 +104,7 @@ impl<A> DropTail<A> {
         // Tells how many bytes can wait at most; nothing of it is left in the program.
         let _accepted = self.accepts(size);
         self.bytes += u64::from(size.get());
-        self.waiting.push_back_reserved(Waiting {
+        self.waiting.push_back_reserved(Queued {
             item,
             size,
             stamp: now,
@@ -133,7 +133,7 @@ impl<A> DropTail<A> {
 
     /// Takes the head. Takes no memory.
     #[inline(always)]
-    pub fn dequeue(&mut self) -> Option<Waiting<A>>
+    pub fn dequeue(&mut self) -> Option<Queued<A>>
         ensures given { MatchOption result (self.old.waiting ≡ [])
             (λ w. self.old.waiting ≡ w ∷ self.new.waiting) }
         ensures rest { self.new ≡ record self.old { waiting = drop 1 self.old.waiting } }
@@ -202,7 +202,7 @@ impl<A> DropTail<A> {
 
     /// What waits at a place, the head at 0.
     #[inline(always)]
-    pub(crate) fn get(&self, index: usize) -> Option<&Waiting<A>>
+    pub(crate) fn get(&self, index: usize) -> Option<&Queued<A>>
         ensures item { MatchOption result (drop index self.now.waiting ≡ [])
             (λ w. drop index self.now.waiting ≡ w.now ∷ drop (index + 1) self.now.waiting) }
         ensures fits { length self.now.waiting < 2 ^ 63 }
@@ -211,7 +211,7 @@ impl<A> DropTail<A> {
     }
 
     /// Takes so many from the head to the end of a list that has room for them.
-    pub(crate) fn take_into(&mut self, count: usize, list: &mut Vec<Waiting<A>>)
+    pub(crate) fn take_into(&mut self, count: usize, list: &mut Vec<Queued<A>>)
         requires enough { count ≤ length self.old.waiting }
         requires room { vec_len list.old + count ≤ vec_capacity list.old }
         ensures taken { list.new.items ≡ list.old.items ++ take count self.old.waiting }

@@ -66,7 +66,7 @@ fields_of (PipeLine pipe config) =
     ∷ mask_of config.mask
     ∷ discipline_of config.discipline
     ∷ []
-fields_of (InstanceLine pipe instance waiting bytes busy flight drawn) =
+fields_of (InstanceLine pipe instance waiting bytes busy in_flight drawn) =
     codes "instance"
     ∷ instance_name pipe instance
     ∷ codes "waiting"
@@ -76,7 +76,7 @@ fields_of (InstanceLine pipe instance waiting bytes busy flight drawn) =
     ∷ codes "busy"
     ∷ decimal (if busy then 1 else 0)
     ∷ codes "flight"
-    ∷ decimal flight
+    ∷ decimal in_flight
     ∷ codes "drawn"
     ∷ decimal drawn
     ∷ []
@@ -122,7 +122,7 @@ is_rule_line _ = false
 
 abbrev pub is_pipe_line : Record → Bool
 is_pipe_line (PipeLine pipe config) = true
-is_pipe_line (InstanceLine pipe instance waiting bytes busy flight drawn) = true
+is_pipe_line (InstanceLine pipe instance waiting bytes busy in_flight drawn) = true
 is_pipe_line _ = false
 
 -- what a show of the rules listed

@@ -158,7 +158,7 @@ fn append_other(out: &mut Vec<u8>, moments: &mut Moments, line: &Record)
             waiting,
             bytes,
             busy,
-            flight,
+            in_flight,
             drawn,
         } => {
             append(out, b"instance ");
@@ -166,7 +166,7 @@ fn append_other(out: &mut Vec<u8>, moments: &mut Moments, line: &Record)
             append_labelled(out, b" waiting ", waiting);
             append_labelled(out, b" bytes ", bytes);
             append_labelled(out, b" busy ", u64::from(busy));
-            append_labelled(out, b" flight ", flight);
+            append_labelled(out, b" flight ", in_flight);
             append_labelled(out, b" drawn ", drawn);
             append(out, b"\n");
         }

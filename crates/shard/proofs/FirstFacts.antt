@@ -6,13 +6,13 @@ use Rattle.emu_model.specs.declared.sources.Class.TheVariants.{Exit, Finish}
 use Rattle.emu_model.specs.declared.commands.Timed.{Timed}
 use Rattle.emu_model.specs.declared.sources.Due.{Due}
 use Rattle.emu_model.specs.declared.sources.Source.{Source}
-use Rattle.emu_model.specs.Delay.{Leaving, Line, first_exit}
+use Rattle.emu_model.specs.Delay.{InFlight, Line, first_exit}
 use Rattle.emu_model.specs.Pipes.{InService}
 use Rattle.emu_model.specs.Dues.{due, line_dues, service_dues, instances_dues, pipe_dues, flow_dues, train_dues, dues_of, least_due}
 use Rattle.emu_model.specs.RunLaws.{same_source}
 use Rattle.emu_model.proofs.CallerLemmas.{not_before}
 use Rattle.packet_store.specs.Pocket.{Pocket, empty_pocket}
-use Rattle.pipe_instance.specs.Keyed.{seen_leaving, seen_service, seen_line}
+use Rattle.pipe_core.specs.KeyedInstance.{seen_leaving, seen_service, seen_line}
 use Rattle.pipe_core.specs.declared.slot.Slot.{Slot}
 use Rattle.pipe_core.specs.Keyed.{KeyedPipe, seen_slot, seen_pipe}
 use Rattle.pipe_core.specs.Moves.{packet_at}
@@ -32,12 +32,12 @@ use Rattle.shard.proofs.Slots.{seat_at-seats_of}
 use Rattle.shard.proofs.SlotChanges.{seated_at}
 
 -- what comes next doesn't rest on packets
-exit-anywhere : (f g : ℕ → Packet) (flight : List (Leaving ℕ)) → first_exit (map (seen_leaving f) flight) ≡ first_exit (map (seen_leaving g) flight)
+exit-anywhere : (f g : ℕ → Packet) (in_flight : List (InFlight ℕ)) → first_exit (map (seen_leaving f) in_flight) ≡ first_exit (map (seen_leaving g) in_flight)
 exit-anywhere f g [] = refl
 exit-anywhere f g (x ∷ xs) = refl
 
 line-anywhere : (f g : ℕ → Packet) (k : ℕ) (l : Line ℕ) → line_dues k (seen_line f l) ≡ line_dues k (seen_line g l)
-line-anywhere f g k l = ap (λ (m : Option ℕ). option_to_list (option_map (due Exit k) m)) (exit-anywhere f g l.flight)
+line-anywhere f g k l = ap (λ (m : Option ℕ). option_to_list (option_map (due Exit k) m)) (exit-anywhere f g l.in_flight)
 
 service-anywhere : (f g : ℕ → Packet) (k : ℕ) (s : Slot) → service_dues k (seen_slot f s) ≡ service_dues k (seen_slot g s)
 service-anywhere f g k s = by_busy s.instance.service.busy
@@ -49,7 +49,7 @@ service-anywhere f g k s = by_busy s.instance.service.busy
 slots-anywhere : (f g : ℕ → Packet) (k : ℕ) (slots : List Slot) → instances_dues k (map (seen_slot f) slots) ≡ instances_dues k (map (seen_slot g) slots)
 slots-anywhere f g k [] = refl
 slots-anywhere f g k (s ∷ slots) =
-    λ i. line-anywhere f g k s.instance.lane.line i ++ service-anywhere f g k s i ++ slots-anywhere f g (k + 1) slots i
+    λ i. line-anywhere f g k s.instance.delay_line.line i ++ service-anywhere f g k s i ++ slots-anywhere f g (k + 1) slots i
 
 pipes-anywhere : (f g : ℕ → Packet) (pipes : List KeyedPipe) → flat_map pipe_dues (map (seen_pipe f) pipes) ≡ flat_map pipe_dues (map (seen_pipe g) pipes)
 pipes-anywhere f g [] = refl

@@ -4,7 +4,7 @@ ghost use Rattle.std.specs.Prelude.{◌≡◌, ◌≤◌, ◌<◌, ◌++◌, len
 ghost use Rattle.emu_model.specs.declared.records.Record.TheVariants.{StepsSpent};
 ghost use Rattle.packet_store.specs.Pocket.{Pocket};
 ghost use Rattle.experiment.specs.Kept.{IsAloneAfter, IsHousedIn};
-ghost use Rattle.report_writer.specs.Written.{AreCountsOf};
+ghost use Rattle.experiment.specs.Written.{AreCountsOf};
 ghost use Rattle.shard.specs.Seen.{IsToldMore, IsPublished};
 
 use crate::list_mail::ListMail;
@@ -13,14 +13,10 @@ use emu_model::{
     Counters, Due, Ending, Record, Spec, Timed, dues_stay_ahead, packets_add_up,
     records_are_not_read, records_grow,
 };
-use experiment::{ApplyError, Event, Experiment};
+use experiment::{ApplyError, BATCH, Event, Experiment, RecordCounts};
 use packet_store::{Owner, Shelf, Store};
-use report_writer::RecordCounts;
 use std::alloc::AllocError;
 use std::marker::Model;
-
-/// So many records are kept at a time: they stay where they were recorded a moment before.
-const BATCH: usize = 256;
 
 /// An experiment and its mail. A contract sees the experiment with all its records.
 #[derive(Drop)]
@@ -35,7 +31,7 @@ pub(crate) struct Body<M: Mail> {
 
 impl<M: Mail> Model for Body<M> {
     ghost use Rattle.emu_model.specs.DueLaws.{AreRising};
-    ghost use Rattle.report_writer.specs.Written.{AreCountsOf};
+    ghost use Rattle.experiment.specs.Written.{AreCountsOf};
     ghost use Rattle.shard.specs.Bodies.{Moved, behind};
 
     ghost Value = { Moved M };

@@ -14,7 +14,7 @@ mod shard;
 mod watch;
 
 pub use dossier::Dossier;
-pub use list_mail::ListMail;
+pub use list_mail::{ListMail, SLOTS};
 pub use mail::Mail;
 pub use many_turns::many_turns_are_turns;
 pub use parcel::{Parcel, Unopened};

@@ -10,8 +10,8 @@ use rtrb::{Consumer, Producer, Protocol, RingBuffer};
 use std::alloc::{AllocError, Global};
 use std::marker::Model;
 
-/// How many commands may wait, and how many letters.
-const SLOTS: usize = 64;
+/// How many commands may wait in a mail, and how many letters.
+pub const SLOTS: usize = 64;
 
 // A command on its way.
 #[derive(Clone, Copy)]

@@ -3,7 +3,7 @@ use Rattle.std.proofs.Common.{◌≡◌, ℕ, false, ◌∙◌, ap}
 use Rattle.std.specs.Prelude.{Option, Some, None, option_map}
 use Rattle.std.specs.Option.{option_map_or}
 use Rattle.emu_model.specs.declared.sources.SendSpec.{SendSpec}
-use Rattle.emu_model.specs.declared.commands.Setting.{Setting}
+use Rattle.emu_model.specs.declared.commands.EventContext.{EventContext}
 use Rattle.emu_model.specs.Net.{Net, FlowState, TrainState, find_flow, find_train, data_send}
 use Rattle.emu_model.specs.Events.{emission, emit_packet, emit_segment}
 use Rattle.traffic.specs.Sends.{may_send, has_left, is_emitting, next_send}
@@ -41,15 +41,15 @@ pub send_by_none : (k : ℕ) (m : Net) → find_train k m ≡ None → find_flow
 send_by_none k m none e =
     ap (λ o. option_map_or train_send o (option_map flow_send (find_flow k m))) none ∙ ap (option_map flow_send) e
 
-pub emission_by_train : (at : Setting) (k : ℕ) (m : Net) (u : TrainState) → find_train k m ≡ Some u →
+pub emission_by_train : (at : EventContext) (k : ℕ) (m : Net) (u : TrainState) → find_train k m ≡ Some u →
     emission at k m ≡ emit_packet at m u
 emission_by_train at k m u e = by_train (emit_packet at m) (emit_segment at m) m k m u e
 
-pub emission_by_flow : (at : Setting) (k : ℕ) (m : Net) (s : FlowState) → find_train k m ≡ None → find_flow k m ≡ Some s →
+pub emission_by_flow : (at : EventContext) (k : ℕ) (m : Net) (s : FlowState) → find_train k m ≡ None → find_flow k m ≡ Some s →
     emission at k m ≡ emit_segment at m s
 emission_by_flow at k m s none e = by_flow (emit_packet at m) (emit_segment at m) m k m s none e
 
-pub emission_by_none : (at : Setting) (k : ℕ) (m : Net) → find_train k m ≡ None → find_flow k m ≡ None →
+pub emission_by_none : (at : EventContext) (k : ℕ) (m : Net) → find_train k m ≡ None → find_flow k m ≡ None →
     emission at k m ≡ m
 emission_by_none at k m none e = by_none (emit_packet at m) (emit_segment at m) m k m none e
 

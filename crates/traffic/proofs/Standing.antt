@@ -7,7 +7,7 @@ use Rattle.std.proofs.lemmas.Bool.{ltb-true, lt-ltb}
 use Rattle.std.proofs.lemmas.Option.{slice_get-map, slice_get-get_or}
 use Rattle.std.proofs.lemmas.List.{map-set, set-get_or}
 use Rattle.emu_model.specs.declared.packets.Load.TheVariants.{Plain, Seg, Ack}
-use Rattle.emu_model.specs.declared.commands.Setting.{Setting}
+use Rattle.emu_model.specs.declared.commands.EventContext.{EventContext}
 use Rattle.emu_model.specs.declared.sources.SendSpec.{SendSpec}
 use Rattle.emu_model.specs.Reno.{emit as emitted_by, emitted, with_segment, missing}
 use Rattle.emu_model.specs.Net.{Net, FlowState, TrainState, initial_net, find_flow, find_train, put_flow, put_train, make, data_send, ack_send, take_segment}
@@ -102,7 +102,7 @@ module _ (t : KeptTraffic) (fs : List KeptFlow) (ts : List TrainState) (i : ℕ)
   pub flow_emits : (g : KeptFlow) (now : ℕ) (r : Sending) →
       (g ≡ record f { state = record f.state { sender = emitted_by f.state.flow now f.state.sender } }) →
       (r ≡ record { load = Seg f.state.number (emitted f.state.sender); send = data_send f.state.flow }) →
-      (s : Setting) (k : ℕ) (n : Net) → s.now ≡ now → source_place k t ≡ Some (Flow i) →
+      (s : EventContext) (k : ℕ) (n : Net) → s.now ≡ now → source_place k t ≡ Some (Flow i) →
       emission s k (with_traffic t n) ≡ make s r.load r.send (with_traffic (kept (set fs i g) ts) n)
   flow_emits g now r e er s k n moment source =
       let place = flow_there k i t source in
@@ -154,7 +154,7 @@ module _ (t : KeptTraffic) (fs : List KeptFlow) (ts : List TrainState) (i : ℕ)
 
   pub train_emits : (v : TrainState) (r : Sending) → (v ≡ record u { sent = u.sent + 1 }) →
       (r ≡ record { load = Plain; send = u.train.packet }) →
-      (s : Setting) (k : ℕ) (n : Net) → source_place k t ≡ Some (Train i) →
+      (s : EventContext) (k : ℕ) (n : Net) → source_place k t ≡ Some (Train i) →
       emission s k (with_traffic t n) ≡ make s r.load r.send (with_traffic (kept fs (set ts i v)) n)
   train_emits v r e er s k n source =
       let h = standing k source in
@@ -232,7 +232,7 @@ module _ (k i : ℕ) (t : KeptTraffic) (fs : List KeptFlow) (ts : List TrainStat
       ∙ ap (λ t. send_at (Train i) (heads_of t)) is
 
 pub sends_nothing : (k : ℕ) (t : KeptTraffic) → None ≡ flow_place k t → None ≡ train_place k t →
-    (at : Setting) (n : Net) → emission at k (with_traffic t n) ≡ with_traffic t n
+    (at : EventContext) (n : Net) → emission at k (with_traffic t n) ≡ with_traffic t n
 sends_nothing k t none other at n = emission_by_none at k (with_traffic t n) (no_train k t other n) (no_flow k t none n)
 
 -- a place of a flow as it is kept

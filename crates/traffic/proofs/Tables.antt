@@ -6,7 +6,7 @@ use Rattle.std.proofs.lemmas.Bool.{lt-ltb, le-ltb, eq-eqb, ne_eqb, cases_lt, cas
 use Rattle.std.proofs.lemmas.List.{length-set, length_push, get_or-set_same, get_or-set_other}
 use Rattle.std.proofs.lemmas.List.Folds.{position_or_len-set, position_or_len_push}
 use Rattle.std.proofs.lemmas.List.Sums.{prefix_len-le-length}
-use Rattle.number_table.specs.Places.{place_in}
+use Rattle.due_index.specs.Table.{place_in}
 use Rattle.traffic.specs.Tables.{LeadsTo}
 use Rattle.traffic.proofs.FirstPlaces.{none_is}
 

@@ -9,7 +9,7 @@ use Rattle.std.proofs.Math.ListN.{get_or-map}
 use Rattle.emu_model.specs.declared.sources.Due.{Due}
 use Rattle.due_index.specs.Least.{dues_in, least_of}
 use Rattle.due_index.proofs.CallerLemmas.{least_leaf, least_of-leaf}
-use Rattle.number_table.specs.Places.{place_in}
+use Rattle.due_index.specs.Table.{place_in}
 use Rattle.traffic.specs.Kept.{KeptFlow, IsNumber}
 use Rattle.traffic.specs.Leaves.{expiry_due, AreTold, AreFound, IsRight, IsEarlyAt}
 use Rattle.traffic.proofs.FirstPlaces.{place_from_some, any_position, absent}

@@ -1,6 +1,6 @@
 -- Tables that lead from a number straight to the source that has it.
 use Rattle.std.specs.Prelude.{◌≡◌, ℕ, ◌==◌, Option, List, position}
-use Rattle.number_table.specs.Places.{place_in}
+use Rattle.due_index.specs.Table.{place_in}
 
 -- each number leads to the place of the first that has it
 abbrev pub LeadsTo : {X : Type 0} → (X → ℕ) → List X → List (Option ℕ) → Type 0

@@ -11,9 +11,8 @@ ghost use Rattle.traffic.specs.Leaves.{AreIndexed, AreTold, AreFound, IsRight, I
 use crate::flow::Flow;
 use crate::numbers::NumberSet;
 use crate::train::Train;
-use due_index::{DueIndex, DueNumber};
+use due_index::{DueIndex, DueNumber, NumberTable};
 use emu_model::{Class, Source};
-use number_table::NumberTable;
 use std::alloc::{AllocError, Global};
 
 /// The timers of flows, each told late: what stands there for a flow is its due or comes before it, so that
@@ -228,7 +227,7 @@ impl SourceIndex {
 
     /// The same; a timer that comes first is told right from then on.
     #[inline(always)]
-    pub(crate) fn settled_earliest(
+    pub(crate) fn next_due(
         &mut self,
         flows: &[Flow],
         places: &NumberTable,

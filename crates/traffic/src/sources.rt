@@ -5,7 +5,7 @@ ghost use Rattle.std.specs.Option.{option_map_or};
 ghost use Rattle.std.specs.List.{best_of};
 ghost use Rattle.emu_model.specs.Moments.{IsMoment};
 ghost use Rattle.emu_model.specs.declared.records.Record.TheVariants.{AckTaken, TimerExpired};
-ghost use Rattle.emu_model.specs.declared.commands.Setting.{Setting};
+ghost use Rattle.emu_model.specs.declared.commands.EventContext.{EventContext};
 ghost use Rattle.emu_model.specs.Net.{Net, find_flow, make, note, take_segment, take_ack};
 ghost use Rattle.emu_model.specs.Commands.{is_in_use, source_refusal, start_flow, start_train, stop_flow};
 ghost use Rattle.emu_model.specs.Dues.{is_before};
@@ -20,9 +20,8 @@ use crate::flow::Flow;
 use crate::index::SourceIndex;
 use crate::sends::{Sending, Window};
 use crate::train::Train;
-use due_index::DueNumber;
+use due_index::{DueNumber, NumberTable};
 use emu_model::{Class, Due, FlowNumber, FlowSpec, Refusal, SendSpec, TrainSpec};
-use number_table::NumberTable;
 use std::alloc::{AllocError, Global};
 use std::marker::Model;
 
@@ -177,7 +176,7 @@ impl Traffic {
     pub fn emit(&mut self, now: u64, number: FlowNumber) -> Option<Sending>
         requires early { IsMoment now }
         requires may { IsEmitting number self.old }
-        ensures emission { (at : Setting) (n : Net) → at.now ≡ now →
+        ensures emission { (at : EventContext) (n : Net) → at.now ≡ now →
             emission at number (with_traffic self.old n)
             ≡ option_map_or (λ s. make at s.load s.send (with_traffic self.new n)) result
             (with_traffic self.new n) }
@@ -233,7 +232,7 @@ impl Traffic {
     #[inline(always)]
     pub fn take(&mut self, number: FlowNumber, first: u64) -> Option<Sending>
         requires { HasRoomFor number self.old }
-        ensures taken { (at : Setting) (n : Net) → let m = with_traffic self.old n in
+        ensures taken { (at : EventContext) (n : Net) → let m = with_traffic self.old n in
             option_map_or (take_segment at first m) (find_flow number m) m
             ≡ option_map_or (λ s. make at s.load s.send (with_traffic self.new n)) result
             (with_traffic self.new n) }
@@ -272,7 +271,7 @@ impl Traffic {
     /// A flow's timer came due: its sender's windows after it; None where there is no such flow.
     pub fn expire(&mut self, now: u64, number: FlowNumber) -> Option<Window>
         requires early { IsMoment now }
-        ensures expired { (at : Setting) (n : Net) → at.now ≡ now →
+        ensures expired { (at : EventContext) (n : Net) → at.now ≡ now →
             let m = with_traffic self.old n in
             option_map_or (expire_flow at m) (find_flow number m) m
             ≡ option_map_or
@@ -308,7 +307,7 @@ impl Traffic {
     /// The same as one number, which may be none. Only what is kept of timers changes, which nothing shows: where
     /// nothing changes else, the next call finds the least at once.
     #[inline(always)]
-    pub fn settled_earliest(&mut self, clock: u64, best: DueNumber) -> DueNumber
+    pub fn next_due(&mut self, clock: u64, best: DueNumber) -> DueNumber
         ensures least { (n : Net) → result ≡ least_of (option_to_list best
             ++ source_dues clock (with_traffic self.old n)) }
         ensures moment { IfSome best (λ b. IfSome result (λ d. d.moment ≤ b.moment)) }
@@ -318,7 +317,7 @@ impl Traffic {
         ensures same { self.new ≡ self.old }
     {
         self.index
-            .settled_earliest(&self.flows, &self.flow_places, clock, best)
+            .next_due(&self.flows, &self.flow_places, clock, best)
     }
 
     /// Appends the dues of all flows and trains, or leaves `dues` as it was: that only where it has no room for two of
@@ -353,7 +352,7 @@ impl Traffic {
             next_send number (with_traffic self.now n) ≡ send_at p (heads_of self.now)) }
         ensures none { IfNone result
             ((n : Net) → next_send number (with_traffic self.now n) ≡ None) }
-        ensures still { IfNone result ((at : Setting) (n : Net) →
+        ensures still { IfNone result ((at : EventContext) (n : Net) →
             emission at number (with_traffic self.now n) ≡ with_traffic self.now n) }
     {
         let _ = &self.alloc;
@@ -384,7 +383,7 @@ impl Traffic {
     pub fn emit_at(&mut self, now: u64, source: &SourcePlace) -> Sending
         requires early { IsMoment now }
         requires may { MaySendAt source.now self.old }
-        ensures emission { (at : Setting) (k : ℕ) (n : Net) → at.now ≡ now →
+        ensures emission { (at : EventContext) (k : ℕ) (n : Net) → at.now ≡ now →
             source_place k self.old ≡ Some source.now →
             emission at k (with_traffic self.old n)
             ≡ make at result.load result.send (with_traffic self.new n) }

@@ -1,6 +1,6 @@
 //! Where an experiment is, and what is kept of its posts.
 
-use emu_model::Timed;
+use emu_model::{LATEST_MOMENT, Timed};
 use shard::{Dossier, ListMail, Parcel};
 
 /// Where an experiment is: in the caller's hands, in a slot of a shard, in the deque of a shard, or ended.
@@ -36,9 +36,6 @@ pub(crate) struct Desk {
     pub(crate) last: u64,
 }
 
-/// No command's moment is later (ns).
-const LATEST: u64 = 1_000_000_000_000_000;
-
 impl Home {
     ghost use Rattle.std.specs.Prelude.{◌≡◌};
     ghost use Rattle.world.specs.Tenants.{place_of};
@@ -69,6 +66,6 @@ impl Desk {
         ensures no { IsFalse result → IsRefused self.now.closed self.now.last timed.now }
     {
         let _last = self.last;
-        !self.closed && timed.moment <= LATEST && self.last <= timed.moment
+        !self.closed && timed.moment <= LATEST_MOMENT && self.last <= timed.moment
     }
 }

@@ -10,10 +10,10 @@ ghost use Rattle.packet_store.specs.Own.{own_pocket};
 mod traces;
 
 use emu_model::{
-    Action, Amount, Bandwidth, Class, Command, Delay, Discipline, DropCause, Due, FlowNumber,
-    FlowSpec, Gap, Load, LossRate, Mask, PacketBudget, PipeConfig, PipeNumber, Prefix,
+    Action, Amount, Bandwidth, Class, Command, Delay, Discipline, DropCause, Due, EventContext,
+    FlowNumber, FlowSpec, Gap, Load, LossRate, Mask, PacketBudget, PipeConfig, PipeNumber, Prefix,
     PrefixLength, Protocol, ProtocolMatch, QueueLimit, Record, Rule, RuleNumber, SegmentSize,
-    SendSpec, Setting, Size, SlotLimit, Source, Threshold, Timed, Timing, TrainSpec, Window,
+    SendSpec, Size, SlotLimit, Source, Threshold, Timed, Timing, TrainSpec, Window,
 };
 use network::{Network, still_is_housed};
 use packet_store::{OwnShelf, Shelf};
@@ -23,10 +23,10 @@ use std::test::Fail;
 /// The last moment of a test (ns).
 const LATEST: u64 = 1_000_000_000;
 
-fn at(packet_budget: PacketBudget, now: u64) -> Setting
+fn at(packet_budget: PacketBudget, now: u64) -> EventContext
     ensures { result ≡ record { seed = 0; packet_budget = packet_budget; now = now } }
 {
-    Setting {
+    EventContext {
         seed: 0,
         packet_budget,
         now,
@@ -51,7 +51,7 @@ fn next_command(moment: u64) -> Due
 fn obeys_once(
     net: &mut Network,
     shelf: &mut OwnShelf,
-    at: Setting,
+    at: EventContext,
     number: u64,
     command: &Command,
 ) -> bool
@@ -115,7 +115,7 @@ fn obeys(
 
 /// An event comes, or memory is refused.
 #[tactic(auto, using(crate::proofs::Standing::refused_made))]
-fn happens(net: &mut Network, shelf: &mut OwnShelf, at: Setting, due: Due) -> bool
+fn happens(net: &mut Network, shelf: &mut OwnShelf, at: EventContext, due: Due) -> bool
     requires stands { Stands at (own_pocket shelf.old) net.old }
     requires made { net.old.made < 2 ^ 63 }
     requires due { IsDue due net.old }
@@ -588,7 +588,7 @@ fn listings(rt: HostRuntime) -> Result<(), Fail> {
             waiting: 0,
             bytes: 0,
             busy: true,
-            flight: 0,
+            in_flight: 0,
             drawn: 1,
         },
     ];

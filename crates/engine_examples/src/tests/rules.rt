@@ -133,12 +133,12 @@ fn look_after(list: &RuleList, n: u32, order: u64) -> &'static str {
     word(list.find_after(place(n, order), &udp()))
 }
 
-fn foresee(list: &mut RuleList) -> &'static str {
-    word(list.foresee(&udp()))
+fn classify(list: &mut RuleList) -> &'static str {
+    word(list.classify(&udp()))
 }
 
-fn foresee_after(list: &mut RuleList, n: u32, order: u64) -> &'static str {
-    word(list.foresee_after(place(n, order), &udp()))
+fn classify_after(list: &mut RuleList, n: u32, order: u64) -> &'static str {
+    word(list.classify_after(place(n, order), &udp()))
 }
 
 fn answer(list: &mut RuleList, call: Call) -> &'static str {
@@ -153,8 +153,8 @@ fn answer(list: &mut RuleList, call: Call) -> &'static str {
         Call::Look => look(list),
         Call::SendAfter(n, order) => send_after(list, n, order),
         Call::LookAfter(n, order) => look_after(list, n, order),
-        Call::Foresee => foresee(list),
-        Call::ForeseeAfter(n, order) => foresee_after(list, n, order),
+        Call::Foresee => classify(list),
+        Call::ForeseeAfter(n, order) => classify_after(list, n, order),
     }
 }
 
@@ -426,7 +426,7 @@ fn take_turns(list: &mut RuleList) -> bool {
     for sport in 1..3001 {
         let sent = packet(Protocol::Udp, 0x0a00_0001, sport, 0x0a00_0002, 2000);
         let want = if sport <= 300 { "allow" } else { "deny" };
-        if word(list.foresee(&sent)) != want || word(list.verdict(&sent)) != want {
+        if word(list.classify(&sent)) != want || word(list.verdict(&sent)) != want {
             return false;
         }
     }

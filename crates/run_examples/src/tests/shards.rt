@@ -19,12 +19,12 @@ use desk::{
     turn,
 };
 use emu_model::Command;
-use example_texts as texts;
 use shard::{ListMail, MOST_RESIDENTS, Polled, Shard, Turned};
 use std::alloc::{AllocError, Global};
 use std::mem;
 use std::process::Abort;
 use std::test::Fail;
+use text_examples as texts;
 use timer_wheel::{Agenda, Wheel};
 
 // Polls, turns and posts of a shard with nobody in it, and then with one guest.

@@ -60,23 +60,23 @@ fn drawn(words: &mut ChaCha20Rng, guests: &mut [Guest]) -> Step {
 // Six guests.
 fn six(rt: &(impl Abort + AllocGlobal)) -> Result<Vec<Guest>, AllocError> {
     let texts = [
-        (example_texts::ONE_SLOT, example_texts::ONE_SLOT_REPORT),
+        (text_examples::ONE_SLOT, text_examples::ONE_SLOT_REPORT),
         (
-            example_texts::FAST_RETRANSMIT,
-            example_texts::FAST_RETRANSMIT_REPORT,
+            text_examples::FAST_RETRANSMIT,
+            text_examples::FAST_RETRANSMIT_REPORT,
         ),
-        (example_texts::NEW_RATE, example_texts::NEW_RATE_REPORT),
+        (text_examples::NEW_RATE, text_examples::NEW_RATE_REPORT),
         (
-            example_texts::CODEL_ONE_DROP,
-            example_texts::CODEL_ONE_DROP_REPORT,
-        ),
-        (
-            example_texts::TWO_PIPES_IN_TURN,
-            example_texts::TWO_PIPES_IN_TURN_REPORT,
+            text_examples::CODEL_ONE_DROP,
+            text_examples::CODEL_ONE_DROP_REPORT,
         ),
         (
-            example_texts::PACKET_BUDGET,
-            example_texts::PACKET_BUDGET_REPORT,
+            text_examples::TWO_PIPES_IN_TURN,
+            text_examples::TWO_PIPES_IN_TURN_REPORT,
+        ),
+        (
+            text_examples::PACKET_BUDGET,
+            text_examples::PACKET_BUDGET_REPORT,
         ),
     ];
     invite_all(rt, &texts)
@@ -224,7 +224,7 @@ fn travels<W: Stage>(
     text: &'static str,
     report: &'static str,
 ) -> Result<u64, AllocError> {
-    let flood = (example_texts::FLOOD, example_texts::FLOOD_REPORT);
+    let flood = (text_examples::FLOOD, text_examples::FLOOD_REPORT);
     let mut guests = invite_all(rt, &[(text, report), flood, flood])?;
     let mut world = W::built(rt.alloc(), 2)?;
     travels_through(rt, &mut world, guests.as_mut_slice())
@@ -235,15 +235,15 @@ fn packed_every_event(rt: HostRuntime) -> Result<(), Fail> {
     assert!(rt;
         travels::<World<ListAgenda>>(
             &rt,
-            example_texts::FAST_RETRANSMIT,
-            example_texts::FAST_RETRANSMIT_REPORT
+            text_examples::FAST_RETRANSMIT,
+            text_examples::FAST_RETRANSMIT_REPORT
         )? > 10
     );
     assert!(rt;
         travels::<World<Wheel>>(
             &rt,
-            example_texts::TWO_PIPES_IN_TURN,
-            example_texts::TWO_PIPES_IN_TURN_REPORT
+            text_examples::TWO_PIPES_IN_TURN,
+            text_examples::TWO_PIPES_IN_TURN_REPORT
         )? > 10
     );
     Ok(())
@@ -306,10 +306,10 @@ fn is_beside_a_flood<W: Stage>(
 
 fn flooded<W: Stage>(rt: &(impl Abort + AllocGlobal)) -> Result<(), AllocError> {
     let texts = [
-        (example_texts::NEIGHBOUR, ""),
+        (text_examples::NEIGHBOUR, ""),
         (
-            example_texts::PACKET_BUDGET,
-            example_texts::PACKET_BUDGET_REPORT,
+            text_examples::PACKET_BUDGET,
+            text_examples::PACKET_BUDGET_REPORT,
         ),
     ];
     let mut guests = invite_all(rt, &texts)?;
@@ -356,7 +356,7 @@ fn begins<W: Stage>(rt: &(impl Abort + AllocGlobal), spec: Spec) -> Result<(), A
 
 #[test]
 fn nobody_is_in_a_new_world(rt: HostRuntime) -> Result<(), Fail> {
-    let spec = invite(&rt, example_texts::ONE_SLOT, "")?.spec();
+    let spec = invite(&rt, text_examples::ONE_SLOT, "")?.spec();
     begins::<World<ListAgenda>>(&rt, spec)?;
     Ok(())
 }

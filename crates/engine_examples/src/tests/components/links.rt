@@ -71,7 +71,7 @@ fn exits_keep_order_on(rt: &impl Abort, line: &mut DelayLine<u8>) {
     assert!(rt; line.enter_ready(0, milliseconds(rt, 100)).is_ok());
     enters(rt, line, 1, 0, 100);
     enters(rt, line, 2, 20_000_000, 1);
-    assert!(rt; line.flight() == 2);
+    assert!(rt; line.in_flight() == 2);
     assert!(rt; next(line) == (Some(100_000_000), Some(1)));
     assert!(rt; next(line) == (Some(100_000_000), Some(2)));
     assert!(rt; next(line) == (None, None));
@@ -87,15 +87,15 @@ fn exits_keep_order(rt: HostRuntime) {
 /// An item comes made ready and another not; one that is refused leaves the line as it was.
 fn two_enter(rt: &impl Abort, line: &mut DelayLine<u8>, item: u8, delay: Delay) {
     let now = u64::from(item);
-    let before = (line.due(), line.flight());
+    let before = (line.due(), line.in_flight());
     if line.enter_ready(now, delay).is_ok() {
         assert!(rt; line.enter(item, now, delay) == Ok(()));
     } else {
-        assert!(rt; (line.due(), line.flight()) == before);
+        assert!(rt; (line.due(), line.in_flight()) == before);
     }
-    let before = (line.due(), line.flight());
+    let before = (line.due(), line.in_flight());
     if line.enter(item, now, delay).is_err() {
-        assert!(rt; (line.due(), line.flight()) == before);
+        assert!(rt; (line.due(), line.in_flight()) == before);
     }
 }
 
@@ -114,7 +114,7 @@ fn items_are_replaced_on(rt: &impl Abort, line: &mut DelayLine<u8>) {
     assert!(rt; line.at(0) == None);
     enters(rt, line, 1, 0, 1);
     enters(rt, line, 2, 0, 2);
-    assert!(rt; line.flight() == 2);
+    assert!(rt; line.in_flight() == 2);
     line.replace(1, 12);
     assert_eq!(rt;
         (line.at(0), line.at(1), line.at(2)),

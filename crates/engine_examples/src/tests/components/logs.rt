@@ -1,7 +1,7 @@
 //! Records of each kind that counts, with counts by hand.
 
 use emu_model::{DropCause, Load, Record};
-use record_log::*;
+use pipe_table::*;
 use std::process::Abort;
 
 const CAUSES: [DropCause; 8] = [

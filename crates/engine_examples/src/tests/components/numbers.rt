@@ -1,4 +1,4 @@
-use number_table::NumberTable;
+use due_index::NumberTable;
 use std::process::Abort;
 
 /// A number leads to a place from now on, at the second try where memory was refused; what the numbers around it lead

@@ -67,7 +67,7 @@ fn comes_to_codel(
 const FULL: Option<EnqueueError> = Some(EnqueueError::Full);
 
 /// Number, size and stamp of what a queue gives.
-fn parts(given: Option<Waiting<u32>>) -> Option<(u32, u16, u64)> {
+fn parts(given: Option<Queued<u32>>) -> Option<(u32, u16, u64)> {
     match given {
         Some(waiting) => Some((waiting.item, waiting.size.get(), waiting.stamp)),
         None => None,
@@ -255,14 +255,13 @@ fn codel_begins_again_after_it_ended(rt: HostRuntime) {
     are(&rt, &events, &BEGUN_AGAIN);
 }
 
-/// What waits in it comes from before; its limit, its times and its law begin anew.
+/// What waits in it comes from before; its limit and its times are new.
 fn codel_goes_on(rt: &impl Abort, queue: &mut Codel<u32>) {
     assert!(rt; queue.enqueue_ready(size(rt, 300), 3) == Ok(()));
     comes_to_codel(rt, queue, 3, 300, None);
     comes_to_codel(rt, queue, 4, 300, FULL);
     queue.set_limit(slots(rt, 1));
     queue.set_times(time(rt, 1000), time(rt, 1000));
-    queue.reset_control();
     assert!(rt; (queue.waiting(), queue.bytes()) == (3, 600));
     assert!(rt; parts(queue.take()) == Some((1, 100, 10)));
 }

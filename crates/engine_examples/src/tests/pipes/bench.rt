@@ -176,9 +176,10 @@ impl Bench {
         if now >= END {
             return None;
         }
+        let plain = self.pipe.drops_none(index, now);
         match self
             .pipe
-            .finish(&mut self.shelf, 0, index, now, &mut self.drops)
+            .finish(&mut self.shelf, 0, index, now, plain, &mut self.drops)
         {
             Ok(packet) => Some(packet.number),
             Err(_) => None,

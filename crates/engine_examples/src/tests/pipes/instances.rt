@@ -5,7 +5,7 @@ use emu_model::{
     Load, Packet, PacketBudget, PipeNumber, Place, Protocol, RuleNumber, Size, SlotLimit,
 };
 use packet_store::{Key, OwnShelf, Shelf};
-use pipe_instance::Instance;
+use pipe_core::Instance;
 use std::process::Abort;
 
 /// What a packet's arrival came to.
@@ -83,7 +83,8 @@ fn step(
     if finish >= END {
         return None;
     }
-    drop(instance.finish(finish, delay));
+    let plain = instance.drops_none(finish);
+    drop(instance.finish(finish, delay, plain));
     Some(())
 }
 

@@ -29,7 +29,7 @@ fn one_slot(rt: HostRuntime) {
         waiting: 1,
         bytes: 1000,
         busy: true,
-        flight: 0,
+        in_flight: 0,
         drawn: 3,
     };
     let acts = [
@@ -138,7 +138,7 @@ fn a_line_that_moves_goes_on(rt: HostRuntime) {
     let mut line = DelayLine::new(rt.alloc());
     line.enter(key, 0, delay).expect(&rt, "memory");
     rehouse_line(&mut line, &mut shelf, 0, &mut store, owner);
-    assert!(rt; (line.due(), line.flight()) == (Some(1_000_000), 1));
+    assert!(rt; (line.due(), line.in_flight()) == (Some(1_000_000), 1));
     assert!(rt; (shelf.count(0), store.count(owner)) == (0, 1));
     let key = line.leave().expect(&rt, "a packet");
     assert!(rt; number_at(&store, owner, key) == Some(7));

@@ -1,5 +1,6 @@
 //! What stands in the table, with numbers chosen by hand.
 
+use due_index::DueNumber;
 use emu_model::{
     Bandwidth, Class, Delay, Discipline, Due, Load, LossRate, Mask, Packet, PacketBudget,
     PipeConfig, PipeNumber, Place, Protocol, QueueLimit, Record, Refusal, RuleNumber, Size,
@@ -86,7 +87,9 @@ fn pipes_stand_by_number(rt: HostRuntime) {
     assert!(rt; configures(&mut pipes, 7, &slow));
     assert!(rt; configures(&mut pipes, 1, &slow));
     assert!(rt; configures(&mut pipes, 3, &slow));
-    assert!(rt; is(pipes.earliest(command(9)), 9, Class::NextCommand, 0));
+    let least = pipes.earliest(DueNumber::of(Some(command(9)))).due();
+    let least = least.expect(&rt, "something is due");
+    assert!(rt; is(least, 9, Class::NextCommand, 0));
     assert!(rt; pipes.lines() == 3);
 }
 
@@ -100,17 +103,6 @@ fn a_refused_pipe_is_not_made(rt: HostRuntime) {
         Err(ConfigureError::Refused(_)) => 99,
     };
     assert!(rt; pipes.lines() == wanted);
-}
-
-// Nothing is needed for a packet that finds no pipe.
-#[test]
-fn no_pipe_needs_no_room(rt: HostRuntime) {
-    let mut shelf = OwnShelf::new(rt.alloc(), PacketBudget::new(2).expect(&rt, "a budget"));
-    let mut pipes = PipeTable::new(rt.alloc(), 0);
-    let first = packet(&rt, 0);
-    let ready = pipes.arrive_ready(&mut shelf, 0, 0, number(&rt, 1), &first);
-    assert!(rt; ready.is_ok());
-    assert!(rt; shelf.count(0) == 0);
 }
 
 // A packet of 1000 bytes at 0 finishes at 8000000, behind what was due before.
@@ -128,10 +120,11 @@ fn dues_are_appended(rt: HostRuntime) -> Result<(), Fail> {
     let Ok(()) = pipes.configure(one, &slow) else {
         return Ok(());
     };
-    let Ok(()) = pipes.arrive_ready(&mut shelf, 0, 0, one, &first) else {
+    let place = pipes.place_of(one).ok_or("place")?;
+    let Ok(_instance) = pipes.route_ready(&mut shelf, 0, 0, place, &first) else {
         return Ok(());
     };
-    assert!(rt; pipes.arrive(&mut shelf, 0, 0, one, &first).is_none());
+    assert!(rt; pipes.arrive(place, &mut shelf, 0, 0, &first).is_none());
     let Ok(()) = pipes.add_dues(&mut dues) else {
         assert_eq!(rt; dues.len(), 1);
         return Ok(());

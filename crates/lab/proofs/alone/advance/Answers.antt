@@ -1,6 +1,6 @@
 use Rattle.std.proofs.Common.{refl, ap, ◌∙◌, arith}
 use Rattle.packet_store.specs.Own.{own_pocket}
-use Rattle.report_writer.proofs.CallerLemmas.{written-step, can_write}
+use Rattle.experiment.proofs.CallerLemmas.{written-step, can_write}
 use Rattle.lab.proofs.alone.advance.Goals as goal
 
 pub loop-experiment-init : goal.loop-experiment-init

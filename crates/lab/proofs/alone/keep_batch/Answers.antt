@@ -1,4 +1,4 @@
-use Rattle.report_writer.proofs.CallerLemmas.{written-more}
+use Rattle.experiment.proofs.CallerLemmas.{written-more}
 use Rattle.lab.proofs.alone.keep_batch.Goals as goal
 
 pub returns-clause-written : goal.returns-clause-written

@@ -1,7 +1,7 @@
 use Rattle.std.proofs.Common.{refl, ap, ◌∙◌, ◌+◌, arith, drop, inl, inr, Err}
 use Rattle.std.specs.Prelude.{is_some}
 use Rattle.packet_store.specs.Own.{own_pocket}
-use Rattle.report_writer.proofs.CallerLemmas.{written-step}
+use Rattle.experiment.proofs.CallerLemmas.{written-step}
 use Rattle.lab.proofs.Turns.{early, not-before, one-more, goes-on, has-ended, played-all, is-none, is-some, drop-end}
 use Rattle.lab.proofs.alone.play.Goals as goal
 

@@ -1,7 +1,7 @@
 use Rattle.std.proofs.Common.{◌≡◌, ◌≤◌, ℕ, List, None, take}
 use Rattle.packet_store.specs.Own.{own_pocket}
 use Rattle.experiment.specs.Kept.{IsHousedIn}
-use Rattle.report_writer.specs.Written.{IsWritten}
+use Rattle.experiment.specs.Written.{IsWritten}
 use Rattle.lab.proofs.alone.play.Given as goal
 
 abbrev pub invariant-loop-command : goal.invariant-loop-command

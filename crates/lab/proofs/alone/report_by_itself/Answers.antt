@@ -3,9 +3,9 @@ use Rattle.packet_store.specs.Own.{own_pocket}
 use Rattle.report.specs.Lines.{heading_of}
 use Rattle.experiment.specs.Kept.{IsHousedIn}
 use Rattle.lab.specs.Reports.{trace_alone}
-use Rattle.report_writer.specs.Written.{IsWritten}
+use Rattle.experiment.specs.Written.{IsWritten}
 use Rattle.lab.proofs.Settled.{left_told}
-use Rattle.report_writer.proofs.CallerLemmas.{can_write, written-new, written-more, written-report}
+use Rattle.experiment.proofs.CallerLemmas.{can_write, written-new, written-more, written-report}
 use Rattle.lab.proofs.alone.report_by_itself.Goals as goal
 
 pub play-requires-clause-housed : goal.play-requires-clause-housed

@@ -1,6 +1,6 @@
 use Rattle.std.proofs.Common.{◌≡◌, ◌+◌, ◌<◌, ◌∙◌, ℕ, List, length, refl, sym, subst, arith}
 use Rattle.packet_store.specs.Pocket.{Pocket}
-use Rattle.pipe_instance.specs.Keyed.{keys_in}
+use Rattle.pipe_core.specs.KeyedInstance.{keys_in}
 use Rattle.pipe_core.proofs.Halves.{IsHalf, half_none, half_there, half_named, half_next, half_all}
 use Rattle.pipe_core.proofs.rehouse.rehouse_instance.Goals as goal
 

@@ -1,6 +1,6 @@
 use Rattle.std.proofs.Common.{◌≡◌, ◌≢◌, ℕ, ◌+◌, ◌≤◌, length}
-use Rattle.pipe_instance.specs.Blanks.{blank as blanked}
-use Rattle.pipe_instance.specs.Keyed.{keys_in}
+use Rattle.pipe_core.specs.Blanks.{blank as blanked}
+use Rattle.pipe_core.specs.KeyedInstance.{keys_in}
 use Rattle.pipe_core.proofs.Halves.{IsHalf}
 use Rattle.pipe_core.proofs.rehouse.rehouse_instance.Given as goal
 

@@ -1,11 +1,11 @@
 use Rattle.std.proofs.Common.{◌≡◌, ℕ, List, [], ◌∷◌, map, length, refl, subst, sym, arith}
 use Rattle.std.proofs.lemmas.Bool.Decides.{nat_tests}
-use Rattle.emu_model.specs.DropTail.{Waiting}
+use Rattle.emu_model.specs.DropTail.{Queued}
 use Rattle.pipe_core.specs.Moves.{Taking}
 use Rattle.pipe_core.proofs.TakeFacts.{taking_none}
 use Rattle.pipe_core.proofs.takes.take_dropped.Goals as goal
 
-no-items : (ws : List (Waiting ℕ)) → length ws ≡ 0 → map (λ w. w.item) ws ≡ []
+no-items : (ws : List (Queued ℕ)) → length ws ≡ 0 → map (λ w. w.item) ws ≡ []
 no-items [] e = refl
 no-items (w ∷ ws) e = absurd (omega (arith, e))
 

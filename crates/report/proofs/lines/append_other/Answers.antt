@@ -11,14 +11,14 @@ bool_byte-if true = refl
 bool_byte-if false = refl
 
 -- the pieces of an instance's line, one behind the other
-joined : (before name waiting bytes busy flight drawn : List ℕ) →
+joined : (before name waiting bytes busy in_flight drawn : List ℕ) →
     (((((((before ++ codes "instance ") ++ name) ++ (codes " waiting " ++ waiting)) ++ (codes " bytes " ++ bytes))
-    ++ (codes " busy " ++ busy)) ++ (codes " flight " ++ flight)) ++ (codes " drawn " ++ drawn)) ++ codes "\n"
+    ++ (codes " busy " ++ busy)) ++ (codes " flight " ++ in_flight)) ++ (codes " drawn " ++ drawn)) ++ codes "\n"
     ≡ before
     ++ (spaced (codes "instance" ∷ name ∷ codes "waiting" ∷ waiting ∷ codes "bytes" ∷ bytes ∷ codes "busy" ∷ busy
-    ∷ codes "flight" ∷ flight ∷ codes "drawn" ∷ drawn ∷ [])
+    ∷ codes "flight" ∷ in_flight ∷ codes "drawn" ∷ drawn ∷ [])
     ++ codes "\n")
-joined before name waiting bytes busy flight drawn = simp append_assoc
+joined before name waiting bytes busy in_flight drawn = simp append_assoc
 
 pub returns-in-InstanceLine : goal.returns-in-InstanceLine
 returns-in-InstanceLine c =
@@ -39,7 +39,7 @@ returns-in-InstanceLine c =
             bool_byte-if l.busy,
           )
           (joined c.args.out.now.items (instance_name l.pipe l.instance) (decimal l.waiting) (decimal l.bytes)
-          (decimal (if l.busy then 1 else 0)) (decimal l.flight) (decimal l.drawn));
+          (decimal (if l.busy then 1 else 0)) (decimal l.in_flight) (decimal l.drawn));
       room = omega arith;
       capacity = omega arith;
     }

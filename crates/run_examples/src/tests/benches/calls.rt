@@ -2,8 +2,8 @@
 //! beforehand.
 
 use bench::{
-    AdoptError, Bench, Closing, OfferError, OpenError, Outcome, Peer, Refusal, Refused, Registry,
-    RetakeError, RingMail, Strange, Tenant,
+    AdoptError, Bench, Closing, OfferError, OpenError, Outcome, Peer, Refused, RefusedPost,
+    Registry, RetakeError, RingMail, Strange, Tenant,
 };
 use emu_model::{Counters, Ending, Record, Spec, Timed};
 use report::Source;
@@ -91,7 +91,7 @@ pub trait Kit {
         spec: Spec,
     ) -> Result<(Self::Tenant, Self::Parcel), OpenError>;
 
-    fn post(tenant: &mut Self::Tenant, timed: Timed) -> Result<(), Refusal>;
+    fn post(tenant: &mut Self::Tenant, timed: Timed) -> Result<(), RefusedPost>;
 
     fn read(tenant: &mut Self::Tenant) -> Result<Option<Record>, AllocError>;
 
@@ -176,7 +176,7 @@ impl Kit for Real {
         registry.open(alloc, spec)
     }
 
-    fn post(tenant: &mut Tenant, timed: Timed) -> Result<(), Refusal> {
+    fn post(tenant: &mut Tenant, timed: Timed) -> Result<(), RefusedPost> {
         tenant.post(timed)
     }
 

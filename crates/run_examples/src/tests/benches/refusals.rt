@@ -5,11 +5,11 @@ use super::calls::{Answer, Kit, Move, Real, Shape, admit, adopt, last_turn, move
 use super::guests::{Guest, Settled, invite, settle, taken, text_of};
 use bench::{PostError, Registry, audit};
 use emu_model::{Ending, Record, Timed};
-use example_texts as texts;
 use shard::Polled;
 use std::alloc::AllocError;
 use std::mem;
 use std::process::Abort;
+use text_examples as texts;
 
 const GUESTS: u32 = 6;
 

@@ -3,10 +3,10 @@
 use super::calls::{Kit, Move, Real, admit, adopt, last_turn, offer, retake};
 use super::guests::{Guest, invite, post_all, settle, taken, text_of};
 use bench::{Closing, Registry, audit};
-use example_texts as texts;
 use std::process::Abort;
 use std::sync::atomic::{AtomicU64, Ordering};
 use std::thread;
+use text_examples as texts;
 
 const GUESTS: usize = 64;
 

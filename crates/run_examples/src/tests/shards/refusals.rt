@@ -8,12 +8,12 @@ use super::desk::{
     Guest, MOST_TURNS, Move, has_lines, has_report, invite_all, parcel, post, read_all,
 };
 use emu_model::Ending;
-use example_texts as texts;
 use shard::{Dossier, ListMail, PackError, Parcel, Polled, Turned};
 use std::alloc::AllocError;
 use std::mem;
 use std::process::Abort;
 use std::test::Fail;
+use text_examples as texts;
 
 /// What was met: how often memory was refused, and how many guests have ended.
 #[derive(Clone, Copy)]

@@ -17,15 +17,15 @@ const MOST_POSTS: u32 = 64;
 // Four guests.
 fn four(rt: &(impl Abort + AllocGlobal)) -> Result<Vec<Guest>, AllocError> {
     let texts = [
-        (example_texts::ONE_PACKET, example_texts::ONE_PACKET_REPORT),
-        (example_texts::LISTINGS, example_texts::LISTINGS_REPORT),
+        (text_examples::ONE_PACKET, text_examples::ONE_PACKET_REPORT),
+        (text_examples::LISTINGS, text_examples::LISTINGS_REPORT),
         (
-            example_texts::RENO_FOUR_SEGMENTS,
-            example_texts::RENO_FOUR_SEGMENTS_REPORT,
+            text_examples::RENO_FOUR_SEGMENTS,
+            text_examples::RENO_FOUR_SEGMENTS_REPORT,
         ),
         (
-            example_texts::STEP_BUDGET,
-            example_texts::STEP_BUDGET_REPORT,
+            text_examples::STEP_BUDGET,
+            text_examples::STEP_BUDGET_REPORT,
         ),
     ];
     invite_all(rt, &texts)

@@ -1,7 +1,7 @@
 //! What is found in a text and in a report, and what is printed of it, written by hand.
 
 use control::{Cause, Fault};
-use emu_model::{DropCause, FlowNumber, Load, Record, Refusal as Why};
+use emu_model::{DropCause, FlowNumber, Load, Record, Refusal};
 use explain::*;
 use report::Archive;
 use std::alloc::AllocError;
@@ -69,8 +69,8 @@ fn places(rt: HostRuntime) {
         ("  @0   show ", 2, 12, 0),
         ("", 0, 0, 0),
     ] {
-        let place = place_of_word(line.as_bytes(), index);
-        assert!(rt; place == Place { start, width }, "word {index} of {line}");
+        let place = span_of_word(line.as_bytes(), index);
+        assert!(rt; place == Span { start, width }, "word {index} of {line}");
     }
     assert!(rt; line_at(b"a\nb\n", 2) == Some(b"b".as_slice()));
     assert!(rt; line_at(b"a\nb\n", 3) == Some(b"".as_slice()));
@@ -89,8 +89,8 @@ experiment b seed 0 budget 1
 @0 end
 ";
 
-fn refusal(experiment: u64, command: u64, code: u64) -> Refusal {
-    Refusal {
+fn refusal(experiment: u64, command: u64, code: u64) -> RefusedCommand {
+    RefusedCommand {
         experiment,
         command,
         code,
@@ -115,7 +115,7 @@ fn done(command: u64) -> Record {
     Record::CommandDone { moment: 0, command }
 }
 
-fn refused(command: u64, refusal: Why) -> Record {
+fn refused(command: u64, refusal: Refusal) -> Record {
     Record::CommandRefused {
         moment: 0,
         command,
@@ -126,8 +126,8 @@ fn refused(command: u64, refusal: Why) -> Record {
 /// The records of two experiments, of each of which a command is refused.
 fn refused_records() -> ([Record; 3], [Record; 1]) {
     (
-        [done(0), refused(1, Why::NoRule), done(2)],
-        [refused(0, Why::BadNumber)],
+        [done(0), refused(1, Refusal::NoRule), done(2)],
+        [refused(0, Refusal::BadNumber)],
     )
 }
 
@@ -140,7 +140,7 @@ fn refusals(rt: HostRuntime) {
 }
 
 /// Wants this to be printed of the command that was refused.
-fn tells(rt: &(impl Abort + AllocGlobal), text: &mut Text, refusal: &Refusal, wanted: &str) {
+fn tells(rt: &(impl Abort + AllocGlobal), text: &mut Text, refusal: &RefusedCommand, wanted: &str) {
     let refused = text.find(refusal).expect(rt, "a line");
     let shown = show_refused(rt.alloc(), &refused).expect(rt, "memory");
     assert!(rt; shown.as_slice() == wanted.as_bytes());

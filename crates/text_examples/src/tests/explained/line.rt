@@ -1,6 +1,6 @@
 //! Words at fault, by their numbers in the line, and what is said of them.
 
-use control_faults::{Behind, Check, Expected, FlowSeen, FlowWord, RuleWord, blame, blame_behind};
+use control::{Behind, Check, Expected, FlowSeen, FlowWord, RuleWord, blame, blame_behind};
 use explain_line::{byte_hint, hint, range_hint, wanted_at};
 use std::process::Abort;
 use std::test::*;

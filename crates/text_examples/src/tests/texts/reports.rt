@@ -107,7 +107,7 @@ fn instance(rt: &impl Abort, waiting: u64, drawn: u64) -> Record {
         waiting,
         bytes: waiting.wrapping_mul(1000),
         busy: true,
-        flight: 0,
+        in_flight: 0,
         drawn,
     }
 }
@@ -396,7 +396,7 @@ fn each_kind_of_line(rt: HostRuntime) {
             waiting: 1,
             bytes: 2,
             busy: false,
-            flight: 3,
+            in_flight: 3,
             drawn: 4,
         },
     ];

@@ -210,13 +210,12 @@ fn has_config(rt: &impl Abort, config: &PipeConfig) {
 }
 
 fn has_codel(rt: &impl Abort, discipline: &Discipline) {
-    match discipline {
-        Discipline::TailDrop => assert!(rt; false),
-        Discipline::ControlledDelay { target, interval } => {
-            assert!(rt; target.get() == 1_000);
-            assert!(rt; interval.get() == 50_000_000);
-        }
-    }
+    let Discipline::ControlledDelay { target, interval } = discipline else {
+        assert!(rt; false);
+        return;
+    };
+    assert!(rt; target.get() == 1_000);
+    assert!(rt; interval.get() == 50_000_000);
 }
 
 fn has_flow(rt: &impl Abort, flow: &FlowSpec) {

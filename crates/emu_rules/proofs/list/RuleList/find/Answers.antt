@@ -7,4 +7,4 @@ pub returns : goal.returns
 returns c =
     let s = c.self.inside in
     let p = c.args.packet.now in
-    rw (← c.self.view_is) (c.find.ensures ∙ ap (verdict 0 p) c.deref.ensures.value ∙ sym (verdict-settled 0 p s.paths s.rules.items))
+    rw (← c.self.view_is) (c.find.ensures ∙ ap (verdict 0 p) c.deref.ensures.value ∙ sym (verdict-settled 0 p s.cache s.rules.items))

@@ -1,6 +1,6 @@
 use Rattle.std.proofs.Common.{◌≡◌, ◌∙◌, sym, ap}
 use Rattle.emu_model.specs.Rules.{start_behind, verdict}
-use Rattle.rule_search.specs.Paths.{settled}
+use Rattle.emu_rules.specs.RuleCache.{settled}
 use Rattle.emu_rules.proofs.RulesKept.{behind-settled, verdict-settled}
 use Rattle.emu_rules.proofs.list.RuleList.find_after.Goals as goal
 
@@ -10,10 +10,10 @@ returns c =
     let p = c.args.packet.now in
     let cs = s.rules.items in
     let place = c.args.place in
-    let start : c.first_behind-start.result ≡ start_behind place (settled s.paths cs) =
-    c.first_behind-start.ensures ∙ ap (start_behind place) c.deref.ensures.value ∙ sym (behind-settled place s.paths cs) in
+    let start : c.first_behind-start.result ≡ start_behind place (settled s.cache cs) =
+    c.first_behind-start.ensures ∙ ap (start_behind place) c.deref.ensures.value ∙ sym (behind-settled place s.cache cs) in
     rw (← c.self.view_is)
     (c.find.ensures
     ∙ ap (verdict c.first_behind-start.result p) c.deref-2.ensures.value
-    ∙ sym (verdict-settled c.first_behind-start.result p s.paths cs)
-    ∙ ap (λ n. verdict n p (settled s.paths cs)) start)
+    ∙ sym (verdict-settled c.first_behind-start.result p s.cache cs)
+    ∙ ap (λ n. verdict n p (settled s.cache cs)) start)

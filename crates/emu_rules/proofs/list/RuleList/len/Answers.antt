@@ -5,4 +5,4 @@ use Rattle.emu_rules.proofs.list.RuleList.len.Goals as goal
 pub returns-clause-count : goal.returns-clause-count
 returns-clause-count c =
     let s = c.self.inside in
-    rw (← c.self.view_is) (c.len.ensures ∙ s.rules.ok.0 ∙ sym (length-settled s.paths s.rules.items))
+    rw (← c.self.view_is) (c.len.ensures ∙ s.rules.ok.0 ∙ sym (length-settled s.cache s.rules.items))

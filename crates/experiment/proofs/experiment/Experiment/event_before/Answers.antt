@@ -22,13 +22,13 @@ pub returns-then-eq-clause-passes : goal.returns-then-eq-clause-passes
 returns-then-eq-clause-passes g c =
     let p = g.S.Shelf.pocket c.args.shelf.now c.args.owner in
     let old = c.args.self.now in
-    let d : Due = c.settled_earliest-due.result in
+    let d : Due = c.next_due-due.result in
     let least : d ≡ least_due c.args.limit (dues_of old.clock (net_of p old.net)) =
-    c.settled_earliest-due.ensures.least p
+    c.next_due-due.ensures.least p
     ∙ ap (λ (e : KeptExperiment). best_of is_before (record { moment = c.args.limit; source = c.next_command.result }) (dues_of e.clock (net_of p e.net))) c.self.view_is
     ∙ ap (λ s. best_of is_before (record { moment = c.args.limit; source = s }) (dues_of old.clock (net_of p old.net))) c.next_command.ensures in
     let is : d.source.class ≡ NextCommand = search rules in (
-      ap (λ (n : KeptNet). record (the_view c.self.inside) { net = n }) c.settled_earliest-due.ensures.same ∙ c.self.view_is,
+      ap (λ (n : KeptNet). record (the_view c.self.inside) { net = n }) c.next_due-due.ensures.same ∙ c.self.view_is,
       refl,
       inl (c.waits_settle.ensures c.args.limit (view p old) (ap (λ (e : Due). e.source.class) (sym least) ∙ is)),
     )
@@ -39,15 +39,15 @@ returns-then-is_some-2-clause-passes g c =
     let q = g.S.Shelf.pocket c.take_event.new.shelf c.args.owner in
     let old = c.args.self.now in
     let new = c.take_event.new.self in
-    let d : Due = c.settled_earliest-due.result in
+    let d : Due = c.next_due-due.result in
     let least : d ≡ least_due c.args.limit (dues_of old.clock (net_of p old.net)) =
-    c.settled_earliest-due.ensures.least p
+    c.next_due-due.ensures.least p
     ∙ ap (λ (e : KeptExperiment). best_of is_before (record { moment = c.args.limit; source = c.next_command.result }) (dues_of e.clock (net_of p e.net))) c.self.view_is
     ∙ ap (λ s. best_of is_before (record { moment = c.args.limit; source = s }) (dues_of old.clock (net_of p old.net))) c.next_command.ensures in
     let other : d.source.class ≢ NextCommand = search rules in
     let steps : (x : Timed) → Steps d x p old q new =
     subst (λ (e : KeptExperiment). (x : Timed) → Steps d x p e q new)
-    (ap (λ (n : KeptNet). record (the_view c.self.inside) { net = n }) c.settled_earliest-due.ensures.same ∙ c.self.view_is) c.in-Ok.ensures.ok in
+    (ap (λ (n : KeptNet). record (the_view c.self.inside) { net = n }) c.next_due-due.ensures.same ∙ c.self.view_is) c.in-Ok.ensures.ok in
     let last : Timed = record { moment = 0; command = End } in
     let going : old.ending ≡ None = search rules in
     let passed : IsPassed c.args.limit p old q new = is_passed c.args.limit p q old new d last least other going (steps last) in
@@ -59,15 +59,15 @@ returns-clause-passes g c =
     let q = g.S.Shelf.pocket c.take_event.new.shelf c.args.owner in
     let old = c.args.self.now in
     let new = c.take_event.new.self in
-    let d : Due = c.settled_earliest-due.result in
+    let d : Due = c.next_due-due.result in
     let least : d ≡ least_due c.args.limit (dues_of old.clock (net_of p old.net)) =
-    c.settled_earliest-due.ensures.least p
+    c.next_due-due.ensures.least p
     ∙ ap (λ (e : KeptExperiment). best_of is_before (record { moment = c.args.limit; source = c.next_command.result }) (dues_of e.clock (net_of p e.net))) c.self.view_is
     ∙ ap (λ s. best_of is_before (record { moment = c.args.limit; source = s }) (dues_of old.clock (net_of p old.net))) c.next_command.ensures in
     let other : d.source.class ≢ NextCommand = search rules in
     let steps : (x : Timed) → Steps d x p old q new =
     subst (λ (e : KeptExperiment). (x : Timed) → Steps d x p e q new)
-    (ap (λ (n : KeptNet). record (the_view c.self.inside) { net = n }) c.settled_earliest-due.ensures.same ∙ c.self.view_is) c.in-Ok.ensures.ok in
+    (ap (λ (n : KeptNet). record (the_view c.self.inside) { net = n }) c.next_due-due.ensures.same ∙ c.self.view_is) c.in-Ok.ensures.ok in
     let last : Timed = record { moment = 0; command = End } in
     let going : old.ending ≡ None = search rules in
     let passed : IsPassed c.args.limit p old q new = is_passed c.args.limit p q old new d last least other going (steps last) in
@@ -79,15 +79,15 @@ returns-then-is_some-2-clause-waits g c =
     let q = g.S.Shelf.pocket c.take_event.new.shelf c.args.owner in
     let old = c.args.self.now in
     let new = c.take_event.new.self in
-    let d : Due = c.settled_earliest-due.result in
+    let d : Due = c.next_due-due.result in
     let least : d ≡ least_due c.args.limit (dues_of old.clock (net_of p old.net)) =
-    c.settled_earliest-due.ensures.least p
+    c.next_due-due.ensures.least p
     ∙ ap (λ (e : KeptExperiment). best_of is_before (record { moment = c.args.limit; source = c.next_command.result }) (dues_of e.clock (net_of p e.net))) c.self.view_is
     ∙ ap (λ s. best_of is_before (record { moment = c.args.limit; source = s }) (dues_of old.clock (net_of p old.net))) c.next_command.ensures in
     let other : d.source.class ≢ NextCommand = search rules in
     let steps : (x : Timed) → Steps d x p old q new =
     subst (λ (e : KeptExperiment). (x : Timed) → Steps d x p e q new)
-    (ap (λ (n : KeptNet). record (the_view c.self.inside) { net = n }) c.settled_earliest-due.ensures.same ∙ c.self.view_is) c.in-Ok.ensures.ok in
+    (ap (λ (n : KeptNet). record (the_view c.self.inside) { net = n }) c.next_due-due.ensures.same ∙ c.self.view_is) c.in-Ok.ensures.ok in
     let last : Timed = record { moment = 0; command = End } in
     let going : old.ending ≡ None = search rules in
     let passed : IsPassed c.args.limit p old q new = is_passed c.args.limit p q old new d last least other going (steps last) in
@@ -104,9 +104,9 @@ returns-then-is_some-2-clause-past g c =
     let q = g.S.Shelf.pocket c.take_event.new.shelf c.args.owner in
     let old = c.args.self.now in
     let new = c.take_event.new.self in
-    let d : Due = c.settled_earliest-due.result in
+    let d : Due = c.next_due-due.result in
     let least : d ≡ least_due c.args.limit (dues_of old.clock (net_of p old.net)) =
-    c.settled_earliest-due.ensures.least p
+    c.next_due-due.ensures.least p
     ∙ ap (λ (e : KeptExperiment). best_of is_before (record { moment = c.args.limit; source = c.next_command.result }) (dues_of e.clock (net_of p e.net))) c.self.view_is
     ∙ ap (λ s. best_of is_before (record { moment = c.args.limit; source = s }) (dues_of old.clock (net_of p old.net))) c.next_command.ensures in
     let other : d.source.class ≢ NextCommand = search rules in
@@ -119,15 +119,15 @@ returns-clause-waits g c =
     let q = g.S.Shelf.pocket c.take_event.new.shelf c.args.owner in
     let old = c.args.self.now in
     let new = c.take_event.new.self in
-    let d : Due = c.settled_earliest-due.result in
+    let d : Due = c.next_due-due.result in
     let least : d ≡ least_due c.args.limit (dues_of old.clock (net_of p old.net)) =
-    c.settled_earliest-due.ensures.least p
+    c.next_due-due.ensures.least p
     ∙ ap (λ (e : KeptExperiment). best_of is_before (record { moment = c.args.limit; source = c.next_command.result }) (dues_of e.clock (net_of p e.net))) c.self.view_is
     ∙ ap (λ s. best_of is_before (record { moment = c.args.limit; source = s }) (dues_of old.clock (net_of p old.net))) c.next_command.ensures in
     let other : d.source.class ≢ NextCommand = search rules in
     let steps : (x : Timed) → Steps d x p old q new =
     subst (λ (e : KeptExperiment). (x : Timed) → Steps d x p e q new)
-    (ap (λ (n : KeptNet). record (the_view c.self.inside) { net = n }) c.settled_earliest-due.ensures.same ∙ c.self.view_is) c.in-Ok.ensures.ok in
+    (ap (λ (n : KeptNet). record (the_view c.self.inside) { net = n }) c.next_due-due.ensures.same ∙ c.self.view_is) c.in-Ok.ensures.ok in
     let last : Timed = record { moment = 0; command = End } in
     let going : old.ending ≡ None = search rules in
     let passed : IsPassed c.args.limit p old q new = is_passed c.args.limit p q old new d last least other going (steps last) in
@@ -144,9 +144,9 @@ returns-clause-past g c =
     let q = g.S.Shelf.pocket c.take_event.new.shelf c.args.owner in
     let old = c.args.self.now in
     let new = c.take_event.new.self in
-    let d : Due = c.settled_earliest-due.result in
+    let d : Due = c.next_due-due.result in
     let least : d ≡ least_due c.args.limit (dues_of old.clock (net_of p old.net)) =
-    c.settled_earliest-due.ensures.least p
+    c.next_due-due.ensures.least p
     ∙ ap (λ (e : KeptExperiment). best_of is_before (record { moment = c.args.limit; source = c.next_command.result }) (dues_of e.clock (net_of p e.net))) c.self.view_is
     ∙ ap (λ s. best_of is_before (record { moment = c.args.limit; source = s }) (dues_of old.clock (net_of p old.net))) c.next_command.ensures in
     let other : d.source.class ≢ NextCommand = search rules in

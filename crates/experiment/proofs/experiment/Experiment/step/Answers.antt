@@ -21,14 +21,14 @@ returns-then-eq-clause-ok g c =
     let q = g.S.Shelf.pocket c.take_command.new.shelf c.args.owner in
     let old = c.args.self.now in
     let new = c.take_command.new.self in
-    on_ok ((d : Timed) → old.next ≡ Some d → Steps c.settled_earliest-due.result d p old q new)
+    on_ok ((d : Timed) → old.next ≡ Some d → Steps c.next_due-due.result d p old q new)
     ((d : Timed) → old.next ≡ Some d → Steps (next_event (view p old) d) d p old q new) c.take_command.result
     (λ h d is. subst (λ (e : Due). Steps e d p old q new)
-    (c.settled_earliest-due.ensures.least p
+    (c.next_due-due.ensures.least p
     ∙ ap (λ (e : KeptExperiment). best_of is_before c.args.first (dues_of e.clock (net_of p e.net))) c.self.view_is
     ∙ ap (λ b. best_of is_before b (dues_of old.clock (net_of p old.net))) (subst (IsNext c.args.first) is c.requires.next)) (h d is))
-    (subst (λ (e : KeptExperiment). OnOk c.take_command.result ((d : Timed) → e.next ≡ Some d → Steps c.settled_earliest-due.result d p e q new))
-    (ap (λ (n : KeptNet). record (the_view c.self.inside) { net = n }) c.settled_earliest-due.ensures.same ∙ c.self.view_is) c.take_command.ensures.ok)
+    (subst (λ (e : KeptExperiment). OnOk c.take_command.result ((d : Timed) → e.next ≡ Some d → Steps c.next_due-due.result d p e q new))
+    (ap (λ (n : KeptNet). record (the_view c.self.inside) { net = n }) c.next_due-due.ensures.same ∙ c.self.view_is) c.take_command.ensures.ok)
 
 pub returns-else-eq-clause-ok : goal.returns-else-eq-clause-ok
 returns-else-eq-clause-ok g c =
@@ -36,11 +36,11 @@ returns-else-eq-clause-ok g c =
     let q = g.S.Shelf.pocket c.take_event.new.shelf c.args.owner in
     let old = c.args.self.now in
     let new = c.take_event.new.self in
-    on_ok ((d : Timed) → Steps c.settled_earliest-due.result d p old q new)
+    on_ok ((d : Timed) → Steps c.next_due-due.result d p old q new)
     ((d : Timed) → old.next ≡ Some d → Steps (next_event (view p old) d) d p old q new) c.take_event.result
     (λ h d is. subst (λ (e : Due). Steps e d p old q new)
-    (c.settled_earliest-due.ensures.least p
+    (c.next_due-due.ensures.least p
     ∙ ap (λ (e : KeptExperiment). best_of is_before c.args.first (dues_of e.clock (net_of p e.net))) c.self.view_is
     ∙ ap (λ b. best_of is_before b (dues_of old.clock (net_of p old.net))) (subst (IsNext c.args.first) is c.requires.next)) (h d))
-    (subst (λ (e : KeptExperiment). OnOk c.take_event.result ((d : Timed) → Steps c.settled_earliest-due.result d p e q new))
-    (ap (λ (n : KeptNet). record (the_view c.self.inside) { net = n }) c.settled_earliest-due.ensures.same ∙ c.self.view_is) c.take_event.ensures.ok)
+    (subst (λ (e : KeptExperiment). OnOk c.take_event.result ((d : Timed) → Steps c.next_due-due.result d p e q new))
+    (ap (λ (n : KeptNet). record (the_view c.self.inside) { net = n }) c.next_due-due.ensures.same ∙ c.self.view_is) c.take_event.ensures.ok)

@@ -1,5 +1,5 @@
 use Rattle.std.proofs.Common.{[], sym, ap, ◌∙◌, subst}
-use Rattle.report_writer.specs.Written.{Counts}
+use Rattle.experiment.specs.Written.{Counts}
 use Rattle.live.specs.Runs.{KeptRun, state_of}
 use Rattle.live.proofs.open.Open.new.Goals as goal
 

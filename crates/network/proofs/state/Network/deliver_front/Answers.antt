@@ -12,12 +12,12 @@ use Rattle.network.specs.Ready.{CanDeliver}
 use Rattle.network.proofs.Steps.{at_view}
 use Rattle.network.proofs.Frame.{pipes-named}
 use Rattle.network.proofs.AsReady.{as-deliver}
-use Rattle.network.proofs.Leaving.{exits, exit-stands, exit-roomy, exit-some, delivered-leaves}
+use Rattle.network.proofs.InFlight.{exits, exit-stands, exit-roomy, exit-some, delivered-leaves}
 use Rattle.network.proofs.Readied.{readied}
 use Rattle.network.proofs.state.Network.deliver_front.Goals as goal
 
-pub front_at-requires-clause-named : goal.front_at-requires-clause-named
-front_at-requires-clause-named g c =
+pub front-requires-clause-named : goal.front-requires-clause-named
+front-requires-clause-named g c =
     let p = g.S.Shelf.pocket c.args.shelf.now c.args.owner in
     pipes-named p (the_view c.self.inside) (at_view (IsHoused p) _ _ c.self.view_is c.requires.stands.housed)
 
@@ -30,10 +30,10 @@ exit_nothing-requires-clause-none g c =
     at_view (λ (m : KeptNet). StandsAt k c.args.place m.table.pipes) n c.args.self.now c.self.view_is c.requires.place in
     subst (λ (j : ℕ). option_and_then (flying_in j) (find_pipe k (net_of p c.args.self.now)) ≡ None) c.from-index.ensures
     (ap (λ (m : KeptNet). option_and_then (flying_in c.from-index.result) (find_pipe k (net_of p m))) (sym c.self.view_is)
-    ∙ sym (c.front_at.ensures.packet k at_first (net_of p n)) ∙ c.in_default.is)
+    ∙ sym (c.front.ensures.packet k at_first (net_of p n)) ∙ c.in_default.is)
 
-pub exit_at-gone-requires-clause-named : goal.exit_at-gone-requires-clause-named
-exit_at-gone-requires-clause-named g c =
+pub exit-gone-requires-clause-named : goal.exit-gone-requires-clause-named
+exit-gone-requires-clause-named g c =
     let r = readied c.requires.stands.housed c.deliver_ready.ensures.still (c.deliver_ready.ensures.pockets c.args.owner) c.self-2.view_is in
     pipes-named _ _ r.housed
 
@@ -41,13 +41,13 @@ pub deliver-requires-clause-stands : goal.deliver-requires-clause-stands
 deliver-requires-clause-stands g c =
     let o = g.S.Shelf.pocket c.args.shelf.now c.args.owner in
     let p = g.S.Shelf.pocket c.deliver_ready.new.shelf c.args.owner in
-    let q = g.S.Shelf.pocket c.exit_at-gone.new.shelf c.args.owner in
+    let q = g.S.Shelf.pocket c.exit-gone.new.shelf c.args.owner in
     let old = c.args.self.now in
     let n = the_view c.self-2.inside in
     let k = c.args.pipe in
     let j = c.from-index.result in
     let x = c.in-Some.packet in
-    let table = c.exit_at-gone.new.self in
+    let table = c.exit-gone.new.self in
     let m : KeptNet = record n { table = table } in
     let r = readied c.requires.stands.housed c.deliver_ready.ensures.still (c.deliver_ready.ensures.pockets c.args.owner) c.self-2.view_is in
     let at_first : StandsAt k c.args.place (the_view c.self.inside).table.pipes =
@@ -55,23 +55,23 @@ deliver-requires-clause-stands g c =
     let stands : StandsAt k c.args.place n.table.pipes =
     at_view (λ (m : KeptNet). StandsAt k c.args.place m.table.pipes) n c.deliver_ready.new.self c.self-2.view_is
     (c.requires.place ∙ sym (c.in_ok-passage.ensures.places.places k)) in
-    let gone : c.exit_at-gone.result ≡ Some x =
-    c.exit_at-gone.ensures.packet k stands (net_of p n)
+    let gone : c.exit-gone.result ≡ Some x =
+    c.exit-gone.ensures.packet k stands (net_of p n)
     ∙ ap (λ (z : Net). option_and_then (flying_in j) (find_pipe k z)) (r.shown ∙ ap (net_of o) (sym c.self.view_is))
-    ∙ sym (c.front_at.ensures.packet k at_first (net_of o (the_view c.self.inside))) ∙ c.in-Some.is in
-    exit-stands c.args.at o p q old n table k j r c.exit_at-gone.ensures.keys c.exit_at-gone.ensures.seed c.requires.stands
+    ∙ sym (c.front.ensures.packet k at_first (net_of o (the_view c.self.inside))) ∙ c.in-Some.is in
+    exit-stands c.args.at o p q old n table k j r c.exit-gone.ensures.keys c.exit-gone.ensures.seed c.requires.stands
 
 pub deliver-requires-clause-room : goal.deliver-requires-clause-room
 deliver-requires-clause-room g c =
     let o = g.S.Shelf.pocket c.args.shelf.now c.args.owner in
     let p = g.S.Shelf.pocket c.deliver_ready.new.shelf c.args.owner in
-    let q = g.S.Shelf.pocket c.exit_at-gone.new.shelf c.args.owner in
+    let q = g.S.Shelf.pocket c.exit-gone.new.shelf c.args.owner in
     let old = c.args.self.now in
     let n = the_view c.self-2.inside in
     let k = c.args.pipe in
     let j = c.from-index.result in
     let x = c.in-Some.packet in
-    let table = c.exit_at-gone.new.self in
+    let table = c.exit-gone.new.self in
     let m : KeptNet = record n { table = table } in
     let r = readied c.requires.stands.housed c.deliver_ready.ensures.still (c.deliver_ready.ensures.pockets c.args.owner) c.self-2.view_is in
     let at_first : StandsAt k c.args.place (the_view c.self.inside).table.pipes =
@@ -79,23 +79,23 @@ deliver-requires-clause-room g c =
     let stands : StandsAt k c.args.place n.table.pipes =
     at_view (λ (m : KeptNet). StandsAt k c.args.place m.table.pipes) n c.deliver_ready.new.self c.self-2.view_is
     (c.requires.place ∙ sym (c.in_ok-passage.ensures.places.places k)) in
-    let gone : c.exit_at-gone.result ≡ Some x =
-    c.exit_at-gone.ensures.packet k stands (net_of p n)
+    let gone : c.exit-gone.result ≡ Some x =
+    c.exit-gone.ensures.packet k stands (net_of p n)
     ∙ ap (λ (z : Net). option_and_then (flying_in j) (find_pipe k z)) (r.shown ∙ ap (net_of o) (sym c.self.view_is))
-    ∙ sym (c.front_at.ensures.packet k at_first (net_of o (the_view c.self.inside))) ∙ c.in-Some.is in
-    subst (λ (y : Option Packet). OnSome y (0 < g.S.Shelf.room c.exit_at-gone.new.shelf c.args.owner)) gone c.exit_at-gone.ensures.freed
+    ∙ sym (c.front.ensures.packet k at_first (net_of o (the_view c.self.inside))) ∙ c.in-Some.is in
+    subst (λ (y : Option Packet). OnSome y (0 < g.S.Shelf.room c.exit-gone.new.shelf c.args.owner)) gone c.exit-gone.ensures.freed
 
 pub deliver-requires-clause-ready : goal.deliver-requires-clause-ready
 deliver-requires-clause-ready g c =
     let o = g.S.Shelf.pocket c.args.shelf.now c.args.owner in
     let p = g.S.Shelf.pocket c.deliver_ready.new.shelf c.args.owner in
-    let q = g.S.Shelf.pocket c.exit_at-gone.new.shelf c.args.owner in
+    let q = g.S.Shelf.pocket c.exit-gone.new.shelf c.args.owner in
     let old = c.args.self.now in
     let n = the_view c.self-2.inside in
     let k = c.args.pipe in
     let j = c.from-index.result in
     let x = c.in-Some.packet in
-    let table = c.exit_at-gone.new.self in
+    let table = c.exit-gone.new.self in
     let m : KeptNet = record n { table = table } in
     let r = readied c.requires.stands.housed c.deliver_ready.ensures.still (c.deliver_ready.ensures.pockets c.args.owner) c.self-2.view_is in
     let at_first : StandsAt k c.args.place (the_view c.self.inside).table.pipes =
@@ -103,13 +103,13 @@ deliver-requires-clause-ready g c =
     let stands : StandsAt k c.args.place n.table.pipes =
     at_view (λ (m : KeptNet). StandsAt k c.args.place m.table.pipes) n c.deliver_ready.new.self c.self-2.view_is
     (c.requires.place ∙ sym (c.in_ok-passage.ensures.places.places k)) in
-    let gone : c.exit_at-gone.result ≡ Some x =
-    c.exit_at-gone.ensures.packet k stands (net_of p n)
+    let gone : c.exit-gone.result ≡ Some x =
+    c.exit-gone.ensures.packet k stands (net_of p n)
     ∙ ap (λ (z : Net). option_and_then (flying_in j) (find_pipe k z)) (r.shown ∙ ap (net_of o) (sym c.self.view_is))
-    ∙ sym (c.front_at.ensures.packet k at_first (net_of o (the_view c.self.inside))) ∙ c.in-Some.is in
+    ∙ sym (c.front.ensures.packet k at_first (net_of o (the_view c.self.inside))) ∙ c.in-Some.is in
     as-deliver n m (record {
-      roomy = exit-roomy c.args.at o p q old n table k j r c.exit_at-gone.ensures.keys c.exit_at-gone.ensures.seed
-          c.exit_at-gone.ensures.ready c.exit_at-gone.ensures.ready_at c.exit_at-gone.ensures.places;
+      roomy = exit-roomy c.args.at o p q old n table k j r c.exit-gone.ensures.keys c.exit-gone.ensures.seed
+          c.exit-gone.ensures.ready c.exit-gone.ensures.ready_at c.exit-gone.ensures.places;
       traffic = refl;
     }) x.load c.in_ok-passage.passage
     (subst (λ (z : KeptNet). CanDeliver x.load c.in_ok-passage.passage z) (sym c.self-2.view_is) c.in_ok-passage.ensures.ready)
@@ -118,13 +118,13 @@ pub returns-clause-ok : goal.returns-clause-ok
 returns-clause-ok g c =
     let o = g.S.Shelf.pocket c.args.shelf.now c.args.owner in
     let p = g.S.Shelf.pocket c.deliver_ready.new.shelf c.args.owner in
-    let q = g.S.Shelf.pocket c.exit_at-gone.new.shelf c.args.owner in
+    let q = g.S.Shelf.pocket c.exit-gone.new.shelf c.args.owner in
     let old = c.args.self.now in
     let n = the_view c.self-2.inside in
     let k = c.args.pipe in
     let j = c.from-index.result in
     let x = c.in-Some.packet in
-    let table = c.exit_at-gone.new.self in
+    let table = c.exit-gone.new.self in
     let m : KeptNet = record n { table = table } in
     let r = readied c.requires.stands.housed c.deliver_ready.ensures.still (c.deliver_ready.ensures.pockets c.args.owner) c.self-2.view_is in
     let at_first : StandsAt k c.args.place (the_view c.self.inside).table.pipes =
@@ -132,14 +132,14 @@ returns-clause-ok g c =
     let stands : StandsAt k c.args.place n.table.pipes =
     at_view (λ (m : KeptNet). StandsAt k c.args.place m.table.pipes) n c.deliver_ready.new.self c.self-2.view_is
     (c.requires.place ∙ sym (c.in_ok-passage.ensures.places.places k)) in
-    let gone : c.exit_at-gone.result ≡ Some x =
-    c.exit_at-gone.ensures.packet k stands (net_of p n)
+    let gone : c.exit-gone.result ≡ Some x =
+    c.exit-gone.ensures.packet k stands (net_of p n)
     ∙ ap (λ (z : Net). option_and_then (flying_in j) (find_pipe k z)) (r.shown ∙ ap (net_of o) (sym c.self.view_is))
-    ∙ sym (c.front_at.ensures.packet k at_first (net_of o (the_view c.self.inside))) ∙ c.in-Some.is in
+    ∙ sym (c.front.ensures.packet k at_first (net_of o (the_view c.self.inside))) ∙ c.in-Some.is in
     let one = ap (λ (z : KeptNet). z.one_pass) (c.self-2.view_is ∙ c.deliver_ready.ensures.rest) ∙ c.requires.one_pass in
     subst (λ (i : ℕ). Becomes 1 (exits c.args.at k i (net_of o old)) o (g.S.Shelf.pocket c.deliver.new.shelf c.args.owner) old c.deliver.new.self) c.from-index.ensures
-    (exit-some c.args.at o p q old n table k j r c.exit_at-gone.ensures.keys c.exit_at-gone.ensures.seed c.exit_at-gone.result
-    (c.exit_at-gone.ensures.gone k stands c.args.at (net_of p n)) x (sym gone) _ _
+    (exit-some c.args.at o p q old n table k j r c.exit-gone.ensures.keys c.exit-gone.ensures.seed c.exit-gone.result
+    (c.exit-gone.ensures.gone k stands c.args.at (net_of p n)) x (sym gone) _ _
     (delivered-leaves c.args.at k j x q _ m c.deliver.new.self one c.deliver.ensures.becomes))
 
 err-not : {T E A : Type 0} (r : Result T E) (e : E) → r ≡ Err e → IsOk r → A
@@ -156,5 +156,5 @@ returns-in_err-passage-clause-plain g c = λ plain.
     at_view (λ (m : KeptNet). StandsAt k c.args.place m.table.pipes) n c.args.self.now c.self.view_is c.requires.place in
     let flying = subst (λ (j : ℕ). option_and_then (flying_in j) (find_pipe k (net_of o c.args.self.now)) ≡ Some x) c.from-index.ensures
     (ap (λ (m : KeptNet). option_and_then (flying_in c.from-index.result) (find_pipe k (net_of o m))) (sym c.self.view_is)
-    ∙ sym (c.front_at.ensures.packet k at_first (net_of o n)) ∙ c.in-Some.is) in
+    ∙ sym (c.front.ensures.packet k at_first (net_of o n)) ∙ c.in-Some.is) in
     err-not c.deliver_ready.result _ c.in_err-passage.was (c.deliver_ready.ensures.plain (plain x flying))

@@ -1,6 +1,6 @@
 use Rattle.std.proofs.Common.{sym, ◌∙◌}
 use Rattle.emu_model.specs.declared.packets.Packet.{Packet}
-use Rattle.network.specs.declared.ways.Passage.TheVariants.{Searched}
+use Rattle.network.specs.declared.flow_cache.Lookup.TheVariants.{Searched}
 use Rattle.network.specs.Ready.{CanDeliver}
 use Rattle.network.proofs.Sources.{if_ok, only_one, none_there}
 use Rattle.network.proofs.state.Network.direct_ready.Goals as goal

@@ -1,33 +1,60 @@
-use Rattle.std.proofs.Common.{◌≡◌, sym, ap, ◌∙◌, subst}
-use Rattle.emu_model.specs.Net.{initial_net}
-use Rattle.packet_store.specs.Pocket.{Pocket}
-use Rattle.pipe_table.specs.Table.{with_pipes}
-use Rattle.traffic.specs.Kept.{with_traffic}
+use Rattle.std.proofs.Common.{◌≡◌, ◌≤◌, ◌++◌, sym, ap, ◌∙◌, subst, refl, Some, arith}
+use Rattle.std.specs.Prelude.{IsSome, IfSome, option_to_list}
+use Rattle.std.specs.List.{best_of}
+use Rattle.std.proofs.lemmas.Option.{same_Some}
+use Rattle.emu_model.specs.declared.sources.Due.{Due}
+use Rattle.emu_model.specs.Dues.{is_before, dues_of, line_dues}
+use Rattle.due_index.specs.Least.{lesser, least_of}
+use Rattle.packet_store.specs.Pocket.{Pocket, empty_pocket}
+use Rattle.traffic.specs.Sends.{source_dues, IsAllowed, IsNumbered}
 use Rattle.network.specs.contracts.state.Network.{the_view}
 use Rattle.network.specs.Kept.{KeptNet, net_of}
-use Rattle.std.specs.List.{best_of}
-use Rattle.emu_model.specs.Dues.{dues_of, is_before, line_dues}
-use Rattle.packet_store.specs.Pocket.{empty_pocket}
 use Rattle.network.specs.Due.{IsDue}
-use Rattle.network.proofs.DueFacts.{best-parts, pipes-keep, sources-keep}
+use Rattle.network.proofs.Settling.{best-moment, second-is, told-is, told-due}
 use Rattle.network.proofs.state.Network.earliest.Goals as goal
+
+pub some-requires : goal.some-requires
+some-requires c =
+    let n = the_view c.self.inside in
+    let p = empty_pocket 0 in
+    let m = net_of p n in
+    let line = c.direct_due.ensures.dues p ∙ ap (λ (x : KeptNet). line_dues 0 (net_of p x).direct) (sym c.self.view_is) in
+    let e = c.or_earlier.ensures ∙ ap (λ x. lesser x c.of-direct.result) c.at-first.ensures ∙ ap (λ x. lesser (Some c.args.best) x) c.of-direct.ensures in
+    let is = second-is c.args.clock m c.args.best c.direct_due.result c.or_earlier.result c.earliest-least.result
+    (least_of (option_to_list c.earliest-least.result ++ source_dues c.args.clock m)) line e (c.earliest-least.ensures.least p m) refl in
+    subst (λ o. IsSome o) (sym is) refl
 
 pub returns-clause-least : goal.returns-clause-least
 returns-clause-least c =
-    subst (λ (m : KeptNet). (p : Pocket) → c.earliest.result ≡ best_of is_before c.args.best (dues_of c.args.clock (net_of p m))) c.self.view_is
+    subst (λ (x : KeptNet). (p : Pocket) → c.earliest.result ≡ best_of is_before c.args.best (dues_of c.args.clock (net_of p x))) c.self.view_is
     (λ p. let n = the_view c.self.inside in
-    best-parts c.args.clock (net_of p n) c.args.best c.direct_earliest-best.result c.earliest-best.result c.earliest.result
-    (c.direct_earliest-best.ensures.least p ∙ ap (λ (m : KeptNet). best_of is_before c.args.best (line_dues 0 (net_of p m).direct)) (sym c.self.view_is))
-    (c.earliest-best.ensures.least p (net_of p n)) (c.earliest.ensures.least (net_of p n)))
+    let m = net_of p n in
+    let line = c.direct_due.ensures.dues p ∙ ap (λ (x : KeptNet). line_dues 0 (net_of p x).direct) (sym c.self.view_is) in
+    let e = c.or_earlier.ensures ∙ ap (λ x. lesser x c.of-direct.result) c.at-first.ensures ∙ ap (λ x. lesser (Some c.args.best) x) c.of-direct.ensures in
+    told-is c.args.clock m c.args.best c.direct_due.result c.or_earlier.result c.earliest-least.result c.some.result c.earliest.result line e
+    (c.earliest-least.ensures.least p m) c.some.ensures (c.earliest.ensures.least m))
+
+pub returns-clause-moment : goal.returns-clause-moment
+returns-clause-moment c =
+    let n = the_view c.self.inside in
+    let p = empty_pocket 0 in
+    let m = net_of p n in
+    let line = c.direct_due.ensures.dues p ∙ ap (λ (x : KeptNet). line_dues 0 (net_of p x).direct) (sym c.self.view_is) in
+    let e = c.or_earlier.ensures ∙ ap (λ x. lesser x c.of-direct.result) c.at-first.ensures ∙ ap (λ x. lesser (Some c.args.best) x) c.of-direct.ensures in
+    let same = told-is c.args.clock m c.args.best c.direct_due.result c.or_earlier.result c.earliest-least.result c.some.result c.earliest.result line e
+    (c.earliest-least.ensures.least p m) c.some.ensures (c.earliest.ensures.least m) in
+    omega (arith, best-moment c.args.best (dues_of c.args.clock m), ap (λ (d : Due). d.moment) same)
 
 pub returns-clause-due : goal.returns-clause-due
-returns-clause-due c =
-    λ due.
+returns-clause-due c = λ due.
     let n = the_view c.self.inside in
-    let first : IsDue c.direct_earliest-best.result n = subst (λ (m : KeptNet). IsDue c.direct_earliest-best.result m) (sym c.self.view_is) (c.direct_earliest-best.ensures.due due) in
     let p = empty_pocket 0 in
-    let sources = pipes-keep c.self.inside.traffic c.direct_earliest-best.result c.earliest-best.result (with_pipes p c.self.inside.table initial_net).pipes (c.earliest-best.ensures.least p initial_net) (first.allowed, first.numbered) in
-    let pipes = sources-keep c.self.inside.table.pipes c.args.clock (with_traffic c.self.inside.traffic initial_net) c.earliest-best.result c.earliest.result (c.earliest.ensures.least initial_net)
-    (c.earliest-best.ensures.finishing first.finishing, c.earliest-best.ensures.piped first.piped) in
-    subst (λ (m : KeptNet). IsDue c.earliest.result m) c.self.view_is
-    (record { finishing = pipes.0; allowed = c.earliest.ensures.allowed sources.0; numbered = c.earliest.ensures.numbered sources.1; piped = pipes.1 })
+    let m = net_of p n in
+    let line = c.direct_due.ensures.dues p ∙ ap (λ (x : KeptNet). line_dues 0 (net_of p x).direct) (sym c.self.view_is) in
+    let e = c.or_earlier.ensures ∙ ap (λ x. lesser x c.of-direct.result) c.at-first.ensures ∙ ap (λ x. lesser (Some c.args.best) x) c.of-direct.ensures in
+    subst (λ (x : KeptNet). IsDue c.earliest.result x) c.self.view_is
+    (told-due c.args.clock m c.args.best c.direct_due.result c.or_earlier.result c.earliest-least.result c.some.result c.earliest.result line e
+    (c.earliest-least.ensures.least p m) c.some.ensures (c.earliest.ensures.least m) n
+    (subst (λ (x : KeptNet). IsDue c.args.best x) (sym c.self.view_is) due)
+    (subst (λ (x : KeptNet). IfSome c.direct_due.result (λ y. IsDue y x)) (sym c.self.view_is) c.direct_due.ensures.due)
+    c.earliest-least.ensures.finishing c.earliest-least.ensures.piped c.earliest.ensures.allowed c.earliest.ensures.numbered)

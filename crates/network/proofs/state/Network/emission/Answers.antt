@@ -10,7 +10,7 @@ use Rattle.network.specs.contracts.state.Network.{the_view}
 use Rattle.network.specs.Kept.{KeptNet, net_of}
 use Rattle.network.specs.Ready.{CanMake}
 use Rattle.network.proofs.Steps.{still-refl}
-use Rattle.network.proofs.Leaving.{sent-one, sent-none}
+use Rattle.network.proofs.InFlight.{sent-one, sent-none}
 use Rattle.network.proofs.Readied.{readied, from_readied}
 use Rattle.network.proofs.AsReady.{as-make, roomy-same}
 use Rattle.network.proofs.state.Network.emission.Goals as goal

@@ -1,7 +1,7 @@
 use Rattle.network.specs.contracts.state.Network.{the_view}
 use Rattle.network.specs.Kept.{net_of, IsHoused}
 use Rattle.network.proofs.Steps.{at_view, from_view}
-use Rattle.network.proofs.Leaving.{front-missing, direct-left}
+use Rattle.network.proofs.InFlight.{front-missing, direct-left}
 use Rattle.emu_model.specs.Delay.{leave}
 use Rattle.network.proofs.state.Network.leave_direct.Goals as goal
 

@@ -1,6 +1,6 @@
 use Rattle.emu_model.specs.Net.{make as made_of}
 use Rattle.network.specs.Kept.{KeptNet, net_of, Stands}
-use Rattle.network.specs.declared.ways.Passage.{Passage}
+use Rattle.network.specs.declared.flow_cache.Lookup.{Lookup}
 use Rattle.network.specs.Ready.{CanMake}
 use Rattle.std.proofs.Common.{refl, sym, subst}
 use Rattle.network.specs.contracts.state.Network.{the_view}
@@ -13,9 +13,9 @@ use Rattle.network.proofs.state.Network.make.Goals as goal
 pub pass_on_line-requires-clause-ready : goal.pass_on_line-requires-clause-ready
 pass_on_line-requires-clause-ready g c =
     let n = the_view c.self.inside in
-    packet-known c.args.sending.now.load c.args.sending.now.send c.self.inside.made c.in-OnLine.line c.packet_of-packet.result n c.note_made.new.self
+    packet-known c.args.sending.now.load c.args.sending.now.send c.self.inside.made c.in-Cached.line c.packet_of-packet.result n c.note_made.new.self
     (subst (λ (m : KeptNet). IsRoomy n m) (sym c.note_made.ensures.rest) (roomy-same n _ refl (omega arith) refl refl)) c.packet_of-packet.ensures
-    (subst (λ (w : Passage). CanMake c.args.sending.now.send w n) c.in-OnLine.is
+    (subst (λ (w : Lookup). CanMake c.args.sending.now.send w n) c.in-Cached.is
     (at_view (CanMake c.args.sending.now.send c.args.passage.now) _ _ c.self.view_is c.requires.ready))
 
 pub pass_rules-requires-clause-ready : goal.pass_rules-requires-clause-ready
@@ -23,11 +23,11 @@ pass_rules-requires-clause-ready g c =
     let n = the_view c.self.inside in
     packet-ready c.args.sending.now.load c.args.sending.now.send c.self.inside.made c.packet_of-packet.result n c.note_made.new.self
     (subst (λ (m : KeptNet). IsRoomy n m) (sym c.note_made.ensures.rest) (roomy-same n _ refl (omega arith) refl refl)) c.packet_of-packet.ensures
-    (subst (λ (w : Passage). CanMake c.args.sending.now.send w n) c.in-Searched.is
+    (subst (λ (w : Lookup). CanMake c.args.sending.now.send w n) c.in-Searched.is
     (at_view (CanMake c.args.sending.now.send c.args.passage.now) _ _ c.self.view_is c.requires.ready))
 
-pub returns-in-OnLine-clause-becomes : goal.returns-in-OnLine-clause-becomes
-returns-in-OnLine-clause-becomes g c =
+pub returns-in-Cached-clause-becomes : goal.returns-in-Cached-clause-becomes
+returns-in-Cached-clause-becomes g c =
     let p = g.S.Shelf.pocket c.args.shelf.now c.args.owner in
     let n = the_view c.self.inside in
     let stands : Stands c.args.at p n = at_view (Stands c.args.at p) _ _ c.self.view_is c.requires.stands in

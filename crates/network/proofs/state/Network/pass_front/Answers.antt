@@ -13,12 +13,12 @@ use Rattle.network.specs.Ready.{CanPass, start_after}
 use Rattle.network.proofs.Steps.{at_view, stands-after, notes-becomes}
 use Rattle.network.proofs.Frame.{pipes-named}
 use Rattle.network.proofs.AsReady.{as-behind, noted-as-ready}
-use Rattle.network.proofs.Leaving.{exits, exit-stands, exit-roomy, exit-some, passed-leaves}
+use Rattle.network.proofs.InFlight.{exits, exit-stands, exit-roomy, exit-some, passed-leaves}
 use Rattle.network.proofs.Readied.{readied}
 use Rattle.network.proofs.state.Network.pass_front.Goals as goal
 
-pub front_at-requires-clause-named : goal.front_at-requires-clause-named
-front_at-requires-clause-named g c =
+pub front-requires-clause-named : goal.front-requires-clause-named
+front-requires-clause-named g c =
     let p = g.S.Shelf.pocket c.args.shelf.now c.args.owner in
     pipes-named p (the_view c.self.inside) (at_view (IsHoused p) _ _ c.self.view_is c.requires.stands.housed)
 
@@ -31,24 +31,24 @@ exit_nothing-requires-clause-none g c =
     at_view (λ (m : KeptNet). StandsAt k c.args.place m.table.pipes) n c.args.self.now c.self.view_is c.requires.place in
     subst (λ (j : ℕ). option_and_then (flying_in j) (find_pipe k (net_of p c.args.self.now)) ≡ None) c.from-index.ensures
     (ap (λ (m : KeptNet). option_and_then (flying_in c.from-index.result) (find_pipe k (net_of p m))) (sym c.self.view_is)
-    ∙ sym (c.front_at.ensures.packet k at_first (net_of p n)) ∙ c.in_default.is)
+    ∙ sym (c.front.ensures.packet k at_first (net_of p n)) ∙ c.in_default.is)
 
-pub exit_at-gone-requires-clause-named : goal.exit_at-gone-requires-clause-named
-exit_at-gone-requires-clause-named g c =
+pub exit-gone-requires-clause-named : goal.exit-gone-requires-clause-named
+exit-gone-requires-clause-named g c =
     let r = readied c.requires.stands.housed c.pass_ready.ensures.still (c.pass_ready.ensures.pockets c.args.owner) c.self-2.view_is in
     pipes-named _ _ r.housed
 
-pub go_on-requires-clause-stands : goal.go_on-requires-clause-stands
-go_on-requires-clause-stands g c =
+pub reinject-requires-clause-stands : goal.reinject-requires-clause-stands
+reinject-requires-clause-stands g c =
     let o = g.S.Shelf.pocket c.args.shelf.now c.args.owner in
     let p = g.S.Shelf.pocket c.pass_ready.new.shelf c.args.owner in
-    let q = g.S.Shelf.pocket c.exit_at-gone.new.shelf c.args.owner in
+    let q = g.S.Shelf.pocket c.exit-gone.new.shelf c.args.owner in
     let old = c.args.self.now in
     let n = the_view c.self-2.inside in
     let k = c.args.pipe in
     let j = c.from-index.result in
     let x = c.in-Some.packet in
-    let table = c.exit_at-gone.new.self in
+    let table = c.exit-gone.new.self in
     let m : KeptNet = record n { table = table } in
     let r = readied c.requires.stands.housed c.pass_ready.ensures.still (c.pass_ready.ensures.pockets c.args.owner) c.self-2.view_is in
     let at_first : StandsAt k c.args.place (the_view c.self.inside).table.pipes =
@@ -56,26 +56,26 @@ go_on-requires-clause-stands g c =
     let stands : StandsAt k c.args.place n.table.pipes =
     at_view (λ (m : KeptNet). StandsAt k c.args.place m.table.pipes) n c.pass_ready.new.self c.self-2.view_is
     (c.requires.place ∙ sym (c.in_ok-known.ensures.places.places k)) in
-    let gone : c.exit_at-gone.result ≡ Some x =
-    c.exit_at-gone.ensures.packet k stands (net_of p n)
+    let gone : c.exit-gone.result ≡ Some x =
+    c.exit-gone.ensures.packet k stands (net_of p n)
     ∙ ap (λ (z : Net). option_and_then (flying_in j) (find_pipe k z)) (r.shown ∙ ap (net_of o) (sym c.self.view_is))
-    ∙ sym (c.front_at.ensures.packet k at_first (net_of o (the_view c.self.inside))) ∙ c.in-Some.is in
+    ∙ sym (c.front.ensures.packet k at_first (net_of o (the_view c.self.inside))) ∙ c.in-Some.is in
     let noted = c.note.ensures in
     let mid = c.note.new.self in
-    let stays : Stands c.args.at q m = exit-stands c.args.at o p q old n table k j r c.exit_at-gone.ensures.keys c.exit_at-gone.ensures.seed c.requires.stands in
+    let stays : Stands c.args.at q m = exit-stands c.args.at o p q old n table k j r c.exit-gone.ensures.keys c.exit-gone.ensures.seed c.requires.stands in
     stands-after c.args.at 0 _ q q m mid stays (notes-becomes q _ m mid stays.housed noted)
 
-pub go_on-requires-clause-budget : goal.go_on-requires-clause-budget
-go_on-requires-clause-budget g c =
+pub reinject-requires-clause-budget : goal.reinject-requires-clause-budget
+reinject-requires-clause-budget g c =
     let o = g.S.Shelf.pocket c.args.shelf.now c.args.owner in
     let p = g.S.Shelf.pocket c.pass_ready.new.shelf c.args.owner in
-    let q = g.S.Shelf.pocket c.exit_at-gone.new.shelf c.args.owner in
+    let q = g.S.Shelf.pocket c.exit-gone.new.shelf c.args.owner in
     let old = c.args.self.now in
     let n = the_view c.self-2.inside in
     let k = c.args.pipe in
     let j = c.from-index.result in
     let x = c.in-Some.packet in
-    let table = c.exit_at-gone.new.self in
+    let table = c.exit-gone.new.self in
     let m : KeptNet = record n { table = table } in
     let r = readied c.requires.stands.housed c.pass_ready.ensures.still (c.pass_ready.ensures.pockets c.args.owner) c.self-2.view_is in
     let at_first : StandsAt k c.args.place (the_view c.self.inside).table.pipes =
@@ -83,23 +83,23 @@ go_on-requires-clause-budget g c =
     let stands : StandsAt k c.args.place n.table.pipes =
     at_view (λ (m : KeptNet). StandsAt k c.args.place m.table.pipes) n c.pass_ready.new.self c.self-2.view_is
     (c.requires.place ∙ sym (c.in_ok-known.ensures.places.places k)) in
-    let gone : c.exit_at-gone.result ≡ Some x =
-    c.exit_at-gone.ensures.packet k stands (net_of p n)
+    let gone : c.exit-gone.result ≡ Some x =
+    c.exit-gone.ensures.packet k stands (net_of p n)
     ∙ ap (λ (z : Net). option_and_then (flying_in j) (find_pipe k z)) (r.shown ∙ ap (net_of o) (sym c.self.view_is))
-    ∙ sym (c.front_at.ensures.packet k at_first (net_of o (the_view c.self.inside))) ∙ c.in-Some.is in
-    subst (λ (y : Option Packet). OnSome y (q.count < q.budget)) gone c.exit_at-gone.ensures.below
+    ∙ sym (c.front.ensures.packet k at_first (net_of o (the_view c.self.inside))) ∙ c.in-Some.is in
+    subst (λ (y : Option Packet). OnSome y (q.count < q.budget)) gone c.exit-gone.ensures.below
 
-pub go_on-requires-clause-room : goal.go_on-requires-clause-room
-go_on-requires-clause-room g c =
+pub reinject-requires-clause-room : goal.reinject-requires-clause-room
+reinject-requires-clause-room g c =
     let o = g.S.Shelf.pocket c.args.shelf.now c.args.owner in
     let p = g.S.Shelf.pocket c.pass_ready.new.shelf c.args.owner in
-    let q = g.S.Shelf.pocket c.exit_at-gone.new.shelf c.args.owner in
+    let q = g.S.Shelf.pocket c.exit-gone.new.shelf c.args.owner in
     let old = c.args.self.now in
     let n = the_view c.self-2.inside in
     let k = c.args.pipe in
     let j = c.from-index.result in
     let x = c.in-Some.packet in
-    let table = c.exit_at-gone.new.self in
+    let table = c.exit-gone.new.self in
     let m : KeptNet = record n { table = table } in
     let r = readied c.requires.stands.housed c.pass_ready.ensures.still (c.pass_ready.ensures.pockets c.args.owner) c.self-2.view_is in
     let at_first : StandsAt k c.args.place (the_view c.self.inside).table.pipes =
@@ -107,23 +107,23 @@ go_on-requires-clause-room g c =
     let stands : StandsAt k c.args.place n.table.pipes =
     at_view (λ (m : KeptNet). StandsAt k c.args.place m.table.pipes) n c.pass_ready.new.self c.self-2.view_is
     (c.requires.place ∙ sym (c.in_ok-known.ensures.places.places k)) in
-    let gone : c.exit_at-gone.result ≡ Some x =
-    c.exit_at-gone.ensures.packet k stands (net_of p n)
+    let gone : c.exit-gone.result ≡ Some x =
+    c.exit-gone.ensures.packet k stands (net_of p n)
     ∙ ap (λ (z : Net). option_and_then (flying_in j) (find_pipe k z)) (r.shown ∙ ap (net_of o) (sym c.self.view_is))
-    ∙ sym (c.front_at.ensures.packet k at_first (net_of o (the_view c.self.inside))) ∙ c.in-Some.is in
-    subst (λ (y : Option Packet). OnSome y (0 < g.S.Shelf.room c.exit_at-gone.new.shelf c.args.owner)) gone c.exit_at-gone.ensures.freed
+    ∙ sym (c.front.ensures.packet k at_first (net_of o (the_view c.self.inside))) ∙ c.in-Some.is in
+    subst (λ (y : Option Packet). OnSome y (0 < g.S.Shelf.room c.exit-gone.new.shelf c.args.owner)) gone c.exit-gone.ensures.freed
 
-pub go_on-requires-clause-ready : goal.go_on-requires-clause-ready
-go_on-requires-clause-ready g c =
+pub reinject-requires-clause-ready : goal.reinject-requires-clause-ready
+reinject-requires-clause-ready g c =
     let o = g.S.Shelf.pocket c.args.shelf.now c.args.owner in
     let p = g.S.Shelf.pocket c.pass_ready.new.shelf c.args.owner in
-    let q = g.S.Shelf.pocket c.exit_at-gone.new.shelf c.args.owner in
+    let q = g.S.Shelf.pocket c.exit-gone.new.shelf c.args.owner in
     let old = c.args.self.now in
     let n = the_view c.self-2.inside in
     let k = c.args.pipe in
     let j = c.from-index.result in
     let x = c.in-Some.packet in
-    let table = c.exit_at-gone.new.self in
+    let table = c.exit-gone.new.self in
     let m : KeptNet = record n { table = table } in
     let r = readied c.requires.stands.housed c.pass_ready.ensures.still (c.pass_ready.ensures.pockets c.args.owner) c.self-2.view_is in
     let at_first : StandsAt k c.args.place (the_view c.self.inside).table.pipes =
@@ -131,30 +131,30 @@ go_on-requires-clause-ready g c =
     let stands : StandsAt k c.args.place n.table.pipes =
     at_view (λ (m : KeptNet). StandsAt k c.args.place m.table.pipes) n c.pass_ready.new.self c.self-2.view_is
     (c.requires.place ∙ sym (c.in_ok-known.ensures.places.places k)) in
-    let gone : c.exit_at-gone.result ≡ Some x =
-    c.exit_at-gone.ensures.packet k stands (net_of p n)
+    let gone : c.exit-gone.result ≡ Some x =
+    c.exit-gone.ensures.packet k stands (net_of p n)
     ∙ ap (λ (z : Net). option_and_then (flying_in j) (find_pipe k z)) (r.shown ∙ ap (net_of o) (sym c.self.view_is))
-    ∙ sym (c.front_at.ensures.packet k at_first (net_of o (the_view c.self.inside))) ∙ c.in-Some.is in
+    ∙ sym (c.front.ensures.packet k at_first (net_of o (the_view c.self.inside))) ∙ c.in-Some.is in
     let noted = c.note.ensures in
     let mid = c.note.new.self in
-    let stays : Stands c.args.at q m = exit-stands c.args.at o p q old n table k j r c.exit_at-gone.ensures.keys c.exit_at-gone.ensures.seed c.requires.stands in
+    let stays : Stands c.args.at q m = exit-stands c.args.at o p q old n table k j r c.exit-gone.ensures.keys c.exit-gone.ensures.seed c.requires.stands in
     let known = c.in_ok-known.known in
     as-behind m mid (noted-as-ready m mid noted.rest).roomy x known
-    (as-behind n m (exit-roomy c.args.at o p q old n table k j r c.exit_at-gone.ensures.keys c.exit_at-gone.ensures.seed
-    c.exit_at-gone.ensures.ready c.exit_at-gone.ensures.ready_at c.exit_at-gone.ensures.places) x known
+    (as-behind n m (exit-roomy c.args.at o p q old n table k j r c.exit-gone.ensures.keys c.exit-gone.ensures.seed
+    c.exit-gone.ensures.ready c.exit-gone.ensures.ready_at c.exit-gone.ensures.places) x known
     (subst (λ (z : KeptNet). CanPass (start_after x z) x known z) (sym c.self-2.view_is) c.in_ok-known.ensures.pass))
 
 pub returns-clause-ok : goal.returns-clause-ok
 returns-clause-ok g c =
     let o = g.S.Shelf.pocket c.args.shelf.now c.args.owner in
     let p = g.S.Shelf.pocket c.pass_ready.new.shelf c.args.owner in
-    let q = g.S.Shelf.pocket c.exit_at-gone.new.shelf c.args.owner in
+    let q = g.S.Shelf.pocket c.exit-gone.new.shelf c.args.owner in
     let old = c.args.self.now in
     let n = the_view c.self-2.inside in
     let k = c.args.pipe in
     let j = c.from-index.result in
     let x = c.in-Some.packet in
-    let table = c.exit_at-gone.new.self in
+    let table = c.exit-gone.new.self in
     let m : KeptNet = record n { table = table } in
     let r = readied c.requires.stands.housed c.pass_ready.ensures.still (c.pass_ready.ensures.pockets c.args.owner) c.self-2.view_is in
     let at_first : StandsAt k c.args.place (the_view c.self.inside).table.pipes =
@@ -162,16 +162,16 @@ returns-clause-ok g c =
     let stands : StandsAt k c.args.place n.table.pipes =
     at_view (λ (m : KeptNet). StandsAt k c.args.place m.table.pipes) n c.pass_ready.new.self c.self-2.view_is
     (c.requires.place ∙ sym (c.in_ok-known.ensures.places.places k)) in
-    let gone : c.exit_at-gone.result ≡ Some x =
-    c.exit_at-gone.ensures.packet k stands (net_of p n)
+    let gone : c.exit-gone.result ≡ Some x =
+    c.exit-gone.ensures.packet k stands (net_of p n)
     ∙ ap (λ (z : Net). option_and_then (flying_in j) (find_pipe k z)) (r.shown ∙ ap (net_of o) (sym c.self.view_is))
-    ∙ sym (c.front_at.ensures.packet k at_first (net_of o (the_view c.self.inside))) ∙ c.in-Some.is in
+    ∙ sym (c.front.ensures.packet k at_first (net_of o (the_view c.self.inside))) ∙ c.in-Some.is in
     let noted = c.note.ensures in
     let mid = c.note.new.self in
-    let stays : Stands c.args.at q m = exit-stands c.args.at o p q old n table k j r c.exit_at-gone.ensures.keys c.exit_at-gone.ensures.seed c.requires.stands in
+    let stays : Stands c.args.at q m = exit-stands c.args.at o p q old n table k j r c.exit-gone.ensures.keys c.exit-gone.ensures.seed c.requires.stands in
     let one = ap (λ (z : KeptNet). z.one_pass) (c.self-2.view_is ∙ c.pass_ready.ensures.rest) ∙ c.requires.one_pass in
-    subst (λ (i : ℕ). Becomes 1 (exits c.args.at k i (net_of o old)) o (g.S.Shelf.pocket c.go_on.new.shelf c.args.owner) old c.go_on.new.self) c.from-index.ensures
-    (exit-some c.args.at o p q old n table k j r c.exit_at-gone.ensures.keys c.exit_at-gone.ensures.seed c.exit_at-gone.result
-    (c.exit_at-gone.ensures.gone k stands c.args.at (net_of p n)) x (sym gone) _ _
-    (passed-leaves c.args.at k j x q _ m c.go_on.new.self mid one stays.housed
-    (subst (λ (i : ℕ). Notes (PacketPassed c.args.at.now x.number k i ∷ []) m mid) (sym c.from-index.ensures) noted) c.go_on.ensures.becomes))
+    subst (λ (i : ℕ). Becomes 1 (exits c.args.at k i (net_of o old)) o (g.S.Shelf.pocket c.reinject.new.shelf c.args.owner) old c.reinject.new.self) c.from-index.ensures
+    (exit-some c.args.at o p q old n table k j r c.exit-gone.ensures.keys c.exit-gone.ensures.seed c.exit-gone.result
+    (c.exit-gone.ensures.gone k stands c.args.at (net_of p n)) x (sym gone) _ _
+    (passed-leaves c.args.at k j x q _ m c.reinject.new.self mid one stays.housed
+    (subst (λ (i : ℕ). Notes (PacketPassed c.args.at.now x.number k i ∷ []) m mid) (sym c.from-index.ensures) noted) c.reinject.ensures.becomes))

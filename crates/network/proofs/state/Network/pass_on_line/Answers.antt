@@ -1,5 +1,5 @@
 use Rattle.network.specs.contracts.state.Network.{the_view}
-use Rattle.network.specs.Ready.{HasWay, CanGo}
+use Rattle.network.specs.Ready.{HasRoute, CanGo}
 use Rattle.std.proofs.Common.{subst}
 use Rattle.network.specs.Kept.{KeptNet}
 use Rattle.network.proofs.Steps.{at_view}
@@ -11,15 +11,15 @@ pass_by_way-requires-clause-ready g c =
     let n = the_view c.self.inside in
     let x = c.args.packet.now in
     let held = c.in-Some.held.now in
-    let go : CanGo 0 x held.way n =
-    on-line x c.args.line held n c.self.invariant (at_view (HasWay x c.args.line) n _ c.self.view_is c.requires.ready) c.in-Some.ensures.some in
-    (0, subst (λ (m : KeptNet). CanGo 0 x held.way m) c.self.view_is go)
+    let go : CanGo 0 x held.route n =
+    on-line x c.args.line held n c.self.invariant (at_view (HasRoute x c.args.line) n _ c.self.view_is c.requires.ready) c.in-Some.ensures.some in
+    (0, subst (λ (m : KeptNet). CanGo 0 x held.route m) c.self.view_is go)
 
 pub returns-clause-becomes : goal.returns-clause-becomes
 returns-clause-becomes g c =
     let n = the_view c.self.inside in
     let x = c.args.packet.now in
     let held = c.in-Some.held.now in
-    let go : CanGo 0 x held.way n =
-    on-line x c.args.line held n c.self.invariant (at_view (HasWay x c.args.line) n _ c.self.view_is c.requires.ready) c.in-Some.ensures.some in
-    c.pass_by_way.ensures.becomes 0 (subst (λ (m : KeptNet). CanGo 0 x held.way m) c.self.view_is go)
+    let go : CanGo 0 x held.route n =
+    on-line x c.args.line held n c.self.invariant (at_view (HasRoute x c.args.line) n _ c.self.view_is c.requires.ready) c.in-Some.ensures.some in
+    c.pass_by_way.ensures.becomes 0 (subst (λ (m : KeptNet). CanGo 0 x held.route m) c.self.view_is go)

@@ -9,7 +9,7 @@ use Rattle.pipe_table.specs.Table.{has_number, pipe_of, seen_pipes}
 use Rattle.pipe_table.proofs.CallerLemmas.{position-none}
 use Rattle.network.specs.contracts.state.Network.{the_view}
 use Rattle.network.specs.Kept.{KeptNet, net_of}
-use Rattle.network.proofs.Leaving.{none-seen}
+use Rattle.network.proofs.InFlight.{none-seen}
 use Rattle.network.proofs.state.Network.pipe_exit.Goals as goal
 
 pub exit_nothing-requires-clause-none : goal.exit_nothing-requires-clause-none

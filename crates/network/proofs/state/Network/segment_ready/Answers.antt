@@ -2,7 +2,7 @@ use Rattle.std.proofs.Common.{sym, ap, ◌∙◌}
 use Rattle.emu_model.specs.declared.packets.Load.TheVariants.{Seg}
 use Rattle.network.specs.contracts.state.Network.{the_view}
 use Rattle.network.specs.Kept.{KeptNet}
-use Rattle.network.specs.declared.ways.Passage.TheVariants.{Searched}
+use Rattle.network.specs.declared.flow_cache.Lookup.TheVariants.{Searched}
 use Rattle.network.specs.Ready.{CanMake, CanDeliver}
 use Rattle.network.proofs.Steps.{still_view, still-then}
 use Rattle.network.proofs.Sources.{if_ok, traffic-still, can-segment, can-nothing}

@@ -6,7 +6,7 @@ use Rattle.network.specs.Kept.{net_of, Stands}
 use Rattle.network.specs.Ready.{CanDeliver}
 use Rattle.network.proofs.AsReady.{as-make, roomy-same}
 use Rattle.network.proofs.Steps.{at_view, from_view}
-use Rattle.network.proofs.Leaving.{sent-one, sent-none}
+use Rattle.network.proofs.InFlight.{sent-one, sent-none}
 use Rattle.network.proofs.state.Network.take_segment.Goals as goal
 
 pub make-requires-clause-ready : goal.make-requires-clause-ready

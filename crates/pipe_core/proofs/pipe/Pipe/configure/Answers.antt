@@ -3,7 +3,7 @@ use Rattle.std.specs.List.{All}
 use Rattle.std.proofs.lemmas.Bool.Decides.{nat_tests}
 use Rattle.std.proofs.lemmas.List.{length-map}
 use Rattle.pipe_core.proofs.MaskFacts.{no-ids, masked-none, masked-same}
-use Rattle.pipe_instance.specs.Keyed.{IsTuned}
+use Rattle.pipe_core.specs.KeyedInstance.{IsTuned}
 use Rattle.pipe_core.specs.declared.slot.Slot.{Slot}
 use Rattle.pipe_core.specs.Keyed.{KeyedPipe, seen_slot, keys_of, IsPipe}
 use Rattle.pipe_core.specs.Steps.{configured_slot}

@@ -1,6 +1,6 @@
 use Rattle.std.proofs.Common.{◌≡◌, ◌∙◌, ℕ, ◌-◌, set, sym, subst, ap, vec_len, vec_capacity}
 use Rattle.std.specs.Prelude.{min}
-use Rattle.pipe_instance.specs.Keyed.{KeyedInstance}
+use Rattle.pipe_core.specs.KeyedInstance.{KeyedInstance}
 use Rattle.pipe_core.specs.declared.slot.Slot.{Slot}
 use Rattle.pipe_core.specs.Keyed.{KeyedPipe, ids_of}
 use Rattle.pipe_core.specs.Steps.{HasRoom, HasRoomAt}

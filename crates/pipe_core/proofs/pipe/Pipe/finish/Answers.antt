@@ -4,7 +4,7 @@ use Rattle.emu_model.specs.declared.pipes.PipeConfig.{PipeConfig}
 use Rattle.packet_store.specs.Pocket.{Pocket}
 use Rattle.pipe_core.specs.declared.slot.Slot.{Slot}
 use Rattle.pipe_core.specs.Keyed.{KeyedPipe, ids_of}
-use Rattle.pipe_core.specs.Steps.{IsFreeAt, IsGrown}
+use Rattle.pipe_core.specs.Steps.{HasLineRoomAt, IsFreeAt, IsGrown, IsPlainAt}
 use Rattle.pipe_core.proofs.InstancePlaces.{named_inside, slot_at, pipe_at, named_at, keeps_at, get_at, ids_same}
 use Rattle.pipe_core.proofs.FinishViews.{within_due, place_due, due_at, finish_place, finish_keeps, finish_view, served_view, refused_grown, on_ok_by, if_ok_by, on_err}
 use Rattle.pipe_core.proofs.DueLeaves.{leaves_set, leaves_within, number_at}
@@ -31,7 +31,7 @@ invariant_of-self g c =
     let y : Slot = c.finish-finished.new.self in
     let at = place_due (g.S.Shelf.pocket c.args.shelf.now c.args.owner) c.args.instance c.self.view_is c.requires.due c.index_mut-slot.ensures.value in (
       pipe_at _ _ _ at s.config s.seed s.number s.ids.ids y
-          (finish_place s.config c.args.now y.instance.lane.spare c.finish-finished.new.drops.items _ _ _ y c.finish-finished.result c.finish-finished.ensures.finished c.finish-finished.ensures.refused) c.self.invariant.0,
+          (finish_place s.config c.args.now y.instance.delay_line.spare c.finish-finished.new.drops.items _ _ _ y c.finish-finished.result c.finish-finished.ensures.finished c.finish-finished.ensures.refused) c.self.invariant.0,
       leaves_set s.slots.items c.args.instance y s.dues c.set.new.self c.due.result c.self.invariant.1
           c.due.ensures c.set.ensures,
       c.self.invariant.2,
@@ -65,7 +65,7 @@ returns-clause-keys g c =
     let y : Slot = c.finish-finished.new.self in
     let at = place_due (g.S.Shelf.pocket c.args.shelf.now c.args.owner) c.args.instance c.self.view_is c.requires.due c.index_mut-slot.ensures.value in
     rw (← c.self.view_is) (keeps_at _ _ _ at _ _ y
-    (finish_keeps s.config c.args.now y.instance.lane.spare c.finish-finished.new.drops.items _ _ _ y c.finish-finished.result c.finish-finished.ensures.finished c.finish-finished.ensures.refused c.finish-finished.ensures.refused_pocket))
+    (finish_keeps s.config c.args.now y.instance.delay_line.spare c.finish-finished.new.drops.items _ _ _ y c.finish-finished.result c.finish-finished.ensures.finished c.finish-finished.ensures.refused c.finish-finished.ensures.refused_pocket))
 
 pub returns-clause-refused : goal.returns-clause-refused
 returns-clause-refused g c =
@@ -79,7 +79,7 @@ returns-clause-refused g c =
     rw (← c.self.view_is) (subst (λ m. OnErr c.finish-finished.result (IsGrown old (record old {
       slots = set s.slots.items c.args.instance y;
       spare = min (min (vec_capacity s.slots - vec_len s.slots) s.ids.spare) m;
-    }))) spare (on_err c.finish-finished.result (λ e. refused_grown c.args.instance old _ y at p q y.instance.lane.spare e) c.finish-finished.ensures.refused))
+    }))) spare (on_err c.finish-finished.result (λ e. refused_grown c.args.instance old _ y at p q y.instance.delay_line.spare e) c.finish-finished.ensures.refused))
 
 pub returns-clause-succeeds : goal.returns-clause-succeeds
 returns-clause-succeeds g c =
@@ -97,7 +97,7 @@ due-requires g c =
     let at = place_due (g.S.Shelf.pocket c.args.shelf.now c.args.owner) c.args.instance c.self.view_is c.requires.due c.index_mut-slot.ensures.value in
     number_at s.config s.seed s.number _ _ y
     (slot_at _ _ _ at s.config s.seed s.number s.ids.ids c.self.invariant.0)
-    (finish_place s.config c.args.now y.instance.lane.spare c.finish-finished.new.drops.items _ _ _ y c.finish-finished.result c.finish-finished.ensures.finished c.finish-finished.ensures.refused)
+    (finish_place s.config c.args.now y.instance.delay_line.spare c.finish-finished.new.drops.items _ _ _ y c.finish-finished.result c.finish-finished.ensures.finished c.finish-finished.ensures.refused)
 
 pub set-requires : goal.set-requires
 set-requires g c =
@@ -110,5 +110,16 @@ returns-clause-ids g c =
     let y : Slot = c.finish-finished.new.self in
     let at = place_due (g.S.Shelf.pocket c.args.shelf.now c.args.owner) c.args.instance c.self.view_is c.requires.due c.index_mut-slot.ensures.value in
     ids_same _ _ _ at y
-    (finish_place s.config c.args.now y.instance.lane.spare c.finish-finished.new.drops.items _ _ _ y c.finish-finished.result c.finish-finished.ensures.finished c.finish-finished.ensures.refused).id
+    (finish_place s.config c.args.now y.instance.delay_line.spare c.finish-finished.new.drops.items _ _ _ y c.finish-finished.result c.finish-finished.ensures.finished c.finish-finished.ensures.refused).id
     ∙ ap (λ (z : KeyedPipe). ids_of z.slots) c.self.view_is
+
+pub finish-finished-requires-clause-plain : goal.finish-finished-requires-clause-plain
+finish-finished-requires-clause-plain g c =
+    let at = place_due (g.S.Shelf.pocket c.args.shelf.now c.args.owner) c.args.instance c.self.view_is c.requires.due c.index_mut-slot.ensures.value in
+    λ yes. subst (λ (e : KeyedPipe). IsPlainAt c.args.instance c.args.now e) (sym c.self.view_is) (c.requires.plain yes) _ (get_at _ _ _ at)
+
+pub returns-clause-plainly : goal.returns-clause-plainly
+returns-clause-plainly g c =
+    let at = place_due (g.S.Shelf.pocket c.args.shelf.now c.args.owner) c.args.instance c.self.view_is c.requires.due c.index_mut-slot.ensures.value in
+    λ yes room. c.finish-finished.ensures.plainly yes
+    (subst (λ (e : KeyedPipe). HasLineRoomAt c.args.instance e) (sym c.self.view_is) room _ (get_at _ _ _ at))

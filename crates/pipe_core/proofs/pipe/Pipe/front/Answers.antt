@@ -27,4 +27,4 @@ returns g c =
     let within : k < length slots = subst (λ (e : KeyedPipe). k < length e.slots) (sym c.self.view_is) c.requires.inside in
     let at : IsPlace k slots x = place_of slots k x c.index-slot.ensures within in
     rw (← c.self.view_is) (c.front.ensures
-    ∙ ap (option_and_then (λ i. first_item i.line.flight)) (sym (seen_at k slots x at (packet_at p.find))))
+    ∙ ap (option_and_then (λ i. first_item i.line.in_flight)) (sym (seen_at k slots x at (packet_at p.find))))

@@ -10,5 +10,5 @@ unreachable-requires g c =
 pub returns-clause-left : goal.returns-clause-left
 returns-clause-left g c =
     exit-is (g.S.Shelf.pocket c.args.shelf.now c.args.owner) (g.S.Shelf.pocket c.take.new.self c.args.owner) c.args.self.now.id
-    c.args.self.now.instance c.exit.new.self c.in_ok-key.key c.exit.new.self.lane.spare c.in-Some.packet
+    c.args.self.now.instance c.exit.new.self c.in_ok-key.key c.exit.new.self.delay_line.spare c.in-Some.packet
     c.requires c.in_ok-key.ensures.item c.in-Some.ensures.value c.in-Some.ensures.some c.in_ok-key.ensures.rest

@@ -1,7 +1,7 @@
 use Rattle.std.proofs.Common.{◌≡◌, ℕ, ◌<◌, ◌≤◌, nat_lt, true, false, length, get_or, Some, None, sym, ap, ◌∙◌, subst, arith}
 use Rattle.std.specs.Prelude.{unwrap_or}
 use Rattle.std.proofs.lemmas.Bool.Decides.{nat_tests}
-use Rattle.number_table.specs.Places.{place_in}
+use Rattle.due_index.specs.Table.{place_in}
 use Rattle.pipe_core.specs.Keyed.{KeyedPipe}
 use Rattle.pipe_table.specs.Places.{StandsAt}
 use Rattle.pipe_table.proofs.PlaceFacts.{standing-place, stands-within, stands-number, led-nowhere}

@@ -2,7 +2,7 @@ use Rattle.std.proofs.Common.{◌≡◌, ℕ, set, sym, ◌∙◌, ap}
 use Rattle.std.specs.Option.{option_map_or}
 use Rattle.emu_model.specs.declared.records.Record.TheVariants.{TimerExpired}
 use Rattle.emu_model.specs.Reno.{expire as expired}
-use Rattle.emu_model.specs.declared.commands.Setting.{Setting}
+use Rattle.emu_model.specs.declared.commands.EventContext.{EventContext}
 use Rattle.emu_model.specs.Net.{Net, FlowState, put_flow, note}
 use Rattle.emu_model.specs.Events.{expire_flow}
 use Rattle.traffic.specs.declared.sends.Window.{Window}
@@ -17,7 +17,7 @@ use Rattle.traffic.proofs.sources.Traffic.expire.Goals as goal
 expired_at : {k : ℕ} {t : KeptTraffic} {fs : _} {ts : _} {i : ℕ} {f : KeptFlow} (at : IsFlowAt k t fs ts i f) (g : KeptFlow) (now : ℕ) (w : Window) →
     g ≡ record f { state = record f.state { sender = expired f.state.flow now f.state.sender } } →
     w ≡ record { cwnd = g.state.sender.cwnd; ssthresh = g.state.sender.ssthresh } →
-    (s : Setting) (n : Net) → s.now ≡ now → expire_flow s (with_traffic t n) f.state
+    (s : EventContext) (n : Net) → s.now ≡ now → expire_flow s (with_traffic t n) f.state
     ≡ note (TimerExpired now k w.cwnd w.ssthresh) (with_traffic (kept (set fs i g) ts) n)
 expired_at {k} {t} {fs} {ts} {i} {f} at g now w e shown s n moment =
     let m = with_traffic t n in

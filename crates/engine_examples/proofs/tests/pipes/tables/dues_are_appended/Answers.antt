@@ -1,6 +1,6 @@
 use Rattle.std.proofs.Common.{◌≡◌, ℕ, refl, ap, ◌∙◌, List, [], length, arith}
 use Rattle.packet_store.specs.Pocket.{Pocket}
-use Rattle.pipe_instance.specs.Uses.{total, one_at}
+use Rattle.pipe_core.specs.Uses.{total, one_at}
 use Rattle.pipe_core.specs.Moves.{AreNamed}
 use Rattle.pipe_table.specs.Table.{Table, pipe_keys}
 use Rattle.engine_examples.proofs.tests.pipes.tables.dues_are_appended.Goals as goal
@@ -22,4 +22,4 @@ no-keys = refl
 pub arrive-requires-clause-named : goal.arrive-requires-clause-named
 arrive-requires-clause-named g c =
     none-named _ _
-    (c.arrive_ready.ensures.grown.keys ∙ c.configure.ensures.keys ∙ ap (λ (t : Table). pipe_keys t.pipes) c.new-pipes.ensures ∙ no-keys)
+    (c.route_ready.ensures.grown.keys ∙ c.configure.ensures.keys ∙ ap (λ (t : Table). pipe_keys t.pipes) c.new-pipes.ensures ∙ no-keys)

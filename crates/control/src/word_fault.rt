@@ -1,0 +1,150 @@
+//! The first word at fault of a line.
+
+ghost use Rattle.std.specs.Prelude.{◌≡◌, ◌+◌, ◌<◌, ◌≤◌, ◌^◌, MatchOption, drop, length};
+ghost use Rattle.control_words.specs.Text.{words as words_of};
+ghost use Rattle.control.specs.FirstWrong.{IsFine, IsFirstWrong};
+ghost use Rattle.control.specs.Behind.{value_behind, found, behind};
+ghost use Rattle.control.specs.Walk.{next_of, next, walk};
+ghost use Rattle.control.specs.declared.expected.Expected.TheVariants.{First};
+
+use crate::choice::chosen;
+use crate::expected::Expected;
+use crate::form::{Form, fits};
+use crate::value::{Value, value_at};
+use control_lines::lines_are_read;
+use control_words::Words;
+
+/// What the words of a line are held to: the forms of lines alone, or each number's range too.
+#[derive(Clone, Copy, Debug, PartialEq, Eq)]
+pub enum Check {
+    Forms,
+    Ranges,
+}
+
+/// A word at fault: its number in the line, counted from 0, and what was expected in its place. If the line ends too
+/// early, the number is that of the word that is lacking.
+#[derive(Clone, Copy)]
+pub struct Blamed {
+    pub index: usize,
+    pub expected: Expected,
+}
+
+// What is expected behind a word that has the form.
+fn next_of(check: Check, value: Option<Value>, word: &[u8]) -> Option<Expected>
+    ensures { result ≡ next_of check value word.now }
+{
+    let value = value?;
+    if fits(check, value.form, word) {
+        Some(value.next)
+    } else {
+        None
+    }
+}
+
+// What is expected behind a word. None where the word may not stand there.
+#[tactic(auto, unfolding(crate::specs::Walk::next))]
+fn next(check: Check, expected: Expected, word: &[u8]) -> Option<Expected>
+    ensures { result ≡ next check expected word.now }
+{
+    match chosen(expected, word) {
+        Some(next) => Some(next),
+        None => next_of(check, value_at(expected), word),
+    }
+}
+
+// The first word at fault of those that are left, the first of which has this number.
+fn walk(check: Check, mut index: usize, mut expected: Expected, mut words: Words) -> Option<Blamed>
+    requires { index + length (words_of words.rest.now) < 2 ^ 64 }
+    ensures { result ≡ walk check index expected (words_of words.entry.rest.now) }
+{
+    while let Some(word) = words.next_word() {
+        let Some(next) = next(check, expected, word) else {
+            return Some(Blamed { index, expected });
+        };
+        expected = next;
+        index += 1;
+    }
+    if expected.may_end() {
+        None
+    } else {
+        Some(Blamed { index, expected })
+    }
+}
+
+/// The first word of a line that is at fault: the first such that no line begins with the words up to it, or, where
+/// ranges are asked for, no line whose numbers are within their ranges. If the line ends too early, the word that is
+/// lacking behind its last. `None` where the words are a line, with its numbers within their ranges where those are
+/// asked for. Own.
+pub fn blame(line: &[u8], check: Check) -> Option<Blamed>
+    ensures walk { result ≡ walk check 0 First (words_of line.now) }
+    ensures blamed { MatchOption result (IsFine check (words_of line.now))
+        (λ b. IsFirstWrong check (words_of line.now) b.index) }
+{
+    lines_are_read();
+    walk(check, 0, Expected::First, Words { rest: line })
+}
+
+// What is expected behind a value that stands there, whatever it says. None where it is no value, but a word by which
+// the line goes on.
+fn value_behind(expected: Expected) -> Option<Expected>
+    ensures { result ≡ value_behind expected }
+{
+    let value = value_at(expected)?;
+    match value.form {
+        Form::Word(_) => None,
+        _ => Some(value.next),
+    }
+}
+
+/// What is found behind a word at fault, if the line goes on as if that word were fine.
+#[derive(Clone, Copy)]
+pub enum Behind {
+    /// Nothing: all other words are as they should be.
+    Fine,
+    /// Another value that isn't what is expected.
+    Fault(Blamed),
+    /// A word is missing or too many, or is another one: the first may have been taken for what it isn't.
+    Unsure,
+}
+
+fn found(blamed: Option<Blamed>) -> Behind
+    ensures { result ≡ found blamed }
+{
+    match blamed {
+        None => Behind::Fine,
+        Some(blamed) => match value_behind(blamed.expected) {
+            Some(_) => Behind::Fault(blamed),
+            None => Behind::Unsure,
+        },
+    }
+}
+
+// What stands behind the word with this number. None where there is no such word.
+#[tactic(auto, using(crate::proofs::Taken::none))]
+fn words_behind(line: &[u8], index: usize) -> Option<Words>
+    ensures { MatchOption result (length (words_of line.now) ≤ index)
+        (λ w. (index < length (words_of line.now))
+        × (words_of w.rest.now ≡ drop (index + 1) (words_of line.now))) }
+{
+    let mut words = Words { rest: line };
+    for _count in 0..index {
+        let _word = words.next_word()?;
+    }
+    let _word = words.next_word()?;
+    Some(words)
+}
+
+/// The next word at fault behind one, its form or its range, if the line goes on behind that one as behind a value of
+/// the form that was expected there. Own.
+#[tactic(auto, unfolding(crate::specs::Behind::behind))]
+pub fn blame_behind(line: &[u8], before: &Blamed) -> Behind
+    ensures { result ≡ behind (words_of line.now) before.now }
+{
+    let Some(words) = words_behind(line, before.index) else {
+        return Behind::Unsure;
+    };
+    let Some(next) = value_behind(before.expected) else {
+        return Behind::Unsure;
+    };
+    found(walk(Check::Ranges, before.index + 1, next, words))
+}

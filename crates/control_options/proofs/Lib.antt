@@ -1,5 +1,0 @@
-mod Phrases
-mod Pairs
-mod PhraseKinds
-mod Settings
-pub mod CallerLemmas

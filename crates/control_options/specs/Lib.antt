@@ -1,4 +1,0 @@
-pub mod Phrases
-pub mod Options
-pub mod Grammar
-pub mod OptionsAreRead

@@ -1,0 +1,52 @@
+-- Texts that are put into a room one behind the other.
+use Rattle.std.proofs.Common.{◌≡◌, ℕ, ◌+◌, ◌<◌, ◌≤◌, List, [], ◌∷◌, ◌++◌, length, take, drop, sym, ap, ◌∙◌, refl, append_assoc, append-nil, arith}
+use Rattle.std.specs.Prelude.{flat_map, slice_index_or}
+use Rattle.std.proofs.lemmas.List.{length-append, take_more}
+use Rattle.std.proofs.lemmas.List.Concat.{flat_map-append}
+use Rattle.report.proofs.Taken.{flat_map_further}
+use Rattle.experiment.specs.Rooms.{IsPutAt}
+
+pub put_none : (at : ℕ) (room : List ℕ) → IsPutAt [] at room room at
+put_none at room = record { ends = omega arith; stands = λ h. sym (append-nil (take at room)); room = refl }
+
+pub put_both : (first second whole : List ℕ) → first ++ second ≡ whole → (at middle end : ℕ) (a b c : List ℕ) →
+    IsPutAt first at a b middle → IsPutAt second middle b c end → IsPutAt whole at a c end
+put_both first second whole is at middle end a b c f g = record {
+  ends = omega (arith, f.ends, g.ends, length-append first second, ap length is);
+  stands = λ h.
+      g.stands (omega (arith, h, f.room))
+      ∙ ap (λ (l : List ℕ). l ++ second) (f.stands (omega (arith, h, g.ends)))
+      ∙ append_assoc (take at a) first second
+      ∙ ap (λ (l : List ℕ). take at a ++ l) is;
+  room = g.room ∙ f.room;
+}
+
+pub put_three : (first second third whole : List ℕ) → first ++ (second ++ third) ≡ whole → (at one two end : ℕ) (a b c d : List ℕ) →
+    IsPutAt first at a b one → IsPutAt second one b c two → IsPutAt third two c d end → IsPutAt whole at a d end
+put_three first second third whole is at one two end a b c d f g h =
+    put_both first (second ++ third) whole is at one end a b d f (put_both second third (second ++ third) refl one two end b c d g h)
+
+module _ {A : Type 0} (f : A → List ℕ) where
+  further : (rs : List A) (i n : ℕ) → flat_map f (take i rs) ++ flat_map f (take n (drop i rs)) ≡ flat_map f (take (i + n) rs)
+  further rs i n = flat_map_further f [] rs i n
+
+  pub put_further : (rs : List A) (i n at middle end : ℕ) (a b c : List ℕ) →
+      IsPutAt (flat_map f (take i rs)) at a b middle → IsPutAt (flat_map f (take n (drop i rs))) middle b c end →
+      IsPutAt (flat_map f (take (i + n) rs)) at a c end
+  put_further rs i n at middle end a b c g h =
+      put_both (flat_map f (take i rs)) (flat_map f (take n (drop i rs))) (flat_map f (take (i + n) rs)) (further rs i n) at middle end a b c g h
+
+one-piece : (rs : List (List ℕ)) (i : ℕ) (r : List ℕ) → i < length rs → r ≡ slice_index_or rs i r →
+    flat_map (λ x. x) (take i rs) ++ r ≡ flat_map (λ x. x) (take (i + 1) rs)
+one-piece rs i r below is =
+    ap (λ (l : List ℕ). flat_map (λ x. x) (take i rs) ++ l) (sym (append-nil r))
+    ∙ sym (flat_map-append (λ x. x) (take i rs) (r ∷ []))
+    ∙ ap (λ (t : List ℕ). flat_map (λ x. x) (take i rs ++ t ∷ [])) is
+    ∙ ap (flat_map (λ x. x)) (sym (take_more rs i r below))
+
+pub put_piece : (rs : List (List ℕ)) (i : ℕ) (r : List ℕ) → i < length rs → r ≡ slice_index_or rs i r →
+    (at middle end : ℕ) (a b c : List ℕ) →
+    IsPutAt (flat_map (λ x. x) (take i rs)) at a b middle → IsPutAt r middle b c end →
+    IsPutAt (flat_map (λ x. x) (take (i + 1) rs)) at a c end
+put_piece rs i r below is at middle end a b c g h =
+    put_both (flat_map (λ x. x) (take i rs)) r (flat_map (λ x. x) (take (i + 1) rs)) (one-piece rs i r below is) at middle end a b c g h

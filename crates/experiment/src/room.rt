@@ -1,0 +1,103 @@
+//! Reports that are put into a room of the caller's, without a text of their own on the way.
+
+ghost use Rattle.std.specs.Prelude.{◌≡◌, ◌+◌, ◌<◌, ◌≤◌, flat_map, length, take, drop, IfOk};
+ghost use Rattle.report.specs.Lines.{line_of};
+ghost use Rattle.experiment.specs.Rooms.{IsPutAt};
+
+use crate::keeper::Report;
+use report::{Archive, Moments, Source, write_some};
+use std::alloc::{AllocError, Global};
+
+// Puts bytes from a place on, where there is room for all of them, and returns where they end.
+fn put_bytes(room: &mut [u8], at: usize, bytes: &[u8]) -> Result<usize, AllocError>
+    ensures put { IfOk result (IsPutAt bytes.now at room.old room.new) }
+    ensures room { length room.new ≡ length room.old }
+{
+    // All ends lie in memory, so that each has 64 bits; nothing says so here.
+    let Some(end) = at.checked_add(bytes.len()) else {
+        return Err(AllocError);
+    };
+    if end <= room.len() {
+        room[at..end].copy_from_slice(bytes);
+    }
+    Ok(end)
+}
+
+// Puts the lines of some records, made on a sheet, and returns of how many and where they end.
+fn put_some(
+    room: &mut [u8],
+    at: usize,
+    sheet: &mut Vec<u8>,
+    moments: &mut Moments,
+    records: &Archive,
+    from: usize,
+) -> Result<(usize, usize), AllocError>
+    requires { from < length records.now }
+    ensures count { IfOk result (λ r. (0 < r.0) × (from + r.0 ≤ length records.now)) }
+    ensures put { IfOk result (λ r.
+        IsPutAt (flat_map line_of (take r.0 (drop from records.now))) at room.old room.new r.1) }
+    ensures room { length room.new ≡ length room.old }
+{
+    sheet.clear();
+    let count = write_some(sheet, moments, records, from)?;
+    let end = put_bytes(room, at, sheet.as_slice())?;
+    Ok((count, end))
+}
+
+// Puts the lines of records, and returns where they end.
+#[tactic(auto, using(crate::proofs::Rooms::put_none))]
+fn put_lines(
+    room: &mut [u8],
+    at: usize,
+    sheet: &mut Vec<u8>,
+    moments: &mut Moments,
+    records: &Archive,
+) -> Result<usize, AllocError>
+    ensures put { IfOk result (IsPutAt (flat_map line_of records.now) at room.old room.new) }
+    ensures room { length room.new ≡ length room.old }
+{
+    let mut done = 0;
+    let mut end = at;
+    while done < records.len() {
+        let (count, next) = put_some(room, end, sheet, moments, records, done)?;
+        done += count;
+        end = next;
+    }
+    Ok(end)
+}
+
+// Puts a report, and returns where it ends.
+#[tactic(auto, using(crate::proofs::Rooms::put_three))]
+fn put_report(
+    room: &mut [u8],
+    at: usize,
+    sheet: &mut Vec<u8>,
+    moments: &mut Moments,
+    report: &Report,
+) -> Result<usize, AllocError>
+    ensures put { IfOk result (IsPutAt report.now at room.old room.new) }
+    ensures room { length room.new ≡ length room.old }
+{
+    let (heading, records, last) = report.parts();
+    let first = put_bytes(room, at, heading)?;
+    let end = put_lines(room, first, sheet, moments, records)?;
+    put_bytes(room, end, last)
+}
+
+/// Puts reports into a room, one after the other, as far as they fit, and returns how long they are (bytes), which may be
+/// more than the room has. `AllocError` where the sheet on which lines are made has no room.
+#[tactic(auto, using(crate::proofs::Rooms::put_none, crate::proofs::Rooms::put_piece))]
+pub fn put_reports(alloc: Global, reports: &[Report], room: &mut [u8]) -> Result<usize, AllocError>
+    ensures put { IfOk result (IsPutAt (flat_map (λ r. r) reports.now) 0 room.old room.new) }
+    ensures room { length room.new ≡ length room.old }
+{
+    let mut sheet = Vec::new(alloc);
+    let mut moments = Moments::new();
+    let mut done = 0;
+    let mut end = 0;
+    while done < reports.len() {
+        end = put_report(room, end, &mut sheet, &mut moments, &reports[done])?;
+        done += 1;
+    }
+    Ok(end)
+}

@@ -1,0 +1,32 @@
+//! Sessions: the laws of `waits`, over any list of deeds.
+
+ghost use Rattle.experiment.specs.Sessions.{SessionsAreAlone, EndedSessionsAreWhole, TranscriptsAreWhole, EndedStatesAreWhole};
+
+use emu_model::later_commands_wait;
+
+/// Whatever was done in a session, its state is that of running alone the commands that came and any that come then or
+/// later.
+pub fn sessions_are_alone()
+    ensures { SessionsAreAlone }
+{
+    later_commands_wait();
+}
+
+/// A session that has ended has shown the whole trace of any transcript that goes on from there.
+pub fn ended_sessions_are_whole()
+    ensures { EndedSessionsAreWhole }
+{
+    later_commands_wait();
+}
+
+/// A session that a command ended has shown the whole trace of its transcript.
+pub fn transcripts_are_whole()
+    ensures { TranscriptsAreWhole }
+{
+    later_commands_wait();
+}
+
+/// A state that has ended has the whole trace, whatever commands come after it.
+pub fn ended_states_are_whole()
+    ensures { EndedStatesAreWhole }
+{}

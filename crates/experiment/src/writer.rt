@@ -1,0 +1,137 @@
+//! The report of an experiment while it runs: its records become lines on the way, and are forgotten.
+
+ghost use Rattle.std.specs.Prelude.{◌≡◌, ℕ, ◌++◌, List, [], flat_map, IfOk, OnOk, OnErr};
+ghost use Rattle.emu_model.specs.declared.records.Record.{Record};
+ghost use Rattle.packet_store.specs.Pocket.{Pocket};
+ghost use Rattle.report.specs.Lines.{heading_of, counters_of, line_of};
+ghost use Rattle.experiment.specs.Kept.{IsHousedIn, IsAloneAfter, IsWaiting};
+ghost use Rattle.experiment.specs.Written.{Counts, CanWrite, HasWritten};
+
+use crate::Experiment;
+use crate::counts::RecordCounts;
+use emu_model::{Counters, Record};
+use report::{Moments, write_counters, write_heading, write_record, write_records};
+use std::alloc::{AllocError, Global};
+use std::marker::Model;
+
+/// The lines so far, behind that of the name, and how many deliveries and drops, by cause, are among them.
+#[derive(Drop)]
+pub struct ReportWriter {
+    text: Vec<u8>,
+    // What the lines so far leave of their moments for the next one.
+    moments: Moments,
+    counts: RecordCounts,
+}
+
+impl Model for ReportWriter {
+    ghost use Rattle.experiment.specs.Written.{Written};
+
+    ghost Value = { Written };
+
+    ghost view = { λ t. record {
+      text = t.text.items;
+      delivered = t.counts.delivered;
+      drops = t.counts.drops;
+    } };
+}
+
+impl ReportWriter {
+    /// The line of an experiment's name.
+    pub fn new(alloc: Global, name: &[u8]) -> Result<Self, AllocError>
+        ensures { IfOk result (HasWritten (heading_of name.now) []) }
+    {
+        let mut text = Vec::new(alloc);
+        write_heading(&mut text, name)?;
+        Ok(ReportWriter {
+            text,
+            moments: Moments::new(),
+            counts: RecordCounts::new(),
+        })
+    }
+
+    /// Writes what an experiment has recorded, which it forgets. `AllocError` where the lines have no room.
+    pub fn write(&mut self, experiment: &mut Experiment) -> Result<(), AllocError>
+        requires { CanWrite self.old experiment.old }
+        ensures text { OnOk result
+            (self.new.text ≡ self.old.text ++ flat_map line_of experiment.old.net.log.records) }
+        ensures counts { OnOk result ((rs : List Record) → Counts rs self.old →
+            Counts (rs ++ experiment.old.net.log.records) self.new) }
+        ensures writes { OnOk result ((head : List ℕ) (rs : List Record) →
+            HasWritten head rs self.old →
+            HasWritten head (rs ++ experiment.old.net.log.records) self.new) }
+        ensures rest { OnOk result (experiment.new ≡ record experiment.old {
+          net = record experiment.old.net { log = experiment.new.net.log };
+        }) }
+        ensures records { OnOk result (experiment.new.net.log.records ≡ []) }
+        ensures housed { OnOk result
+            ((p : Pocket) → IsHousedIn p experiment.old → IsHousedIn p experiment.new) }
+        ensures after { OnOk result
+            ((earlier : List Record) (p : Pocket) → IsAloneAfter earlier p experiment.old →
+            IsAloneAfter (earlier ++ experiment.old.net.log.records) p experiment.new) }
+        ensures waits { OnOk result
+            ((t : ℕ) (earlier : List Record) (p : Pocket) → IsWaiting t earlier p experiment.old →
+            IsWaiting t (earlier ++ experiment.old.net.log.records) p experiment.new) }
+    {
+        write_records(&mut self.text, &mut self.moments, experiment.records())?;
+        self.count(experiment);
+        Ok(())
+    }
+
+    /// Appends the line of a record, which isn't counted. `AllocError` where it has no room.
+    pub fn put(&mut self, line: &Record) -> Result<(), AllocError>
+        ensures ok { OnOk result
+            (self.new ≡ record self.old { text = self.old.text ++ line_of line.now }) }
+    {
+        write_record(&mut self.text, &mut self.moments, line)
+    }
+
+    /// Counts what an experiment has recorded, which it forgets, and writes nothing.
+    pub fn count(&mut self, experiment: &mut Experiment)
+        requires { CanWrite self.old experiment.old }
+        ensures text { self.new.text ≡ self.old.text }
+        ensures counts { (rs : List Record) → Counts rs self.old →
+            Counts (rs ++ experiment.old.net.log.records) self.new }
+        ensures rest { experiment.new ≡ record experiment.old {
+          net = record experiment.old.net { log = experiment.new.net.log };
+        } }
+        ensures records { experiment.new.net.log.records ≡ [] }
+        ensures housed { (p : Pocket) → IsHousedIn p experiment.old → IsHousedIn p experiment.new }
+        ensures after { (earlier : List Record) (p : Pocket) →
+            IsAloneAfter earlier p experiment.old →
+            IsAloneAfter (earlier ++ experiment.old.net.log.records) p experiment.new }
+        ensures waits { (t : ℕ) (earlier : List Record) (p : Pocket) →
+            IsWaiting t earlier p experiment.old →
+            IsWaiting t (earlier ++ experiment.old.net.log.records) p experiment.new }
+    {
+        self.counts.count(experiment);
+    }
+
+    /// Appends the text so far, which is then empty; the counts stay. `AllocError` where it has no room there: the text
+    /// stays then.
+    pub fn hand_out(&mut self, out: &mut Vec<u8>) -> Result<(), AllocError>
+        ensures ok { OnOk result
+            ((out.new.items ≡ out.old.items ++ self.old.text)
+            × (self.new ≡ record self.old { text = [] })) }
+        ensures err { OnErr result
+            ((out.new.items ≡ out.old.items) × (self.new ≡ self.old)) }
+    {
+        out.extend_from_slice(self.text.as_slice())?;
+        self.text.clear();
+        Ok(())
+    }
+
+    /// Appends the line of the counters, of which some are those of the experiment as it stands. `AllocError` leaves what
+    /// was written of it.
+    pub fn write_counters(&mut self, standing: &Counters) -> Result<(), AllocError>
+        ensures { OnOk result
+            (self.new ≡ record self.old {
+              text = self.old.text ++ counters_of (record standing.now {
+                delivered = self.old.delivered;
+                drops = self.old.drops;
+              });
+            }) }
+    {
+        let counters = self.counts.among(standing);
+        write_counters(&mut self.text, &counters)
+    }
+}

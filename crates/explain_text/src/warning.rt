@@ -1,0 +1,237 @@
+//! The warnings of an experiment.
+
+ghost use Rattle.std.specs.Prelude.{◌≡◌, ◌++◌, ◌∷◌, [], take, IfOk, OnOk, None, option_map};
+ghost use Rattle.explain_text.specs.Warnings.{way_of, no_way_of, flow_denied, of_subject, of_notes, of_seed, of_commands, warnings_of};
+
+use crate::ends::{Ends, segment_ends, turned};
+use crate::rules::{go_behind, is_denied};
+use crate::survey::{flow_place, has_loss, last_moment, pipes_missing};
+use crate::walk::denials;
+use emu_model::{Command, PipeNumber, Timed};
+use emu_rules::RuleList;
+use explain::{Note, Subject};
+use std::alloc::{AllocError, Global};
+
+/// So many rules without a pipe are told of an experiment at most, and so many whose packets the rules deny.
+const MOST_OF_A_KIND: usize = 10;
+
+/// What of a command is denied: the packets of a train or of a single one, a flow's segments, or its acknowledgements.
+#[derive(Clone, Copy, PartialEq)]
+pub enum Sent {
+    Packets,
+    Segments,
+    Acks,
+}
+
+/// What is silently wrong.
+#[derive(Clone, Copy, PartialEq)]
+pub enum Concern {
+    /// The steps were used up at a moment, before the `end`, whose moment is given (ns).
+    Spent {
+        moment: u64,
+        end: u64,
+    },
+    /// Packets were dropped for the budget: the first moment (ns), and how many.
+    OverBudget {
+        first: u64,
+        count: u64,
+    },
+    /// Packets of trains and of single commands were denied: the first moment (ns), and how many.
+    Denied {
+        first: u64,
+        count: u64,
+    },
+    /// The seed isn't 0, and no pipe has losses.
+    UnusedSeed,
+    /// A rule names a pipe that no command configures.
+    NoPipe(PipeNumber),
+    /// The rules deny packets of these ends: whose, how many where a run has counted them, and whether the rules let
+    /// the other direction through.
+    NoWay {
+        ends: Ends,
+        sent: Sent,
+        count: Option<u64>,
+        other: bool,
+    },
+}
+
+/// What is silently wrong, and the number of the command that it is about, from 0; else it is about the whole
+/// experiment.
+#[derive(Clone, Copy, PartialEq)]
+pub struct Warning {
+    pub command: Option<u64>,
+    pub concern: Concern,
+}
+
+fn put_whole(out: &mut Vec<Warning>, concern: Concern) -> Result<(), AllocError>
+    ensures { OnOk result (out.new.items
+        ≡ out.old.items ++ record { command = None; concern = concern } ∷ []) }
+{
+    out.push(Warning {
+        command: None,
+        concern,
+    })?;
+    Ok(())
+}
+
+fn way_of(sent: Sent, ends: Ends) -> Ends
+    ensures { result ≡ way_of sent ends }
+{
+    match sent {
+        Sent::Packets | Sent::Segments => ends,
+        Sent::Acks => turned(ends),
+    }
+}
+
+// So many packets of the flow that this command begins were denied.
+fn put_no_way(
+    out: &mut Vec<Warning>,
+    rules: &RuleList,
+    place: u64,
+    sent: Sent,
+    count: u64,
+    command: &Command,
+) -> Result<(), AllocError>
+    ensures { OnOk result (out.new.items
+        ≡ out.old.items ++ no_way_of rules.now place sent count command.now) }
+{
+    let Command::Flow { flow, .. } = command else {
+        return Ok(());
+    };
+    let ends = way_of(sent, segment_ends(flow));
+    let other = !is_denied(rules, &turned(ends));
+    out.push(Warning {
+        command: Some(place),
+        concern: Concern::NoWay {
+            ends,
+            sent,
+            count: Some(count),
+            other,
+        },
+    })?;
+    Ok(())
+}
+
+// So many packets of the flow with this number were denied.
+fn put_flow(
+    alloc: Global,
+    out: &mut Vec<Warning>,
+    commands: &[Timed],
+    sent: Sent,
+    count: u64,
+    flow: u64,
+) -> Result<(), AllocError>
+    ensures { OnOk result (out.new.items
+        ≡ out.old.items ++ flow_denied commands.now sent count flow) }
+{
+    let Some(place) = flow_place(flow, commands) else {
+        return Ok(());
+    };
+    let Some(timed) = commands.get(place) else {
+        return Ok(());
+    };
+    let mut rules = RuleList::new(alloc)?;
+    go_behind(&mut rules, commands, 0, timed.moment)?;
+    put_no_way(out, &rules, place as u64, sent, count, &timed.command)
+}
+
+// What a note says.
+fn put_note(
+    alloc: Global,
+    out: &mut Vec<Warning>,
+    commands: &[Timed],
+    note: &Note,
+) -> Result<(), AllocError>
+    ensures { OnOk result (out.new.items
+        ≡ out.old.items ++ of_subject commands.now note.now.first note.now.count note.now.subject) }
+{
+    let first = note.first;
+    let count = note.count;
+    match note.subject {
+        Subject::Spent => put_whole(
+            out,
+            Concern::Spent {
+                moment: first,
+                end: last_moment(commands),
+            },
+        ),
+        Subject::OverBudget => put_whole(out, Concern::OverBudget { first, count }),
+        Subject::DeniedPlain => put_whole(out, Concern::Denied { first, count }),
+        Subject::DeniedData(flow) => put_flow(alloc, out, commands, Sent::Segments, count, flow),
+        Subject::DeniedAck(flow) => put_flow(alloc, out, commands, Sent::Acks, count, flow),
+    }
+}
+
+// What the notes of the experiment with this number say.
+fn put_notes(
+    alloc: Global,
+    out: &mut Vec<Warning>,
+    number: u64,
+    commands: &[Timed],
+    notes: &[Note],
+) -> Result<(), AllocError>
+    ensures { OnOk result (out.new.items ≡ out.old.items ++ of_notes number commands.now notes.now) }
+{
+    for note in notes {
+        if note.experiment == number {
+            put_note(alloc, out, commands, note)?;
+        }
+    }
+    Ok(())
+}
+
+fn put_seed(out: &mut Vec<Warning>, seed: u64, commands: &[Timed]) -> Result<(), AllocError>
+    ensures { OnOk result (out.new.items ≡ out.old.items ++ of_seed seed commands.now) }
+{
+    if seed == 0 || has_loss(commands) {
+        return Ok(());
+    }
+    put_whole(out, Concern::UnusedSeed)
+}
+
+// The first ten, if there are more.
+fn put_first(out: &mut Vec<Warning>, warnings: &[Warning]) -> Result<(), AllocError>
+    ensures { OnOk result (out.new.items ≡ out.old.items ++ take 10 warnings.now) }
+{
+    let most = warnings.len().min(MOST_OF_A_KIND);
+    out.extend_from_slice(&warnings[..most])
+}
+
+// What is seen from the commands alone.
+fn put_commands(
+    alloc: Global,
+    out: &mut Vec<Warning>,
+    flows: bool,
+    seed: u64,
+    commands: &[Timed],
+) -> Result<(), AllocError>
+    ensures { OnOk result (out.new.items ≡ out.old.items ++ of_commands flows seed commands.now) }
+{
+    put_seed(out, seed, commands)?;
+    put_first(out, pipes_missing(alloc, commands)?.as_slice())?;
+    put_first(out, denials(alloc, flows, commands)?.as_slice())
+}
+
+/// What is silently wrong in an experiment: its number in the text, from 1, its seed, its commands, and behind a run
+/// what was noted of the report. Without a run flows are judged by the rules as well. First what the notes say, then
+/// the seed, the first ten rules without a pipe, and the first ten whose packets the rules deny. Own.
+pub fn warnings(
+    alloc: Global,
+    number: u64,
+    seed: u64,
+    commands: &[Timed],
+    notes: Option<&[Note]>,
+) -> Result<Vec<Warning>, AllocError>
+    ensures { IfOk result (λ out. out.items
+        ≡ warnings_of number seed commands.now (option_map (λ n. n.now) notes.entry)) }
+{
+    let mut out = Vec::new(alloc);
+    match notes {
+        None => put_commands(alloc, &mut out, true, seed, commands)?,
+        Some(notes) => {
+            put_notes(alloc, &mut out, number, commands, notes)?;
+            put_commands(alloc, &mut out, false, seed, commands)?;
+        }
+    }
+    Ok(out)
+}

@@ -1,8 +1,0 @@
-use Rattle.std.proofs.Common.{map, take}
-use Rattle.emu_model.specs.Net.{drop_record}
-use Rattle.network.specs.Changes.{Notes}
-use Rattle.network.proofs.state.Network.drop_all.Given as goal
-
-abbrev pub invariant-loop-packet : goal.invariant-loop-packet
-invariant-loop-packet l =
-    Notes (map (drop_record l.now) (map (λ p. record { packet = p; cause = l.cause }) (take l.packet-index l.packets))) l.initial.self l.self

@@ -1,0 +1,80 @@
+-- An instance whose packets are kept elsewhere, under keys, and the instance that it shows once
+-- each key is named.
+use Rattle.std.specs.Prelude.{◌≡◌, ℕ, Option, option_map, List, map}
+use Rattle.emu_model.specs.declared.packets.Packet.{Packet}
+use Rattle.emu_model.specs.declared.pipes.PipeConfig.{PipeConfig}
+use Rattle.emu_model.specs.FlowIds.{FlowId}
+use Rattle.emu_model.specs.DropTail.{Queued}
+use Rattle.emu_model.specs.Delay.{InFlight, Line}
+use Rattle.emu_model.specs.Pipes.{InService, InstanceOf, Instance, held_in}
+use Rattle.queue_disc.specs.Queues.{DisciplinedQueue}
+use Rattle.link_core.specs.Lane.{Lane}
+use Rattle.loss_stream.specs.Draws.{Draws}
+
+abbrev pub KeyedQueue : Type 0
+KeyedQueue = DisciplinedQueue ℕ
+
+-- the rate, and what is in service
+pub record KeyedService : Type 0 where
+  pub bw : ℕ
+  pub busy : Option (InService ℕ)
+
+pub record KeyedInstance : Type 0 where
+  pub queue : KeyedQueue
+  pub service : KeyedService
+  pub delay_line : Lane ℕ
+  pub draws : Draws
+
+abbrev pub seen_waiting : (ℕ → Packet) → Queued ℕ → Queued Packet
+seen_waiting f w = record { item = f w.item; size = w.size; stamp = w.stamp }
+
+abbrev pub seen_leaving : (ℕ → Packet) → InFlight ℕ → InFlight Packet
+seen_leaving f x = record { item = f x.item; exit = x.exit }
+
+abbrev pub seen_line : (ℕ → Packet) → Line ℕ → Line Packet
+seen_line f l = record { in_flight = map (seen_leaving f) l.in_flight; last = l.last }
+
+abbrev pub seen_service : (ℕ → Packet) → InService ℕ → InService Packet
+seen_service f s = record { item = f s.item; period = s.period }
+
+-- the instance that is shown, where f names the packet of each key
+abbrev pub seen : (ℕ → Packet) → InstanceOf ℕ → Instance
+seen f i = record {
+  id = i.id;
+  waiting = map (seen_waiting f) i.waiting;
+  control = i.control;
+  service = option_map (seen_service f) i.service;
+  line = seen_line f i.line;
+  drawn = i.drawn;
+}
+
+-- the instance of keys
+abbrev pub kept : FlowId → KeyedInstance → InstanceOf ℕ
+kept id i = record {
+  id = id;
+  waiting = i.queue.waiting;
+  control = i.queue.control;
+  service = i.service.busy;
+  line = i.delay_line.line;
+  drawn = i.draws.drawn;
+}
+
+abbrev pub seen_instance : (ℕ → Packet) → FlowId → KeyedInstance → Instance
+seen_instance f id i = seen f (kept id i)
+
+-- the keys that stand in an instance, whatever its flow: on their way, in service, waiting
+abbrev pub keys_in : KeyedInstance → List ℕ
+keys_in i = held_in (kept (record { proto = 0; src = 0; dst = 0; sport = 0; dport = 0 }) i)
+
+-- the instance works by this configuration
+pub record IsTuned (config : PipeConfig) (i : KeyedInstance) : Type 0 where
+  pub limit : i.queue.limit ≡ config.queue
+  pub discipline : i.queue.discipline ≡ config.discipline
+  pub bw : i.service.bw ≡ config.bw
+
+-- what no packet changes
+pub record IsSameSetting (old new : KeyedInstance) : Type 0 where
+  pub limit : new.queue.limit ≡ old.queue.limit
+  pub discipline : new.queue.discipline ≡ old.queue.discipline
+  pub bw : new.service.bw ≡ old.service.bw
+  pub draws : new.draws ≡ old.draws

@@ -1,0 +1,145 @@
+//! The list of records, and the counts.
+ghost use Rattle.std.specs.Prelude.{◌≡◌, ℕ, ◌+◌, ◌-◌, ◌^◌, ◌<◌, ◌≤◌, [], ◌∷◌, ◌++◌, slice_index_or, vec_len, vec_capacity, OnOk, IsOk};
+ghost use Rattle.pipe_table.specs.Log.{delivered_of, all_drops_of, with_drop};
+
+use emu_model::{DropCause, Record};
+use std::alloc::{AllocError, Global};
+use std::marker::Model;
+
+/// Records in the order in which they came, and how many of them tell of a delivery, and of a drop
+/// for each cause.
+#[derive(Drop)]
+pub struct RecordLog {
+    records: Vec<Record>,
+    delivered: u64,
+    drops: [u64; 8],
+}
+
+impl Model for RecordLog {
+    ghost use Rattle.std.specs.Prelude.{◌≡◌, ◌-◌, vec_len, vec_capacity};
+    ghost use Rattle.pipe_table.specs.Log.{Log, delivered_of, all_drops_of};
+
+    ghost Value = { Log };
+
+    ghost view = { λ l. record {
+      records = l.records.items;
+      spare = vec_capacity l.records - vec_len l.records;
+    } };
+
+    ghost invariant = { λ l. (l.delivered ≡ delivered_of l.records.items)
+        × (l.drops ≡ all_drops_of l.records.items) };
+}
+
+// One more was dropped for a cause.
+#[inline(always)]
+fn count_drop(drops: &mut [u64; 8], cause: DropCause)
+    requires { (k : ℕ) → slice_index_or drops.old k 0 < 2 ^ 63 }
+    ensures { drops.new ≡ with_drop drops.old cause }
+{
+    match cause {
+        DropCause::Denied => drops[0] += 1,
+        DropCause::NoPipe => drops[1] += 1,
+        DropCause::NoInstance => drops[2] += 1,
+        DropCause::Lost => drops[3] += 1,
+        DropCause::Full => drops[4] += 1,
+        DropCause::Codel => drops[5] += 1,
+        DropCause::Deleted => drops[6] += 1,
+        DropCause::Budget => drops[7] += 1,
+    }
+}
+
+// One thing more at the end of a list that has room for it.
+#[inline(always)]
+fn put<T: Copy>(list: &mut Vec<T>, value: &T)
+    requires { vec_len list.old < vec_capacity list.old }
+    ensures items { list.new.items ≡ list.old.items ++ value.now ∷ [] }
+    ensures room { vec_capacity list.old - vec_len list.old
+        ≤ vec_capacity list.new - vec_len list.new + 1 }
+{
+    list.push_reserved(*value);
+}
+
+// How many records there is room for once there is any, so that the first few don't grow the list step by step.
+const FIRST_ROOM: usize = 2048;
+
+impl RecordLog {
+    /// No records. Takes no memory.
+    pub fn new(alloc: Global) -> Self
+        ensures { result.records ≡ [] }
+    {
+        RecordLog {
+            records: Vec::new(alloc),
+            delivered: 0,
+            drops: [0; 8],
+        }
+    }
+
+    /// Makes room for so many records more.
+    #[inline(always)]
+    pub fn reserve(&mut self, additional: usize) -> Result<(), AllocError>
+        ensures ready { OnOk result (additional ≤ self.new.spare) }
+        ensures succeeds { additional ≤ self.old.spare → IsOk result }
+        ensures records { self.new.records ≡ self.old.records }
+        ensures room { self.old.spare ≤ self.new.spare }
+    {
+        if self.records.capacity() == 0 {
+            // Want of so much room is no want of the room that is asked for.
+            let _ = self.records.reserve(FIRST_ROOM);
+        }
+        self.records.reserve(additional)
+    }
+
+    /// Records one thing more, where there is room.
+    #[inline(always)]
+    pub fn note(&mut self, entry: &Record)
+        requires { 0 < self.old.spare }
+        ensures records { self.new.records ≡ self.old.records ++ entry.now ∷ [] }
+        ensures room { self.old.spare ≤ self.new.spare + 1 }
+    {
+        match entry {
+            Record::PacketDelivered { .. } => self.delivered += 1,
+            Record::PacketDropped { cause, .. } => count_drop(&mut self.drops, *cause),
+            _ => {}
+        }
+        put(&mut self.records, entry);
+    }
+
+    /// No records any more; their room stays.
+    pub fn clear(&mut self)
+        ensures records { self.new.records ≡ [] }
+        ensures room { self.old.spare ≤ self.new.spare }
+    {
+        self.records.clear();
+        self.delivered = 0;
+        self.drops = [0; 8];
+    }
+
+    /// The records in their order.
+    pub fn as_slice(&self) -> &[Record]
+        ensures { result.now ≡ self.now.records }
+    {
+        self.records.as_slice()
+    }
+
+    /// How many packets were delivered.
+    pub fn delivered(&self) -> u64
+        ensures { result ≡ delivered_of self.now.records }
+    {
+        self.delivered // as counted
+    }
+
+    /// How many packets were dropped, by cause from `Denied` to `Budget`.
+    pub fn drops(&self) -> [u64; 8]
+        ensures { result ≡ all_drops_of self.now.records }
+    {
+        self.drops
+    }
+
+    /// The records as a `Vec`. Takes no memory.
+    pub fn into_vec(self) -> Vec<Record>
+        ensures { result.items ≡ self.records }
+    {
+        let RecordLog { records, .. } = self;
+        records
+    }
+}

@@ -1,6 +1,0 @@
-use Rattle.queue_disc.proofs.Judging.{drops_on-all, not_true}
-use Rattle.queue_disc.proofs.verdict.judge_dropping.Goals as goal
-
-pub returns : goal.returns
-returns g c =
-    drops_on-all _ _ _ _ _ _ _ c.loop-times.invariant (not_true _ c.loop-times-test.ensures)

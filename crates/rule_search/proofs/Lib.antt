@@ -1,9 +1,0 @@
-pub mod Walking
-pub mod Counting
-pub mod Alike
-pub mod Recounted
-pub mod Settling
-pub mod JumpOrder
-pub mod Alone
-pub mod PathFacts
-pub mod CallerLemmas

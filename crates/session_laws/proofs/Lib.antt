@@ -1,3 +1,0 @@
-mod Waiting
-mod Going
-mod Settling

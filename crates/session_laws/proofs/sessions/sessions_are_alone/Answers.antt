@@ -1,5 +1,0 @@
-use Rattle.session_laws.proofs.Going as law
-use Rattle.session_laws.proofs.sessions.sessions_are_alone.Goals as goal
-
-pub returns : goal.returns
-returns c = law.sessions_are_alone c.later_commands_wait.ensures

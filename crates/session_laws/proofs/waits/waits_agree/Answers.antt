@@ -1,5 +1,0 @@
-use Rattle.session_laws.proofs.Waiting as law
-use Rattle.session_laws.proofs.waits.waits_agree.Goals as goal
-
-pub returns : goal.returns
-returns c = law.waits_agree
