@@ -1,5 +1,8 @@
 //! A mail over two rings, whose other ends a tenant has.
 
+ghost use Rattle.std.specs.Prelude.{◌≡◌, IsTrue};
+ghost use Rattle.rtrb.specs.Ring.{known_free};
+
 use emu_model::{Record, Timed};
 use report::{Archive, Source};
 use rtrb::{Consumer, Producer, Protocol};
@@ -35,10 +38,13 @@ pub struct RingMail {
     pub(crate) from: Consumer<Posted, Global, Moments>,
     pub(crate) to: Producer<News>,
     pub(crate) kept: Archive,
+    // No room for a letter was known when it was looked for last.
+    full: bool,
+    ghost none: { IsTrue full → known_free to ≡ 0 },
 }
 
 impl RingMail {
-    ghost use Rattle.std.specs.Prelude.{◌≡◌, []};
+    ghost use Rattle.std.specs.Prelude.{[]};
 
     pub(crate) fn new(
         alloc: Global,
@@ -51,6 +57,7 @@ impl RingMail {
             from,
             to,
             kept: Archive::new(alloc),
+            full: false,
         }
     }
 }
@@ -71,7 +78,8 @@ impl Mail for RingMail {
 
     fn letter(&mut self, news: Record) -> Result<(), Record> {
         // Asked first, so that a letter for which there is no room isn't copied.
-        if self.to.is_full() {
+        self.full = self.to.is_full();
+        if self.full {
             return Err(news);
         }
         self.to.push_reserved(News { letter: news });
@@ -80,7 +88,14 @@ impl Mail for RingMail {
 
     #[inline(always)]
     fn may_take(&mut self) -> bool {
-        !self.to.is_full()
+        let full = self.to.is_full();
+        self.full = full;
+        !full
+    }
+
+    #[inline(always)]
+    fn knows_room(&self) -> bool {
+        !self.full
     }
 
     fn keep(&mut self, records: &[Record]) -> bool {

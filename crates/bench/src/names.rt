@@ -11,6 +11,13 @@ pub(crate) fn remove_one(names: &mut Vec<u32>, name: u32)
     ensures len { vec_len names.new + 1 ≡ vec_len names.old }
     ensures room { vec_capacity names.new ≡ vec_capacity names.old }
 {
+    // Who came last is mostly who goes.
+    if let Some(last) = names.len().checked_sub(1) {
+        if names[last] == name {
+            names.swap_remove(last);
+            return;
+        }
+    }
     for k in 0..names.len() {
         if names[k] == name {
             names.swap_remove(k);

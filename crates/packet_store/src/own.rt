@@ -46,6 +46,15 @@ impl OwnShelf {
         }
     }
 
+    /// Empties the shelf for another budget, and keeps its memory.
+    pub fn renew(&mut self, budget: PacketBudget)
+        ensures own { own_pocket self.new ≡ empty_pocket budget }
+    {
+        self.places.clear();
+        self.free.clear();
+        self.budget = budget.get() as usize;
+    }
+
     /// Makes room for so many packets more, or for as many as the budget has left.
     pub fn reserve(&mut self, additional: usize) -> Result<(), AllocError>
         ensures ok { OnOk result

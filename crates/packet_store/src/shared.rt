@@ -124,6 +124,7 @@ impl Shelf for Store {
     }
 
     #[tactic(auto, unfolding(crate::specs::Books::pocket_of))]
+    #[inline(always)]
     fn look(&self, owner: Owner, key: Key) -> Option<Packet> {
         match self.slab.get(key.place) {
             Some(kept) if kept.owner == owner => Some(kept.packet),
@@ -131,10 +132,12 @@ impl Shelf for Store {
         }
     }
 
+    #[inline(always)]
     fn take(&mut self, owner: Owner, key: Key) -> Option<Packet> {
         let packet = self.look(owner, key)?;
         let capacity = self.slab.capacity();
-        self.slab.try_remove(key.place);
+        // What stood there is a copy of the packet, so nothing of it is read again.
+        self.slab.remove(key.place);
         let Some(account) = self.accounts.get_mut(owner) else {
             unreachable!()
         };

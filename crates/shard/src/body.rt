@@ -1,8 +1,9 @@
 //! What moves as one: an experiment, and its mail, which may keep the records that the experiment has forgotten.
 
-ghost use Rattle.std.specs.Prelude.{◌≡◌, ◌≤◌, ◌<◌, ◌++◌, length, take, slice_index_or, option_copied, slice_get};
+ghost use Rattle.std.specs.Prelude.{◌≡◌, ◌≤◌, ◌<◌, ◌++◌, ◌↔◌, IsFalse, length, take, slice_index_or, option_copied, slice_get};
 ghost use Rattle.emu_model.specs.declared.records.Record.TheVariants.{StepsSpent};
 ghost use Rattle.packet_store.specs.Pocket.{Pocket};
+ghost use Rattle.experiment.specs.declared.experiment.Event.TheVariants.{Ran};
 ghost use Rattle.experiment.specs.Kept.{IsAloneAfter, IsHousedIn};
 ghost use Rattle.experiment.specs.Written.{AreCountsOf};
 ghost use Rattle.shard.specs.Seen.{IsToldMore, IsPublished};
@@ -85,9 +86,10 @@ fn publish_more<M: Mail>(mail: &mut M, fresh: &[Record], published: u128) -> u12
     count
 }
 
-// The same. Asked first, since mostly nobody reads and no letter is taken.
+// The same. Asked first, since mostly nobody reads and no letter is taken. Whether its other end has made room is
+// looked at only where `look` says so: that end may be another thread's.
 #[inline(always)]
-fn publish<M: Mail>(mail: &mut M, fresh: &[Record], published: u128) -> u128
+fn publish<M: Mail>(mail: &mut M, fresh: &[Record], published: u128, look: bool) -> u128
     requires told { (M.seen mail.old).letters ≡ take published (M.kept mail.old ++ fresh.now) }
     requires short { published ≤ length (M.kept mail.old ++ fresh.now) }
     ensures told { (M.seen mail.new).letters ≡ take result (M.kept mail.old ++ fresh.now) }
@@ -96,10 +98,21 @@ fn publish<M: Mail>(mail: &mut M, fresh: &[Record], published: u128) -> u128
     ensures same { IsToldMore M.seen mail.old mail.new }
     ensures kept { M.kept mail.new ≡ M.kept mail.old }
 {
-    if !mail.may_take() {
+    if !look && !mail.knows_room() {
+        return published;
+    }
+    if look && !mail.may_take() {
         return published;
     }
     publish_more(mail, fresh, published)
+}
+
+// Whether an event looks at the mail's other end: the last one does, since none follows.
+#[inline(always)]
+fn looks(first: bool, event: Event) -> bool
+    ensures { IsFalse result ↔ (IsFalse first × (event ≡ Ran)) }
+{
+    first || event != Event::Ran
 }
 
 // Has the mail keep what was recorded, which the experiment forgets then.
@@ -229,13 +242,18 @@ impl<M: Mail> Body<M> {
         ensures rest { self.new
             ≡ record self.old { mail = self.new.mail; published = self.new.published } }
     {
-        self.published = publish(&mut self.mail, self.experiment.records(), self.published);
+        self.published = publish(
+            &mut self.mail,
+            self.experiment.records(),
+            self.published,
+            true,
+        );
     }
 
-    /// Makes the next event, and publishes records while the mail takes them. The mail keeps what it records, a batch at a
-    /// time, and all of it in the end.
+    /// Makes the next event, and publishes records while the mail takes them: with a look at its other end where `look` says
+    /// so. The mail keeps what it records, a batch at a time, and all of it in the end.
     #[inline(always)]
-    pub(crate) fn event(&mut self, store: &mut Store, owner: Owner) -> Event
+    pub(crate) fn event(&mut self, store: &mut Store, owner: Owner, look: bool) -> Event
         requires going { IsGoing M.seen (pocket_of store.old owner) self.old.experiment
             self.old.published self.old.mail }
         requires next { IsSome self.old.experiment.next }
@@ -253,7 +271,13 @@ impl<M: Mail> Body<M> {
         records_grow();
         records_are_not_read();
         let event = self.experiment.event(store, owner);
-        self.published = publish(&mut self.mail, self.experiment.records(), self.published);
+        let look = looks(look, event);
+        self.published = publish(
+            &mut self.mail,
+            self.experiment.records(),
+            self.published,
+            look,
+        );
         if event != Event::Ran || self.experiment.records().len() >= BATCH {
             keep(&mut self.experiment, &mut self.mail, &mut self.counts);
         }

@@ -142,6 +142,10 @@ impl Mail for ListMail {
         true
     }
 
+    fn knows_room(&self) -> bool {
+        true
+    }
+
     fn keep(&mut self, _records: &[Record]) -> bool {
         false
     }

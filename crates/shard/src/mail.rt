@@ -47,6 +47,10 @@ pub trait Mail: Drop {
         ensures no { IsFalse result → seen self.new ≡ record (seen self.old) { full = true } }
         ensures kept { kept self.new ≡ kept self.old };
 
+    /// Whether room for a letter is known, without a look at its other end.
+    fn knows_room(&self) -> bool
+        ensures { IsFalse result → (seen self.now).full ≡ true };
+
     /// Keeps records behind those that it keeps. False where it keeps none of them.
     fn keep(&mut self, records: &[Record]) -> bool
         ensures yes { IsTrue result → kept self.new ≡ kept self.old ++ records.now }

@@ -188,9 +188,9 @@ impl<M: Mail> Resident<M> {
         self.set_again(agenda, slot);
     }
 
-    // Makes one step, and leaves its entry as it was.
+    // Makes one step, and leaves its entry as it was. The mail's other end is looked at where `look` says so.
     #[inline(always)]
-    fn advance(&mut self, store: &mut Store) -> Event
+    fn advance(&mut self, store: &mut Store, look: bool) -> Event
         requires going { IsGoing M.seen
             (pocket_of store.old self.old.owner) self.old.experiment self.old.published
             self.old.mail }
@@ -203,10 +203,11 @@ impl<M: Mail> Resident<M> {
             pocket_of store.new o ≡ pocket_of store.old o }
     {
         let owner = self.owner;
-        self.body.event(store, owner)
+        self.body.event(store, owner, look)
     }
 
-    // Makes one step and at most `more` others, and leaves its entry as it was.
+    // Makes one step and at most `more` others, and leaves its entry as it was. The mail's other end is looked at in the
+    // first step, and in one that ends: it costs more than all else that a step does about its mail.
     fn run_on<W: Watch>(&mut self, store: &mut Store, more: u32, watch: &mut W) -> Event
         requires going { IsGoing M.seen
             (pocket_of store.old self.old.owner) self.old.experiment self.old.published
@@ -222,7 +223,7 @@ impl<M: Mail> Resident<M> {
             pocket_of store.new o ≡ pocket_of store.old o }
     {
         for made in 0..u64::from(more) + 1 {
-            let event = self.advance(store);
+            let event = self.advance(store, made == 0);
             if event != Event::Ran {
                 return event;
             }
@@ -304,7 +305,12 @@ impl<M: Mail> Resident<M> {
     }
 
     // Makes a resident of a parcel, whose owner is admitted. It has no entry yet.
-    pub(crate) fn settle(parcel: Parcel<M>, store: &mut Store, owner: Owner) -> Resident<M>
+    pub(crate) fn settle(
+        parcel: Parcel<M>,
+        store: &mut Store,
+        owner: Owner,
+        emptied: &mut Option<OwnShelf>,
+    ) -> Resident<M>
         requires admitted { pocket_of store.old owner ≡ empty_pocket parcel.spec.budget.packets }
         ensures going { IsGoing M.seen
             (pocket_of store.new owner) result.experiment result.published result.mail }
@@ -319,6 +325,7 @@ impl<M: Mail> Resident<M> {
         // What it holds is within its budget.
         let _held = shelf.count(0);
         body.rehouse(&mut shelf, 0, store, owner);
+        *emptied = Some(shelf);
         Resident {
             owner,
             body,

@@ -3,7 +3,8 @@
 ghost use Rattle.std.specs.Prelude.{◌≡◌, ◌<◌, ℕ, None, Some, IsSome, IfSome, IfNone, length, slice_index_or};
 ghost use Rattle.std.specs.Prelude.{◌≢◌};
 ghost use Rattle.packet_store.specs.Books.{pocket_of};
-ghost use Rattle.packet_store.specs.Pocket.{Pocket};
+ghost use Rattle.packet_store.specs.Pocket.{Pocket, empty_pocket};
+ghost use Rattle.packet_store.specs.Own.{own_pocket};
 ghost use Rattle.shard.specs.Kept.{IsKept};
 ghost use Rattle.shard.specs.Seats.{IsDossierOf, IsShard, HasBegun};
 
@@ -13,7 +14,7 @@ use crate::parcel::Parcel;
 use crate::posts::Vacant;
 use crate::resident::Resident;
 use crate::watch::{Unwatched, Watch};
-use emu_model::Timed;
+use emu_model::{PacketBudget, Timed};
 use experiment::Event;
 use packet_store::{OwnShelf, Shelf, Store};
 use std::alloc::{AllocError, Global};
@@ -71,6 +72,8 @@ pub struct Shard<A: Agenda, M: Mail> {
     store: Store,
     agenda: A,
     pub(crate) slots: Vec<Option<Resident<M>>>,
+    // Emptied by the parcel that came last: its memory serves the next one that goes.
+    shelf: Option<OwnShelf>,
     // The slot of the last turn, where `slot_of` looks first.
     turned: usize,
 }
@@ -121,6 +124,7 @@ impl<A: Agenda, M: Mail> Shard<A, M> {
             store: Store::new(alloc),
             agenda: A::new(alloc, clock)?,
             slots,
+            shelf: None,
             turned: 0,
         })
     }
@@ -200,7 +204,7 @@ impl<A: Agenda, M: Mail> Shard<A, M> {
         let Ok(owner) = self.store.admit(parcel.spec().budget.packets) else {
             return Err(TakeInError::NoMemory(parcel));
         };
-        let mut resident = Resident::settle(parcel, &mut self.store, owner);
+        let mut resident = Resident::settle(parcel, &mut self.store, owner, &mut self.shelf);
         resident.enter(&mut self.agenda, slot);
         self.slots[slot] = Some(resident);
         Ok(slot)
@@ -220,7 +224,7 @@ impl<A: Agenda, M: Mail> Shard<A, M> {
         let Some(resident) = &self.slots[slot] else {
             return Err(PackError::Vacant);
         };
-        let mut shelf = OwnShelf::new(self.alloc, resident.spec().budget.packets);
+        let mut shelf = empty_shelf(&mut self.shelf, self.alloc, resident.spec().budget.packets);
         let Ok(()) = shelf.reserve(self.store.count(resident.owner())) else {
             return Err(PackError::NoMemory);
         };
@@ -309,6 +313,17 @@ impl<A: Agenda, M: Mail> Shard<A, M> {
     {
         let _ = &self.agenda;
     }
+}
+
+// An empty shelf: the one that is kept, if there is one.
+fn empty_shelf(kept: &mut Option<OwnShelf>, alloc: Global, budget: PacketBudget) -> OwnShelf
+    ensures { own_pocket result ≡ empty_pocket budget }
+{
+    let Some(mut shelf) = mem::replace(kept, None) else {
+        return OwnShelf::new(alloc, budget);
+    };
+    shelf.renew(budget);
+    shelf
 }
 
 // Takes a resident that has ended out of its slot, and makes its dossier. By itself, since a turn that ends nobody

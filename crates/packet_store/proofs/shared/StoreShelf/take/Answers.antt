@@ -10,16 +10,22 @@ pub unreachable-requires : goal.unreachable-requires
 unreachable-requires c =
     let s = c.self.inside in
     let own = found c.args.self.now s.slab.slots s.accounts.slots c.args.owner c.self.view_is c.key.inside.place c.in_ok-packet.packet (rw c.key.view_is c.in_ok-packet.ensures) in
-    let uses = uses_one s.slab.slots _ s.accounts.slots s.reserved s.slab.capacity c.key.inside.place c.args.owner c.self.invariant c.try_remove.ensures.updates.others own c.try_remove.ensures.updates.changed in
+    let uses = uses_one s.slab.slots _ s.accounts.slots s.reserved s.slab.capacity c.key.inside.place c.args.owner c.self.invariant c.remove.ensures.updates.others own c.remove.ensures.updates.changed in
     let none : get_or s.accounts.slots c.args.owner None ≡ None = sym (rw c.in_default.is at c.get_mut.follows) in
     let zero : (account s.accounts.slots c.args.owner).used ≡ 0 = ap (λ (a : Option Account). (account_of a).used) none in
     omega (arith, uses, zero)
+
+pub remove-requires : goal.remove-requires
+remove-requires c =
+    let s = c.self.inside in
+    let own = found c.args.self.now s.slab.slots s.accounts.slots c.args.owner c.self.view_is c.key.inside.place c.in_ok-packet.packet (rw c.key.view_is c.in_ok-packet.ensures) in
+    rw (kept_at c.args.owner _ own).1 (search)
 
 pub overflow_sub-account : goal.overflow_sub-account
 overflow_sub-account c =
     let s = c.self.inside in
     let own = found c.args.self.now s.slab.slots s.accounts.slots c.args.owner c.self.view_is c.key.inside.place c.in_ok-packet.packet (rw c.key.view_is c.in_ok-packet.ensures) in
-    let uses = uses_one s.slab.slots _ s.accounts.slots s.reserved s.slab.capacity c.key.inside.place c.args.owner c.self.invariant c.try_remove.ensures.updates.others own c.try_remove.ensures.updates.changed in
+    let uses = uses_one s.slab.slots _ s.accounts.slots s.reserved s.slab.capacity c.key.inside.place c.args.owner c.self.invariant c.remove.ensures.updates.others own c.remove.ensures.updates.changed in
     let slot : get_or s.accounts.slots c.args.owner None ≡ Some c.in-Some.account.now = sym c.in-Some.ensures.value in
     rw slot at uses
 
@@ -28,7 +34,7 @@ prove-unreachable-requires c =
     let s = c.self.inside in
     let own = found c.args.self.now s.slab.slots s.accounts.slots c.args.owner c.self.view_is c.key.inside.place c.in_ok-packet.packet (rw c.key.view_is c.in_ok-packet.ensures) in
     let there = kept_at c.args.owner _ own in
-    let l = rw (c.try_remove.ensures.value ∙ there.1) at c.try_remove.ensures.len in
+    let l = c.remove.ensures.len in
     omega (arith, l, c.self.invariant.covered, c.capacity-capacity.ensures.value)
 
 pub invariant_of-self : goal.invariant_of-self
@@ -36,11 +42,11 @@ invariant_of-self c =
     let s = c.self.inside in
     let own = found c.args.self.now s.slab.slots s.accounts.slots c.args.owner c.self.view_is c.key.inside.place c.in_ok-packet.packet (rw c.key.view_is c.in_ok-packet.ensures) in
     let there = kept_at c.args.owner _ own in
-    let uses = uses_one s.slab.slots _ s.accounts.slots s.reserved s.slab.capacity c.key.inside.place c.args.owner c.self.invariant c.try_remove.ensures.updates.others own c.try_remove.ensures.updates.changed in
+    let uses = uses_one s.slab.slots _ s.accounts.slots s.reserved s.slab.capacity c.key.inside.place c.args.owner c.self.invariant c.remove.ensures.updates.others own c.remove.ensures.updates.changed in
     let slot : get_or s.accounts.slots c.args.owner None ≡ Some c.in-Some.account.now = sym c.in-Some.ensures.value in
     let is = account-set s.accounts.slots c.args.owner c.in-Some.account.now (record { budget = c.in-Some.account.now.budget; used = c.in-Some.account.now.used - 1 }) slot in
     let was : account s.accounts.slots c.args.owner ≡ c.in-Some.account.now = ap account_of slot in
-    rw c.try_remove.ensures.capacity (IsSound-take s.slab.slots c.try_remove.new.self.slots s.accounts.slots _ s.reserved s.slab.capacity c.key.inside.place c.args.owner c.self.invariant c.try_remove.ensures.updates.others own (λ q differs. is_of-other c.args.owner q _ own differs) c.try_remove.ensures.updates.changed (rw (c.try_remove.ensures.value ∙ there.1) at c.try_remove.ensures.len) (elsewhere-set s.accounts.slots c.args.owner _) (omega (arith, uses, ap (λ (a : Account). a.used) is, ap (λ (a : Account). a.used) was)) (ap (λ (a : Account). a.budget) is ∙ sym (ap (λ (a : Account). a.budget) was)))
+    rw c.remove.ensures.capacity (IsSound-take s.slab.slots c.remove.new.self.slots s.accounts.slots _ s.reserved s.slab.capacity c.key.inside.place c.args.owner c.self.invariant c.remove.ensures.updates.others own (λ q differs. is_of-other c.args.owner q _ own differs) c.remove.ensures.updates.changed c.remove.ensures.len (elsewhere-set s.accounts.slots c.args.owner _) (omega (arith, uses, ap (λ (a : Account). a.used) is, ap (λ (a : Account). a.used) was)) (ap (λ (a : Account). a.budget) is ∙ sym (ap (λ (a : Account). a.budget) was)))
 
 pub returns-clause-some : goal.returns-clause-some
 returns-clause-some c =
@@ -48,13 +54,13 @@ returns-clause-some c =
     let own = found c.args.self.now s.slab.slots s.accounts.slots c.args.owner c.self.view_is c.key.inside.place c.in_ok-packet.packet (rw c.key.view_is c.in_ok-packet.ensures) in
     let slot : get_or s.accounts.slots c.args.owner None ≡ Some c.in-Some.account.now = sym c.in-Some.ensures.value in
     let is = account-set s.accounts.slots c.args.owner c.in-Some.account.now (record { budget = c.in-Some.account.now.budget; used = c.in-Some.account.now.used - 1 }) slot in
-    rw (← c.self.view_is, ← c.key.view_is) (pocket_of-take _ _ c.key.inside.place c.args.owner c.try_remove.ensures.updates.others own c.try_remove.ensures.updates.changed (ap (λ (a : Account). a.budget) is ∙ sym (ap (λ (a : Option Account). (account_of a).budget) slot)))
+    rw (← c.self.view_is, ← c.key.view_is) (pocket_of-take _ _ c.key.inside.place c.args.owner c.remove.ensures.updates.others own c.remove.ensures.updates.changed (ap (λ (a : Account). a.budget) is ∙ sym (ap (λ (a : Option Account). (account_of a).budget) slot)))
 
 pub returns-clause-others : goal.returns-clause-others
 returns-clause-others c = λ o differs.
     let s = c.self.inside in
     let own = found c.args.self.now s.slab.slots s.accounts.slots c.args.owner c.self.view_is c.key.inside.place c.in_ok-packet.packet (rw c.key.view_is c.in_ok-packet.ensures) in
-    rw (← c.self.view_is) (pocket_of-other _ _ c.key.inside.place o c.try_remove.ensures.updates.others (is_of-other c.args.owner o _ own differs) (ap (is_of o) c.try_remove.ensures.updates.changed) (elsewhere-set s.accounts.slots c.args.owner _ o differs))
+    rw (← c.self.view_is) (pocket_of-other _ _ c.key.inside.place o c.remove.ensures.updates.others (is_of-other c.args.owner o _ own differs) (ap (is_of o) c.remove.ensures.updates.changed) (elsewhere-set s.accounts.slots c.args.owner _ o differs))
 
 pub returns-clause-room : goal.returns-clause-room
 returns-clause-room c = λ o.
@@ -67,7 +73,7 @@ pub returns-clause-freed : goal.returns-clause-freed
 returns-clause-freed c =
     let s = c.self.inside in
     let own = found c.args.self.now s.slab.slots s.accounts.slots c.args.owner c.self.view_is c.key.inside.place c.in_ok-packet.packet (rw c.key.view_is c.in_ok-packet.ensures) in
-    let uses = uses_one s.slab.slots _ s.accounts.slots s.reserved s.slab.capacity c.key.inside.place c.args.owner c.self.invariant c.try_remove.ensures.updates.others own c.try_remove.ensures.updates.changed in
+    let uses = uses_one s.slab.slots _ s.accounts.slots s.reserved s.slab.capacity c.key.inside.place c.args.owner c.self.invariant c.remove.ensures.updates.others own c.remove.ensures.updates.changed in
     let counts = count_is _ s.slab.slots s.accounts.slots c.args.owner c.self.view_is in
     let budget = budget_is _ s.slab.slots s.accounts.slots c.args.owner c.self.view_is in
     rw (returns-clause-some c) (omega (arith, uses, counts, budget, c.self.invariant.within c.args.owner, c.self.invariant.used c.args.owner))
@@ -76,7 +82,7 @@ pub returns-clause-below : goal.returns-clause-below
 returns-clause-below c =
     let s = c.self.inside in
     let own = found c.args.self.now s.slab.slots s.accounts.slots c.args.owner c.self.view_is c.key.inside.place c.in_ok-packet.packet (rw c.key.view_is c.in_ok-packet.ensures) in
-    let uses = uses_one s.slab.slots _ s.accounts.slots s.reserved s.slab.capacity c.key.inside.place c.args.owner c.self.invariant c.try_remove.ensures.updates.others own c.try_remove.ensures.updates.changed in
+    let uses = uses_one s.slab.slots _ s.accounts.slots s.reserved s.slab.capacity c.key.inside.place c.args.owner c.self.invariant c.remove.ensures.updates.others own c.remove.ensures.updates.changed in
     let counts = count_is _ s.slab.slots s.accounts.slots c.args.owner c.self.view_is in
     let budget = budget_is _ s.slab.slots s.accounts.slots c.args.owner c.self.view_is in
     rw (returns-clause-some c) (omega (arith, uses, counts, budget, c.self.invariant.within c.args.owner, c.self.invariant.used c.args.owner))

@@ -53,8 +53,8 @@ leave-requires-clause-room g c =
     let kept = (seated_at g.M.Mail.seen (pocket_of s.store) (g.A.Agenda.entries s.agenda) (g.A.Agenda.time s.agenda) s.slots.items k r c.self.invariant is).going.kept in
     let count : c.count.result ≡ (pocket_of s.store r.owner).count = c.count.ensures.value ∙ ap (λ (o : ℕ). (pocket_of s.store o).count) c.owner.ensures ∙ ap (λ (x : Resident _). (pocket_of s.store x.owner).count) same in
     let few : c.count.result ≤ (pocket_of s.store r.owner).budget = subst (λ (x : Resident _). c.count.result ≤ (pocket_of s.store x.owner).budget) same (subst (λ (o : ℕ). c.count.result ≤ (pocket_of s.store o).budget) c.owner.ensures c.count.ensures.within) in
-    let own : (own_pocket c.new-shelf.result).budget ≡ r.experiment.spec.budget.packets = ap (λ (x : Pocket). x.budget) c.new-shelf.ensures.own ∙ ap (λ (x : Spec). x.budget.packets) c.spec.ensures ∙ ap (λ (x : Resident _). x.experiment.spec.budget.packets) same in
-    let none : (own_pocket c.new-shelf.result).count ≡ 0 = ap (λ (x : Pocket). x.count) c.new-shelf.ensures.own in
+    let own : (own_pocket c.empty_shelf-shelf.result).budget ≡ r.experiment.spec.budget.packets = ap (λ (x : Pocket). x.budget) c.empty_shelf-shelf.ensures ∙ ap (λ (x : Spec). x.budget.packets) c.spec.ensures ∙ ap (λ (x : Resident _). x.experiment.spec.budget.packets) same in
+    let none : (own_pocket c.empty_shelf-shelf.result).count ≡ 0 = ap (λ (x : Pocket). x.count) c.empty_shelf-shelf.ensures in
     elim c.in-Ok.ensures.ok [
       | inl enough ↦ omega (arith, enough, count, kept.housed.housed.count)
       | inr all ↦ omega (arith, all, own, none, few, count, kept.budget, kept.housed.housed.count)
