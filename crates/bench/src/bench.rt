@@ -275,7 +275,7 @@ impl Bench {
         };
         self.out -= 1;
         let name = parcel.name();
-        match self.shard.take_in(parcel) {
+        match self.shard.take_back(parcel) {
             Ok(_slot) => {
                 self.resident.push_reserved(name);
                 return Ok(());

@@ -46,15 +46,6 @@ impl OwnShelf {
         }
     }
 
-    /// Empties the shelf for another budget, and keeps its memory.
-    pub fn renew(&mut self, budget: PacketBudget)
-        ensures own { own_pocket self.new ≡ empty_pocket budget }
-    {
-        self.places.clear();
-        self.free.clear();
-        self.budget = budget.get() as usize;
-    }
-
     /// Makes room for so many packets more, or for as many as the budget has left.
     pub fn reserve(&mut self, additional: usize) -> Result<(), AllocError>
         ensures ok { OnOk result
@@ -67,6 +58,16 @@ impl OwnShelf {
         let left = self.budget.saturating_sub(self.held());
         let wanted = additional.min(left).saturating_sub(self.free.len());
         self.grow(wanted)
+    }
+
+    /// Makes room for as many packets as the budget has left.
+    pub fn reserve_all(&mut self) -> Result<(), AllocError>
+        ensures ok { OnOk result
+            ((own_pocket self.old).budget - (own_pocket self.old).count ≤ own_room self.new 0) }
+        ensures pockets { own_pocket self.new ≡ own_pocket self.old }
+        ensures room { own_room self.old 0 ≤ own_room self.new 0 }
+    {
+        self.reserve(self.budget)
     }
 
     // How many packets stand there.

@@ -305,12 +305,7 @@ impl<M: Mail> Resident<M> {
     }
 
     // Makes a resident of a parcel, whose owner is admitted. It has no entry yet.
-    pub(crate) fn settle(
-        parcel: Parcel<M>,
-        store: &mut Store,
-        owner: Owner,
-        emptied: &mut Option<OwnShelf>,
-    ) -> Resident<M>
+    pub(crate) fn settle(parcel: Parcel<M>, store: &mut Store, owner: Owner) -> Resident<M>
         requires admitted { pocket_of store.old owner ≡ empty_pocket parcel.spec.budget.packets }
         ensures going { IsGoing M.seen
             (pocket_of store.new owner) result.experiment result.published result.mail }
@@ -325,7 +320,6 @@ impl<M: Mail> Resident<M> {
         // What it holds is within its budget.
         let _held = shelf.count(0);
         body.rehouse(&mut shelf, 0, store, owner);
-        *emptied = Some(shelf);
         Resident {
             owner,
             body,
@@ -333,25 +327,45 @@ impl<M: Mail> Resident<M> {
         }
     }
 
-    // Makes a parcel of a resident, on a shelf that has room for its packets.
-    pub(crate) fn leave(self, store: &mut Store, mut shelf: OwnShelf) -> Parcel<M>
+    // Makes a resident of a parcel whose packets stay at their keys. It has no entry yet. Refused for want of memory, the
+    // parcel comes back.
+    pub(crate) fn come_back(parcel: Parcel<M>, store: &mut Store) -> Result<Resident<M>, Parcel<M>>
+        ensures going { IfOk result (λ r. IsGoing M.seen
+            (pocket_of store.new r.owner) r.experiment r.published r.mail) }
+        ensures stranger { IfOk result (λ r. pocket_of store.old r.owner ≡ empty_pocket 0) }
+        ensures same { IfOk result (λ r. standing (pocket_of store.new r.owner) r ≡ parcel) }
+        ensures others { IfOk result
+            (λ r. (o : ℕ) → o ≢ r.owner → pocket_of store.new o ≡ pocket_of store.old o) }
+        ensures err { OnErr result (store.new ≡ store.old) }
+        ensures back { IfErr result (λ back. back ≡ parcel) }
+    {
+        let Parcel { body, shelf } = parcel;
+        match store.settle(shelf) {
+            Ok(owner) => Ok(Resident {
+                owner,
+                body,
+                offset: None,
+            }),
+            Err(shelf) => Err(Parcel { body, shelf }),
+        }
+    }
+
+    // Makes a parcel of a resident, whose packets stay at their keys.
+    pub(crate) fn leave(self, store: &mut Store) -> Parcel<M>
         requires going { IsGoing M.seen
             (pocket_of store.old self.owner) self.experiment self.published self.mail }
-        requires empty { own_pocket shelf ≡ empty_pocket self.experiment.spec.budget.packets }
-        requires room { length (net_keys self.experiment.net) ≤ own_room shelf 0 }
-        requires fits { length (net_keys self.experiment.net)
-            ≤ self.experiment.spec.budget.packets }
         ensures same { result ≡ standing (pocket_of store.old self.owner) self }
         ensures gone { pocket_of store.new self.owner ≡ empty_pocket 0 }
         ensures others { (o : ℕ) → o ≢ self.owner → pocket_of store.new o ≡ pocket_of store.old o }
     {
         let Resident {
             owner,
-            mut body,
+            body,
             offset: _,
         } = self;
-        body.rehouse(store, owner, &mut shelf, 0);
-        store.dismiss(owner);
+        let Some(shelf) = store.lift(owner) else {
+            unreachable!();
+        };
         Parcel { body, shelf }
     }
 

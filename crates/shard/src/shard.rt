@@ -72,8 +72,6 @@ pub struct Shard<A: Agenda, M: Mail> {
     store: Store,
     agenda: A,
     pub(crate) slots: Vec<Option<Resident<M>>>,
-    // Emptied by the parcel that came last: its memory serves the next one that goes.
-    shelf: Option<OwnShelf>,
     // The slot of the last turn, where `slot_of` looks first.
     turned: usize,
 }
@@ -124,7 +122,6 @@ impl<A: Agenda, M: Mail> Shard<A, M> {
             store: Store::new(alloc),
             agenda: A::new(alloc, clock)?,
             slots,
-            shelf: None,
             turned: 0,
         })
     }
@@ -204,13 +201,34 @@ impl<A: Agenda, M: Mail> Shard<A, M> {
         let Ok(owner) = self.store.admit(parcel.spec().budget.packets) else {
             return Err(TakeInError::NoMemory(parcel));
         };
-        let mut resident = Resident::settle(parcel, &mut self.store, owner, &mut self.shelf);
+        let mut resident = Resident::settle(parcel, &mut self.store, owner);
         resident.enter(&mut self.agenda, slot);
         self.slots[slot] = Some(resident);
         Ok(slot)
     }
 
-    /// Makes a parcel of a resident: one owned value with all that it holds. Refused, nothing has changed.
+    /// Takes a parcel back that was packed here, as `take_in` does, but for its packets: these stay at their keys, so that
+    /// the time doesn't grow with them.
+    pub fn take_back(&mut self, parcel: Parcel<M>) -> Result<usize, TakeInError<M>>
+        ensures ok { IfOk result (λ slot. (s : Seat M) × TakenIn parcel self.old self.new slot s) }
+        ensures back { IfErr result (ComesBack parcel self.old) }
+        ensures err { OnErr result (self.new ≡ self.old) }
+        ensures memory { IfErr result (HasVacancy self.old) }
+    {
+        let Some(slot) = first_vacant(self.slots.as_slice()) else {
+            return Err(TakeInError::Crowded(parcel));
+        };
+        let mut resident = match Resident::come_back(parcel, &mut self.store) {
+            Ok(resident) => resident,
+            Err(parcel) => return Err(TakeInError::NoMemory(parcel)),
+        };
+        resident.enter(&mut self.agenda, slot);
+        self.slots[slot] = Some(resident);
+        Ok(slot)
+    }
+
+    /// Makes a parcel of a resident: one owned value with all that it holds. Takes no memory, and the time doesn't grow
+    /// with its packets.
     pub fn pack(&mut self, slot: usize) -> Result<Parcel<M>, PackError>
         ensures ok { IfOk result
             (λ parcel. (s : Seat M) × PackedAt parcel self.old self.new slot s) }
@@ -221,18 +239,11 @@ impl<A: Agenda, M: Mail> Shard<A, M> {
         if slot >= self.slots.len() {
             return Err(PackError::Vacant);
         }
-        let Some(resident) = &self.slots[slot] else {
+        let Some(gone) = mem::replace(&mut self.slots[slot], None) else {
             return Err(PackError::Vacant);
         };
-        let mut shelf = empty_shelf(&mut self.shelf, self.alloc, resident.spec().budget.packets);
-        let Ok(()) = shelf.reserve(self.store.count(resident.owner())) else {
-            return Err(PackError::NoMemory);
-        };
-        let Some(gone) = mem::replace(&mut self.slots[slot], None) else {
-            unreachable!();
-        };
         self.agenda.clear_owner(slot);
-        Ok(gone.leave(&mut self.store, shelf))
+        Ok(gone.leave(&mut self.store))
     }
 
     /// Begins the agenda's time anew: its clock is 0, and each entry is set again from what comes next, below
@@ -313,17 +324,6 @@ impl<A: Agenda, M: Mail> Shard<A, M> {
     {
         let _ = &self.agenda;
     }
-}
-
-// An empty shelf: the one that is kept, if there is one.
-fn empty_shelf(kept: &mut Option<OwnShelf>, alloc: Global, budget: PacketBudget) -> OwnShelf
-    ensures { own_pocket result ≡ empty_pocket budget }
-{
-    let Some(mut shelf) = mem::replace(kept, None) else {
-        return OwnShelf::new(alloc, budget);
-    };
-    shelf.renew(budget);
-    shelf
 }
 
 // Takes a resident that has ended out of its slot, and makes its dossier. By itself, since a turn that ends nobody
