@@ -1,6 +1,4 @@
-pub mod Counts
 pub mod Pockets
-pub mod Sound
-pub mod Dropping
 mod Free
 mod OwnPockets
+mod Shelves

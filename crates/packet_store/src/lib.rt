@@ -85,6 +85,7 @@ pub trait Shelf {
         ensures others { (o : ℕ) → o ≢ owner → pocket self.new o ≡ pocket self.old o }
         ensures room { (o : ℕ) → room self.old o ≤ room self.new o }
         ensures freed { OnSome result (0 < room self.new owner) }
+        ensures grows { OnSome result (room self.old owner < room self.new owner) }
         ensures below { OnSome result
             ((pocket self.new owner).count < (pocket self.new owner).budget) };
 

@@ -30,6 +30,7 @@ impl Model for Store {
 
 impl Store {
     /// A store without owners, which takes no memory before the first `admit`.
+    #[tactic(auto, unfolding(crate::specs::Books::pocket_of))]
     pub fn new(alloc: Global) -> Self
         ensures none { (o : ℕ) → pocket_of result o ≡ empty_pocket 0 }
     {
@@ -41,6 +42,7 @@ impl Store {
 
     /// A new owner, with a place for each packet of its budget. The number of an owner that was dismissed is used
     /// again.
+    #[tactic(auto, unfolding(crate::specs::Books::pocket_of))]
     pub fn admit(&mut self, budget: PacketBudget) -> Result<Owner, AllocError>
         ensures stranger { IfOk result (λ owner. pocket_of self.old owner ≡ empty_pocket 0) }
         ensures empty { IfOk result (λ owner. pocket_of self.new owner ≡ empty_pocket budget) }
@@ -48,14 +50,15 @@ impl Store {
             (λ owner. (o : ℕ) → o ≢ owner → pocket_of self.new o ≡ pocket_of self.old o) }
         ensures err { OnErr result (self.new ≡ self.old) }
     {
-        match self.settle(OwnShelf::new(self.alloc, budget)) {
-            Ok(owner) => Ok(owner),
-            Err(_) => Err(AllocError),
-        }
+        let Ok(owner) = self.settle(OwnShelf::new(self.alloc, budget)) else {
+            return Err(AllocError);
+        };
+        Ok(owner)
     }
 
     /// A new owner, with all that stands on a shelf, each packet at its key. Refused for want of memory, the shelf comes
     /// back with what it holds.
+    #[tactic(auto, unfolding(crate::specs::Books::pocket_of))]
     pub fn settle(&mut self, mut shelf: OwnShelf) -> Result<Owner, OwnShelf>
         ensures stranger { IfOk result (λ owner. pocket_of self.old owner ≡ empty_pocket 0) }
         ensures ok { IfOk result (λ owner. pocket_of self.new owner ≡ own_pocket shelf) }
@@ -75,6 +78,7 @@ impl Store {
 
     /// Lets an owner go, with all that it holds on its shelf, each packet at its key: its budget is 0 from then on. `None`
     /// of one that was not admitted.
+    #[tactic(auto, unfolding(crate::specs::Books::pocket_of))]
     pub fn lift(&mut self, owner: Owner) -> Option<OwnShelf>
         ensures some { IfSome result (λ shelf. own_pocket shelf ≡ pocket_of self.old owner) }
         ensures none { IfNone result (pocket_of self.old owner ≡ empty_pocket 0) }
@@ -85,6 +89,7 @@ impl Store {
     }
 
     /// Drops what an owner holds, and lets it go: its budget is 0 from then on.
+    #[tactic(auto, unfolding(crate::specs::Books::pocket_of))]
     pub fn dismiss(&mut self, owner: Owner)
         ensures gone { pocket_of self.new owner ≡ empty_pocket 0 }
         ensures others { (o : ℕ) → o ≢ owner → pocket_of self.new o ≡ pocket_of self.old o }
@@ -102,6 +107,7 @@ impl Shelf for Store {
         Ok(())
     }
 
+    #[tactic(auto, unfolding(crate::specs::Books::pocket_of))]
     #[inline(always)]
     fn put(&mut self, owner: Owner, packet: Packet) -> Result<Key, PutError> {
         let Some(shelf) = self.shelves.get_mut(owner) else {
@@ -110,18 +116,21 @@ impl Shelf for Store {
         shelf.put(0, packet)
     }
 
+    #[tactic(auto, unfolding(crate::specs::Books::pocket_of))]
     #[inline(always)]
     fn look(&self, owner: Owner, key: Key) -> Option<Packet> {
         let shelf = self.shelves.get(owner)?;
         shelf.look(0, key)
     }
 
+    #[tactic(auto, unfolding(crate::specs::Books::pocket_of))]
     #[inline(always)]
     fn take(&mut self, owner: Owner, key: Key) -> Option<Packet> {
         let shelf = self.shelves.get_mut(owner)?;
         shelf.take(0, key)
     }
 
+    #[tactic(auto, unfolding(crate::specs::Books::pocket_of))]
     #[inline(always)]
     fn count(&self, owner: Owner) -> usize {
         match self.shelves.get(owner) {
