@@ -319,12 +319,8 @@ impl Network {
             return;
         };
         let answer = self.table.arrive(place, shelf, owner, at.now, packet);
-        match answer {
-            Some(cause) => {
-                self.drop_packet(at.now, packet, cause);
-                return;
-            }
-            None => return,
+        if let Some(cause) = answer {
+            self.drop_packet(at.now, packet, cause);
         }
     }
 
@@ -382,12 +378,8 @@ impl Network {
         let answer = self
             .table
             .arrive_at(pipe, instance, shelf, owner, at.now, packet);
-        match answer {
-            Some(cause) => {
-                self.drop_packet(at.now, packet, cause);
-                return;
-            }
-            None => return,
+        if let Some(cause) = answer {
+            self.drop_packet(at.now, packet, cause);
         }
     }
 
@@ -444,18 +436,11 @@ impl Network {
             self.old self.new }
     {
         match verdict {
-            Verdict::OverTheLink => {
-                self.to_direct(shelf, owner, at.now, packet);
-                return;
-            }
-            Verdict::Dropped => {
-                self.drop_packet(at.now, packet, DropCause::Denied);
-                return;
-            }
+            Verdict::OverTheLink => self.to_direct(shelf, owner, at.now, packet),
+            Verdict::Dropped => self.drop_packet(at.now, packet, DropCause::Denied),
             Verdict::IntoPipe(number, place) => {
                 let sent = Packet { place, ..*packet };
                 self.to_pipe(shelf, owner, at, number, &sent);
-                return;
             }
         }
     }
@@ -534,14 +519,8 @@ impl Network {
             self.old self.new }
     {
         match known {
-            Some(route) => {
-                self.pass_by_way(shelf, owner, at, route, packet);
-                return;
-            }
-            None => {
-                self.search_behind(shelf, owner, at, *packet);
-                return;
-            }
+            Some(route) => self.pass_by_way(shelf, owner, at, route, packet),
+            None => self.search_behind(shelf, owner, at, *packet),
         }
     }
 
@@ -597,18 +576,13 @@ impl Network {
         let packet = packet_of(sending.load, &sending.send, self.made);
         self.made += 1;
         self.note_made(at.now, &packet);
-        if shelf.count(owner) < at.packet_budget.get() as usize {
-            match passage {
-                Lookup::Cached(line) => {
-                    self.pass_on_line(shelf, owner, at, *line, &packet);
-                    return;
-                }
-                Lookup::Searched => {
-                    self.pass_rules(shelf, owner, at, packet);
-                    return;
-                }
-            }
+        if shelf.count(owner) >= at.packet_budget.get() as usize {
+            self.drop_packet(at.now, &packet, DropCause::Budget);
+            return;
         }
-        self.drop_packet(at.now, &packet, DropCause::Budget);
+        match passage {
+            Lookup::Cached(line) => self.pass_on_line(shelf, owner, at, *line, &packet),
+            Lookup::Searched => self.pass_rules(shelf, owner, at, packet),
+        }
     }
 }

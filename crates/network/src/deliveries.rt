@@ -131,15 +131,9 @@ impl Network {
             self.old self.new }
     {
         match load {
-            Load::Plain => return,
-            Load::Seg { flow, first } => {
-                self.take_segment(shelf, owner, at, flow, first, passage);
-                return;
-            }
-            Load::Ack { flow, upto } => {
-                self.take_ack(at.now, flow, upto);
-                return;
-            }
+            Load::Plain => {}
+            Load::Seg { flow, first } => self.take_segment(shelf, owner, at, flow, first, passage),
+            Load::Ack { flow, upto } => self.take_ack(at.now, flow, upto),
         }
     }
 
@@ -166,12 +160,8 @@ impl Network {
             self.old self.new }
     {
         let answer = self.traffic.take(flow, first);
-        match answer {
-            Some(sending) => {
-                self.make(shelf, owner, at, &sending, passage);
-                return;
-            }
-            None => return,
+        if let Some(sending) = answer {
+            self.make(shelf, owner, at, &sending, passage);
         }
     }
 
@@ -185,17 +175,13 @@ impl Network {
         ensures log { self.old.log.spare ≤ self.new.log.spare + 1 }
     {
         let answer = self.traffic.take_ack(now, flow, upto);
-        match answer {
-            Some(window) => {
-                self.note(&Record::AckTaken {
-                    moment: now,
-                    flow,
-                    cwnd: window.cwnd,
-                    ssthresh: window.ssthresh,
-                });
-                return;
-            }
-            None => return,
+        if let Some(window) = answer {
+            self.note(&Record::AckTaken {
+                moment: now,
+                flow,
+                cwnd: window.cwnd,
+                ssthresh: window.ssthresh,
+            });
         }
     }
 }

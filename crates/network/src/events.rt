@@ -442,17 +442,13 @@ impl Network {
         ensures log { self.old.log.spare ≤ self.new.log.spare + 1 }
     {
         let answer = self.traffic.expire(at.now, flow);
-        match answer {
-            Some(window) => {
-                self.note(&Record::TimerExpired {
-                    moment: at.now,
-                    flow,
-                    cwnd: window.cwnd,
-                    ssthresh: window.ssthresh,
-                });
-                return;
-            }
-            None => return,
+        if let Some(window) = answer {
+            self.note(&Record::TimerExpired {
+                moment: at.now,
+                flow,
+                cwnd: window.cwnd,
+                ssthresh: window.ssthresh,
+            });
         }
     }
 
