@@ -36,6 +36,7 @@ next_is_due d moment n is =
     let f : d.source.class ≡ NextCommand = ap (λ (x : Due). x.source.class) is in
     record {
       finishing = λ c. absurd (let g : NextCommand ≡ Finish = sym f ∙ c in cc);
+      leaving = λ c some. absurd (let g : NextCommand ≡ Exit = sym f ∙ c in cc);
       allowed = λ c. absurd (let g : NextCommand ≡ Emission = sym f ∙ c in cc);
       numbered = (λ c. absurd (let g : NextCommand ≡ Expiry = sym f ∙ c in cc), λ c. absurd (let g : NextCommand ≡ Emission = sym f ∙ c in cc));
       piped = (λ c. absurd (let g : NextCommand ≡ Exit = sym f ∙ c in cc), λ c. absurd (let g : NextCommand ≡ Finish = sym f ∙ c in cc));

@@ -1,7 +1,6 @@
 -- A packet that is made, and arrives.
-use Rattle.std.proofs.Common.{◌≡◌, ℕ, zero, suc, ◌+◌, ◌<◌, ◌≤◌, Bool, true, false, nat_lt, cond, refl, sym, ap, ◌∙◌, subst, List, [], ◌∷◌, ◌++◌, length, Option, Some, None, arith}
-use Rattle.std.specs.Prelude.{if◌then◌else◌, sum_by, option_and_then, slice_get}
-use Rattle.std.specs.List.{last_or}
+use Rattle.std.proofs.Common.{◌≡◌, ℕ, ◌+◌, ◌<◌, ◌≤◌, Bool, true, false, nat_lt, cond, refl, sym, ap, ◌∙◌, subst, List, [], ◌∷◌, ◌++◌, length, Option, Some, None, arith}
+use Rattle.std.specs.Prelude.{if◌then◌else◌, sum_by, slice_get}
 use Rattle.std.specs.Option.{option_map_or}
 use Rattle.emu_model.specs.Moments.{milliseconds}
 use Rattle.emu_model.specs.declared.records.Record.{Record}

@@ -147,7 +147,7 @@ impl Network {
         ensures pockets { AllStay (S.pocket shelf.old) (S.pocket shelf.new) }
         ensures rooms { (o : ℕ) → S.room shelf.old o ≤ S.room shelf.new o }
         ensures places { OnOk result (KeepsPlaces self.old.table.pipes self.new.table.pipes) }
-        ensures ready { IfOk result (λ passage. CanMake send.now passage self.new) }
+        ensures ready { IfOk result (λ lookup. CanMake send.now lookup self.new) }
     {
         let Some(held) = self.flow_cache.get(line, send) else {
             return self.make_searched(shelf, owner, now, line, *send);
@@ -179,7 +179,7 @@ impl Network {
         ensures pockets { AllStay (S.pocket shelf.old) (S.pocket shelf.new) }
         ensures rooms { (o : ℕ) → S.room shelf.old o ≤ S.room shelf.new o }
         ensures places { OnOk result (KeepsPlaces self.old.table.pipes self.new.table.pipes) }
-        ensures ready { IfOk result (λ passage. CanMake send passage self.new) }
+        ensures ready { IfOk result (λ lookup. CanMake send lookup self.new) }
     {
         let packet = packet_of(Load::Plain, &send, 0);
         let found = self.book.classify_rule(&packet);
@@ -352,7 +352,7 @@ impl Network {
     // A packet comes into a pipe by its route.
     #[tactic(auto, using(crate::proofs::RouteFacts::known_grown))]
     #[inline(always)]
-    fn enter_by_way<S: Shelf>(
+    fn enter_by_route<S: Shelf>(
         &mut self,
         shelf: &mut S,
         owner: Owner,
@@ -386,7 +386,7 @@ impl Network {
     // A packet passes the rules by its route.
     #[tactic(auto, using(crate::proofs::RouteFacts::known_counted))]
     #[inline(always)]
-    fn pass_by_way<S: Shelf>(
+    fn pass_by_route<S: Shelf>(
         &mut self,
         shelf: &mut S,
         owner: Owner,
@@ -411,7 +411,7 @@ impl Network {
             ..*packet
         };
         self.note_arrival(at.now, route.number, &sent);
-        self.enter_by_way(shelf, owner, at, route, &sent);
+        self.enter_by_route(shelf, owner, at, route, &sent);
     }
 
     // A packet is handed on by a verdict.
@@ -470,7 +470,7 @@ impl Network {
             unreachable!();
         };
         let route = held.route;
-        self.pass_by_way(shelf, owner, at, &route, packet);
+        self.pass_by_route(shelf, owner, at, &route, packet);
     }
 
     // A packet passes the rules from the first on, by a search.
@@ -519,7 +519,7 @@ impl Network {
             self.old self.new }
     {
         match known {
-            Some(route) => self.pass_by_way(shelf, owner, at, route, packet),
+            Some(route) => self.pass_by_route(shelf, owner, at, route, packet),
             None => self.search_behind(shelf, owner, at, *packet),
         }
     }
@@ -557,14 +557,14 @@ impl Network {
         owner: Owner,
         at: EventContext,
         sending: &Sending,
-        passage: &Lookup,
+        lookup: &Lookup,
     )
         requires stands { Stands at (S.pocket shelf.old owner) self.old }
         requires made { self.old.made < 2 ^ 63 }
         requires room { (S.pocket shelf.old owner).count < (S.pocket shelf.old owner).budget →
             0 < S.room shelf.old owner }
         requires log { 3 < self.old.log.spare }
-        requires ready { CanMake sending.now.send passage.now self.old }
+        requires ready { CanMake sending.now.send lookup.now self.old }
         ensures becomes { Becomes 1
             (make at sending.now.load sending.now.send
             (net_of (S.pocket shelf.old owner) self.old))
@@ -580,7 +580,7 @@ impl Network {
             self.drop_packet(at.now, &packet, DropCause::Budget);
             return;
         }
-        match passage {
+        match lookup {
             Lookup::Cached(line) => self.pass_on_line(shelf, owner, at, *line, &packet),
             Lookup::Searched => self.pass_rules(shelf, owner, at, packet),
         }

@@ -39,7 +39,7 @@ impl Network {
         ensures pockets { AllStay (S.pocket shelf.old) (S.pocket shelf.new) }
         ensures rooms { (o : ℕ) → S.room shelf.old o ≤ S.room shelf.new o }
         ensures places { OnOk result (KeepsPlaces self.old.table.pipes self.new.table.pipes) }
-        ensures ready { IfOk result (λ passage. CanDeliver load passage self.new) }
+        ensures ready { IfOk result (λ lookup. CanDeliver load lookup self.new) }
         ensures plain { load ≡ Plain → IsOk result }
     {
         match load {
@@ -72,7 +72,7 @@ impl Network {
         ensures pockets { AllStay (S.pocket shelf.old) (S.pocket shelf.new) }
         ensures rooms { (o : ℕ) → S.room shelf.old o ≤ S.room shelf.new o }
         ensures places { OnOk result (KeepsPlaces self.old.table.pipes self.new.table.pipes) }
-        ensures ready { IfOk result (λ passage. CanDeliver (Seg flow first) passage self.new) }
+        ensures ready { IfOk result (λ lookup. CanDeliver (Seg flow first) lookup self.new) }
     {
         self.traffic.take_ready(flow, first)?;
         let Some(send) = self.traffic.reply(flow) else {
@@ -89,13 +89,13 @@ impl Network {
         owner: Owner,
         at: EventContext,
         packet: &Packet,
-        passage: &Lookup,
+        lookup: &Lookup,
     )
         requires stands { Stands at (S.pocket shelf.old owner) self.old }
         requires made { self.old.made < 2 ^ 63 }
         requires room { 0 < S.room shelf.old owner }
         requires log { 4 < self.old.log.spare }
-        requires ready { CanDeliver packet.now.load passage.now self.old }
+        requires ready { CanDeliver packet.now.load lookup.now self.old }
         ensures becomes { Becomes 1
             (deliver at packet.now (net_of (S.pocket shelf.old owner) self.old))
             (S.pocket shelf.old owner) (S.pocket shelf.new owner) self.old self.new }
@@ -107,7 +107,7 @@ impl Network {
             packet: packet.number,
             load: packet.load,
         });
-        self.take_load(shelf, owner, at, packet.load, passage);
+        self.take_load(shelf, owner, at, packet.load, lookup);
     }
 
     // What a delivered load does.
@@ -118,13 +118,13 @@ impl Network {
         owner: Owner,
         at: EventContext,
         load: Load,
-        passage: &Lookup,
+        lookup: &Lookup,
     )
         requires stands { Stands at (S.pocket shelf.old owner) self.old }
         requires made { self.old.made < 2 ^ 63 }
         requires room { 0 < S.room shelf.old owner }
         requires log { 3 < self.old.log.spare }
-        requires ready { CanDeliver load passage.now self.old }
+        requires ready { CanDeliver load lookup.now self.old }
         ensures becomes { Becomes 1 (take_load at load (net_of (S.pocket shelf.old owner) self.old))
             (S.pocket shelf.old owner) (S.pocket shelf.new owner) self.old self.new }
         ensures takes { TakesRoom 4 owner (S.pocket shelf.old) (S.pocket shelf.new)
@@ -132,7 +132,7 @@ impl Network {
     {
         match load {
             Load::Plain => {}
-            Load::Seg { flow, first } => self.take_segment(shelf, owner, at, flow, first, passage),
+            Load::Seg { flow, first } => self.take_segment(shelf, owner, at, flow, first, lookup),
             Load::Ack { flow, upto } => self.take_ack(at.now, flow, upto),
         }
     }
@@ -146,13 +146,13 @@ impl Network {
         at: EventContext,
         flow: FlowNumber,
         first: u64,
-        passage: &Lookup,
+        lookup: &Lookup,
     )
         requires stands { Stands at (S.pocket shelf.old owner) self.old }
         requires made { self.old.made < 2 ^ 63 }
         requires room { 0 < S.room shelf.old owner }
         requires log { 3 < self.old.log.spare }
-        requires ready { CanDeliver (Seg flow first) passage.now self.old }
+        requires ready { CanDeliver (Seg flow first) lookup.now self.old }
         ensures becomes { Becomes 1
             (take_load at (Seg flow first) (net_of (S.pocket shelf.old owner) self.old))
             (S.pocket shelf.old owner) (S.pocket shelf.new owner) self.old self.new }
@@ -161,7 +161,7 @@ impl Network {
     {
         let answer = self.traffic.take(flow, first);
         if let Some(sending) = answer {
-            self.make(shelf, owner, at, &sending, passage);
+            self.make(shelf, owner, at, &sending, lookup);
         }
     }
 

@@ -11,7 +11,7 @@ ghost use Rattle.emu_model.specs.Net.{Net};
 ghost use Rattle.packet_store.specs.Pocket.{Pocket};
 ghost use Rattle.pipe_core.specs.Keyed.{KeyedPipe, seen_pipe};
 ghost use Rattle.pipe_core.specs.Leaves.{pipe_due};
-ghost use Rattle.pipe_table.specs.Table.{with_pipes, pipe_of, IsFinishDue, IsPiped};
+ghost use Rattle.pipe_table.specs.Table.{with_pipes, pipe_of, IsExitDue, IsFinishDue, IsPiped};
 ghost use Rattle.pipe_table.specs.Leaves.{AreIndexed};
 ghost use Rattle.pipe_table.specs.Reach.{instance_dues};
 
@@ -102,6 +102,8 @@ impl PipeTable {
             ≡ least_of (option_to_list best ++ flat_map pipe_dues (with_pipes p self.now n).pipes) }
         ensures finishing { IfSome best (λ d. IsFinishDue d self.now.pipes) →
             IfSome result (λ d. IsFinishDue d self.now.pipes) }
+        ensures leaving { IfSome best (λ d. IsExitDue d self.now.pipes) →
+            IfSome result (λ d. IsExitDue d self.now.pipes) }
         ensures piped { IfSome best IsPiped → IfSome result IsPiped }
     {
         best.or_earlier(self.dues.least())

@@ -1,7 +1,6 @@
-use Rattle.std.proofs.Common.{◌≡◌, ℕ, sym, ap, subst, Option}
+use Rattle.std.proofs.Common.{◌≡◌, ℕ, sym, ap, subst}
 use Rattle.std.specs.Prelude.{IfSome}
 use Rattle.emu_model.specs.Rules.{RuleBook, start_behind}
-use Rattle.network.specs.declared.flow_cache.Route.{Route}
 use Rattle.network.specs.Kept.{KeptNet}
 use Rattle.network.specs.Ready.{IsMatch, IsReady, CanGo, CanPass, start_after}
 use Rattle.network.proofs.Sources.{if_ok_two}
