@@ -181,7 +181,7 @@ impl RuleList {
         find(&self.rules, &self.jumps, start, packet)
     }
 
-    /// The same verdict, foreseen.
+    /// The verdict of `classify`, of a search behind the place of a rule.
     pub fn classify_after(&mut self, place: Place, packet: &Packet) -> Verdict
         ensures verdict { let start = start_behind place self.old.rules in
             result ≡ verdict start packet.now self.old.rules }
@@ -214,7 +214,7 @@ impl RuleList {
         classify(&mut self.cache, &mut self.rules, &self.jumps, start, packet)
     }
 
-    /// The rule at a place counts a packet, which was foreseen there.
+    /// The rule at a place counts a packet, which was classified so.
     #[inline(always)]
     pub fn count_at(&mut self, rule: usize, packet: &Packet)
         requires { rule < length self.old.rules }

@@ -16,7 +16,7 @@ use Rattle.network.proofs.Frame.{line-agrees}
 entered-keys : (key now : ℕ) (l : Line ℕ) → line_keys (enter key now 0 l) ≡ line_keys l ++ key ∷ []
 entered-keys key now l = map-append (λ (x : InFlight ℕ). x.item) l.in_flight (record { item = key; exit = exit_after l.last now 0 } ∷ [])
 
--- a packet that was put on its way
+-- a packet that entered the line
 module _ (p q : Pocket) (n : KeptNet) (key now : ℕ) (packet : Packet) (h : IsHoused p n) (none : p.find key ≡ None) (put : q ≡ with_packet p key packet) where
   pub enter-keeps : Keeps p q (line_keys n.direct.line) (line_keys (enter key now 0 n.direct.line))
   enter-keeps = Keeps-put p q key packet (line_keys n.direct.line) (line_keys (enter key now 0 n.direct.line)) none put

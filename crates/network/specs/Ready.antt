@@ -29,7 +29,7 @@ IsReady OverTheLink packet n = 0 < n.direct.spare
 IsReady Dropped packet n = Unit {0}
 IsReady (IntoPipe k place) packet n = HasRoomIn k packet n.table.pipes
 
--- what was foreseen of a packet, whose search begins at place `start`
+-- what a packet was classified as, whose search begins at place `start`
 pub record IsMatch (start : ℕ) (packet : Packet) (f : Match) (cs : List Counted) : Type 0 where
   pub verdict : f.verdict ≡ verdict start packet cs
   pub rule : f.rule ≢ 2 ^ 64 - 1 → CountsAlone start packet (the_rules cs) f.rule

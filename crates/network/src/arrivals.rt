@@ -54,7 +54,7 @@ fn no_delay() -> Delay
 }
 
 impl Network {
-    // Makes the growths of handing on a packet as it was foreseen, and tells its route where it has one.
+    // Makes the growths of handing on a packet as it was classified, and tells its route where it has one.
     #[inline(always)]
     pub(crate) fn arrival_ready<S: Shelf>(
         &mut self,
@@ -75,15 +75,16 @@ impl Network {
             IsMatch start packet.now found self.old.book.rules →
             CanGo start packet.now w self.new)) }
     {
-        let verdict = found.verdict;
-        match verdict {
-            Verdict::OverTheLink => self.direct.enter_ready(now, no_delay())?,
-            Verdict::Dropped => {}
+        match found.verdict {
+            Verdict::OverTheLink => {
+                self.direct.enter_ready(now, no_delay())?;
+                Ok(None)
+            }
+            Verdict::Dropped => Ok(None),
             Verdict::IntoPipe(number, place) => {
-                return self.pipe_ready(shelf, owner, now, found.rule, number, place, packet);
+                self.pipe_ready(shelf, owner, now, found.rule, number, place, packet)
             }
         }
-        Ok(None)
     }
 
     // The same of a packet that comes to a pipe.

@@ -1,6 +1,6 @@
 //! What a delivered packet does.
 
-ghost use Rattle.std.specs.Prelude.{◌≡◌, ℕ, ◌+◌, ◌*◌, ◌^◌, ◌<◌, ◌≤◌, ◌∷◌, [], IsOk, IfOk, OnOk};
+ghost use Rattle.std.specs.Prelude.{◌≡◌, ℕ, ◌+◌, ◌*◌, ◌^◌, ◌<◌, ◌≤◌, IsOk, IfOk, OnOk};
 ghost use Rattle.std.specs.Option.{option_map_or};
 ghost use Rattle.emu_model.specs.Moments.{IsMoment};
 ghost use Rattle.emu_model.specs.declared.packets.Load.TheVariants.{Plain, Seg, Ack};
@@ -43,11 +43,9 @@ impl Network {
         ensures plain { load ≡ Plain → IsOk result }
     {
         match load {
-            Load::Plain => return Ok(Lookup::Searched),
-            Load::Ack { .. } => return Ok(Lookup::Searched),
-            Load::Seg { flow, first } => {
-                return self.segment_ready(shelf, owner, now, flow, first);
-            }
+            Load::Plain => Ok(Lookup::Searched),
+            Load::Ack { .. } => Ok(Lookup::Searched),
+            Load::Seg { flow, first } => self.segment_ready(shelf, owner, now, flow, first),
         }
     }
 

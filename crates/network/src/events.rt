@@ -1,12 +1,12 @@
 //! The events but the next command: exits, finishes, expiries and emissions.
 
-ghost use Rattle.std.specs.Prelude.{◌≡◌, ◌+◌, ◌*◌, ◌/◌, ◌%◌, ◌^◌, ◌<◌, ◌≤◌, ◌∷◌, [], ℕ, Some, None, true, false, IsOk, IfOk, OnOk, IfSome, OnSome, option_and_then, map, length};
+ghost use Rattle.std.specs.Prelude.{◌≡◌, ◌+◌, ◌*◌, ◌^◌, ◌<◌, ◌≤◌, ℕ, Some, true, false, IsOk, IfOk, OnOk, OnSome, option_and_then, map, length};
 ghost use Rattle.std.specs.Option.{option_map_or};
 ghost use Rattle.emu_model.specs.Moments.{IsMoment};
 ghost use Rattle.emu_model.specs.declared.sources.Class.TheVariants.{Expiry};
 ghost use Rattle.emu_model.specs.declared.packets.Load.TheVariants.{Plain};
 ghost use Rattle.emu_model.specs.Delay.{first_item, leave};
-ghost use Rattle.emu_model.specs.Net.{Net, drop_record, find_flow, find_pipe};
+ghost use Rattle.emu_model.specs.Net.{drop_record, find_flow, find_pipe};
 ghost use Rattle.emu_model.specs.Events.{direct_exit, emission, event_of, expire_flow, flying_in, pipe_exits, pipe_finishes};
 ghost use Rattle.packet_store.specs.Pocket.{OthersStay, AllStay};
 ghost use Rattle.network.specs.Kept.{net_of, IsHoused, Stands};
@@ -16,8 +16,7 @@ ghost use Rattle.network.specs.Ready.{CanDeliver, CanPass, start_after};
 ghost use Rattle.network.specs.Due.{IsDue};
 ghost use Rattle.pipe_table.specs.Table.{IsFinishing, IsLeaving};
 ghost use Rattle.pipe_table.specs.Places.{StandsAt, KeepsPlaces};
-ghost use Rattle.traffic.specs.Kept.{with_traffic};
-ghost use Rattle.traffic.specs.Sends.{IsEmitting, next_send};
+ghost use Rattle.traffic.specs.Sends.{IsEmitting};
 
 use crate::flow_cache::{Lookup, Route, line_of};
 use crate::state::Network;
@@ -74,31 +73,31 @@ impl Network {
         self.reserve(MOST_RECORDS)?;
         let source = due.source;
         match source.class {
-            Class::NextCommand => return Ok(()),
+            Class::NextCommand => Ok(()),
             Class::Exit => {
                 let Some(pipe) = source.pipe() else {
                     return self.direct_exit(shelf, owner, at);
                 };
-                return self.pipe_exit(shelf, owner, at, pipe, source.instance());
+                self.pipe_exit(shelf, owner, at, pipe, source.instance())
             }
             Class::Finish => {
                 let Some(pipe) = source.pipe() else {
                     unreachable!();
                 };
-                return self.pipe_finish(shelf, owner, at, pipe, source.instance());
+                self.pipe_finish(shelf, owner, at, pipe, source.instance())
             }
             Class::Expiry => {
                 let Some(flow) = source.flow() else {
                     unreachable!();
                 };
                 self.expire(at, flow);
-                return Ok(());
+                Ok(())
             }
             Class::Emission => {
                 let Some(number) = source.flow() else {
                     unreachable!();
                 };
-                return self.emission(shelf, owner, at, number);
+                self.emission(shelf, owner, at, number)
             }
         }
     }

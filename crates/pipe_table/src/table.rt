@@ -423,10 +423,7 @@ impl PipeTable {
     fn place_behind(&self, number: PipeNumber) -> usize
         ensures { result ≡ position_or_len (is_above number) self.now.pipes }
     {
-        match self.place_above(number) {
-            Some(place) => place,
-            None => self.pipes.len(),
-        }
+        self.place_above(number).unwrap_or(self.pipes.len())
     }
 
     /// A pipe goes, and the packets that it held are taken from the shelf: by instance number, in each
