@@ -75,7 +75,8 @@ impl Network {
             IsMatch start packet.now found self.old.book.rules →
             CanGo start packet.now w self.new)) }
     {
-        match found.verdict {
+        let verdict = found.verdict;
+        match verdict {
             Verdict::OverTheLink => {
                 self.direct.enter_ready(now, no_delay())?;
                 Ok(None)
