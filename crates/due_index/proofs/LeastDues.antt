@@ -3,7 +3,6 @@ use Rattle.std.proofs.Common.{inl, inr, ◌≡◌, cond, List, [], ◌∷◌, �
 use Rattle.std.specs.Prelude.{Option, Some, None, option_to_list}
 use Rattle.std.specs.List.{best_of}
 use Rattle.std.proofs.lemmas.Bool.{cases_Bool, cond-true, cond-false, false≢true}
-use Rattle.std.proofs.lemmas.Option.{same_Some}
 use Rattle.emu_model.specs.declared.sources.Due.{Due}
 use Rattle.emu_model.specs.Dues.{is_before}
 use Rattle.due_index.specs.Least.{dues_in, least_of, lesser}
@@ -97,12 +96,6 @@ least_leaf-dues (o ∷ os) =
 
 pub least_of-leaf : (os : List (Option Due)) → least_of (dues_in os) ≡ least_leaf os
 least_of-leaf os = least_of-all (dues_in os) ∙ least_leaf-dues os
-
--- of a due and lists that come to one least
-pub best_of-same : (b : Due) (xs ys : List Due) → least_all xs ≡ least_all ys →
-    best_of is_before b xs ≡ best_of is_before b ys
-best_of-same b xs ys e =
-    same_Some _ _ (best_of-least b xs ∙ ap (lesser (Some b)) e ∙ sym (best_of-least b ys))
 
 -- two pairs of dues, by twos in the other way
 pub lesser-swap : (a b c d : Option Due) →

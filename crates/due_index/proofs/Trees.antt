@@ -1,9 +1,9 @@
 -- A tree whose node k changes, and what its leaves are then.
-use Rattle.std.proofs.Common.{inl, inr, ◌≡◌, ◌≢◌, ℕ, zero, suc, ◌+◌, ◌*◌, ◌-◌, ◌/◌, ◌<◌, ◌≤◌, List, [], ◌∷◌, ◌++◌, length, take, drop, set, get_or, replicate, refl, sym, ap, ◌∙◌, subst, add-one, arith}
+use Rattle.std.proofs.Common.{inl, inr, ◌≡◌, ◌≢◌, ℕ, zero, suc, ◌+◌, ◌*◌, ◌-◌, ◌/◌, ◌<◌, List, [], ◌∷◌, ◌++◌, length, take, drop, set, get_or, replicate, refl, sym, ap, ◌∙◌, subst, add-one, arith}
 use Rattle.std.specs.Prelude.{Option, None}
 use Rattle.std.proofs.lemmas.Bool.{cases_eq}
 use Rattle.std.proofs.Math.Seq.{take-suc, take-set-lt}
-use Rattle.std.proofs.lemmas.List.{get_or-set_same, get_or-set_other, get_or-drop, get_or-take, get_or_past, length-drop, length-set, length-take-le, drop-replicate}
+use Rattle.std.proofs.lemmas.List.{get_or-set_same, get_or-set_other, get_or-drop, get_or-take, get_or_past, length-drop, length-set, length-take-le}
 use Rattle.emu_model.specs.declared.sources.Due.{Due}
 use Rattle.due_index.specs.Least.{dues_in, least_of, lesser}
 use Rattle.due_index.specs.Tree.{node_at, below, leaves_of, IsTree, IsTreeBut, IsIndex}
@@ -22,13 +22,6 @@ module _ (xs : List (Option Due)) (k : ℕ) (v : Option Due) where
       node_at (set xs k v) i ≡ below (set xs k v) i
   still i at left right h =
       stays i at ∙ h ∙ (λ t. lesser (sym (stays (2 * i) left) t) (sym (stays (2 * i + 1) right) t))
-
-  -- a leaf
-  pub put_but : IsTree xs → length xs ≤ 2 * k → IsTreeBut (k / 2) (set xs k v)
-  put_but h lowest i apart low inside =
-      let within : 2 * i + 1 < length xs = omega (arith, inside, length-set xs k v) in
-      still i (λ e. omega (arith, e, within, lowest)) (λ e. apart (omega (arith, e)))
-      (λ e. apart (omega (arith, e))) (h i low within)
 
   -- a node that is set to what those below it come to
   pub mended : IsTreeBut k xs → v ≡ below xs k → k < length xs → 0 < k → IsTreeBut (k / 2) (set xs k v)
@@ -57,19 +50,6 @@ none_at zero i = refl
 none_at (suc n) zero = refl
 none_at (suc n) (suc i) = none_at n i
 
-pub none_due : (n half : ℕ) → n ≡ 2 * half → IsIndex (replicate n None) half 0
-none_due n half e = record {
-  tree = λ i low inside.
-      none_at n i ∙ (λ t. lesser (sym (none_at n (2 * i)) t) (sym (none_at n (2 * i + 1)) t));
-  long = long n ∙ e;
-  within = omega arith;
-  rest = λ i l. ap (λ os. node_at os i) (drop-replicate half n None) ∙ none_at (n - half) i;
-}
-  where
-    long : (n : ℕ) → length (replicate {A = Option Due} n None) ≡ n
-    long zero = refl
-    long (suc n) = ap suc (long n)
-
 module _ (xs : List (Option Due)) (half places : ℕ) (h : IsIndex xs half places) where
   bottom_long : length (drop half xs) ≡ half
   bottom_long = omega (arith, length-drop half xs, h.long)
@@ -80,15 +60,6 @@ module _ (xs : List (Option Due)) (half places : ℕ) (h : IsIndex xs half place
   -- a leaf, as it stands in the list
   pub leaf_at : (place : ℕ) → place < places → get_or (leaves_of xs half places) place None ≡ node_at xs (half + place)
   leaf_at place low = get_or-take places (drop half xs) place None low ∙ get_or-drop half xs place None
-
-  -- one place more
-  pub more_places : places < half → IsIndex xs half (places + 1)
-  more_places room = record {
-    tree = h.tree;
-    long = h.long;
-    within = omega (arith, room);
-    rest = λ i l. h.rest i (omega (arith, l));
-  }
 
   pub more_leaves : places < half → leaves_of xs half (places + 1) ≡ leaves_of xs half places ++ None ∷ []
   more_leaves room =

@@ -6,7 +6,7 @@ ghost use Rattle.emu_model.specs.Dues.{due as due_of, rank};
 ghost use Rattle.due_index.specs.Least.{lesser};
 ghost use Rattle.due_index.specs.Numbers.{class_at, due_at, due_in, none_bits};
 
-use emu_model::{Class, Due, FlowNumber, PipeNumber, Source};
+use emu_model::{Class, Due, FlowNumber, Source};
 use std::marker::Model;
 
 /// How far apart the moments stand: past each class and number.
@@ -147,15 +147,6 @@ impl DueNumber {
         due_at(self.bits)
     }
 
-    /// The moment (ns) of the due that is there.
-    #[inline(always)]
-    pub fn moment(self) -> u64
-        requires { IsSome self }
-        ensures { option_map (λ d. d.moment) self ≡ Some result }
-    {
-        (self.bits / MOMENT) as u64
-    }
-
     // The rank of its class.
     #[inline(always)]
     fn class_place(self) -> u64
@@ -165,46 +156,12 @@ impl DueNumber {
         (self.bits / CLASS % CLASS) as u64
     }
 
-    /// What is due is the next command.
-    #[inline(always)]
-    pub fn is_command(self) -> bool
-        ensures { result ≡ option_map_or (λ d. rank d.source.class == 0) self false }
-    {
-        self.class_place() == 0
-    }
-
     /// What is due is a timer.
     #[inline(always)]
     pub fn is_expiry(self) -> bool
         ensures { result ≡ option_map_or (λ d. rank d.source.class == 3) self false }
     {
         self.class_place() == 3
-    }
-
-    /// The number of the source of the due that is there.
-    #[inline(always)]
-    pub fn number(self) -> u32
-        requires { IsSome self }
-        ensures { option_map (λ d. d.source.number) self ≡ Some result }
-    {
-        (self.bits % CLASS) as u32
-    }
-
-    /// The pipe of an exit or a finish; None for the link of `allow`.
-    #[inline(always)]
-    pub fn pipe(self) -> Option<PipeNumber>
-        ensures { IfSome self (λ d. let k = d.source.number in k < 2 ^ 24 →
-            SomeIff result ((1 ≤ k / 256) × (k / 256 ≤ 65535)) (k / 256)) }
-    {
-        PipeNumber::new((self.bits % CLASS / 256 % 65_536) as u16)
-    }
-
-    /// The instance of an exit or a finish, by its place in the pipe.
-    #[inline(always)]
-    pub fn instance(self) -> u8
-        ensures { IfSome self (λ d. result ≡ d.source.number % 256) }
-    {
-        (self.bits % 256) as u8
     }
 
     /// The flow of a timer, or the flow or train of an emission.

@@ -10,7 +10,7 @@ use Rattle.emu_model.specs.declared.rules.Action.{Action}
 use Rattle.emu_model.specs.declared.rules.Action.TheVariants.{Allow, Deny, Count, SkipTo, Pipe}
 use Rattle.emu_model.specs.declared.rules.Rule.{Rule}
 use Rattle.emu_model.specs.declared.rules.Verdict.{Verdict}
-use Rattle.emu_model.specs.Rules.{Counted, least_match, goes_on, action_at, next_match, matches_from, matched_places, the_rules, default_rule}
+use Rattle.emu_model.specs.Rules.{Counted, least_match, goes_on, action_at, next_match, matches_from, the_rules, default_rule}
 use Rattle.emu_rules.specs.Walk.{decision, AreJumps, CountsAlone}
 use Rattle.emu_rules.proofs.Walking.{least_match-within, action, ends, goes, jump, next-ends, next-goes, no_matches}
 
@@ -96,10 +96,6 @@ no_decision cs k c j there g =
 abbrev pub Lasts : Packet → List Rule → ℕ → Option ℕ → Option ℕ → Type 0
 Lasts p rs from last want =
     (m : ℕ) × (length rs ≤ m + from) × (last_or last (matches_from m p rs (least_match p rs from)) ≡ want)
-
-pub Lasts-start : (p : Packet) (rs : List Rule) (start : ℕ) →
-    Lasts p rs start None (last_or None (matched_places start p rs))
-Lasts-start p rs start = (length rs, omega arith, refl)
 
 pub Lasts-none : (p : Packet) (rs : List Rule) (from : ℕ) (last want : Option ℕ) → Lasts p rs from last want →
     least_match p rs from ≡ None → last ≡ want

@@ -52,9 +52,6 @@ pub emptied-true : (rules : List Rule) (age : ℕ) (o : Option CachedSearch) →
 emptied-true rules age None h = tt
 emptied-true rules age (Some f) h = record { early = h.early; says = h.says; idle = λ _. refl }
 
-pub AreTrueOf-latest : (rules : List Rule) (m : RuleCache) (k : ℕ) → AreTrueOf rules m → AreTrueOf rules (record m { latest = k })
-AreTrueOf-latest rules m k h = record { each = h.each; idle = h.idle }
-
 -- a place more
 pub AreTrueOf-push : (rules : List Rule) (m new : RuleCache) → new.held.items ≡ m.held.items ++ None ∷ [] → new.age ≡ m.age → new.is_pending ≡ m.is_pending → AreTrueOf rules m → AreTrueOf rules new
 AreTrueOf-push rules m new items age pending h = record {

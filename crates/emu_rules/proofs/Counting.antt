@@ -5,7 +5,7 @@ use Rattle.std.specs.Prelude.{◌||◌, slice_get, slice_index}
 use Rattle.std.specs.List.{list_any, last_or}
 use Rattle.std.proofs.lemmas.Bool.{cases_eq, ne_eqb, eq-eqb, or_from}
 use Rattle.std.proofs.lemmas.Option.{same_Some, slice_get_within, get_or_from_slice_get, option_and_then_some}
-use Rattle.std.proofs.lemmas.List.{length-map, length-set, map-set, set-get_or, get_or-set_same, get_or-set_other, same_lists, get_or-map}
+use Rattle.std.proofs.lemmas.List.{length-set, map-set, set-get_or, get_or-set_same, get_or-set_other, same_lists, get_or-map}
 use Rattle.emu_model.specs.declared.packets.Packet.{Packet}
 use Rattle.emu_model.specs.declared.rules.Action.{Action}
 use Rattle.emu_model.specs.declared.rules.Action.TheVariants.{Allow, Deny, Count, SkipTo, Pipe}
@@ -13,7 +13,7 @@ use Rattle.emu_model.specs.declared.rules.Rule.{Rule}
 use Rattle.emu_model.specs.declared.rules.Verdict.{Verdict}
 use Rattle.emu_model.specs.Rules.{Counted, least_match, goes_on, action_at, next_match, matches_from, verdict_by, verdict_of_match, the_rules}
 use Rattle.emu_rules.specs.declared.counted.Amount.{Amount}
-use Rattle.emu_rules.specs.Walk.{counted_more, count_more, count_more_at, decision, AreJumps}
+use Rattle.emu_rules.specs.Walk.{count_more, count_more_at, decision, AreJumps}
 use Rattle.emu_rules.proofs.Walking.{least_match-within, action, ends, next-ends, next-goes, no_matches, jump, judged_at, Answers, Answers-ends, Answers-goes}
 
 -- ---- counting at a list of places
@@ -152,10 +152,6 @@ counted m p q cs from = count_more_at (matches_from m p (the_rules cs) (least_ma
 -- a search from this place on leaves these rules
 abbrev pub Leaves : Packet → Amount → List Counted → ℕ → List Counted → Type 0
 Leaves p q cs from want = (m : ℕ) × (length cs ≤ m + from) × (counted m p q cs from ≡ want)
-
-pub Leaves-start : (p : Packet) (q : Amount) (cs : List Counted) (start : ℕ) → Leaves p q cs start (counted_more start p q cs)
-Leaves-start p q cs start =
-    (length (the_rules cs), omega (arith, length-map cs (λ (c : Counted). c.rule)), refl)
 
 pub Leaves-none : (p : Packet) (q : Amount) (cs : List Counted) (from : ℕ) (want : List Counted) → Leaves p q cs from want → least_match p (the_rules cs) from ≡ None → cs ≡ want
 Leaves-none p q cs from want h e =

@@ -175,10 +175,6 @@ next [] k o cs e = absurd (none-some o e)
 next (x ∷ os) zero o cs e = ap (λ (o : Option CachedSearch). settled_by o cs) (same_Some x o e)
 next (x ∷ os) (suc k) o cs e = next os k o (settled_by x cs) e
 
-pub settled-next : (os : List (Option CachedSearch)) (k : ℕ) (o : Option CachedSearch) (cs : List Counted) → slice_get os k ≡ Some o → settled_in (take (k + 1) os) cs ≡ settled_by o (settled_in (take k os) cs)
-settled-next os k o cs e =
-    ap (λ n. settled_in (take n os) cs) (let one : k + 1 ≡ suc k = omega arith in one) ∙ next os k o cs e
-
 -- ---- a cached search counts a packet
 
 no_amount : (a : Amount) → a.packets ≡ 0 → a.bytes ≡ 0 → a ≡ nothing

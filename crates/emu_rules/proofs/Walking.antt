@@ -12,7 +12,7 @@ use Rattle.emu_model.specs.declared.rules.Action.TheVariants.{Allow, Deny, Count
 use Rattle.emu_model.specs.declared.rules.Rule.{Rule}
 use Rattle.emu_model.specs.declared.rules.Verdict.{Verdict}
 use Rattle.emu_model.specs.declared.rules.Verdict.TheVariants.{Dropped}
-use Rattle.emu_model.specs.Rules.{Counted, rule_matches, least_match, place_of_number, goes_on, action_at, next_match, matches_from, verdict_by, verdict_of_match, the_rules, verdict}
+use Rattle.emu_model.specs.Rules.{Counted, rule_matches, least_match, place_of_number, goes_on, action_at, next_match, matches_from, verdict_by, verdict_of_match, the_rules}
 use Rattle.emu_rules.specs.Walk.{decision, AreJumps}
 
 -- ---- the least place that matches
@@ -97,10 +97,6 @@ judged m p cs at = judged_at cs (last_or None (matches_from m p (the_rules cs) a
 abbrev pub Answers : Packet → List Counted → ℕ → Verdict → Type 0
 Answers p cs from v =
     (m : ℕ) × (length cs ≤ m + from) × (judged m p cs (least_match p (the_rules cs) from) ≡ v)
-
-pub Answers-start : (p : Packet) (cs : List Counted) (start : ℕ) → Answers p cs start (verdict start p cs)
-Answers-start p cs start =
-    (length (the_rules cs), omega (arith, length-map cs (λ (c : Counted). c.rule)), refl)
 
 pub Answers-none : (p : Packet) (cs : List Counted) (from : ℕ) (v : Verdict) → Answers p cs from v → least_match p (the_rules cs) from ≡ None → Dropped ≡ v
 Answers-none p cs from v h e =

@@ -139,7 +139,7 @@ impl RuleCache {
         }
     }
 
-    /// Where the cached search of a packet stands, or would stand. A packet that was foreseen comes next.
+    /// Where the cached search of a packet stands, or would stand. A packet that was classified comes next.
     #[inline(always)]
     pub(crate) fn seek(&self, from: usize, packet: &Packet) -> Seat
         ensures { IsTrue result.is_taken → IsHeldAt from packet.now result.place self.now }

@@ -151,15 +151,6 @@ impl RuleList {
         find(&self.rules, &self.jumps, 0, packet)
     }
 
-    /// The same verdict, and nothing is counted; a later search for a packet of this flow goes by
-    /// the cached search that this one found. Takes no memory.
-    pub fn classify(&mut self, packet: &Packet) -> Verdict
-        ensures verdict { result ≡ verdict 0 packet.now self.old.rules }
-        ensures same { self.new ≡ self.old }
-    {
-        self.classify_rule(packet).verdict
-    }
-
     /// The verdict of a search that begins behind the place of a rule, which may be gone: the
     /// packet has left the pipe to which that rule sent it (ipfw(8), one_pass).
     pub fn verdict_after(&mut self, place: Place, packet: &Packet) -> Verdict
@@ -172,25 +163,8 @@ impl RuleList {
         judge_and_count(&mut self.cache, &mut self.rules, &self.jumps, start, packet)
     }
 
-    /// The same verdict; nothing is counted.
-    pub fn find_after(&self, place: Place, packet: &Packet) -> Verdict
-        ensures { let start = start_behind place self.now.rules in
-            result ≡ verdict start packet.now self.now.rules }
-    {
-        let start = first_behind(&self.rules, place);
-        find(&self.rules, &self.jumps, start, packet)
-    }
-
-    /// The same verdict, foreseen.
-    pub fn classify_after(&mut self, place: Place, packet: &Packet) -> Verdict
-        ensures verdict { let start = start_behind place self.old.rules in
-            result ≡ verdict start packet.now self.old.rules }
-        ensures same { self.new ≡ self.old }
-    {
-        self.classify_rule_after(place, packet).verdict
-    }
-
-    /// The verdict of `classify`, and by which rule.
+    /// The verdict of `find`, and by which rule; a later search for a packet of this flow goes by the
+    /// cached search that this one found. Takes no memory.
     #[inline(always)]
     pub fn classify_rule(&mut self, packet: &Packet) -> Match
         ensures verdict { result.verdict ≡ verdict 0 packet.now self.old.rules }
@@ -214,7 +188,7 @@ impl RuleList {
         classify(&mut self.cache, &mut self.rules, &self.jumps, start, packet)
     }
 
-    /// The rule at a place counts a packet, which was foreseen there.
+    /// The rule at a place counts a packet, which was classified so.
     #[inline(always)]
     pub fn count_at(&mut self, rule: usize, packet: &Packet)
         requires { rule < length self.old.rules }

@@ -194,7 +194,7 @@ fn count_far(
     verdict
 }
 
-/// A verdict that was foreseen, and the place of the rule that gives it where no rule before counts the packet, else
+/// What a packet was classified as: the verdict, and the place of the rule that gives it where no rule before counts it, else
 /// `NO_RULE`.
 #[derive(Clone, Copy)]
 pub struct Match {
@@ -205,7 +205,7 @@ pub struct Match {
 /// No rule alone counts the packet.
 pub const NO_RULE: usize = usize::MAX;
 
-/// What a search foretells.
+/// What a search found, as a verdict and a rule.
 #[inline(always)]
 fn foretold(rules: &[CountedRule], found: Found) -> Match
     ensures verdict { result.verdict

@@ -1,5 +1,5 @@
 -- When a net stands at a moment at which an event may come.
-use Rattle.std.proofs.Common.{◌≡◌, ℕ, ◌+◌, ◌*◌, ◌^◌, ◌<◌, ◌≤◌, sym, ap, ◌∙◌, [], length, arith}
+use Rattle.std.proofs.Common.{◌≡◌, ℕ, ◌+◌, ◌≤◌, sym, ap, ◌∙◌, [], length, arith}
 use Rattle.emu_model.specs.Moments.{IsMoment}
 use Rattle.emu_model.specs.declared.sources.Due.{Due}
 use Rattle.emu_model.specs.declared.sources.Class.TheVariants.{NextCommand, Exit, Finish, Expiry, Emission}
@@ -36,6 +36,7 @@ next_is_due d moment n is =
     let f : d.source.class ≡ NextCommand = ap (λ (x : Due). x.source.class) is in
     record {
       finishing = λ c. absurd (let g : NextCommand ≡ Finish = sym f ∙ c in cc);
+      leaving = λ c some. absurd (let g : NextCommand ≡ Exit = sym f ∙ c in cc);
       allowed = λ c. absurd (let g : NextCommand ≡ Emission = sym f ∙ c in cc);
       numbered = (λ c. absurd (let g : NextCommand ≡ Expiry = sym f ∙ c in cc), λ c. absurd (let g : NextCommand ≡ Emission = sym f ∙ c in cc));
       piped = (λ c. absurd (let g : NextCommand ≡ Exit = sym f ∙ c in cc), λ c. absurd (let g : NextCommand ≡ Finish = sym f ∙ c in cc));

@@ -1,7 +1,6 @@
 -- A packet that is made, and arrives.
-use Rattle.std.proofs.Common.{◌≡◌, ℕ, zero, suc, ◌+◌, ◌<◌, ◌≤◌, Bool, true, false, nat_lt, cond, refl, sym, ap, ◌∙◌, subst, List, [], ◌∷◌, ◌++◌, length, Option, Some, None, arith}
-use Rattle.std.specs.Prelude.{if◌then◌else◌, sum_by, option_and_then, slice_get}
-use Rattle.std.specs.List.{last_or}
+use Rattle.std.proofs.Common.{◌≡◌, ℕ, ◌+◌, ◌<◌, ◌≤◌, Bool, true, false, nat_lt, cond, refl, sym, ap, ◌∙◌, subst, List, [], ◌∷◌, ◌++◌, length, Option, Some, None, arith}
+use Rattle.std.specs.Prelude.{if◌then◌else◌, sum_by, slice_get}
 use Rattle.std.specs.Option.{option_map_or}
 use Rattle.emu_model.specs.Moments.{milliseconds}
 use Rattle.emu_model.specs.declared.records.Record.{Record}
@@ -178,14 +177,14 @@ on-line x line held n known h there =
     subst (λ y. CanGo 0 y held.route n) (sym h.made)
     (subst (λ (r : CacheEntry). CanGo 0 (packet_of h.load h.send h.number) r.route n) same go)
 
--- what was foreseen of a packet that goes on
+-- what a packet that goes on was classified as
 pub can-pass : (start : ℕ) (x : Packet) (f : Match) (known : Option Route) (b : RuleBook) (m : KeptNet) → m.book ≡ b →
     IsMatch start x f b.rules → IsReady f.verdict x m →
     IfSome known (λ w. (s : ℕ) → IsMatch s x f b.rules → CanGo s x w m) → CanPass start x known m
-can-pass start x f (Some w) b m book foreseen ready go = go start foreseen
-can-pass start x f None b m book foreseen ready go =
+can-pass start x f (Some w) b m book classified ready go = go start classified
+can-pass start x f None b m book classified ready go =
     subst (λ (c : RuleBook). IsReady (verdict start x c.rules) x m) (sym book)
-    (subst (λ v. IsReady v x m) foreseen.verdict ready)
+    (subst (λ v. IsReady v x m) classified.verdict ready)
 
 -- what is held is what the keys name
 held-pipes : PacketsAreNamed → (f : ℕ → Packet) (ps : List KeyedPipe) → sum_by (λ s. length (pipe_packets s)) (seen_pipes f ps) ≡ length (pipe_keys ps)

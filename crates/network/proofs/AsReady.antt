@@ -54,7 +54,7 @@ module _ (n m : KeptNet) (a : IsRoomy n m) where
   }
   as-pass start x None ready = by-search start x ready
 
-  pub as-make : (send : SendSpec) (passage : Lookup) → CanMake send passage n → CanMake send passage m
+  pub as-make : (send : SendSpec) (lookup : Lookup) → CanMake send lookup n → CanMake send lookup m
   as-make send (Cached line) h = record {
     route = h.route;
     there = ap (λ (ls : List (Option CacheEntry)). slice_get ls line) a.flow_cache ∙ h.there;
@@ -68,12 +68,12 @@ module _ (n m : KeptNet) (a : IsRoomy n m) where
       subst (λ (b : RuleBook). CanPass (start_behind x.place b.rules) x known m) (sym a.book) (as-pass (start_after x n) x known ready)
 
 module _ (n m : KeptNet) (a : IsAsReady n m) where
-  pub as-deliver : (load : Load) (passage : Lookup) → CanDeliver load passage n → CanDeliver load passage m
-  as-deliver Plain passage ready = ready
-  as-deliver (Ack k upto) passage ready = ready
-  as-deliver (Seg k first) passage (room, make) = (
+  pub as-deliver : (load : Load) (lookup : Lookup) → CanDeliver load lookup n → CanDeliver load lookup m
+  as-deliver Plain lookup ready = ready
+  as-deliver (Ack k upto) lookup ready = ready
+  as-deliver (Seg k first) lookup (room, make) = (
     subst (λ (t : KeptTraffic). HasRoomFor k t) (sym a.traffic) room,
-    (λ send is. as-make n m a.roomy send passage (make send (λ x. ap (λ (t : KeptTraffic). reply_send k (with_traffic t x)) (sym a.traffic) ∙ is x))),
+    (λ send is. as-make n m a.roomy send lookup (make send (λ x. ap (λ (t : KeptTraffic). reply_send k (with_traffic t x)) (sym a.traffic) ∙ is x))),
   )
 
 -- the pipes and the rules are the same
@@ -87,9 +87,6 @@ roomy-same n m same spare book flow_cache =
       ((λ size i j h. h), record { places = λ k. refl; inside = λ i j h. h; routes = λ k x i j h. h }),
     ) in
     record { rooms = all.0; rooms_at = all.1.0; places = all.1.1; spare = spare; book = book; flow_cache = flow_cache }
-
-pub roomy-refl : (n : KeptNet) → IsRoomy n n
-roomy-refl n = roomy-same n n refl (omega arith) refl refl
 
 -- only the link changed, and has as much room
 pub direct-as-ready : (n m : KeptNet) → m ≡ record n { direct = m.direct } → n.direct.spare ≤ m.direct.spare → IsAsReady n m

@@ -1,5 +1,5 @@
 -- A packet enters the link of `allow`, and leaves it.
-use Rattle.std.proofs.Common.{◌≡◌, ℕ, ◌≤◌, refl, sym, ap, ◌∙◌, subst, List, [], ◌∷◌, ◌++◌, length, map, Some, None, IsSome, arith}
+use Rattle.std.proofs.Common.{◌≡◌, ℕ, ◌≤◌, sym, ap, ◌∙◌, subst, List, [], ◌∷◌, ◌++◌, length, map, Some, None, IsSome, arith}
 use Rattle.std.specs.Prelude.{unwrap_or}
 use Rattle.std.proofs.lemmas.List.{length-append, length-map, map-append}
 use Rattle.emu_model.specs.declared.packets.Packet.{Packet}
@@ -13,13 +13,10 @@ use Rattle.network.specs.Kept.{KeptNet, line_keys, IsHoused}
 use Rattle.network.proofs.KeyCounts.{uses-cons, uses-append, at_same, at_other, one_at-same, found-le, found-some, Keeps-put, Keeps-first}
 use Rattle.network.proofs.Frame.{line-agrees}
 
-item_of : InFlight ℕ → ℕ
-item_of x = x.item
-
 entered-keys : (key now : ℕ) (l : Line ℕ) → line_keys (enter key now 0 l) ≡ line_keys l ++ key ∷ []
 entered-keys key now l = map-append (λ (x : InFlight ℕ). x.item) l.in_flight (record { item = key; exit = exit_after l.last now 0 } ∷ [])
 
--- a packet that was put on its way
+-- a packet that entered the line
 module _ (p q : Pocket) (n : KeptNet) (key now : ℕ) (packet : Packet) (h : IsHoused p n) (none : p.find key ≡ None) (put : q ≡ with_packet p key packet) where
   pub enter-keeps : Keeps p q (line_keys n.direct.line) (line_keys (enter key now 0 n.direct.line))
   enter-keeps = Keeps-put p q key packet (line_keys n.direct.line) (line_keys (enter key now 0 n.direct.line)) none put
@@ -88,14 +85,3 @@ front-there p n key h first = go n.direct.line.in_flight first
         let here : x.item ≡ key = cc in
         subst (λ k. IsSome (p.find k)) here
         (found-some (p.find x.item) (omega (arith, each x.item, uses-cons x.item x.item (map (λ (y : InFlight ℕ). y.item) xs), one_at-same x.item)))
-
--- nothing leaves an empty line
-pub none-leaves : (p : Pocket) (l : Line ℕ) → first_item l.in_flight ≡ None →
-    (first_item (seen_line (packet_at p.find) l).in_flight ≡ None) × (leave (seen_line (packet_at p.find) l) ≡ seen_line (packet_at p.find) l)
-none-leaves p l none = go l.in_flight none
-  where
-    go : (in_flight : List (InFlight ℕ)) → first_item in_flight ≡ None →
-        (first_item (map (seen_leaving (packet_at p.find)) in_flight) ≡ None)
-        × (leave (record { in_flight = map (seen_leaving (packet_at p.find)) in_flight; last = l.last }) ≡ record { in_flight = map (seen_leaving (packet_at p.find)) in_flight; last = l.last })
-    go [] e = (refl, refl)
-    go (x ∷ xs) e = absurd (cc)

@@ -1,5 +1,5 @@
 -- What is due first among several lists.
-use Rattle.std.proofs.Common.{◌≡◌, ℕ, ◌+◌, ◌*◌, Bool, true, false, nat_lt, cond, refl, sym, ap, ◌∙◌, subst, List, [], ◌∷◌, ◌++◌, map, length, take, Option, Some, None}
+use Rattle.std.proofs.Common.{◌≡◌, ℕ, ◌+◌, ◌*◌, Bool, true, false, nat_lt, cond, refl, sym, ap, ◌∙◌, subst, List, [], ◌∷◌, ◌++◌, length, take, Option, Some, None}
 use Rattle.std.specs.Prelude.{flat_map, option_map, option_to_list, IfSome}
 use Rattle.std.specs.List.{best_of}
 use Rattle.std.proofs.lemmas.List.{append_assoc}
@@ -10,28 +10,17 @@ use Rattle.emu_model.specs.declared.sources.Class.{Class}
 use Rattle.emu_model.specs.declared.sources.Class.TheVariants.{Exit, Finish, Expiry, Emission}
 use Rattle.emu_model.specs.Reno.{may_emit}
 use Rattle.emu_model.specs.Pipes.{PipeState, Instance, InService}
-use Rattle.emu_model.specs.Delay.{InFlight, Line, first_exit}
+use Rattle.emu_model.specs.Delay.{first_exit}
 use Rattle.emu_model.specs.Net.{Net, FlowState, TrainState}
 use Rattle.emu_model.specs.Dues.{due, dues_of, is_before, line_dues, service_dues, instances_dues, pipe_dues, flow_dues, train_dues}
-use Rattle.pipe_core.specs.KeyedInstance.{seen_leaving, seen_line}
 use Rattle.pipe_core.specs.Keyed.{KeyedPipe}
-use Rattle.pipe_table.specs.Table.{IsFinishDue, IsPiped}
+use Rattle.pipe_table.specs.Table.{IsExitDue, IsFinishDue, IsPiped}
 use Rattle.traffic.specs.Kept.{KeptTraffic}
 use Rattle.traffic.specs.Sends.{source_dues, IsAllowed, IsNumbered}
 
 best-append : (a : Due) (xs ys : List Due) → best_of is_before a (xs ++ ys) ≡ best_of is_before (best_of is_before a xs) ys
 best-append a [] ys = refl
 best-append a (x ∷ xs) ys = best-append (cond (is_before x a) x a) xs ys
-
-seen-exit : (f : ℕ → Packet) (xs : List (InFlight ℕ)) → first_exit (map (seen_leaving f) xs) ≡ first_exit xs
-seen-exit f [] = refl
-seen-exit f (x ∷ xs) = refl
-
-pub line-none : (f : ℕ → Packet) (l : Line ℕ) → None ≡ first_exit l.in_flight → line_dues 0 (seen_line f l) ≡ []
-line-none f l none = ap (λ o. option_to_list (option_map (due Exit 0) o)) (seen-exit f l.in_flight ∙ sym none)
-
-pub line-some : (f : ℕ → Packet) (l : Line ℕ) (moment : ℕ) → Some moment ≡ first_exit l.in_flight → line_dues 0 (seen_line f l) ≡ due Exit 0 moment ∷ []
-line-some f l moment some = ap (λ o. option_to_list (option_map (due Exit 0) o)) (seen-exit f l.in_flight ∙ sym some)
 
 -- the dues of a net, part by part
 parts : (clock : ℕ) (m : Net) → dues_of clock m ≡ (line_dues 0 m.direct ++ flat_map pipe_dues m.pipes) ++ source_dues clock m
@@ -84,10 +73,6 @@ option-holds P a (Some d) h k = either (is_before d a)
     either false = h
 
 module _ (P : Due → Type 0) where
-  pub one-all : (d : Due) → P d → AllDues P (d ∷ [])
-  unfolding AllDues
-  one-all d h = (h, tt)
-
   option-all : (number : ℕ) (class : Class) (o : Option ℕ) → ((moment : ℕ) → P (due class number moment)) → AllDues P (option_to_list (option_map (due class number) o))
   unfolding AllDues
   option-all number class None h = tt
@@ -154,11 +139,13 @@ pipes-keep t a b ps is h =
     (pipes-all P ps (λ k moment. ((λ e. absurd (cc)), ((λ e. absurd (cc)), (λ e. absurd (cc))))) (λ k moment. ((λ e. absurd (cc)), ((λ e. absurd (cc)), (λ e. absurd (cc)))))))
 
 pub sources-keep : (ps : List KeyedPipe) (clock : ℕ) (m : Net) (a b : Due) → b ≡ best_of is_before a (source_dues clock m) →
-    IsFinishDue a ps × IsPiped a → IsFinishDue b ps × IsPiped b
+    IsFinishDue a ps × (IsExitDue a ps × IsPiped a) → IsFinishDue b ps × (IsExitDue b ps × IsPiped b)
 sources-keep ps clock m a b is h =
-    let P : Due → Type 0 = λ d. IsFinishDue d ps × IsPiped d in
+    let P : Due → Type 0 = λ d. IsFinishDue d ps × (IsExitDue d ps × IsPiped d) in
     subst P (sym is) (best-holds P a (source_dues clock m) h
-    (sources-all P clock m (λ k moment. ((λ e. absurd (cc)), ((λ e. absurd (cc)), (λ e. absurd (cc))))) (λ k moment. ((λ e. absurd (cc)), ((λ e. absurd (cc)), (λ e. absurd (cc)))))))
+    (sources-all P clock m
+    (λ k moment. ((λ e. absurd (cc)), ((λ e some. absurd (cc)), ((λ e. absurd (cc)), (λ e. absurd (cc))))))
+    (λ k moment. ((λ e. absurd (cc)), ((λ e some. absurd (cc)), ((λ e. absurd (cc)), (λ e. absurd (cc))))))))
 
 -- what was appended goes again
 pub cut-back : (n : ℕ) (a b c d : List Due) → d ≡ take n c → n ≡ length a → c ≡ a ++ b → d ≡ a

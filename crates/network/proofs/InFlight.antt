@@ -1,15 +1,13 @@
 -- A packet leaves the link of `allow`, or a pipe; a packet finishes; a source sends.
-use Rattle.std.proofs.Common.{◌≡◌, ℕ, Bool, true, false, cond, refl, sym, ap, ◌∙◌, subst, List, [], ◌∷◌, map, zero, suc, Option, Some, None, IsSome, arith}
+use Rattle.std.proofs.Common.{◌≡◌, ℕ, Bool, true, false, cond, refl, sym, ap, ◌∙◌, subst, List, [], ◌∷◌, map, Option, Some, None, IsSome, arith}
 use Rattle.std.specs.Option.{option_map_or}
 use Rattle.emu_model.specs.declared.packets.Packet.{Packet}
 use Rattle.emu_model.specs.declared.records.Record.{Record}
 use Rattle.emu_model.specs.declared.records.Record.TheVariants.{PacketFinished, PacketPassed}
-use Rattle.emu_model.specs.Delay.{Line, InFlight, leave, first_item}
+use Rattle.emu_model.specs.Delay.{Line, leave, first_item}
 use Rattle.emu_model.specs.declared.commands.EventContext.{EventContext}
-use Rattle.emu_model.specs.Lists.{change_at, replace_first}
-use Rattle.emu_model.specs.Pipes.{PipeState, Instance, pipe_exit}
-use Rattle.emu_model.specs.Net.{Net, note, note_all, note_drops, drop_record, find_pipe, put_pipe, deliver, reinject}
-use Rattle.emu_model.specs.Events.{flying_in, leave_pipe, leave_pipe_some, pipe_exits, pipe_finishes}
+use Rattle.emu_model.specs.Net.{Net, note, note_all, note_drops, drop_record, find_pipe, deliver, reinject}
+use Rattle.emu_model.specs.Events.{leave_pipe, leave_pipe_some, pipe_exits, pipe_finishes}
 use Rattle.link_core.specs.Lane.{Lane}
 use Rattle.packet_store.specs.Pocket.{Pocket, without}
 use Rattle.pipe_core.specs.KeyedInstance.{seen_leaving, seen_line}
@@ -17,8 +15,7 @@ use Rattle.pipe_core.specs.Moves.{packet_at, Keeps}
 use Rattle.pipe_core.specs.Steps.{drops_by_codel}
 use Rattle.pipe_core.specs.Views.{ViewsAgree}
 use Rattle.pipe_core.specs.Keyed.{KeyedPipe, seen_pipe}
-use Rattle.std.specs.Prelude.{find, option_and_then, slice_get, ◌==◌}
-use Rattle.std.proofs.lemmas.Option.{same_Some}
+use Rattle.std.specs.Prelude.{find, ◌==◌}
 use Rattle.pipe_table.specs.Table.{Table, pipe_of, seen_pipes, HasRoomIn, with_pipes, pipe_keys}
 use Rattle.pipe_table.specs.Places.{HasRoomAtPlace, KeepsPlaces}
 use Rattle.traffic.specs.Kept.{KeptTraffic, with_traffic}
@@ -27,7 +24,7 @@ use Rattle.network.specs.Changes.{Becomes, Notes}
 use Rattle.network.proofs.Frame.{direct-housed, direct-shown, pipes-housed}
 use Rattle.network.proofs.AsReady.{IsRoomy}
 use Rattle.network.proofs.Readied.{Readied, from_readied}
-use Rattle.network.proofs.Direct.{leaves, front-there, none-leaves}
+use Rattle.network.proofs.Direct.{leaves, front-there}
 use Rattle.network.proofs.Steps.{shown-as, notes-becomes, follow, pipes-become, rebase, turns-becomes}
 use Rattle.network.proofs.Sources.{traffic-turned}
 use Rattle.network.proofs.Obeying.{weaker}
@@ -42,9 +39,6 @@ front-seen p n key r h first is = is ∙ go (p.find key) refl
         let there : IsSome (p.find key) = front-there p n key h (sym first) in
         let gone : IsSome {T = Packet} None = subst IsSome e there in absurd (cc)
     go (Some x) e = sym ((leaves p (without p key) n key x h (sym first) e refl).first)
-
-pub front-none : (p : Pocket) (n : KeptNet) → None ≡ first_item n.direct.line.in_flight → None ≡ first_item (map (seen_leaving (packet_at p.find)) n.direct.line.in_flight)
-front-none p n none = sym ((none-leaves p n.direct.line (sym none)).0)
 
 pub front-missing : (p : Pocket) (n : KeptNet) (key : ℕ) → IsHoused p n → Some key ≡ first_item n.direct.line.in_flight → None ≡ p.find key → ⊥
 front-missing p n key h first none =
@@ -67,26 +61,6 @@ direct-left agree p q n key x l h first value taken line =
       made = omega arith;
     }
 
-empty-line : {A : Type 0} (l : Line A) → first_item l.in_flight ≡ None → leave l ≡ l
-empty-line {A} l none = go l.in_flight none
-  where
-    go : (xs : List (InFlight A)) → first_item xs ≡ None → leave (record l { in_flight = xs }) ≡ record l { in_flight = xs }
-    go [] e = refl
-    go (x ∷ xs) e = absurd (cc)
-
-pub direct-none : (p : Pocket) (n : KeptNet) (l : Lane ℕ) → IsHoused p n → None ≡ first_item n.direct.line.in_flight → l.line ≡ leave n.direct.line →
-    Becomes 0 (record (net_of p n) { direct = leave (net_of p n).direct }) p p n (record n { direct = l })
-direct-none p n l h none line =
-    let same : l.line ≡ n.direct.line = line ∙ empty-line n.direct.line (sym none) in
-    subst (λ (k : Line ℕ). Becomes 0 (record (net_of p n) { direct = leave (net_of p n).direct }) p p n (record n { direct = record { line = k; spare = l.spare } })) (sym same)
-    (record {
-      shown = λ i. record (net_of p n) { direct = sym ((none-leaves p n.direct.line (sym none)).1) i };
-      housed = record { each = h.each; count = h.count };
-      budget = refl;
-      seed = refl;
-      made = omega arith;
-    })
-
 -- a pipe that isn't there isn't seen
 pub none-seen : (f : ℕ → Packet) (k : ℕ) (ps : List KeyedPipe) → pipe_of k ps ≡ None → find (λ p. p.number == k) (seen_pipes f ps) ≡ None
 none-seen f k [] none = refl
@@ -103,45 +77,6 @@ exits at k j m = option_map_or (pipe_exits at k j m) (find_pipe k m) m
 
 abbrev pub finishes : EventContext → ℕ → ℕ → Net → Net
 finishes at k j m = option_map_or (pipe_finishes at k j m) (find_pipe k m) m
-
--- where nothing is on its way nothing leaves, and nothing changes
-still-instances : (j : ℕ) (xs : List Instance) → option_and_then (λ (i : Instance). first_item i.line.in_flight) (slice_get xs j) ≡ None →
-    change_at j (λ (i : Instance). record i { line = leave i.line }) xs ≡ xs
-still-instances j [] e = refl
-still-instances zero (x ∷ xs) e = ap (λ (l : Line Packet). record x { line = l } ∷ xs) (empty-line x.line e)
-still-instances (suc j) (x ∷ xs) e = ap (λ l. x ∷ l) (still-instances j xs e)
-
-put-same : (k : ℕ) (ps : List PipeState) (s : PipeState) → find (λ p. p.number == k) ps ≡ Some s →
-    replace_first (λ (q : PipeState). q.number == k) s ps ≡ ps
-put-same k [] s e = refl
-put-same k (p ∷ ps) s e = go (p.number == k) (put-same k ps s) e
-  where
-    go : (b : Bool) → (find (λ p. p.number == k) ps ≡ Some s → replace_first (λ (q : PipeState). q.number == k) s ps ≡ ps) →
-        cond b (Some p) (find (λ p. p.number == k) ps) ≡ Some s → cond b (s ∷ ps) (p ∷ replace_first (λ (q : PipeState). q.number == k) s ps) ≡ p ∷ ps
-    go true rest e = ap (λ x. x ∷ ps) (sym (same_Some p s e))
-    go false rest e = ap (λ l. p ∷ l) (rest e)
-
-nothing-exits : (at : EventContext) (k j : ℕ) (n : Net) → option_and_then (flying_in j) (find_pipe k n) ≡ None → exits at k j n ≡ n
-nothing-exits at k j n none = go (find_pipe k n) refl none
-  where
-    go : (o : Option PipeState) → find_pipe k n ≡ o → option_and_then (flying_in j) o ≡ None → option_map_or (pipe_exits at k j n) o n ≡ n
-    go None is e = refl
-    go (Some s) is e =
-        ap (λ o. leave_pipe_some at k j o (put_pipe k (pipe_exit j s) n)) e
-        ∙ (λ i. record n {
-          pipes = (ap (λ l. replace_first (λ (q : PipeState). q.number == k) (record s { instances = l }) n.pipes) (still-instances j s.instances e)
-              ∙ put-same k n.pipes s is) i;
-        })
-
-pub nothing_leaves : (at : EventContext) (p : Pocket) (n : KeptNet) (k j : ℕ) → IsHoused p n →
-    option_and_then (flying_in j) (find_pipe k (net_of p n)) ≡ None → Becomes 1 (exits at k j (net_of p n)) p p n n
-nothing_leaves at p n k j h none = record {
-  shown = sym (nothing-exits at k j (net_of p n) none);
-  housed = h;
-  budget = refl;
-  seed = refl;
-  made = omega arith;
-}
 
 module _ (at : EventContext) (o p q : Pocket) (old n : KeptNet) (t : Table) (k j : ℕ) (r : Readied o p old n)
     (keeps : Keeps p q (pipe_keys n.table.pipes) (pipe_keys t.pipes)) (seed : t.seed ≡ n.table.seed) where

@@ -9,9 +9,6 @@ use Rattle.pipe_core.proofs.CallerLemmas.{Keeps-put as Keeps-more, Keeps-taken, 
 pub use Rattle.pipe_core.proofs.CallerLemmas.{one_at-same}
 pub use Rattle.pipe_core.proofs.CallerLemmas.{at_same, at_other, found-le, found-some, one_at-other}
 
-pub uses-nil : (k : ℕ) → uses k [] ≡ 0
-uses-nil k = total-nil (one_at k)
-
 pub uses-cons : (k x : ℕ) (xs : List ℕ) → uses k (x ∷ xs) ≡ one_at k x + uses k xs
 uses-cons k x xs = total-cons (one_at k) x xs
 

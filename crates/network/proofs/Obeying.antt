@@ -3,7 +3,7 @@ use Rattle.std.proofs.Common.{◌≡◌, ℕ, zero, suc, ◌/◌, ◌%◌, Bool,
 use Rattle.std.specs.Prelude.{is_some, OnOk, Result}
 use Rattle.std.specs.Option.{option_map_or}
 use Rattle.emu_model.specs.declared.commands.Command.{Command}
-use Rattle.emu_model.specs.declared.commands.Command.TheVariants.{Add, Delete, Config, PipeDelete, Inject, OnePass, Trace, End}
+use Rattle.emu_model.specs.declared.commands.Command.TheVariants.{Config, PipeDelete, Inject}
 use Rattle.emu_model.specs.declared.packets.Load.TheVariants.{Plain}
 use Rattle.emu_model.specs.declared.packets.Packet.{Packet}
 use Rattle.emu_model.specs.declared.pipes.PipeConfig.{PipeConfig}
@@ -11,9 +11,7 @@ use Rattle.emu_model.specs.declared.records.Record.{Record}
 use Rattle.emu_model.specs.declared.records.Record.TheVariants.{CommandDone, CommandRefused}
 use Rattle.emu_model.specs.declared.records.Refusal.{Refusal}
 use Rattle.emu_model.specs.declared.records.Refusal.TheVariants.{NoSuchPipe}
-use Rattle.emu_model.specs.declared.rules.Rule.{Rule}
 use Rattle.emu_model.specs.declared.sources.SendSpec.{SendSpec}
-use Rattle.emu_model.specs.Rules.{RuleBook, add_refusal, delete_refusal, book_with, book_without}
 use Rattle.emu_model.specs.declared.commands.EventContext.{EventContext}
 use Rattle.emu_model.specs.Net.{Net, note, note_all, note_drops, drop_record, find_pipe, make}
 use Rattle.emu_model.specs.Commands.{refusal_of, effect_of, obey, config_refusal, configure, delete_pipe}
@@ -71,26 +69,6 @@ done-obeys at k c n mid new why w notes p h =
     }
 
 module _ (at : EventContext) (k : ℕ) (n new : KeptNet) where
-  pub add-done : (r : Rule) (b : RuleBook) → b ≡ book_with r n.book → add_refusal r n.book ≡ None →
-      Notes (CommandDone at.now k ∷ []) (record n { book = b }) new → Obeys at k (Add r) n new
-  add-done r b is why notes = done-obeys at k (Add r) n (record n { book = b }) new (λ p. why)
-      (record { moved = λ p i. record (note (CommandDone at.now k) (net_of p n)) { book = sym is i }; line = refl; keys = refl; seed = refl; made = refl }) notes
-
-  pub add-refused : (r : Rule) (b : RuleBook) (why : Refusal) → b ≡ n.book → add_refusal r n.book ≡ Some why →
-      Notes (CommandRefused at.now k why ∷ []) (record n { book = b }) new → Obeys at k (Add r) n new
-  add-refused r b why is e notes = refuse-obeys at k (Add r) why n new (λ p. e)
-      (subst (λ x. Notes (CommandRefused at.now k why ∷ []) (record n { book = x }) new) is notes)
-
-  pub delete-done : (j : ℕ) (b : RuleBook) → b ≡ book_without j n.book → delete_refusal j n.book ≡ None →
-      Notes (CommandDone at.now k ∷ []) (record n { book = b }) new → Obeys at k (Delete j) n new
-  delete-done j b is why notes = done-obeys at k (Delete j) n (record n { book = b }) new (λ p. why)
-      (record { moved = λ p i. record (note (CommandDone at.now k) (net_of p n)) { book = sym is i }; line = refl; keys = refl; seed = refl; made = refl }) notes
-
-  pub delete-refused : (j : ℕ) (b : RuleBook) (why : Refusal) → b ≡ n.book → delete_refusal j n.book ≡ Some why →
-      Notes (CommandRefused at.now k why ∷ []) (record n { book = b }) new → Obeys at k (Delete j) n new
-  delete-refused j b why is e notes = refuse-obeys at k (Delete j) why n new (λ p. e)
-      (subst (λ x. Notes (CommandRefused at.now k why ∷ []) (record n { book = x }) new) is notes)
-
   pub config-done : (j : ℕ) (config : PipeConfig) (t : Table) → ((p : Pocket) (m : Net) → configure j config (with_pipes p n.table m) ≡ with_pipes p t m) →
       ((p : Pocket) (m : Net) → config_refusal j config (with_pipes p n.table m) ≡ None) →
       pipe_keys t.pipes ≡ pipe_keys n.table.pipes → t.seed ≡ n.table.seed →
@@ -109,18 +87,6 @@ module _ (at : EventContext) (k : ℕ) (n new : KeptNet) where
       Notes (CommandDone at.now k ∷ []) (record n { traffic = t }) new → Obeys at k c n new
   traffic-done c t why moved notes = done-obeys at k c n (record n { traffic = t }) new why
       (record { moved = λ p. moved (note (CommandDone at.now k) (net_of p n)); line = refl; keys = refl; seed = refl; made = refl }) notes
-
-  pub pass-done : (b : Bool) → Notes (CommandDone at.now k ∷ []) (record n { one_pass = b }) new → Obeys at k (OnePass b) n new
-  pass-done b notes = done-obeys at k (OnePass b) n (record n { one_pass = b }) new (λ p. refl)
-      (record { moved = λ p. refl; line = refl; keys = refl; seed = refl; made = refl }) notes
-
-  pub trace-done : (b : Bool) → Notes (CommandDone at.now k ∷ []) (record n { trace = b }) new → Obeys at k (Trace b) n new
-  trace-done b notes = done-obeys at k (Trace b) n (record n { trace = b }) new (λ p. refl)
-      (record { moved = λ p. refl; line = refl; keys = refl; seed = refl; made = refl }) notes
-
-  pub end-done : Notes (CommandDone at.now k ∷ []) n new → Obeys at k End n new
-  end-done notes = done-obeys at k End n n new (λ p. refl)
-      (record { moved = λ p. refl; line = refl; keys = refl; seed = refl; made = refl }) notes
 
 -- a command that is of this kind is obeyed, once room was made
 pub kind-obeyed : {E : Type 0} {kind command : Command} {p : Pocket} {old mid : KeptNet} → command ≡ kind → IsHoused p old → IsStill old mid →

@@ -1,13 +1,11 @@
 -- What keeps a route, and whose it is.
-use Rattle.std.proofs.Common.{◌≡◌, ◌≢◌, ℕ, zero, suc, ◌+◌, ◌<◌, Bool, true, false, ◌==◌, refl, sym, ap, ◌∙◌, subst, List, [], ◌∷◌, ◌++◌, length, set, Option, Some, None, ◌⊎◌, inl, inr, arith}
+use Rattle.std.proofs.Common.{◌≡◌, ℕ, zero, suc, ◌+◌, Bool, true, false, ◌==◌, refl, sym, ap, ◌∙◌, subst, List, [], ◌∷◌, ◌++◌, set, Option, Some, None, ◌⊎◌, inl, inr}
 use Rattle.std.specs.Prelude.{if◌then◌else◌, option_and_then, slice_get}
 use Rattle.std.specs.List.{last_or, list_any}
-use Rattle.std.proofs.lemmas.Bool.{cases_eq}
 use Rattle.std.proofs.lemmas.Option.{same_Some}
 use Rattle.emu_model.specs.declared.packets.Load.{Load}
 use Rattle.emu_model.specs.declared.packets.Load.TheVariants.{Plain}
 use Rattle.emu_model.specs.declared.packets.Packet.{Packet}
-use Rattle.emu_model.specs.declared.packets.Place.{Place}
 use Rattle.emu_model.specs.declared.rules.Action.{Action}
 use Rattle.emu_model.specs.declared.rules.Action.TheVariants.{Allow, Deny, Count, SkipTo, Pipe}
 use Rattle.emu_model.specs.declared.rules.Rule.{Rule}
@@ -17,7 +15,7 @@ use Rattle.emu_model.specs.Net.{packet_of}
 use Rattle.emu_rules.specs.Walk.{CountsAlone, IsAlike}
 use Rattle.emu_rules.proofs.CallerLemmas.{alone-alike, verdict-alike, rules-counted}
 use Rattle.pipe_core.specs.Keyed.{KeyedPipe}
-use Rattle.pipe_table.specs.Places.{IsRouted, KeepsPlaces}
+use Rattle.pipe_table.specs.Places.{KeepsPlaces}
 use Rattle.network.specs.declared.flow_cache.Route.{Route}
 use Rattle.network.specs.declared.flow_cache.CacheEntry.{CacheEntry}
 use Rattle.network.specs.FlowCache.{IsRoute, AreKnown, plain}
@@ -121,16 +119,6 @@ known_learned cs ps ls i r h new = record {
 module _ (a b : Load) (send : SendSpec) (i j : ℕ) where
   pub alike-made : IsAlike (packet_of a send i) (packet_of b send j)
   alike-made = record { proto = refl; src = refl; sport = refl; dst = refl; dport = refl }
-
-pub routed-placed : (k : ℕ) (x : Packet) (place : Place) (i j : ℕ) (ps : List KeyedPipe) → IsRouted k x i j ps →
-    IsRouted k (record x { place = place }) i j ps
-routed-placed k x place i j ps r = record {
-  stands = r.stands;
-  pipe = r.pipe;
-  there = r.there;
-  inside = r.inside;
-  its = r.its;
-}
 
 -- the route of a header is that of each packet with it
 pub route-made : (load : Load) (send : SendSpec) (number : ℕ) (w : Route) (cs : List Counted) (ps : List KeyedPipe) →

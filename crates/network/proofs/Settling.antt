@@ -1,5 +1,5 @@
 -- The least due, found by numbers.
-use Rattle.std.proofs.Common.{◌≡◌, ℕ, ◌≤◌, ◌<◌, Bool, true, false, ◌&&◌, ◌||◌, ◌==◌, nat_lt, cond, refl, sym, ap, ◌∙◌, subst, List, [], ◌∷◌, ◌++◌, Option, Some, None, inl, inr, arith}
+use Rattle.std.proofs.Common.{◌≡◌, ℕ, ◌≤◌, true, ◌&&◌, ◌||◌, ◌==◌, nat_lt, cond, refl, sym, ap, ◌∙◌, subst, List, [], ◌∷◌, ◌++◌, Option, Some, None, inl, inr, arith}
 use Rattle.std.specs.Prelude.{flat_map, option_to_list, IfSome}
 use Rattle.std.specs.List.{best_of}
 use Rattle.std.proofs.lemmas.Bool.{cases_Bool, or_cases, and_parts, ltb-true, eqb-true}
@@ -9,8 +9,7 @@ use Rattle.emu_model.specs.Net.{Net}
 use Rattle.emu_model.specs.Dues.{rank, dues_of, is_before, line_dues, pipe_dues}
 use Rattle.due_index.specs.Least.{least_of, lesser}
 use Rattle.traffic.specs.Sends.{source_dues, IsAllowed, IsNumbered}
-use Rattle.traffic.specs.Kept.{KeptTraffic}
-use Rattle.pipe_table.specs.Table.{IsFinishDue, IsPiped}
+use Rattle.pipe_table.specs.Table.{IsExitDue, IsFinishDue, IsPiped}
 use Rattle.network.specs.Kept.{KeptNet}
 use Rattle.network.specs.Due.{IsDue}
 use Rattle.network.proofs.DueFacts.{best-parts, option-holds, pipes-keep, sources-keep}
@@ -74,19 +73,23 @@ module _ (clock : ℕ) (m : Net) (a : Due) (o b c d : Option Due) (line : option
   -- and it may come
   pub settled-due : (n : KeptNet) → IsDue a n → IfSome o (λ x. IsDue x n) →
       (IfSome b (λ x. IsFinishDue x n.table.pipes) → IfSome c (λ x. IsFinishDue x n.table.pipes)) →
+      (IfSome b (λ x. IsExitDue x n.table.pipes) → IfSome c (λ x. IsExitDue x n.table.pipes)) →
       (IfSome b IsPiped → IfSome c IsPiped) →
       IfSome c (λ x. IsAllowed n.traffic x → IfSome d (IsAllowed n.traffic)) →
       IfSome c (λ x. IsNumbered x → IfSome d IsNumbered) →
       (r : Due) → d ≡ Some r → IsDue r n
-  settled-due n due direct finishing piped allowed numbered r is =
+  settled-due n due direct finishing leaving piped allowed numbered r is =
       let start : IsDue first n = option-holds (λ x. IsDue x n) a o due direct in
       let sources = pipes-keep n.traffic first second m.pipes refl (start.allowed, start.numbered) in
       let finish : IsFinishDue second n.table.pipes =
       subst (λ x. IfSome x (λ y. IsFinishDue y n.table.pipes)) second-is
       (finishing (subst (λ x. IfSome x (λ y. IsFinishDue y n.table.pipes)) (sym first-is) start.finishing)) in
+      let exit : IsExitDue second n.table.pipes =
+      subst (λ x. IfSome x (λ y. IsExitDue y n.table.pipes)) second-is
+      (leaving (subst (λ x. IfSome x (λ y. IsExitDue y n.table.pipes)) (sym first-is) start.leaving)) in
       let pipe : IsPiped second =
       subst (λ x. IfSome x IsPiped) second-is (piped (subst (λ x. IfSome x IsPiped) (sym first-is) start.piped)) in
-      let pipes = sources-keep n.table.pipes clock m second third refl (finish, pipe) in
+      let pipes = sources-keep n.table.pipes clock m second third refl (finish, (exit, pipe)) in
       let may : IfSome d (IsAllowed n.traffic) =
       subst (λ x. IfSome x (λ y. IsAllowed n.traffic y → IfSome d (IsAllowed n.traffic))) second-is allowed sources.0 in
       let number : IfSome d IsNumbered =
@@ -94,9 +97,10 @@ module _ (clock : ℕ) (m : Net) (a : Due) (o b c d : Option Due) (line : option
       let same : third ≡ r = same_Some third r (sym third-is ∙ is) in
       subst (λ x. IsDue x n) same (record {
         finishing = pipes.0;
+        leaving = pipes.1.0;
         allowed = subst (λ x. IfSome x (IsAllowed n.traffic)) third-is may;
         numbered = subst (λ x. IfSome x IsNumbered) third-is number;
-        piped = pipes.1;
+        piped = pipes.1.1;
       })
 
 -- the same where the last part is told as a due
@@ -111,9 +115,10 @@ module _ (clock : ℕ) (m : Net) (a : Due) (o b c : Option Due) (s r : Due) (lin
 
   pub told-due : (n : KeptNet) → IsDue a n → IfSome o (λ x. IsDue x n) →
       (IfSome b (λ x. IsFinishDue x n.table.pipes) → IfSome c (λ x. IsFinishDue x n.table.pipes)) →
+      (IfSome b (λ x. IsExitDue x n.table.pipes) → IfSome c (λ x. IsExitDue x n.table.pipes)) →
       (IfSome b IsPiped → IfSome c IsPiped) →
       (IsAllowed n.traffic s → IsAllowed n.traffic r) → (IsNumbered s → IsNumbered r) → IsDue r n
-  told-due n due direct finishing piped allowed numbered =
-      settled-due clock m a o b c (Some r) line e f numbered-told n due direct finishing piped
+  told-due n due direct finishing leaving piped allowed numbered =
+      settled-due clock m a o b c (Some r) line e f numbered-told n due direct finishing leaving piped
       (subst (λ x. IfSome x (λ y. IsAllowed n.traffic y → IsAllowed n.traffic r)) (sym some) allowed)
       (subst (λ x. IfSome x (λ y. IsNumbered y → IsNumbered r)) (sym some) numbered) r refl

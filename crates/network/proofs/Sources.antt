@@ -49,20 +49,20 @@ traffic-still n t same = record {
 }
 
 -- a flow that answers with this header
-pub can-segment : (k first : ℕ) (send : SendSpec) (passage : Lookup) (n : KeptNet) (t : KeptTraffic) → n.traffic ≡ t → HasRoomFor k t →
-    ((m : Net) → Some send ≡ reply_send k (with_traffic t m)) → CanMake send passage n → CanDeliver (Seg k first) passage n
-can-segment k first send passage n t is room reply ready =
-    let P : KeptTraffic → Type 0 = λ u. HasRoomFor k u × ((s : SendSpec) → ((m : Net) → reply_send k (with_traffic u m) ≡ Some s) → CanMake s passage n) in
+pub can-segment : (k first : ℕ) (send : SendSpec) (lookup : Lookup) (n : KeptNet) (t : KeptTraffic) → n.traffic ≡ t → HasRoomFor k t →
+    ((m : Net) → Some send ≡ reply_send k (with_traffic t m)) → CanMake send lookup n → CanDeliver (Seg k first) lookup n
+can-segment k first send lookup n t is room reply ready =
+    let P : KeptTraffic → Type 0 = λ u. HasRoomFor k u × ((s : SendSpec) → ((m : Net) → reply_send k (with_traffic u m) ≡ Some s) → CanMake s lookup n) in
     subst P (sym is) (
       room,
-      (λ s there. only_one (λ x. CanMake x passage n) send (reply_send k (with_traffic t initial_net)) (reply initial_net) ready s (there initial_net)),
+      (λ s there. only_one (λ x. CanMake x lookup n) send (reply_send k (with_traffic t initial_net)) (reply initial_net) ready s (there initial_net)),
     )
 
-pub can-nothing : (k first : ℕ) (passage : Lookup) (n : KeptNet) → HasRoomFor k n.traffic →
-    ((m : Net) → None ≡ reply_send k (with_traffic n.traffic m)) → CanDeliver (Seg k first) passage n
-can-nothing k first passage n room reply = (
+pub can-nothing : (k first : ℕ) (lookup : Lookup) (n : KeptNet) → HasRoomFor k n.traffic →
+    ((m : Net) → None ≡ reply_send k (with_traffic n.traffic m)) → CanDeliver (Seg k first) lookup n
+can-nothing k first lookup n room reply = (
   room,
-  (λ s there. none_there (λ x. CanMake x passage n) (reply_send k (with_traffic n.traffic initial_net)) (reply initial_net) s (there initial_net)),
+  (λ s there. none_there (λ x. CanMake x lookup n) (reply_send k (with_traffic n.traffic initial_net)) (reply initial_net) s (there initial_net)),
 )
 
 -- a source changed, and records came

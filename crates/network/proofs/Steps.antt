@@ -1,6 +1,6 @@
 -- How changes follow one another.
-use Rattle.std.proofs.Common.{◌≡◌, ℕ, ◌+◌, ◌≤◌, refl, sym, ap, ◌∙◌, subst, List, [], ◌∷◌, ◌++◌, length, arith}
-use Rattle.std.proofs.lemmas.List.{append-nil, append_assoc, length-append}
+use Rattle.std.proofs.Common.{◌≡◌, ℕ, ◌+◌, ◌≤◌, refl, sym, ap, ◌∙◌, subst, List, [], ◌++◌, length, arith}
+use Rattle.std.proofs.lemmas.List.{append-nil}
 use Rattle.emu_model.specs.declared.records.Record.{Record}
 use Rattle.emu_model.specs.declared.commands.Command.{Command}
 use Rattle.emu_model.specs.declared.commands.EventContext.{EventContext}
@@ -133,11 +133,3 @@ rebase c m p q x y z seed made b = record {
 
 pub notes-nil : (x : KeptNet) → Notes [] x x
 notes-nil x = record { rest = refl; records = sym (append-nil x.log.records); room = omega arith }
-
--- one record more
-pub notes-more : (rs : List Record) (r : Record) (x y z : KeptNet) → Notes rs x y → Notes (r ∷ []) y z → Notes (rs ++ r ∷ []) x z
-notes-more rs r x y z a b = record {
-  rest = b.rest ∙ (λ i. record (a.rest i) { log = z.log });
-  records = b.records ∙ ap (λ l. l ++ r ∷ []) a.records ∙ append_assoc x.log.records rs (r ∷ []);
-  room = omega (arith, a.room, b.room, length-append rs (r ∷ []));
-}

@@ -1,12 +1,13 @@
 -- What is due, and what its event asks.
 use Rattle.emu_model.specs.declared.sources.Due.{Due}
-use Rattle.pipe_table.specs.Table.{IsFinishDue, IsPiped}
+use Rattle.pipe_table.specs.Table.{IsExitDue, IsFinishDue, IsPiped}
 use Rattle.traffic.specs.Sends.{IsAllowed, IsNumbered}
 use Rattle.network.specs.Kept.{KeptNet}
 
 -- a due whose event may come
 pub record IsDue (d : Due) (n : KeptNet) : Type 0 where
   pub finishing : IsFinishDue d n.table.pipes
+  pub leaving : IsExitDue d n.table.pipes
   pub allowed : IsAllowed n.traffic d
   pub numbered : IsNumbered d
   pub piped : IsPiped d

@@ -1,5 +1,5 @@
 -- What is kept of an experiment's rules, pipes and sources, and the net that it shows.
-use Rattle.std.specs.Prelude.{◌≡◌, ℕ, ◌*◌, ◌^◌, ◌<◌, ◌≤◌, Bool, Option, List, ◌++◌, map, length}
+use Rattle.std.specs.Prelude.{◌≡◌, ℕ, ◌≤◌, Bool, Option, List, ◌++◌, map, length}
 use Rattle.emu_model.specs.Moments.{IsMoment}
 use Rattle.emu_model.specs.Rules.{RuleBook}
 use Rattle.emu_model.specs.Delay.{Line}

@@ -29,7 +29,7 @@ IsReady OverTheLink packet n = 0 < n.direct.spare
 IsReady Dropped packet n = Unit {0}
 IsReady (IntoPipe k place) packet n = HasRoomIn k packet n.table.pipes
 
--- what was foreseen of a packet, whose search begins at place `start`
+-- what a packet was classified as, whose search begins at place `start`
 pub record IsMatch (start : ℕ) (packet : Packet) (f : Match) (cs : List Counted) : Type 0 where
   pub verdict : f.verdict ≡ verdict start packet cs
   pub rule : f.rule ≢ 2 ^ 64 - 1 → CountsAlone start packet (the_rules cs) f.rule
@@ -69,11 +69,11 @@ CanMake send Searched n = IsReady (verdict 0 (plain send) n.book.rules) (plain s
 
 -- this load can be delivered, and answered
 abbrev pub CanDeliver : Load → Lookup → KeptNet → Type 0
-CanDeliver Plain passage n = Unit {0}
-CanDeliver (Seg k first) passage n = HasRoomFor k n.traffic
+CanDeliver Plain lookup n = Unit {0}
+CanDeliver (Seg k first) lookup n = HasRoomFor k n.traffic
     × ((send : SendSpec) → ((m : Net) → reply_send k (with_traffic n.traffic m) ≡ Some send) →
-    CanMake send passage n)
-CanDeliver (Ack k upto) passage n = Unit {0}
+    CanMake send lookup n)
+CanDeliver (Ack k upto) lookup n = Unit {0}
 
 -- a command that takes no memory but for its records: it is refused, or changes what is there
 abbrev pub TakesNoMemory : Command → Net → Type 0

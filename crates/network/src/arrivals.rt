@@ -54,7 +54,7 @@ fn no_delay() -> Delay
 }
 
 impl Network {
-    // Makes the growths of handing on a packet as it was foreseen, and tells its route where it has one.
+    // Makes the growths of handing on a packet as it was classified, and tells its route where it has one.
     #[inline(always)]
     pub(crate) fn arrival_ready<S: Shelf>(
         &mut self,
@@ -77,13 +77,15 @@ impl Network {
     {
         let verdict = found.verdict;
         match verdict {
-            Verdict::OverTheLink => self.direct.enter_ready(now, no_delay())?,
-            Verdict::Dropped => {}
+            Verdict::OverTheLink => {
+                self.direct.enter_ready(now, no_delay())?;
+                Ok(None)
+            }
+            Verdict::Dropped => Ok(None),
             Verdict::IntoPipe(number, place) => {
-                return self.pipe_ready(shelf, owner, now, found.rule, number, place, packet);
+                self.pipe_ready(shelf, owner, now, found.rule, number, place, packet)
             }
         }
-        Ok(None)
     }
 
     // The same of a packet that comes to a pipe.
@@ -147,7 +149,7 @@ impl Network {
         ensures pockets { AllStay (S.pocket shelf.old) (S.pocket shelf.new) }
         ensures rooms { (o : ℕ) → S.room shelf.old o ≤ S.room shelf.new o }
         ensures places { OnOk result (KeepsPlaces self.old.table.pipes self.new.table.pipes) }
-        ensures ready { IfOk result (λ passage. CanMake send.now passage self.new) }
+        ensures ready { IfOk result (λ lookup. CanMake send.now lookup self.new) }
     {
         let Some(held) = self.flow_cache.get(line, send) else {
             return self.make_searched(shelf, owner, now, line, *send);
@@ -179,7 +181,7 @@ impl Network {
         ensures pockets { AllStay (S.pocket shelf.old) (S.pocket shelf.new) }
         ensures rooms { (o : ℕ) → S.room shelf.old o ≤ S.room shelf.new o }
         ensures places { OnOk result (KeepsPlaces self.old.table.pipes self.new.table.pipes) }
-        ensures ready { IfOk result (λ passage. CanMake send passage self.new) }
+        ensures ready { IfOk result (λ lookup. CanMake send lookup self.new) }
     {
         let packet = packet_of(Load::Plain, &send, 0);
         let found = self.book.classify_rule(&packet);
@@ -319,12 +321,8 @@ impl Network {
             return;
         };
         let answer = self.table.arrive(place, shelf, owner, at.now, packet);
-        match answer {
-            Some(cause) => {
-                self.drop_packet(at.now, packet, cause);
-                return;
-            }
-            None => return,
+        if let Some(cause) = answer {
+            self.drop_packet(at.now, packet, cause);
         }
     }
 
@@ -356,7 +354,7 @@ impl Network {
     // A packet comes into a pipe by its route.
     #[tactic(auto, using(crate::proofs::RouteFacts::known_grown))]
     #[inline(always)]
-    fn enter_by_way<S: Shelf>(
+    fn enter_by_route<S: Shelf>(
         &mut self,
         shelf: &mut S,
         owner: Owner,
@@ -382,19 +380,15 @@ impl Network {
         let answer = self
             .table
             .arrive_at(pipe, instance, shelf, owner, at.now, packet);
-        match answer {
-            Some(cause) => {
-                self.drop_packet(at.now, packet, cause);
-                return;
-            }
-            None => return,
+        if let Some(cause) = answer {
+            self.drop_packet(at.now, packet, cause);
         }
     }
 
     // A packet passes the rules by its route.
     #[tactic(auto, using(crate::proofs::RouteFacts::known_counted))]
     #[inline(always)]
-    fn pass_by_way<S: Shelf>(
+    fn pass_by_route<S: Shelf>(
         &mut self,
         shelf: &mut S,
         owner: Owner,
@@ -419,7 +413,7 @@ impl Network {
             ..*packet
         };
         self.note_arrival(at.now, route.number, &sent);
-        self.enter_by_way(shelf, owner, at, route, &sent);
+        self.enter_by_route(shelf, owner, at, route, &sent);
     }
 
     // A packet is handed on by a verdict.
@@ -444,18 +438,11 @@ impl Network {
             self.old self.new }
     {
         match verdict {
-            Verdict::OverTheLink => {
-                self.to_direct(shelf, owner, at.now, packet);
-                return;
-            }
-            Verdict::Dropped => {
-                self.drop_packet(at.now, packet, DropCause::Denied);
-                return;
-            }
+            Verdict::OverTheLink => self.to_direct(shelf, owner, at.now, packet),
+            Verdict::Dropped => self.drop_packet(at.now, packet, DropCause::Denied),
             Verdict::IntoPipe(number, place) => {
                 let sent = Packet { place, ..*packet };
                 self.to_pipe(shelf, owner, at, number, &sent);
-                return;
             }
         }
     }
@@ -485,7 +472,7 @@ impl Network {
             unreachable!();
         };
         let route = held.route;
-        self.pass_by_way(shelf, owner, at, &route, packet);
+        self.pass_by_route(shelf, owner, at, &route, packet);
     }
 
     // A packet passes the rules from the first on, by a search.
@@ -534,14 +521,8 @@ impl Network {
             self.old self.new }
     {
         match known {
-            Some(route) => {
-                self.pass_by_way(shelf, owner, at, route, packet);
-                return;
-            }
-            None => {
-                self.search_behind(shelf, owner, at, *packet);
-                return;
-            }
+            Some(route) => self.pass_by_route(shelf, owner, at, route, packet),
+            None => self.search_behind(shelf, owner, at, *packet),
         }
     }
 
@@ -578,14 +559,14 @@ impl Network {
         owner: Owner,
         at: EventContext,
         sending: &Sending,
-        passage: &Lookup,
+        lookup: &Lookup,
     )
         requires stands { Stands at (S.pocket shelf.old owner) self.old }
         requires made { self.old.made < 2 ^ 63 }
         requires room { (S.pocket shelf.old owner).count < (S.pocket shelf.old owner).budget →
             0 < S.room shelf.old owner }
         requires log { 3 < self.old.log.spare }
-        requires ready { CanMake sending.now.send passage.now self.old }
+        requires ready { CanMake sending.now.send lookup.now self.old }
         ensures becomes { Becomes 1
             (make at sending.now.load sending.now.send
             (net_of (S.pocket shelf.old owner) self.old))
@@ -597,18 +578,13 @@ impl Network {
         let packet = packet_of(sending.load, &sending.send, self.made);
         self.made += 1;
         self.note_made(at.now, &packet);
-        if shelf.count(owner) < at.packet_budget.get() as usize {
-            match passage {
-                Lookup::Cached(line) => {
-                    self.pass_on_line(shelf, owner, at, *line, &packet);
-                    return;
-                }
-                Lookup::Searched => {
-                    self.pass_rules(shelf, owner, at, packet);
-                    return;
-                }
-            }
+        if shelf.count(owner) >= at.packet_budget.get() as usize {
+            self.drop_packet(at.now, &packet, DropCause::Budget);
+            return;
         }
-        self.drop_packet(at.now, &packet, DropCause::Budget);
+        match lookup {
+            Lookup::Cached(line) => self.pass_on_line(shelf, owner, at, *line, &packet),
+            Lookup::Searched => self.pass_rules(shelf, owner, at, packet),
+        }
     }
 }

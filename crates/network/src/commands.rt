@@ -51,27 +51,25 @@ impl Network {
     {
         self.obey_ready()?;
         match *command {
-            Command::PipeDelete(pipe) => {
-                return self.delete_pipe(shelf, owner, at, number, pipe);
-            }
-            Command::Inject(send) => return self.inject(shelf, owner, at, number, &send),
-            Command::Add(rule) => return self.add(at, number, &rule),
-            Command::Delete(rule) => return self.delete(at, number, rule),
-            Command::Config { pipe, config } => return self.configure(at, number, pipe, &config),
-            Command::PipeShow => return self.show_pipes(at, number),
-            Command::Show => return self.show_rules(at, number),
+            Command::PipeDelete(pipe) => self.delete_pipe(shelf, owner, at, number, pipe),
+            Command::Inject(send) => self.inject(shelf, owner, at, number, &send),
+            Command::Add(rule) => self.add(at, number, &rule),
+            Command::Delete(rule) => self.delete(at, number, rule),
+            Command::Config { pipe, config } => self.configure(at, number, pipe, &config),
+            Command::PipeShow => self.show_pipes(at, number),
+            Command::Show => self.show_rules(at, number),
             Command::Train {
                 number: source,
                 train,
-            } => return self.start_train(at, number, source, &train),
+            } => self.start_train(at, number, source, &train),
             Command::Flow {
                 number: source,
                 flow,
-            } => return self.start_flow(at, number, source, &flow),
-            Command::Stop(flow) => return self.stop(at, number, flow),
-            Command::OnePass(one_pass) => return self.set_one_pass(at, number, one_pass),
-            Command::Trace(trace) => return self.set_trace(at, number, trace),
-            Command::End => return self.end(at, number),
+            } => self.start_flow(at, number, source, &flow),
+            Command::Stop(flow) => self.stop(at, number, flow),
+            Command::OnePass(one_pass) => self.set_one_pass(at, number, one_pass),
+            Command::Trace(trace) => self.set_trace(at, number, trace),
+            Command::End => self.end(at, number),
         }
     }
 
@@ -109,16 +107,11 @@ impl Network {
         ensures succeeds { IsSome (add_refusal rule.now self.old.book) → IsOk result }
     {
         match self.book.add(*rule) {
-            Ok(()) => {
-                self.done(at.now, number);
-                return Ok(());
-            }
-            Err(AddError::Refused(refusal)) => {
-                self.refuse(at.now, number, refusal);
-                return Ok(());
-            }
+            Ok(()) => self.done(at.now, number),
+            Err(AddError::Refused(refusal)) => self.refuse(at.now, number, refusal),
             Err(AddError::NoMemory) => return Err(AllocError),
         }
+        Ok(())
     }
 
     // The rules of a number are deleted.
@@ -132,15 +125,10 @@ impl Network {
         ensures succeeds { IsOk result }
     {
         match self.book.delete(rule) {
-            Ok(()) => {
-                self.done(at.now, number);
-                return Ok(());
-            }
-            Err(refusal) => {
-                self.refuse(at.now, number, refusal);
-                return Ok(());
-            }
+            Ok(()) => self.done(at.now, number),
+            Err(refusal) => self.refuse(at.now, number, refusal),
         }
+        Ok(())
     }
 
     // A pipe is configured.
@@ -162,16 +150,11 @@ impl Network {
         ensures kept { IsSome (pipe_of pipe self.old.table.pipes) → IsOk result }
     {
         match self.table.configure(pipe, config) {
-            Ok(()) => {
-                self.done(at.now, number);
-                return Ok(());
-            }
-            Err(ConfigureError::Refused(refusal)) => {
-                self.refuse(at.now, number, refusal);
-                return Ok(());
-            }
+            Ok(()) => self.done(at.now, number),
+            Err(ConfigureError::Refused(refusal)) => self.refuse(at.now, number, refusal),
             Err(ConfigureError::NoMemory) => return Err(AllocError),
         }
+        Ok(())
     }
 
     // A pipe is deleted, and all that it held is dropped.
@@ -202,18 +185,14 @@ impl Network {
             return Ok(());
         }
         self.reserve_besides(shelf.count(owner))?;
-        match self.table.delete(shelf, owner, pipe) {
-            Err(AllocError) => return Err(AllocError),
-            Ok(None) => {
-                self.refuse(at.now, number, Refusal::NoSuchPipe);
-                return Ok(());
-            }
-            Ok(Some(packets)) => {
+        match self.table.delete(shelf, owner, pipe)? {
+            None => self.refuse(at.now, number, Refusal::NoSuchPipe),
+            Some(packets) => {
                 self.done(at.now, number);
                 self.drop_all(at.now, &packets, DropCause::Deleted);
-                return Ok(());
             }
         }
+        Ok(())
     }
 
     // The pipes are listed.

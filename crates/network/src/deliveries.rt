@@ -1,6 +1,6 @@
 //! What a delivered packet does.
 
-ghost use Rattle.std.specs.Prelude.{◌≡◌, ℕ, ◌+◌, ◌*◌, ◌^◌, ◌<◌, ◌≤◌, ◌∷◌, [], IsOk, IfOk, OnOk};
+ghost use Rattle.std.specs.Prelude.{◌≡◌, ℕ, ◌+◌, ◌*◌, ◌^◌, ◌<◌, ◌≤◌, IsOk, IfOk, OnOk};
 ghost use Rattle.std.specs.Option.{option_map_or};
 ghost use Rattle.emu_model.specs.Moments.{IsMoment};
 ghost use Rattle.emu_model.specs.declared.packets.Load.TheVariants.{Plain, Seg, Ack};
@@ -39,15 +39,13 @@ impl Network {
         ensures pockets { AllStay (S.pocket shelf.old) (S.pocket shelf.new) }
         ensures rooms { (o : ℕ) → S.room shelf.old o ≤ S.room shelf.new o }
         ensures places { OnOk result (KeepsPlaces self.old.table.pipes self.new.table.pipes) }
-        ensures ready { IfOk result (λ passage. CanDeliver load passage self.new) }
+        ensures ready { IfOk result (λ lookup. CanDeliver load lookup self.new) }
         ensures plain { load ≡ Plain → IsOk result }
     {
         match load {
-            Load::Plain => return Ok(Lookup::Searched),
-            Load::Ack { .. } => return Ok(Lookup::Searched),
-            Load::Seg { flow, first } => {
-                return self.segment_ready(shelf, owner, now, flow, first);
-            }
+            Load::Plain => Ok(Lookup::Searched),
+            Load::Ack { .. } => Ok(Lookup::Searched),
+            Load::Seg { flow, first } => self.segment_ready(shelf, owner, now, flow, first),
         }
     }
 
@@ -72,7 +70,7 @@ impl Network {
         ensures pockets { AllStay (S.pocket shelf.old) (S.pocket shelf.new) }
         ensures rooms { (o : ℕ) → S.room shelf.old o ≤ S.room shelf.new o }
         ensures places { OnOk result (KeepsPlaces self.old.table.pipes self.new.table.pipes) }
-        ensures ready { IfOk result (λ passage. CanDeliver (Seg flow first) passage self.new) }
+        ensures ready { IfOk result (λ lookup. CanDeliver (Seg flow first) lookup self.new) }
     {
         self.traffic.take_ready(flow, first)?;
         let Some(send) = self.traffic.reply(flow) else {
@@ -89,13 +87,13 @@ impl Network {
         owner: Owner,
         at: EventContext,
         packet: &Packet,
-        passage: &Lookup,
+        lookup: &Lookup,
     )
         requires stands { Stands at (S.pocket shelf.old owner) self.old }
         requires made { self.old.made < 2 ^ 63 }
         requires room { 0 < S.room shelf.old owner }
         requires log { 4 < self.old.log.spare }
-        requires ready { CanDeliver packet.now.load passage.now self.old }
+        requires ready { CanDeliver packet.now.load lookup.now self.old }
         ensures becomes { Becomes 1
             (deliver at packet.now (net_of (S.pocket shelf.old owner) self.old))
             (S.pocket shelf.old owner) (S.pocket shelf.new owner) self.old self.new }
@@ -107,7 +105,7 @@ impl Network {
             packet: packet.number,
             load: packet.load,
         });
-        self.take_load(shelf, owner, at, packet.load, passage);
+        self.take_load(shelf, owner, at, packet.load, lookup);
     }
 
     // What a delivered load does.
@@ -118,28 +116,22 @@ impl Network {
         owner: Owner,
         at: EventContext,
         load: Load,
-        passage: &Lookup,
+        lookup: &Lookup,
     )
         requires stands { Stands at (S.pocket shelf.old owner) self.old }
         requires made { self.old.made < 2 ^ 63 }
         requires room { 0 < S.room shelf.old owner }
         requires log { 3 < self.old.log.spare }
-        requires ready { CanDeliver load passage.now self.old }
+        requires ready { CanDeliver load lookup.now self.old }
         ensures becomes { Becomes 1 (take_load at load (net_of (S.pocket shelf.old owner) self.old))
             (S.pocket shelf.old owner) (S.pocket shelf.new owner) self.old self.new }
         ensures takes { TakesRoom 4 owner (S.pocket shelf.old) (S.pocket shelf.new)
             self.old self.new }
     {
         match load {
-            Load::Plain => return,
-            Load::Seg { flow, first } => {
-                self.take_segment(shelf, owner, at, flow, first, passage);
-                return;
-            }
-            Load::Ack { flow, upto } => {
-                self.take_ack(at.now, flow, upto);
-                return;
-            }
+            Load::Plain => {}
+            Load::Seg { flow, first } => self.take_segment(shelf, owner, at, flow, first, lookup),
+            Load::Ack { flow, upto } => self.take_ack(at.now, flow, upto),
         }
     }
 
@@ -152,13 +144,13 @@ impl Network {
         at: EventContext,
         flow: FlowNumber,
         first: u64,
-        passage: &Lookup,
+        lookup: &Lookup,
     )
         requires stands { Stands at (S.pocket shelf.old owner) self.old }
         requires made { self.old.made < 2 ^ 63 }
         requires room { 0 < S.room shelf.old owner }
         requires log { 3 < self.old.log.spare }
-        requires ready { CanDeliver (Seg flow first) passage.now self.old }
+        requires ready { CanDeliver (Seg flow first) lookup.now self.old }
         ensures becomes { Becomes 1
             (take_load at (Seg flow first) (net_of (S.pocket shelf.old owner) self.old))
             (S.pocket shelf.old owner) (S.pocket shelf.new owner) self.old self.new }
@@ -166,12 +158,8 @@ impl Network {
             self.old self.new }
     {
         let answer = self.traffic.take(flow, first);
-        match answer {
-            Some(sending) => {
-                self.make(shelf, owner, at, &sending, passage);
-                return;
-            }
-            None => return,
+        if let Some(sending) = answer {
+            self.make(shelf, owner, at, &sending, lookup);
         }
     }
 
@@ -185,17 +173,13 @@ impl Network {
         ensures log { self.old.log.spare ≤ self.new.log.spare + 1 }
     {
         let answer = self.traffic.take_ack(now, flow, upto);
-        match answer {
-            Some(window) => {
-                self.note(&Record::AckTaken {
-                    moment: now,
-                    flow,
-                    cwnd: window.cwnd,
-                    ssthresh: window.ssthresh,
-                });
-                return;
-            }
-            None => return,
+        if let Some(window) = answer {
+            self.note(&Record::AckTaken {
+                moment: now,
+                flow,
+                cwnd: window.cwnd,
+                ssthresh: window.ssthresh,
+            });
         }
     }
 }

@@ -1,6 +1,6 @@
 //! What is due first, and what is told of a net.
 
-ghost use Rattle.std.specs.Prelude.{◌≡◌, ℕ, ◌<◌, ◌≤◌, ◌++◌, ◌∷◌, [], option_to_list, IfSome, OnOk, OnErr};
+ghost use Rattle.std.specs.Prelude.{◌≡◌, ◌<◌, ◌≤◌, ◌++◌, ◌∷◌, [], option_to_list, IfSome, OnOk, OnErr};
 ghost use Rattle.std.specs.List.{best_of};
 ghost use Rattle.emu_model.specs.declared.records.Record.TheVariants.{StepsSpent};
 ghost use Rattle.emu_model.specs.Net.{counters_of};
@@ -47,20 +47,18 @@ impl Network {
         self.traffic.next_due(clock, least).some()
     }
 
-    // The due of the link of `allow`, where something is on its way there.
+    // The due of the link of `allow`, where something is in flight there.
     #[inline(always)]
     fn direct_due(&self) -> Option<Due>
         ensures dues { (p : Pocket) →
             option_to_list result ≡ line_dues 0 (net_of p self.now).direct }
         ensures due { IfSome result (λ d. IsDue d self.now) }
     {
-        match self.direct.due() {
-            Some(moment) => Some(Due {
-                moment,
-                source: Source::direct_exit(),
-            }),
-            None => None,
-        }
+        let moment = self.direct.due()?;
+        Some(Due {
+            moment,
+            source: Source::direct_exit(),
+        })
     }
 
     // Appends the due of the link of `allow`.

@@ -1,12 +1,12 @@
 //! The events but the next command: exits, finishes, expiries and emissions.
 
-ghost use Rattle.std.specs.Prelude.{◌≡◌, ◌+◌, ◌*◌, ◌/◌, ◌%◌, ◌^◌, ◌<◌, ◌≤◌, ◌∷◌, [], ℕ, Some, None, true, false, IsOk, IfOk, OnOk, IfSome, OnSome, option_and_then, map, length};
+ghost use Rattle.std.specs.Prelude.{◌≡◌, ◌+◌, ◌*◌, ◌^◌, ◌<◌, ◌≤◌, ℕ, Some, true, false, IsOk, IfOk, OnOk, OnSome, option_and_then, map, length};
 ghost use Rattle.std.specs.Option.{option_map_or};
 ghost use Rattle.emu_model.specs.Moments.{IsMoment};
 ghost use Rattle.emu_model.specs.declared.sources.Class.TheVariants.{Expiry};
 ghost use Rattle.emu_model.specs.declared.packets.Load.TheVariants.{Plain};
 ghost use Rattle.emu_model.specs.Delay.{first_item, leave};
-ghost use Rattle.emu_model.specs.Net.{Net, drop_record, find_flow, find_pipe};
+ghost use Rattle.emu_model.specs.Net.{drop_record, find_flow, find_pipe};
 ghost use Rattle.emu_model.specs.Events.{direct_exit, emission, event_of, expire_flow, flying_in, pipe_exits, pipe_finishes};
 ghost use Rattle.packet_store.specs.Pocket.{OthersStay, AllStay};
 ghost use Rattle.network.specs.Kept.{net_of, IsHoused, Stands};
@@ -14,10 +14,9 @@ ghost use Rattle.network.specs.Changes.{Becomes, IsStill, Notes, NotesIn, Turns}
 ghost use Rattle.network.specs.Frames.{Frame};
 ghost use Rattle.network.specs.Ready.{CanDeliver, CanPass, start_after};
 ghost use Rattle.network.specs.Due.{IsDue};
-ghost use Rattle.pipe_table.specs.Table.{IsFinishing};
+ghost use Rattle.pipe_table.specs.Table.{IsFinishing, IsLeaving};
 ghost use Rattle.pipe_table.specs.Places.{StandsAt, KeepsPlaces};
-ghost use Rattle.traffic.specs.Kept.{with_traffic};
-ghost use Rattle.traffic.specs.Sends.{IsEmitting, next_send};
+ghost use Rattle.traffic.specs.Sends.{IsEmitting};
 
 use crate::flow_cache::{Lookup, Route, line_of};
 use crate::state::Network;
@@ -74,31 +73,31 @@ impl Network {
         self.reserve(MOST_RECORDS)?;
         let source = due.source;
         match source.class {
-            Class::NextCommand => return Ok(()),
+            Class::NextCommand => Ok(()),
             Class::Exit => {
                 let Some(pipe) = source.pipe() else {
                     return self.direct_exit(shelf, owner, at);
                 };
-                return self.pipe_exit(shelf, owner, at, pipe, source.instance());
+                self.pipe_exit(shelf, owner, at, pipe, source.instance())
             }
             Class::Finish => {
                 let Some(pipe) = source.pipe() else {
                     unreachable!();
                 };
-                return self.pipe_finish(shelf, owner, at, pipe, source.instance());
+                self.pipe_finish(shelf, owner, at, pipe, source.instance())
             }
             Class::Expiry => {
                 let Some(flow) = source.flow() else {
                     unreachable!();
                 };
                 self.expire(at, flow);
-                return Ok(());
+                Ok(())
             }
             Class::Emission => {
                 let Some(number) = source.flow() else {
                     unreachable!();
                 };
-                return self.emission(shelf, owner, at, number);
+                self.emission(shelf, owner, at, number)
             }
         }
     }
@@ -108,9 +107,7 @@ impl Network {
         requires { IsHoused (S.pocket shelf.now owner) self.now }
         ensures { result ≡ first_item (net_of (S.pocket shelf.now owner) self.now).direct.in_flight }
     {
-        let Some(key) = self.direct.front() else {
-            return None;
-        };
+        let key = self.direct.front()?;
         shelf.look(owner, key)
     }
 
@@ -132,9 +129,9 @@ impl Network {
             } }
         ensures pockets { AllStay (S.pocket shelf.old) (S.pocket shelf.new) }
         ensures ready { IfOk result
-            (λ passage. (p : Packet) →
+            (λ lookup. (p : Packet) →
             first_item (net_of (S.pocket shelf.old owner) self.old).direct.in_flight ≡ Some p →
-            CanDeliver p.load passage self.new) }
+            CanDeliver p.load lookup self.new) }
     {
         let Some(packet) = self.direct_front(shelf, owner) else {
             return Ok(Lookup::Searched);
@@ -142,7 +139,7 @@ impl Network {
         self.deliver_ready(shelf, owner, now, packet.load)
     }
 
-    // The first packet under way leaves the link of `allow`.
+    // The first packet in flight leaves the link of `allow`.
     fn leave_direct<S: Shelf>(&mut self, shelf: &mut S, owner: Owner) -> Option<Packet>
         requires { IsHoused (S.pocket shelf.old owner) self.old }
         ensures packet { result ≡ first_item
@@ -156,17 +153,14 @@ impl Network {
         ensures others { OthersStay owner (S.pocket shelf.old) (S.pocket shelf.new) }
     {
         keys_say_all();
-        let key = self.direct.leave();
-        let Some(key) = key else {
-            return None;
-        };
+        let key = self.direct.leave()?;
         let Some(packet) = shelf.take(owner, key) else {
             unreachable!();
         };
         Some(packet)
     }
 
-    // The first packet under way leaves the link of `allow`, and is delivered.
+    // The first packet in flight leaves the link of `allow`, and is delivered.
     #[inline(never)]
     fn direct_exit<S: Shelf>(
         &mut self,
@@ -183,15 +177,15 @@ impl Network {
         ensures frame { Frame result owner (S.pocket shelf.old) (S.pocket shelf.new)
             self.old self.new }
     {
-        let passage = self.direct_ready(shelf, owner, at.now)?;
+        let lookup = self.direct_ready(shelf, owner, at.now)?;
         let Some(packet) = self.leave_direct(shelf, owner) else {
             return Ok(());
         };
-        self.deliver(shelf, owner, at, &packet, &passage);
+        self.deliver(shelf, owner, at, &packet, &lookup);
         Ok(())
     }
 
-    // The first packet under way leaves an instance of a pipe.
+    // The first packet in flight leaves an instance of a pipe.
     #[inline(always)]
     fn pipe_exit<S: Shelf>(
         &mut self,
@@ -204,6 +198,7 @@ impl Network {
         requires stands { Stands at (S.pocket shelf.old owner) self.old }
         requires made { self.old.made < 2 ^ 63 }
         requires log { 5 < self.old.log.spare }
+        requires due { IsLeaving pipe instance at.now self.old.table.pipes }
         ensures ok { let n = net_of (S.pocket shelf.old owner) self.old in
             OnOk result
             (Becomes 1 (option_map_or (pipe_exits at pipe instance n) (find_pipe pipe n) n)
@@ -216,32 +211,13 @@ impl Network {
             self.old self.new }
     {
         let Some(place) = self.table.place_of(pipe) else {
-            self.exit_nothing(shelf, owner, at, pipe, instance);
-            return Ok(());
+            unreachable!();
         };
         if self.one_pass {
             return self.deliver_front(shelf, owner, at, pipe, place, instance);
         }
         self.pass_front(shelf, owner, at, pipe, place, instance)
     }
-
-    // Nothing leaves an instance in which nothing is on its way, and nothing changes.
-    #[inline(always)]
-    fn exit_nothing<S: Shelf>(
-        &self,
-        shelf: &S,
-        owner: Owner,
-        at: EventContext,
-        pipe: PipeNumber,
-        instance: u8,
-    )
-        requires stands { Stands at (S.pocket shelf.now owner) self.now }
-        requires none { option_and_then (flying_in instance)
-            (find_pipe pipe (net_of (S.pocket shelf.now owner) self.now)) ≡ None }
-        ensures { let n = net_of (S.pocket shelf.now owner) self.now in
-            Becomes 1 (option_map_or (pipe_exits at pipe instance n) (find_pipe pipe n) n)
-            (S.pocket shelf.now owner) (S.pocket shelf.now owner) self.now self.now }
-    {}
 
     // The same of a pipe that stands at a place, where the packet is delivered.
     #[tactic(auto, using(crate::proofs::RouteFacts::known_grown))]
@@ -259,6 +235,7 @@ impl Network {
         requires made { self.old.made < 2 ^ 63 }
         requires log { 5 < self.old.log.spare }
         requires place { StandsAt pipe place self.old.table.pipes }
+        requires due { IsLeaving pipe instance at.now self.old.table.pipes }
         requires one_pass { self.old.one_pass ≡ true }
         ensures ok { let n = net_of (S.pocket shelf.old owner) self.old in
             OnOk result
@@ -273,12 +250,11 @@ impl Network {
     {
         let index = usize::from(instance);
         let Some(packet) = self.table.front(place, index, shelf, owner) else {
-            self.exit_nothing(shelf, owner, at, pipe, instance);
-            return Ok(());
+            unreachable!();
         };
-        let passage = self.deliver_ready(shelf, owner, at.now, packet.load)?;
+        let lookup = self.deliver_ready(shelf, owner, at.now, packet.load)?;
         let _gone = self.table.exit(place, index, shelf, owner);
-        self.deliver(shelf, owner, at, &packet, &passage);
+        self.deliver(shelf, owner, at, &packet, &lookup);
         Ok(())
     }
 
@@ -319,6 +295,7 @@ impl Network {
         requires made { self.old.made < 2 ^ 63 }
         requires log { 5 < self.old.log.spare }
         requires place { StandsAt pipe place self.old.table.pipes }
+        requires due { IsLeaving pipe instance at.now self.old.table.pipes }
         requires one_pass { self.old.one_pass ≡ false }
         ensures ok { let n = net_of (S.pocket shelf.old owner) self.old in
             OnOk result
@@ -329,8 +306,7 @@ impl Network {
     {
         let index = usize::from(instance);
         let Some(packet) = self.table.front(place, index, shelf, owner) else {
-            self.exit_nothing(shelf, owner, at, pipe, instance);
-            return Ok(());
+            unreachable!();
         };
         let known = self.pass_ready(shelf, owner, at.now, &packet)?;
         let _gone = self.table.exit(place, index, shelf, owner);
@@ -442,17 +418,13 @@ impl Network {
         ensures log { self.old.log.spare ≤ self.new.log.spare + 1 }
     {
         let answer = self.traffic.expire(at.now, flow);
-        match answer {
-            Some(window) => {
-                self.note(&Record::TimerExpired {
-                    moment: at.now,
-                    flow,
-                    cwnd: window.cwnd,
-                    ssthresh: window.ssthresh,
-                });
-                return;
-            }
-            None => return,
+        if let Some(window) = answer {
+            self.note(&Record::TimerExpired {
+                moment: at.now,
+                flow,
+                cwnd: window.cwnd,
+                ssthresh: window.ssthresh,
+            });
         }
     }
 
@@ -480,9 +452,9 @@ impl Network {
             return Ok(());
         };
         let send = self.traffic.header_at(&found);
-        let passage = self.make_ready(shelf, owner, at.now, line_of(source), &send)?;
+        let lookup = self.make_ready(shelf, owner, at.now, line_of(source), &send)?;
         let sending = self.traffic.emit_at(at.now, &found);
-        self.make(shelf, owner, at, &sending, &passage);
+        self.make(shelf, owner, at, &sending, &lookup);
         Ok(())
     }
 }

@@ -105,9 +105,7 @@ impl FlowCache {
         ensures { IfSome result (λ r. (slice_get self.now line ≡ Some (Some r.now))
             × (r.now.send ≡ send.now)) }
     {
-        let Some(held) = self.at(line) else {
-            return None;
-        };
+        let held = self.at(line)?;
         if is_same(&held.send, send) {
             return Some(held);
         }
@@ -121,13 +119,7 @@ impl FlowCache {
         ensures none { IfNone result
             ((r : CacheEntry) → slice_get self.now line ≡ Some (Some r) → ⊥) }
     {
-        let Some(slot) = self.lines.get(line) else {
-            return None;
-        };
-        let Some(held) = slot else {
-            return None;
-        };
-        Some(held)
+        self.lines.get(line)?.as_ref()
     }
 
     /// Remembers a route, where there is memory for it; whether there was.

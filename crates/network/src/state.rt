@@ -102,8 +102,7 @@ impl Network {
         ensures ready { OnOk result (additional ≤ self.new.log.spare) }
         ensures succeeds { additional ≤ self.old.log.spare → IsOk result }
     {
-        self.log.reserve(additional)?;
-        Ok(())
+        self.log.reserve(additional)
     }
 
     // Makes room for the records of a command, and forgets the routes, which may be others after it.

@@ -1,11 +1,11 @@
 -- A pipe at its place in the table.
-use Rattle.std.proofs.Common.{◌≡◌, ℕ, zero, suc, ◌<◌, ◌≤◌, Bool, true, false, cond, refl, sym, ap, ◌∙◌, subst, List, [], ◌∷◌, ◌++◌, map, length, take, drop, set, get_or, position, Option, Some, None, Result, Ok, Err, IfOk, OnOk, OnErr, MatchResult, arith}
+use Rattle.std.proofs.Common.{◌≡◌, ℕ, suc, ◌<◌, ◌≤◌, Bool, true, false, cond, refl, sym, ap, ◌∙◌, subst, List, [], ◌∷◌, ◌++◌, map, length, take, drop, set, get_or, position, Option, Some, None, Result, Ok, Err, IfOk, OnOk, OnErr, MatchResult, arith}
 use Rattle.std.specs.Prelude.{◌==◌, option_map, option_and_then, unwrap_or, slice_get}
 use Rattle.std.specs.List.{remove, insert, position_or_len}
 use Rattle.std.specs.Option.{option_map_or}
 use Rattle.std.proofs.lemmas.List.{set_split, length-set, length-append, length-map, length-take-le, map-append, take-append-drop}
-use Rattle.emu_model.specs.Lists.{change_at, replace_first, remove_first}
-use Rattle.emu_model.specs.Delay.{first_item, leave}
+use Rattle.emu_model.specs.Lists.{replace_first, remove_first}
+use Rattle.emu_model.specs.Delay.{InFlight, first_exit, first_item}
 use Rattle.emu_model.specs.declared.packets.Packet.{Packet}
 use Rattle.emu_model.specs.Pipes.{PipeState, Instance, InService, Drop, pipe_arrive, pipe_finish, pipe_exit, pipe_configure, pipe_packets}
 use Rattle.emu_model.specs.declared.records.Record.TheVariants.{PacketFinished}
@@ -17,10 +17,10 @@ use Rattle.emu_model.specs.declared.records.DropCause.TheVariants.{Deleted}
 use Rattle.emu_model.specs.Events.{flying_in, served_in, leave_pipe_some, pipe_exits, pipe_finishes}
 use Rattle.packet_store.specs.Pocket.{Pocket}
 use Rattle.pipe_core.specs.Moves.{some_packet, packet_at, AreNamed, Keeps}
-use Rattle.pipe_core.specs.Keyed.{KeyedPipe, seen_pipe, seen_slot, view, keys_of}
+use Rattle.pipe_core.specs.Keyed.{KeyedPipe, seen_pipe, view, keys_of}
 use Rattle.pipe_core.specs.Views.{ViewsAgree, PacketsAreNamed}
 use Rattle.pipe_core.specs.Steps.{HasRoomAt, IsGrown, drops_by_codel}
-use Rattle.pipe_table.specs.Table.{Table, seen_pipes, with_pipes, pipe_keys, has_number, is_above, pipe_of, HasRoomIn, HasGrown, IsFinishing, IsTable}
+use Rattle.pipe_table.specs.Table.{Table, seen_pipes, with_pipes, pipe_keys, has_number, is_above, pipe_of, HasRoomIn, HasGrown, IsFinishing, IsLeaving, IsTable}
 use Rattle.pipe_table.proofs.Splits.{position-within, position-passes, position-first, position-whole}
 use Rattle.pipe_table.proofs.TableFacts.{shows_number, found-here, seen-replace, seen-remove, seen-before, seen-behind, Keeps-lift, AreNamed-at}
 use Rattle.pipe_table.proofs.NetFacts.{find-none, find-some, arrive-is, exit-is, finish-is}
@@ -206,9 +206,6 @@ module _ (k i : ℕ) (ps : List KeyedPipe) (x : KeyedPipe) (at : Some i ≡ posi
               ∙ ap (seen_pipes (packet_at q.find)) (sym (removed y))) z;
         }))
 
-  pub set-same : set ps i x ≡ ps
-  set-same = changed x ∙ sym whole
-
   -- what can come to a pipe can come after a change that keeps room
   pub ready-at : (y : KeyedPipe) → y.number ≡ x.number → ((packet : Packet) → HasRoomAt packet x → HasRoomAt packet y) →
       (j : ℕ) (packet : Packet) → HasRoomIn j packet ps → HasRoomIn j packet (set ps i y)
@@ -284,6 +281,41 @@ pub finishing-at : (k j now : ℕ) (ps : List KeyedPipe) (x : KeyedPipe) → pip
 finishing-at k j now ps x here due f =
     sym (ap (λ o. option_and_then (λ p. option_map (λ (s : InService Packet). s.period.finish) (served_in j (seen_pipe f p))) o) here) ∙ due f
 
+-- when the first packet leaves an instance that may be there
+abbrev exit-in : Option Instance → Option ℕ
+exit-in o = option_and_then (λ (i : Instance). first_exit i.line.in_flight) o
+
+-- only a pipe that is there has an exit due
+pub not-leaving : (k j now : ℕ) (ps : List KeyedPipe) → pipe_of k ps ≡ None → IsLeaving k j now ps → ⊥
+not-leaving k j now ps none due =
+    let other : None ≡ Some now =
+    sym (ap (option_and_then (λ p. exit-in (slice_get (seen_pipe (λ key. some_packet) p).instances j))) none) ∙ due (λ key. some_packet) in
+    absurd (cc)
+
+pub leaving-at : (k j now : ℕ) (ps : List KeyedPipe) (x : KeyedPipe) → pipe_of k ps ≡ Some x → IsLeaving k j now ps → (f : ℕ → Packet) →
+    exit-in (slice_get (seen_pipe f x).instances j) ≡ Some now
+leaving-at k j now ps x here due f =
+    sym (ap (option_and_then (λ p. exit-in (slice_get (seen_pipe f p).instances j))) here) ∙ due f
+
+-- and there a packet is in flight
+pub leaving-flies : (k j now : ℕ) (ps : List KeyedPipe) → IsLeaving k j now ps → (p : Pocket) (n : Net) →
+    option_and_then (flying_in j) (find_pipe k (record n { pipes = seen_pipes (packet_at p.find) ps })) ≡ None → ⊥
+leaving-flies k j now ps due p n none = go (pipe_of k ps) refl
+  where
+    flies : (o : Option Instance) → exit-in o ≡ Some now → option_and_then (λ (i : Instance). first_item i.line.in_flight) o ≡ None → ⊥
+    flies None e f = absurd (cc)
+    flies (Some i) e f = line i.line.in_flight e f
+      where
+        line : (xs : List (InFlight Packet)) → first_exit xs ≡ Some now → first_item xs ≡ None → ⊥
+        line [] e f = absurd (cc)
+        line (x ∷ xs) e f = absurd (cc)
+
+    go : (o : Option KeyedPipe) → pipe_of k ps ≡ o → ⊥
+    go None is = not-leaving k j now ps is due
+    go (Some x) is =
+        flies (slice_get (view p x).instances j) (leaving-at k j now ps x is due (packet_at p.find))
+        (sym (ap (option_and_then (flying_in j)) (find-some p k ps x n is)) ∙ none)
+
 pub ok-by : {T E : Type 0} {A B : Type 0} (r : Result T E) → (A → B) → OnOk r A → OnOk r B
 ok-by (Ok t) h a = h a
 ok-by (Err e) h a = a
@@ -300,31 +332,6 @@ on_any_err (Err e) a = a
 pub err-by : {T E : Type 0} {A B : Type 0} (r : Result T E) → (A → B) → OnErr r A → OnErr r B
 err-by (Ok t) h a = a
 err-by (Err e) h a = h a
-
--- beyond the instances nothing flies, and nothing leaves
-slice_get-beyond : {A : Type 0} (xs : List A) (n : ℕ) → length xs ≤ n → slice_get xs n ≡ None
-slice_get-beyond [] n le = refl
-slice_get-beyond (x ∷ xs) zero le = absurd (omega (arith, le))
-slice_get-beyond (x ∷ xs) (suc n) le = slice_get-beyond xs n (omega (arith, le))
-
-change_at-beyond : {A : Type 0} (f : A → A) (xs : List A) (n : ℕ) → length xs ≤ n → change_at n f xs ≡ xs
-change_at-beyond f [] n le = refl
-change_at-beyond f (x ∷ xs) zero le = absurd (omega (arith, le))
-change_at-beyond f (x ∷ xs) (suc n) le = ap (λ l. x ∷ l) (change_at-beyond f xs n (omega (arith, le)))
-
-pub flying-beyond : (p : Pocket) (x : KeyedPipe) (j : ℕ) → length x.slots ≤ j → None ≡ flying_in j (view p x)
-flying-beyond p x j le =
-    sym (ap (λ o. option_and_then (λ (i : Instance). first_item i.line.in_flight) o)
-    (slice_get-beyond (map (seen_slot (packet_at p.find)) x.slots) j (omega (arith, le, length-map x.slots (seen_slot (packet_at p.find))))))
-
-pub exit-beyond : (p : Pocket) (x : KeyedPipe) (j : ℕ) → length x.slots ≤ j → view p x ≡ pipe_exit j (view p x)
-exit-beyond p x j le = λ i. record (view p x) {
-  instances = sym (change_at-beyond (λ (l : Instance). record l { line = leave l.line }) (map (seen_slot (packet_at p.find)) x.slots) j
-      (omega (arith, le, length-map x.slots (seen_slot (packet_at p.find))))) i;
-}
-
-pub Keeps-same : (p : Pocket) (keys : List ℕ) → Keeps p p keys keys
-Keeps-same p keys = record { balance = λ k. refl; kept = λ k unused some. refl; count = refl; budget = refl }
 
 -- a new pipe, in its place
 pub insert-is : (ps : List KeyedPipe) (k : ℕ) (new : KeyedPipe) →

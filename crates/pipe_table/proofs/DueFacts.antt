@@ -15,7 +15,7 @@ use Rattle.emu_model.specs.Dues.{due, is_before, line_dues, service_dues, instan
 use Rattle.emu_model.specs.Events.{served_in}
 use Rattle.emu_model.specs.Pipes.{Instance, InService}
 use Rattle.pipe_core.specs.Keyed.{KeyedPipe, seen_pipe, seen_slot}
-use Rattle.pipe_table.specs.Table.{pipe_of, IsFinishing, IsFinishDue, IsPiped, IsPipeNumber, IsTable, seen_pipes}
+use Rattle.pipe_table.specs.Table.{pipe_of, IsFinishing, IsLeaving, IsExitDue, IsFinishDue, IsPiped, IsPipeNumber, IsTable, seen_pipes}
 use Rattle.pipe_table.proofs.TableFacts.{found-here}
 use Rattle.pipe_table.proofs.NumberOrder.{first-of-number}
 use Rattle.pipe_table.specs.Reach.{Reaches, instance_dues}
@@ -24,7 +24,7 @@ best-append : (d : Due) (xs ys : List Due) → best_of is_before d (xs ++ ys) �
 best-append d xs ys = fold-append (λ b x. cond (is_before x b) x b) d xs ys
 
 pub Reaches-none : (ps : List KeyedPipe) (d : Due) → Reaches ps (λ f. []) d d
-Reaches-none ps d = record { least = λ f. refl; moment = omega arith; finishing = λ h. h; piped = λ h. h }
+Reaches-none ps d = record { least = λ f. refl; moment = omega arith; finishing = λ h. h; leaving = λ h. h; piped = λ h. h }
 
 pub Reaches-then : (ps : List KeyedPipe) (xs ys : (ℕ → Packet) → List Due) (a b c : Due) → Reaches ps xs a b → Reaches ps ys b c →
     Reaches ps (λ f. xs f ++ ys f) a c
@@ -32,6 +32,7 @@ Reaches-then ps xs ys a b c r s = record {
   least = λ f. s.least f ∙ ap (λ d. best_of is_before d (ys f)) (r.least f) ∙ sym (best-append a (xs f) (ys f));
   moment = omega (arith, r.moment, s.moment);
   finishing = λ h. s.finishing (r.finishing h);
+  leaving = λ h. s.leaving (r.leaving h);
   piped = λ h. s.piped (r.piped h);
 }
 
@@ -40,6 +41,7 @@ Reaches-by ps xs ys a b same r = record {
   least = λ f. r.least f ∙ ap (best_of is_before a) (same f);
   moment = r.moment;
   finishing = r.finishing;
+  leaving = r.leaving;
   piped = r.piped;
 }
 
@@ -88,6 +90,7 @@ Reaches-at ps pipe index best sooner last exit finish few range here exits finis
     one-moment sooner last (option_map (due Finish (pipe.number * 256 + index)) finish) is2,
   );
   finishing = λ h. second from2 (first from1 h);
+  leaving = λ h. second_leaving from2 (first_leaving from1 h);
   piped = λ h. second_piped from2 (first_piped from1 h);
 }
   where
@@ -117,6 +120,33 @@ Reaches-at ps pipe index best sooner last exit finish few range here exits finis
             (pipe_of (number-of pipe.number index few z) ps))
             ∙ ap (option_and_then (λ p. option_map (λ (s : InService Packet). s.period.finish) (served_in index (seen_pipe f p)))) here
             ∙ sym (is f))
+
+    first_leaving : (sooner ≡ best) ⊎ (option_map (due Exit (pipe.number * 256 + index)) exit ≡ Some sooner) → IsExitDue best ps → IsExitDue sooner ps
+    first_leaving (inl e) h = subst (λ d. IsExitDue d ps) (sym e) h
+    first_leaving (inr e) h = go exit exits e
+      where
+        go : (o : Option ℕ) →
+            ((f : ℕ → Packet) → o ≡ option_and_then (λ (i : Instance). first_exit i.line.in_flight) (slice_get (seen_pipe f pipe).instances index)) →
+            option_map (due Exit (pipe.number * 256 + index)) o ≡ Some sooner → IsExitDue sooner ps
+        go None is e = absurd (cc)
+        go (Some m) is e = λ c some.
+            subst (λ (d : Due). IsLeaving (d.source.number / 256) (d.source.number % 256) d.moment ps) (ap (λ o. unwrap_or o sooner) e)
+            (λ f.
+            (λ z. option_and_then (λ p. option_and_then (λ (i : Instance). first_exit i.line.in_flight) (slice_get (seen_pipe f p).instances (index-of pipe.number index few z)))
+            (pipe_of (number-of pipe.number index few z) ps))
+            ∙ ap (option_and_then (λ p. option_and_then (λ (i : Instance). first_exit i.line.in_flight) (slice_get (seen_pipe f p).instances index))) here
+            ∙ sym (is f))
+
+    second_leaving : (last ≡ sooner) ⊎ (option_map (due Finish (pipe.number * 256 + index)) finish ≡ Some last) → IsExitDue sooner ps → IsExitDue last ps
+    second_leaving (inl e) h = subst (λ d. IsExitDue d ps) (sym e) h
+    second_leaving (inr e) h = go finish e
+      where
+        go : (o : Option ℕ) → option_map (due Finish (pipe.number * 256 + index)) o ≡ Some last → IsExitDue last ps
+        go None e = absurd (cc)
+        go (Some m) e = λ c some.
+            let is : due Finish (pipe.number * 256 + index) m ≡ last = ap (λ o. unwrap_or o last) e in
+            let other : Finish ≡ Exit = ap (λ (d : Due). d.source.class) is ∙ c in
+            absurd (cc)
 
     number_range : IsPipeNumber ((pipe.number * 256 + index) / 256)
     number_range = subst IsPipeNumber (sym (number-of pipe.number index few)) range

@@ -38,16 +38,6 @@ lines-more f pipe i s h =
     (λ z. instance_lines pipe.number 0 (take i (map (seen_slot f) pipe.slots)) ++ line_of pipe.number (same z) s ∷ [])
     ∙ more pipe.number 0 (map (seen_slot f) pipe.slots) i s h
 
-pub lines-all : (f : ℕ → Packet) (pipe : KeyedPipe) →
-    instance_lines pipe.number 0 (take (length pipe.slots) (map (seen_slot f) pipe.slots)) ≡ instance_lines pipe.number 0 (map (seen_slot f) pipe.slots)
-lines-all f pipe =
-    ap (λ n. instance_lines pipe.number 0 (take n (map (seen_slot f) pipe.slots))) (sym (length-map pipe.slots (seen_slot f)))
-    ∙ ap (instance_lines pipe.number 0) (take_all (map (seen_slot f) pipe.slots))
-  where
-    take_all : (xs : List Instance) → take (length xs) xs ≡ xs
-    take_all [] = refl
-    take_all (x ∷ xs) = ap (λ l. x ∷ l) (take_all xs)
-
 -- how many lines there are
 abbrev pub lines_of : List KeyedPipe → ℕ
 lines_of ps = sum_by (λ p. 1 + length p.slots) ps

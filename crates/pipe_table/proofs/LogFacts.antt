@@ -1,5 +1,5 @@
 -- What one record more does to the counts.
-use Rattle.std.proofs.Common.{◌≡◌, ◌≢◌, ℕ, ◌+◌, Bool, true, false, cond, refl, ap, ◌∙◌, List, [], ◌∷◌, ◌++◌, count_by, arith}
+use Rattle.std.proofs.Common.{◌≡◌, ◌≢◌, ℕ, ◌+◌, Bool, true, false, cond, refl, ◌∙◌, List, [], ◌∷◌, ◌++◌, count_by, arith}
 use Rattle.std.specs.Prelude.{◌==◌}
 use Rattle.std.proofs.lemmas.List.Sums.{fold-append}
 use Rattle.emu_model.specs.declared.packets.Load.{Load}
@@ -8,23 +8,10 @@ use Rattle.emu_model.specs.declared.records.DropCause.TheVariants.{Denied, NoPip
 use Rattle.emu_model.specs.declared.records.Record.{Record}
 use Rattle.emu_model.specs.declared.records.Record.TheVariants.{CommandDone, CommandRefused, PacketMade, PacketArrived, InstanceIdentified, PacketFinished, PacketDelivered, PacketPassed, PacketDropped, AckTaken, TimerExpired, StepsSpent, RuleLine, PipeLine, InstanceLine}
 use Rattle.emu_model.specs.Net.{is_delivery, is_drop_of, drops_of, cause_number}
-use Rattle.pipe_table.specs.Log.{delivered_of, all_drops_of, with_drop}
+use Rattle.pipe_table.specs.Log.{all_drops_of, with_drop}
 
 count-push : (p : Record → Bool) (rs : List Record) (r : Record) → count_by p (rs ++ r ∷ []) ≡ count_by p rs + cond (p r) 1 0
 count-push p rs r = fold-append (λ a x. a + cond (p x) 1 0) 0 rs (r ∷ [])
-
-pub other-count : (p : Record → Bool) (rs : List Record) (r : Record) → p r ≡ false → count_by p (rs ++ r ∷ []) ≡ count_by p rs
-other-count p rs r missed = omega (arith, count-push p rs r, ap {B = ℕ} (λ b. cond b 1 0) missed)
-
-pub delivered-push : (rs : List Record) (r : Record) → is_delivery r ≡ true → delivered_of (rs ++ r ∷ []) ≡ delivered_of rs + 1
-delivered-push rs r hit = omega (arith, count-push is_delivery rs r, ap {B = ℕ} (λ b. cond b 1 0) hit)
-
-pub no-drop : (rs : List Record) (r : Record) → ((c : DropCause) → is_drop_of c r ≡ false) → all_drops_of (rs ++ r ∷ []) ≡ all_drops_of rs
-no-drop rs r missed = λ i.
-    same Denied i ∷ same NoPipe i ∷ same NoInstance i ∷ same Lost i ∷ same Full i ∷ same Codel i ∷ same Deleted i ∷ same Budget i ∷ []
-  where
-    same : (c : DropCause) → drops_of (rs ++ r ∷ []) c ≡ drops_of rs c
-    same c = other-count (is_drop_of c) rs r (missed c)
 
 module _ (rs : List Record) (moment packet : ℕ) (load : Load) where
   more : (cause c : DropCause) →

@@ -2,7 +2,7 @@
 use Rattle.std.proofs.Common.{◌≡◌, ℕ, suc, ◌+◌, ◌<◌, ◌≤◌, refl, sym, ap, ◌∙◌, subst, List, [], ◌∷◌, ◌++◌, length, take, drop, set, get_or, append-nil, append_assoc, arith}
 use Rattle.std.specs.Prelude.{unwrap_or}
 use Rattle.std.proofs.lemmas.Grind.{drop_more_same}
-use Rattle.std.proofs.lemmas.List.{map-append, drop_more, take_more, take_more_set, drop-set-lt, set_split, set-get_or, length-append, length-map, length-set, take_all, take-append-drop}
+use Rattle.std.proofs.lemmas.List.{map-append, drop_more, take_more, take_more_set, drop-set-lt, set_split, set-get_or, length-append, length-map, length-set, take-append-drop}
 use Rattle.packet_store.specs.Pocket.{Pocket}
 use Rattle.pipe_core.specs.Uses.{uses}
 use Rattle.pipe_core.proofs.CallerLemmas.{AreNamed-after, AreNamed-front, found-some, Rehouses-none, Rehouses-then}
@@ -149,18 +149,3 @@ module _ (p q r s : Pocket) (old now : List KeyedPipe) (i : ℕ) (within : i < l
       subst (IsTable seed low) (sym (set_split now i y within))
       (IsTable-change seed low (take i now) (drop (suc i) now) x y same number
       (subst (IsTable seed low) (sym (set-get_or now i d) ∙ set_split now i (get_or now i d) within ∙ ap (λ z. take i now ++ z ∷ drop (suc i) now) (sym read)) t))
-
--- all pipes were moved
-module _ (p q r s : Pocket) (old now : List KeyedPipe) (i : ℕ) (past : length now ≤ i) (m : AreMoved p q r s old now i) where
-  pub all-moved : Rehouses p q r s (pipe_keys old) (pipe_keys now)
-  all-moved =
-      subst (λ l. Rehouses p q r s (pipe_keys l) (pipe_keys now)) (take_all i old (omega (arith, m.long, past)))
-      (subst (λ l. Rehouses p q r s (pipe_keys (take i old)) (pipe_keys l)) (take_all i now past) m.moved)
-
-  pub all-shown : seen_pipes (packet_at s.find) now ≡ seen_pipes (packet_at p.find) old
-  all-shown =
-      ap (seen_pipes (packet_at s.find)) (sym (take_all i now past)) ∙ m.shown
-      ∙ ap (seen_pipes (packet_at p.find)) (take_all i old (omega (arith, m.long, past)))
-
-  pub all-keys : length (pipe_keys (take i old)) ≡ length (pipe_keys old)
-  all-keys = ap (λ l. length (pipe_keys l)) (take_all i old (omega (arith, m.long, past)))

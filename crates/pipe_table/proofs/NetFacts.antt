@@ -33,12 +33,6 @@ seen-is f (Some x) = refl
 pub has-is : (p : Pocket) (k : ℕ) (ps : List KeyedPipe) (n : Net) → is_some (pipe_of k ps) ≡ is_some (find_pipe k (net p ps n))
 has-is p k ps n = sym (ap is_some (seen-find (packet_at p.find) k ps) ∙ seen-is (packet_at p.find) (pipe_of k ps))
 
-pub arrive-nowhere : (at : EventContext) (p : Pocket) (k : ℕ) (packet : Packet) (ps : List KeyedPipe) (n : Net) → pipe_of k ps ≡ None →
-    enter_pipe at k packet (net p ps n) ≡ drop_packet at.now NoPipe packet (net p ps n)
-arrive-nowhere at p k packet ps n none =
-    ap (λ o. option_map_or (λ pipe. put_after at.now k (pipe_arrive at.seed at.now packet pipe) (net p ps n)) o
-    (drop_packet at.now NoPipe packet (net p ps n))) (find-none p k ps n none)
-
 module _ (agree : ViewsAgree) (p q : Pocket) (before behind : List KeyedPipe) (x y : KeyedPipe)
     (named : AreNamed p (pipe_keys (before ++ x ∷ behind))) (keeps : Keeps p q (keys_of x.slots) (keys_of y.slots))
     (k : ℕ) (first : pipe_of k before ≡ None) (passes : has_number k x ≡ true) where

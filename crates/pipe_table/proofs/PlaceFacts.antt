@@ -1,5 +1,5 @@
 -- The places of pipes, as one changes.
-use Rattle.std.proofs.Common.{◌≡◌, ◌≢◌, ℕ, zero, suc, ◌+◌, ◌<◌, ◌≤◌, nat_lt, nat_eq, Bool, true, false, cond, refl, sym, ap, ◌∙◌, subst, List, [], ◌∷◌, ◌++◌, map, length, take, drop, set, get_or, position, ◌⊎◌, inl, inr, Option, Some, None, IsSome, arith, get_or-set_same, get_or-set_other}
+use Rattle.std.proofs.Common.{◌≡◌, ◌≢◌, ℕ, zero, suc, ◌+◌, ◌<◌, ◌≤◌, nat_lt, nat_eq, Bool, true, false, cond, refl, sym, ap, ◌∙◌, subst, List, [], ◌∷◌, ◌++◌, map, length, take, drop, set, get_or, position, ◌⊎◌, inl, inr, Option, Some, None, arith, get_or-set_same, get_or-set_other}
 use Rattle.std.specs.Prelude.{option_map, option_and_then, unwrap_or, slice_get}
 use Rattle.std.specs.List.{position_or_len, insert, remove}
 use Rattle.std.proofs.lemmas.Bool.{cases_eq}
@@ -12,20 +12,18 @@ use Rattle.std.proofs.lemmas.List.Sums.{position_or_len_is}
 use Rattle.std.proofs.lemmas.Option.{slice_get_within, get_or_from_slice_get, slice_get-get_or, slice_get-map}
 use Rattle.emu_model.specs.declared.packets.Packet.{Packet}
 use Rattle.emu_model.specs.FlowIds.{flow_id, instance_of}
-use Rattle.emu_model.specs.Delay.{first_item}
-use Rattle.emu_model.specs.Events.{flying_in}
+use Rattle.emu_model.specs.Delay.{first_exit}
 use Rattle.emu_model.specs.Pipes.{PipeState, Instance, InService}
-use Rattle.packet_store.specs.Pocket.{Pocket}
 use Rattle.due_index.specs.Table.{place_in}
-use Rattle.pipe_core.specs.Moves.{some_packet, packet_at}
+use Rattle.pipe_core.specs.Moves.{some_packet}
 use Rattle.pipe_core.specs.Masks.{KeepsIds}
 use Rattle.pipe_core.specs.Steps.{HasRoomAtSlot}
-use Rattle.pipe_core.specs.Keyed.{KeyedPipe, seen_pipe, seen_slot, view, ids_of}
+use Rattle.pipe_core.specs.Keyed.{KeyedPipe, seen_pipe, seen_slot, ids_of}
 use Rattle.pipe_core.proofs.CallerLemmas.{ids-seen}
-use Rattle.pipe_table.specs.Table.{seen_pipes, has_number, pipe_of, is_above, HasGrown, IsFinishing, IsTable}
+use Rattle.pipe_table.specs.Table.{seen_pipes, has_number, is_above, HasGrown, IsFinishing, IsLeaving, IsTable}
 use Rattle.pipe_table.proofs.Splits.{position-whole}
 use Rattle.pipe_table.proofs.NumberOrder.{place}
-use Rattle.pipe_table.proofs.At.{pipe-at, finishing-at, removed, insert-is}
+use Rattle.pipe_table.proofs.At.{pipe-at, finishing-at, leaving-at, removed, insert-is}
 use Rattle.pipe_table.specs.Places.{StandsAt, AreLed, IsInside, IsRouted, HasRoomAtPlace, KeepsPlaces}
 
 -- a list at a place that was set, and at another
@@ -311,16 +309,6 @@ pub kept-grown : (old new : List KeyedPipe) → HasGrown old new → KeepsPlaces
 kept-grown old new h =
     let f : ℕ → Packet = λ k. some_packet in kept-shown f f old new (h.shown f)
 
-pub kept-none : (ps : List KeyedPipe) → KeepsPlaces ps ps
-kept-none ps = record { places = λ k. refl; inside = λ place j h. h; routes = λ k packet place j h. h }
-
-pub kept-then : (a b c : List KeyedPipe) → KeepsPlaces a b → KeepsPlaces b c → KeepsPlaces a c
-kept-then a b c h k = record {
-  places = λ n. k.places n ∙ h.places n;
-  inside = λ place j i. k.inside place j (h.inside place j i);
-  routes = λ n packet place j r. k.routes n packet place j (h.routes n packet place j r);
-}
-
 -- a pipe that keeps the room of each instance
 pub rooms-set : (ps : List KeyedPipe) (i : ℕ) (x y : KeyedPipe) → i < length ps → x ≡ get_or ps i x →
     ((size j : ℕ) → HasRoomAtSlot size j x → HasRoomAtSlot size j y) → (size place j : ℕ) →
@@ -381,21 +369,30 @@ finishing-inside k i j now (p ∷ ps) at due =
     finish-within (i ∷ is) zero now e = omega arith
     finish-within (i ∷ is) (suc k) now e = omega (arith, finish-within is k now e)
 
-pub flying-inside : (p : Pocket) (x : KeyedPipe) (j : ℕ) (packet : Packet) → Some packet ≡ flying_in j (view p x) → j < length x.slots
-flying-inside p x j packet e = omega (arith, within (map (seen_slot (packet_at p.find)) x.slots) j e, length-map x.slots (seen_slot (packet_at p.find)))
-  where
-    within : (is : List Instance) (k : ℕ) → Some packet ≡ option_and_then (λ (i : Instance). first_item i.line.in_flight) (slice_get is k) → k < length is
-    within [] k e = absurd (cc)
-    within (i ∷ is) zero e = omega arith
-    within (i ∷ is) (suc k) e = omega (arith, within is k e)
-
-pub stands-some : (k i : ℕ) (ps : List KeyedPipe) → StandsAt k i ps → IsSome (pipe_of k ps)
-stands-some k i [] at = absurd (cc)
-stands-some k i (p ∷ ps) at =
+-- where an instance has something that leaves it is there
+pub leaving-inside : (k i j now : ℕ) (ps : List KeyedPipe) → StandsAt k i ps → IsLeaving k j now ps → IsInside i j ps
+leaving-inside k i j now [] at due = absurd (cc)
+leaving-inside k i j now (p ∷ ps) at due =
     let x : KeyedPipe = get_or (p ∷ ps) i p in
-    let there : slice_get (p ∷ ps) i ≡ Some x = slice_get-get_or (p ∷ ps) i p (stands-within k i (p ∷ ps) at) in
+    let within = stands-within k i (p ∷ ps) at in
+    let there : slice_get (p ∷ ps) i ≡ Some x = slice_get-get_or (p ∷ ps) i p within in
     let read : x ≡ get_or (p ∷ ps) i x = sym (get_or_from_slice_get (p ∷ ps) i x x there) in
-    subst IsSome (sym (pipe-at k i (p ∷ ps) x at read)) refl
+    let f : ℕ → Packet = λ k. some_packet in
+    record {
+      pipe = x;
+      there = there;
+      inside = omega (
+        arith,
+        leave-within (map (seen_slot f) x.slots) j now (leaving-at k j now (p ∷ ps) x (pipe-at k i (p ∷ ps) x at read) due f),
+        length-map x.slots (seen_slot f),
+      );
+    }
+  where
+    leave-within : (is : List Instance) (k now : ℕ) →
+        option_and_then (λ (i : Instance). first_exit i.line.in_flight) (slice_get is k) ≡ Some now → k < length is
+    leave-within [] k now e = absurd (cc)
+    leave-within (i ∷ is) zero now e = omega arith
+    leave-within (i ∷ is) (suc k) now e = omega (arith, leave-within is k now e)
 
 -- an entry for each pipe, where one is put or goes
 pub entries-insert : (k : ℕ) (new : KeyedPipe) (ps : List KeyedPipe) (t u : List (Option ℕ)) → AreLed ps t → length t ≤ length u →

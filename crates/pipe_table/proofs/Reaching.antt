@@ -19,7 +19,7 @@ use Rattle.pipe_core.specs.declared.slot.Slot.{Slot}
 use Rattle.pipe_core.specs.Moves.{some_packet}
 use Rattle.pipe_core.specs.Keyed.{KeyedPipe, seen_slot, seen_pipe}
 use Rattle.pipe_core.proofs.CallerLemmas.{first_exit-seen, finish-seen}
-use Rattle.pipe_table.specs.Table.{pipe_of, seen_pipes, IsPipeNumber, IsTable, IsFinishDue, IsPiped}
+use Rattle.pipe_table.specs.Table.{pipe_of, seen_pipes, IsPipeNumber, IsTable, IsExitDue, IsFinishDue, IsPiped}
 use Rattle.pipe_table.specs.Reach.{Reaches, instance_dues}
 use Rattle.pipe_table.specs.Leaves.{IsFit}
 use Rattle.pipe_table.proofs.DueFacts.{Reaches-none, Reaches-then, Reaches-by, Reaches-at, instances-more, instances-all, pipes-more, standing}
@@ -201,28 +201,34 @@ late-least d all e =
     ∙ (λ t. lesser (least_all-option (Some (late d)) t) ((sym (least_of-all all) ∙ sym e) t)) in
     sym (ap (λ o. unwrap_or o d) (both ∙ ap (λ (t : Bool). Some (cond t d (late d))) (late-after d)))
 
-late-says : (ps : List KeyedPipe) (d : Due) → IsFinishDue (late d) ps × IsPiped (late d)
+late-says : (ps : List KeyedPipe) (d : Due) → IsFinishDue (late d) ps × (IsExitDue (late d) ps × IsPiped (late d))
 unfolding late
-late-says ps d = ((λ e. absurd (cc)), ((λ e. absurd (cc)), (λ e. absurd (cc))))
+late-says ps d = ((λ e. absurd (cc)), ((λ e some. absurd (cc)), ((λ e. absurd (cc)), (λ e. absurd (cc)))))
 
 module _ (seed : ℕ) (ps : List KeyedPipe) (table : IsTable seed 0 ps) (fit : (f : ℕ → Packet) → All IsFit (seen_pipes f ps)) where
   number-reaches : (best result : Option Due) →
       ((f : ℕ → Packet) → result ≡ least_of (option_to_list best ++ flat_map pipe_dues (seen_pipes f ps))) →
-      (IfSome best (λ d. IsFinishDue d ps) → IfSome result (λ d. IsFinishDue d ps)) × (IfSome best IsPiped → IfSome result IsPiped)
-  number-reaches None None is = ((λ h. tt), (λ h. tt))
+      (IfSome best (λ d. IsFinishDue d ps) → IfSome result (λ d. IsFinishDue d ps))
+      × ((IfSome best (λ d. IsExitDue d ps) → IfSome result (λ d. IsExitDue d ps)) × (IfSome best IsPiped → IfSome result IsPiped))
+  number-reaches None None is = ((λ h. tt), ((λ h. tt), (λ h. tt)))
   number-reaches None (Some d) is =
       let r = reach_least seed ps (late d) d table fit (λ f. late-least d (flat_map pipe_dues (seen_pipes f ps)) (is f)) in
-      let says = late-says ps d in ((λ h. r.finishing says.0), (λ h. r.piped says.1))
+      let says = late-says ps d in ((λ h. r.finishing says.0), ((λ h. r.leaving says.1.0), (λ h. r.piped says.1.1)))
   number-reaches (Some b) None is = let no = is (λ k. some_packet) in absurd (cc)
   number-reaches (Some b) (Some d) is =
-      let r = reach_least seed ps b d table fit (λ f. ap (λ o. unwrap_or o d) (is f)) in (r.finishing, r.piped)
+      let r = reach_least seed ps b d table fit (λ f. ap (λ o. unwrap_or o d) (is f)) in (r.finishing, (r.leaving, r.piped))
 
   pub number-finishing : (best result : Option Due) →
       ((f : ℕ → Packet) → result ≡ least_of (option_to_list best ++ flat_map pipe_dues (seen_pipes f ps))) →
       IfSome best (λ d. IsFinishDue d ps) → IfSome result (λ d. IsFinishDue d ps)
   number-finishing best result is = (number-reaches best result is).0
 
+  pub number-leaving : (best result : Option Due) →
+      ((f : ℕ → Packet) → result ≡ least_of (option_to_list best ++ flat_map pipe_dues (seen_pipes f ps))) →
+      IfSome best (λ d. IsExitDue d ps) → IfSome result (λ d. IsExitDue d ps)
+  number-leaving best result is = (number-reaches best result is).1.0
+
   pub number-piped : (best result : Option Due) →
       ((f : ℕ → Packet) → result ≡ least_of (option_to_list best ++ flat_map pipe_dues (seen_pipes f ps))) →
       IfSome best IsPiped → IfSome result IsPiped
-  number-piped best result is = (number-reaches best result is).1
+  number-piped best result is = (number-reaches best result is).1.1

@@ -8,13 +8,14 @@ use Rattle.emu_model.specs.Delay.{first_exit}
 use Rattle.emu_model.specs.Dues.{due, is_before}
 use Rattle.emu_model.specs.Events.{served_in}
 use Rattle.pipe_core.specs.Keyed.{KeyedPipe, seen_pipe}
-use Rattle.pipe_table.specs.Table.{IsFinishDue, IsPiped}
+use Rattle.pipe_table.specs.Table.{IsExitDue, IsFinishDue, IsPiped}
 
 -- the least of a first due and others, which may depend on the packets that keys name
 pub record Reaches (ps : List KeyedPipe) (dues : (ℕ → Packet) → List Due) (first now : Due) : Type 0 where
   pub least : (f : ℕ → Packet) → now ≡ best_of is_before first (dues f)
   pub moment : now.moment ≤ first.moment
   pub finishing : IsFinishDue first ps → IsFinishDue now ps
+  pub leaving : IsExitDue first ps → IsExitDue now ps
   pub piped : IsPiped first → IsPiped now
 
 -- the dues of one instance of a pipe

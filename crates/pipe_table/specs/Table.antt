@@ -1,10 +1,11 @@
 -- The pipes of an experiment, whose packets stand on a shelf, and the pipes that they show.
-use Rattle.std.specs.Prelude.{◌≡◌, ℕ, ◌+◌, ◌/◌, ◌%◌, ◌<◌, ◌≤◌, ◌==◌, Bool, nat_lt, Option, Some, None, option_map, option_and_then, List, [], ◌∷◌, ◌++◌, map, find}
+use Rattle.std.specs.Prelude.{◌≡◌, ℕ, ◌+◌, ◌/◌, ◌%◌, ◌<◌, ◌≤◌, ◌==◌, Bool, nat_lt, Option, Some, None, option_map, option_and_then, List, [], ◌∷◌, ◌++◌, map, find, slice_get}
 use Rattle.emu_model.specs.declared.packets.Packet.{Packet}
 use Rattle.emu_model.specs.declared.sources.Due.{Due}
 use Rattle.emu_model.specs.declared.sources.Class.TheVariants.{Exit, Finish}
 use Rattle.emu_model.specs.declared.records.DropCause.TheVariants.{Deleted}
 use Rattle.emu_model.specs.Pipes.{PipeState, Drop}
+use Rattle.emu_model.specs.Delay.{first_exit}
 use Rattle.emu_model.specs.Events.{served_in}
 use Rattle.emu_model.specs.Net.{Net}
 use Rattle.emu_model.specs.declared.records.Refusal.{Refusal}
@@ -71,6 +72,16 @@ IsFinishing k i moment ps = (f : ℕ → Packet) →
 -- a due that, where it is a finish, is that of an instance
 abbrev pub IsFinishDue : Due → List KeyedPipe → Type 0
 IsFinishDue d ps = d.source.class ≡ Finish → IsFinishing (d.source.number / 256) (d.source.number % 256) d.moment ps
+
+-- the first packet in flight in an instance of pipe k is due to leave at this moment
+abbrev pub IsLeaving : ℕ → ℕ → ℕ → List KeyedPipe → Type 0
+IsLeaving k i moment ps = (f : ℕ → Packet) →
+    option_and_then (λ p. option_and_then (λ j. first_exit j.line.in_flight) (slice_get (seen_pipe f p).instances i)) (pipe_of k ps) ≡ Some moment
+
+-- a due that, where it is an exit of a pipe, is that of an instance; the link of `allow` has number 0
+abbrev pub IsExitDue : Due → List KeyedPipe → Type 0
+IsExitDue d ps =
+    d.source.class ≡ Exit → 0 < d.source.number → IsLeaving (d.source.number / 256) (d.source.number % 256) d.moment ps
 
 abbrev pub IsPipeNumber : ℕ → Type 0
 IsPipeNumber k = (1 ≤ k) × (k ≤ 65535)

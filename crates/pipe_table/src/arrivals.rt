@@ -1,6 +1,6 @@
 //! What a trace says of a packet that comes to a pipe.
 
-ghost use Rattle.std.specs.Prelude.{◌≡◌, ℕ, ◌+◌, ◌≤◌, ◌++◌, [], length};
+ghost use Rattle.std.specs.Prelude.{◌≡◌, ℕ, ◌+◌, ◌≤◌, ◌++◌, []};
 ghost use Rattle.std.specs.Option.{option_map_or};
 ghost use Rattle.emu_model.specs.FlowIds.{flow_id};
 ghost use Rattle.emu_model.specs.Net.{Net, arrivals, find_pipe, identify_record};

@@ -1,17 +1,15 @@
 //! What is due first among the pipes.
 
-ghost use Rattle.std.specs.Prelude.{◌≡◌, ℕ, ◌+◌, ◌*◌, ◌<◌, ◌≤◌, ◌++◌, ◌⊎◌, List, length, Some, option_map, option_and_then, option_to_list, flat_map, slice_get, slice_set, IsTrue, IfSome, vec_len, vec_capacity, OnOk, OnErr};
+ghost use Rattle.std.specs.Prelude.{◌≡◌, ℕ, ◌+◌, ◌*◌, ◌<◌, ◌≤◌, ◌++◌, length, Some, option_map, option_to_list, flat_map, slice_get, slice_set, IsTrue, IfSome, vec_len, vec_capacity, OnOk, OnErr};
 ghost use Rattle.std.specs.List.{sum_by};
 ghost use Rattle.emu_model.specs.declared.packets.Packet.{Packet};
-ghost use Rattle.emu_model.specs.Delay.{first_exit};
-ghost use Rattle.emu_model.specs.Dues.{due, pipe_dues, line_dues, service_dues};
+ghost use Rattle.emu_model.specs.Dues.{due, pipe_dues};
 ghost use Rattle.due_index.specs.Least.{least_of};
-ghost use Rattle.emu_model.specs.Events.{served_in};
 ghost use Rattle.emu_model.specs.Net.{Net};
 ghost use Rattle.packet_store.specs.Pocket.{Pocket};
-ghost use Rattle.pipe_core.specs.Keyed.{KeyedPipe, seen_pipe};
+ghost use Rattle.pipe_core.specs.Keyed.{seen_pipe};
 ghost use Rattle.pipe_core.specs.Leaves.{pipe_due};
-ghost use Rattle.pipe_table.specs.Table.{with_pipes, pipe_of, IsFinishDue, IsPiped};
+ghost use Rattle.pipe_table.specs.Table.{with_pipes, IsExitDue, IsFinishDue, IsPiped};
 ghost use Rattle.pipe_table.specs.Leaves.{AreIndexed};
 ghost use Rattle.pipe_table.specs.Reach.{instance_dues};
 
@@ -102,6 +100,8 @@ impl PipeTable {
             ≡ least_of (option_to_list best ++ flat_map pipe_dues (with_pipes p self.now n).pipes) }
         ensures finishing { IfSome best (λ d. IsFinishDue d self.now.pipes) →
             IfSome result (λ d. IsFinishDue d self.now.pipes) }
+        ensures leaving { IfSome best (λ d. IsExitDue d self.now.pipes) →
+            IfSome result (λ d. IsExitDue d self.now.pipes) }
         ensures piped { IfSome best IsPiped → IfSome result IsPiped }
     {
         best.or_earlier(self.dues.least())

@@ -241,7 +241,7 @@ impl PipeTable {
         finished
     }
 
-    /// The packet that `exit` would give; None where there is no such instance.
+    /// The packet that `exit` would give, which stays; None where nothing is in flight.
     #[inline(always)]
     pub fn front<S: Shelf>(
         &self,
@@ -250,22 +250,17 @@ impl PipeTable {
         shelf: &S,
         owner: Owner,
     ) -> Option<Packet>
-        requires there { (k : ℕ) × StandsAt k place self.now.pipes }
+        requires inside { IsInside place instance self.now.pipes }
         requires named { AreNamed (S.pocket shelf.now owner) (pipe_keys self.now.pipes) }
-        ensures packet { (k : ℕ) → StandsAt k place self.now.pipes → (n : Net) →
+        ensures { (k : ℕ) → StandsAt k place self.now.pipes → (n : Net) →
             result ≡ option_and_then (flying_in instance)
             (find_pipe k (with_pipes (S.pocket shelf.now owner) self.now n)) }
-        ensures inside { OnSome result (IsInside place instance self.now.pipes) }
     {
-        let pipe = &self.pipes[place];
-        if pipe.instances() <= instance {
-            return None;
-        }
-        pipe.front(shelf, owner, instance)
+        self.pipes[place].front(shelf, owner, instance)
     }
 
     /// The packet that leaves first in an instance goes, by the places of pipe and instance, which are there:
-    /// it is taken from the shelf. None where nothing is on its way. Takes no memory, and keeps room for
+    /// it is taken from the shelf. None where nothing is in flight. Takes no memory, and keeps room for
     /// arrivals.
     #[inline(always)]
     pub fn exit<S: Shelf>(
@@ -310,10 +305,7 @@ impl PipeTable {
         ensures { (p : Pocket) (n : Net) →
             result ≡ is_some (find_pipe number (with_pipes p self.now n)) }
     {
-        let Some(_place) = self.place_of(number) else {
-            return false;
-        };
-        true
+        self.place_of(number).is_some()
     }
 
     /// A packet comes to the pipe at a place at the moment `now` (ns), where its instance is found or made:
@@ -431,10 +423,7 @@ impl PipeTable {
     fn place_behind(&self, number: PipeNumber) -> usize
         ensures { result ≡ position_or_len (is_above number) self.now.pipes }
     {
-        match self.place_above(number) {
-            Some(place) => place,
-            None => self.pipes.len(),
-        }
+        self.place_above(number).unwrap_or(self.pipes.len())
     }
 
     /// A pipe goes, and the packets that it held are taken from the shelf: by instance number, in each

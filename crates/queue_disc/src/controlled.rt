@@ -1,6 +1,6 @@
 //! A queue under CoDel (RFC 8289, section 5) and nothing else.
 
-ghost use Rattle.std.specs.Prelude.{◌≡◌, ◌≢◌, ◌+◌, ◌*◌, ◌^◌, ◌<◌, ◌≤◌, true, false, [], ◌∷◌, ◌++◌, length, map, drop, IfErr, IfOk, OnOk, OnErr, IsOk, MatchOption, slice_get};
+ghost use Rattle.std.specs.Prelude.{◌≡◌, ◌≢◌, ◌+◌, ◌*◌, ◌^◌, ◌<◌, ◌≤◌, true, false, [], ◌∷◌, ◌++◌, length, map, IfErr, IfOk, OnOk, OnErr, IsOk, slice_get};
 ghost use Rattle.emu_model.specs.Moments.{IsMoment};
 ghost use Rattle.emu_model.specs.DropTail.{bytes_of, accepts};
 ghost use Rattle.emu_model.specs.Codel.{codel_dequeue, initial_control};
@@ -44,19 +44,6 @@ impl<A> Codel<A> {
         }
     }
 
-    /// The same under its limit alone. Takes no memory.
-    pub fn into_drop_tail(self) -> DropTail<A>
-        ensures { result ≡ record {
-          limit = self.limit;
-          waiting = self.waiting;
-          capacity = self.capacity;
-        } }
-    {
-        let Codel { queue } = self;
-        let Queue { tail, .. } = queue;
-        tail
-    }
-
     /// Puts an item of `size` bytes last, stamped with `now`. Refused, the queue is as before and the
     /// item comes back: `Full` by the limit, `NoMemory` where a growth was refused.
     pub fn enqueue(&mut self, item: A, size: Size, now: u64) -> Result<(), Refused<A>>
@@ -78,20 +65,6 @@ impl<A> Codel<A> {
             × (self.old.capacity ≤ length self.old.waiting)) }
     {
         self.queue.tail.enqueue(item, size, now)
-    }
-
-    /// The same where the limit lets it in and there is room. Takes no memory.
-    #[inline(always)]
-    pub fn enqueue_reserved(&mut self, item: A, size: Size, now: u64)
-        requires accepted { accepts self.old.limit self.old.waiting size ≡ true }
-        requires room { length self.old.waiting < self.old.capacity }
-        ensures { self.new
-            ≡ record self.old {
-              waiting = self.old.waiting
-                  ++ record { item = item; size = size; stamp = now } ∷ [];
-            } }
-    {
-        self.queue.enqueue_reserved(item, size, now);
     }
 
     /// Makes the growth that `enqueue` of these can need.
@@ -133,15 +106,6 @@ impl<A> Codel<A> {
         self.queue.dequeue(now)
     }
 
-    /// Takes the head as it is, past CoDel's law. Takes no memory.
-    pub fn take(&mut self) -> Option<Queued<A>>
-        ensures given { MatchOption result (self.old.waiting ≡ [])
-            (λ w. self.old.waiting ≡ w ∷ self.new.waiting) }
-        ensures rest { self.new ≡ record self.old { waiting = drop 1 self.old.waiting } }
-    {
-        self.queue.take()
-    }
-
     /// How many wait.
     #[inline(always)]
     pub fn waiting(&self) -> usize
@@ -158,29 +122,6 @@ impl<A> Codel<A> {
         ensures few { result ≤ 1500000 }
     {
         self.queue.bytes()
-    }
-
-    /// Whether the limit lets an item of `size` bytes wait as well.
-    #[inline(always)]
-    pub fn accepts(&self, size: Size) -> bool
-        ensures { result ≡ accepts self.now.limit self.now.waiting size }
-    {
-        self.queue.accepts(size)
-    }
-
-    /// Changes the limit. What waits stays, also where it is more than the limit.
-    pub fn set_limit(&mut self, limit: QueueLimit)
-        ensures { self.new ≡ record self.old { limit = limit } }
-    {
-        self.queue.tail.set_limit(limit);
-    }
-
-    /// Changes the times, in nanoseconds. CoDel's state stays.
-    pub fn set_times(&mut self, target: CodelTime, interval: CodelTime)
-        ensures { self.new
-            ≡ record self.old { times = record { target = target; interval = interval } } }
-    {
-        self.queue.discipline = Discipline::ControlledDelay { target, interval };
     }
 }
 

@@ -2,14 +2,10 @@
 
 ghost use Rattle.std.specs.Prelude.{◌≡◌, ◌+◌, ◌-◌, ◌*◌, ◌^◌, ◌<◌, ◌≤◌, true, false, [], ◌∷◌, ◌++◌, length, map, drop, IfErr, OnOk, OnErr, IsTrue, MatchOption, slice_get, take, vec_len, vec_capacity};
 ghost use Rattle.emu_model.specs.DropTail.{bytes_of, accepts};
-ghost use Rattle.emu_model.specs.Codel.{initial_control};
 ghost use Rattle.queue_disc.specs.Queues.{with_item};
 
-use crate::controlled::Codel;
 use crate::entries::{EnqueueError, Queued, Refused};
-use crate::queue::Queue;
-use crate::state::CodelState;
-use emu_model::{CodelTime, Discipline, QueueLimit, Size};
+use emu_model::{QueueLimit, Size};
 use std::alloc::{AllocError, Global};
 use std::collections::VecDeque;
 use std::marker::Model;
@@ -180,24 +176,6 @@ impl<A> DropTail<A> {
         ensures { self.new ≡ record self.old { limit = limit } }
     {
         self.limit = limit;
-    }
-
-    /// The same under CoDel, in its opening state. Takes no memory.
-    pub fn into_codel(self, target: CodelTime, interval: CodelTime) -> Codel<A>
-        ensures { result ≡ record {
-          times = record { target = target; interval = interval };
-          limit = self.limit;
-          control = initial_control;
-          waiting = self.waiting;
-          capacity = self.capacity;
-        } }
-    {
-        let queue = Queue {
-            tail: self,
-            discipline: Discipline::ControlledDelay { target, interval },
-            control: CodelState::initial(),
-        };
-        Codel { queue }
     }
 
     /// What waits at a place, the head at 0.

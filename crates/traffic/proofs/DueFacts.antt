@@ -4,7 +4,7 @@ use Rattle.std.specs.Prelude.{Option, Some, None, IfSome, option_map, option_to_
 use Rattle.due_index.specs.Least.{least_of}
 use Rattle.std.specs.List.{All, best_of, flat_map}
 use Rattle.std.proofs.Math.ListN.{get_or-map}
-use Rattle.std.proofs.lemmas.List.{at_drop_more, at_drop_all, append_assoc, append-nil, get_or_default, length-map}
+use Rattle.std.proofs.lemmas.List.{at_drop_all, append_assoc, append-nil, get_or_default, length-map}
 use Rattle.std.proofs.lemmas.List.Sums.{position_or_len_is}
 use Rattle.std.proofs.lemmas.List.Folds.{flat_map-map, list_any_none}
 use Rattle.std.proofs.lemmas.List.Elements.{All-nil, All-cons, All-head, All-tail, All-append}
@@ -24,17 +24,6 @@ abbrev pub kept_dues : ℕ → KeptFlow → List Due
 kept_dues clock f = flow_dues clock f.state
 
 module _ {X : Type 0} (g : X → List Due) where
-  -- a list to which an element's are appended
-  pub append_step : (xs : List X) (i : ℕ) (x : X) (ds ds' z : List Due) → i < length xs → x ≡ get_or xs i x → ds' ≡ ds ++ g x →
-      ds ++ flat_map g (drop i xs) ≡ z → ds' ++ flat_map g (drop (i + 1) xs) ≡ z
-  append_step xs i x ds ds' z l at e h =
-      let rest = flat_map g (drop (i + 1) xs) in
-      ap (λ c. c ++ rest) e
-      ∙ append_assoc ds (g x) rest
-      ∙ ap (λ y. ds ++ (g y ++ rest)) at
-      ∙ sym (at_drop_more (λ ys. ds ++ flat_map g ys) xs i x l)
-      ∙ h
-
   All-flat_map : (P : Due → Type 0) (xs : List X) → All (λ x. All P (g x)) xs → All P (flat_map g xs)
   All-flat_map P [] h = All-nil P
   All-flat_map P (x ∷ xs) h =

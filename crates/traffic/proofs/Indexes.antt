@@ -3,7 +3,7 @@ use Rattle.std.proofs.Common.{◌≡◌, ℕ, ◌+◌, ◌*◌, ◌<◌, ◌≤�
 use Rattle.std.specs.Prelude.{Option, Some, None, option_map, option_to_list}
 use Rattle.std.specs.List.{flat_map}
 use Rattle.std.proofs.lemmas.Bool.{le-ltb, ltb-true, ltb-false, cases_Bool, cases_eq, ne_eqb, both_ways}
-use Rattle.std.proofs.lemmas.List.{length-map, map-append, take_all, take_more}
+use Rattle.std.proofs.lemmas.List.{map-append, take_all, take_more}
 use Rattle.emu_model.specs.declared.sources.Due.{Due}
 use Rattle.emu_model.specs.declared.sources.Class.TheVariants.{Expiry, Emission}
 use Rattle.emu_model.specs.Reno.{may_emit}
@@ -301,8 +301,3 @@ flow_indexed fs ts x i k f h l at e = (
   let long = told_length x.timers.leaves fs h.timers in omega (arith, l, long),
   subst (λ k. HasEntry k x.ready) (ap (λ (f : KeptFlow). f.state.number) (sym at) ∙ sym e) (h.entries i f l),
 )
-
-pub train_indexed : (fs : List KeptFlow) (ts : List TrainState) (x : SourceIndex) (i : ℕ) →
-    AreIndexed fs ts x → i < length ts →
-    i < length x.packets.leaves
-train_indexed fs ts x i h l = omega (arith, l, ap length h.packets, length-map ts packet_due)

@@ -1,25 +1,24 @@
 -- What a source sends or takes, by the place where it stands; and what never changes of it.
-use Rattle.std.proofs.Common.{◌≡◌, ℕ, zero, suc, ◌+◌, ◌<◌, true, ◌==◌, nat_lt, List, [], ◌∷◌, length, get_or, map, set, refl, sym, ap, subst, ◌∙◌, arith}
-use Rattle.std.specs.Prelude.{Option, Some, None, IfSome, IfNone, option_map, slice_get}
+use Rattle.std.proofs.Common.{◌≡◌, ℕ, zero, suc, ◌+◌, ◌<◌, true, ◌==◌, List, [], ◌∷◌, length, get_or, map, set, refl, sym, ap, subst, ◌∙◌, arith}
+use Rattle.std.specs.Prelude.{Option, Some, None, option_map, slice_get}
 use Rattle.std.specs.Option.{option_map_or}
 use Rattle.std.proofs.Math.ListN.{get_or-map}
-use Rattle.std.proofs.lemmas.Bool.{ltb-true, lt-ltb}
 use Rattle.std.proofs.lemmas.Option.{slice_get-map, slice_get-get_or}
 use Rattle.std.proofs.lemmas.List.{map-set, set-get_or}
-use Rattle.emu_model.specs.declared.packets.Load.TheVariants.{Plain, Seg, Ack}
+use Rattle.emu_model.specs.declared.packets.Load.TheVariants.{Plain, Seg}
 use Rattle.emu_model.specs.declared.commands.EventContext.{EventContext}
 use Rattle.emu_model.specs.declared.sources.SendSpec.{SendSpec}
-use Rattle.emu_model.specs.Reno.{emit as emitted_by, emitted, with_segment, missing}
-use Rattle.emu_model.specs.Net.{Net, FlowState, TrainState, initial_net, find_flow, find_train, put_flow, put_train, make, data_send, ack_send, take_segment}
+use Rattle.emu_model.specs.Reno.{emit as emitted_by, emitted}
+use Rattle.emu_model.specs.Net.{Net, FlowState, TrainState, initial_net, find_train, put_flow, put_train, make, data_send}
 use Rattle.emu_model.specs.Events.{emission}
 use Rattle.traffic.specs.declared.sends.Sending.{Sending}
 use Rattle.traffic.specs.declared.sources.SourcePlace.{SourcePlace}
 use Rattle.traffic.specs.declared.sources.SourcePlace.TheVariants.{Flow, Train}
-use Rattle.traffic.specs.Kept.{KeptFlow, KeptTraffic, with_traffic, IsSound, HasRoomFor}
-use Rattle.traffic.specs.Sends.{may_send, has_left, next_send, reply_send}
+use Rattle.traffic.specs.Kept.{KeptFlow, KeptTraffic, with_traffic, IsSound}
+use Rattle.traffic.specs.Sends.{may_send, has_left, next_send}
 use Rattle.traffic.specs.Standing.{flow_place, train_place, source_place, MaySendAt, FlowHead, TrainHead, Heads, heads_of, send_at}
 use Rattle.traffic.proofs.FirstPlaces.{place_from_some}
-use Rattle.traffic.proofs.Changes.{kept, IsFlowAt, IsTrainAt, same_states, flow_at, train_at, no_flow, no_train}
+use Rattle.traffic.proofs.Changes.{kept, IsFlowAt, IsTrainAt, flow_at, train_at, no_flow, no_train}
 use Rattle.traffic.proofs.Sendings.{send_by_train, send_by_flow, send_by_none, emission_by_train, emission_by_flow, emission_by_none, emitting_by_train, emitting_by_flow}
 use Rattle.traffic.proofs.DueFacts.{flow_is_no_train}
 
@@ -50,17 +49,6 @@ flow_within k i t e = (place_from_some (λ (f : KeptFlow). f.state.number == k) 
 pub train_within : (k i : ℕ) (t : KeptTraffic) → Some i ≡ train_place k t → i < length t.trains
 train_within k i t e = (place_from_some (λ (u : TrainState). u.number == k) t.trains i e).within
 
--- where a source is found
-pub by_flow_place : (k : ℕ) (t : KeptTraffic) (i : ℕ) → Some i ≡ flow_place k t → Some (Flow i) ≡ source_place k t
-by_flow_place k t i e = ap (λ o. either o (train_place k t)) e
-
-pub by_train_place : (k : ℕ) (t : KeptTraffic) (i : ℕ) → None ≡ flow_place k t → Some i ≡ train_place k t →
-    Some (Train i) ≡ source_place k t
-by_train_place k t i none e = (λ j. either (none j) (e j))
-
-pub by_no_place : (k : ℕ) (t : KeptTraffic) → None ≡ flow_place k t → None ≡ train_place k t → None ≡ source_place k t
-by_no_place k t none other = (λ j. either (none j) (other j))
-
 pub nowhere : (k : ℕ) (t : KeptTraffic) → None ≡ flow_place k t → None ≡ train_place k t →
     (n : Net) → next_send k (with_traffic t n) ≡ None
 nowhere k t none other n = send_by_none k (with_traffic t n) (no_train k t other n) (no_flow k t none n)
@@ -84,13 +72,6 @@ module _ (t : KeptTraffic) (fs : List KeptFlow) (ts : List TrainState) (i : ℕ)
   flow_send_is k n e =
       let place = flow_there k i t e in
       send_by_flow k (with_traffic t n) f.state (no_train_here k place n) ((here k place).found n)
-
-  pub flow_size : (k : ℕ) (n : Net) → source_place k t ≡ Some (Flow i) →
-      option_map (λ s. s.size) (next_send k (with_traffic t n)) ≡ Some (data_send f.state.flow).size
-  flow_size k n e =
-      let place = flow_there k i t e in
-      ap (option_map (λ (s : SendSpec). s.size))
-      (send_by_flow k (with_traffic t n) f.state (no_train_here k place n) ((here k place).found n))
 
   pub flow_may : MaySendAt (Flow i) t → may_send f.state ≡ true
   flow_may m =
@@ -123,14 +104,6 @@ module _ (t : KeptTraffic) (fs : List KeptFlow) (ts : List TrainState) (i : ℕ)
       send_by_flow k (with_traffic t n) f.state (no_train_here k place n) ((here k place).found n)
       ∙ ap (λ (x : Sending). Some x.send) (sym er)
 
-  pub room_after : (g : KeptFlow) (k : ℕ) → flow_place k t ≡ Some i → g.state ≡ f.state → 0 < g.room →
-      HasRoomFor k (kept (set fs i g) ts)
-  room_after g k e same room =
-      let h = here k (sym e) in
-      ap (λ o. option_map_or (λ (f : KeptFlow). nat_lt 0 f.room) o true)
-      (h.after g (ap (λ (s : FlowState). s.number) same ∙ h.number))
-      ∙ lt-ltb 0 g.room room
-
 -- ---- a train at its place
 
 module _ (t : KeptTraffic) (fs : List KeptFlow) (ts : List TrainState) (i : ℕ) (u : TrainState)
@@ -141,11 +114,6 @@ module _ (t : KeptTraffic) (fs : List KeptFlow) (ts : List TrainState) (i : ℕ)
   pub train_send_is : (k : ℕ) (n : Net) → source_place k t ≡ Some (Train i) →
       next_send k (with_traffic t n) ≡ Some u.train.packet
   train_send_is k n e = send_by_train k (with_traffic t n) u ((standing k e).found n)
-
-  pub train_size : (k : ℕ) (n : Net) → source_place k t ≡ Some (Train i) →
-      option_map (λ s. s.size) (next_send k (with_traffic t n)) ≡ Some u.train.packet.size
-  train_size k n e =
-      ap (option_map (λ (s : SendSpec). s.size)) (send_by_train k (with_traffic t n) u ((standing k e).found n))
 
   pub train_may : MaySendAt (Train i) t → has_left u ≡ true
   train_may m =
@@ -239,11 +207,3 @@ sends_nothing k t none other at n = emission_by_none at k (with_traffic t n) (no
 pub within_kept : (t : KeptTraffic) (fs : List KeptFlow) (ts : List TrainState) (i : ℕ) → kept fs ts ≡ t →
     i < length t.flows → i < length fs
 within_kept t fs ts i is l = subst (λ (t : KeptTraffic). i < length t.flows) (sym is) l
-
--- a flow that is as it was
-pub still_there : (t : KeptTraffic) (fs : List KeptFlow) (ts : List TrainState) (i : ℕ) (f g : KeptFlow) →
-    kept fs ts ≡ t → f ≡ get_or fs i f → g.state ≡ f.state → (n : Net) →
-    with_traffic (kept (set fs i g) ts) n ≡ with_traffic t n
-still_there t fs ts i f g is at e n =
-    ap (λ ss. let m : Net = record n { flows = ss; trains = ts } in m) (same_states fs i f g at e)
-    ∙ ap (λ t. with_traffic t n) is

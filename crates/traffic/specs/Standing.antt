@@ -4,10 +4,10 @@ use Rattle.std.specs.Option.{option_map_or}
 use Rattle.emu_model.specs.declared.sources.FlowSpec.{FlowSpec}
 use Rattle.emu_model.specs.declared.sources.TrainSpec.{TrainSpec}
 use Rattle.emu_model.specs.declared.sources.SendSpec.{SendSpec}
-use Rattle.emu_model.specs.Net.{data_send, ack_send}
+use Rattle.emu_model.specs.Net.{data_send}
 use Rattle.traffic.specs.declared.sources.SourcePlace.{SourcePlace}
 use Rattle.traffic.specs.declared.sources.SourcePlace.TheVariants.{Flow, Train}
-use Rattle.traffic.specs.Kept.{KeptTraffic, HasRoomFor}
+use Rattle.traffic.specs.Kept.{KeptTraffic}
 use Rattle.traffic.specs.Sends.{IsEmitting}
 
 -- where the flow, and the train, of a number stands

@@ -13,7 +13,7 @@ ghost use Rattle.emu_model.specs.Events.{emission, expire_flow};
 ghost use Rattle.traffic.specs.Kept.{with_traffic, IsFree, HasRoomFor};
 ghost use Rattle.due_index.specs.Least.{least_of};
 ghost use Rattle.traffic.specs.Standing.{flow_place, source_place, IsThere, MaySendAt, heads_of, send_at};
-ghost use Rattle.traffic.specs.Sends.{IsEmitting, IsAllowed, IsNumbered, next_send, reply_send, source_dues};
+ghost use Rattle.traffic.specs.Sends.{IsAllowed, IsNumbered, next_send, reply_send, source_dues};
 
 use crate::dues::append;
 use crate::flow::Flow;
@@ -21,7 +21,7 @@ use crate::index::SourceIndex;
 use crate::sends::{Sending, Window};
 use crate::train::Train;
 use due_index::{DueNumber, NumberTable};
-use emu_model::{Class, Due, FlowNumber, FlowSpec, Refusal, SendSpec, TrainSpec};
+use emu_model::{Due, FlowNumber, FlowSpec, Refusal, SendSpec, TrainSpec};
 use std::alloc::{AllocError, Global};
 use std::marker::Model;
 
@@ -153,50 +153,6 @@ impl Traffic {
         let flow = &mut self.flows[place];
         flow.stop();
         self.index.set_flow(place, flow);
-    }
-
-    /// The header of what `emit` sends; None where there is no source of this number.
-    #[inline(always)]
-    pub fn next_send(&self, number: FlowNumber) -> Option<SendSpec>
-        ensures { (n : Net) → result ≡ next_send number (with_traffic self.now n) }
-    {
-        if let Some(place) = self.train_place(number) {
-            let train = &self.trains[place];
-            return Some(train.send());
-        }
-        let Some(place) = self.flow_place(number) else {
-            return None;
-        };
-        let flow = &self.flows[place];
-        Some(flow.send())
-    }
-
-    /// Sends a packet of a train or a segment of a flow, which may: the packet that is to be made.
-    #[inline(always)]
-    pub fn emit(&mut self, now: u64, number: FlowNumber) -> Option<Sending>
-        requires early { IsMoment now }
-        requires may { IsEmitting number self.old }
-        ensures emission { (at : EventContext) (n : Net) → at.now ≡ now →
-            emission at number (with_traffic self.old n)
-            ≡ option_map_or (λ s. make at s.load s.send (with_traffic self.new n)) result
-            (with_traffic self.new n) }
-        ensures header { (n : Net) →
-            option_map (λ s. s.send) result ≡ next_send number (with_traffic self.old n) }
-        ensures heads { heads_of self.new ≡ heads_of self.old }
-    {
-        if let Some(place) = self.train_place(number) {
-            let train = &mut self.trains[place];
-            let sending = train.emit();
-            self.index.set_train(place, train);
-            return Some(sending);
-        }
-        let Some(place) = self.flow_place(number) else {
-            return None;
-        };
-        let flow = &mut self.flows[place];
-        let sending = flow.emit(now);
-        self.index.set_flow(place, flow);
-        Some(sending)
     }
 
     /// The header of the acknowledgement that `take` makes; None where there is no such flow.

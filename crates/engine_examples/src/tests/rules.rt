@@ -21,9 +21,8 @@ enum Call {
     Send,
     Look,
     SendAfter(u32, u64),
-    LookAfter(u32, u64),
-    Foresee,
-    ForeseeAfter(u32, u64),
+    Classify,
+    ClassifyAfter(u32, u64),
 }
 
 // What is out of range is the nearest value in it: the tables hold no such number.
@@ -129,16 +128,12 @@ fn send_after(list: &mut RuleList, n: u32, order: u64) -> &'static str {
     word(list.verdict_after(place(n, order), &udp()))
 }
 
-fn look_after(list: &RuleList, n: u32, order: u64) -> &'static str {
-    word(list.find_after(place(n, order), &udp()))
-}
-
 fn classify(list: &mut RuleList) -> &'static str {
-    word(list.classify(&udp()))
+    word(list.classify_rule(&udp()).verdict)
 }
 
 fn classify_after(list: &mut RuleList, n: u32, order: u64) -> &'static str {
-    word(list.classify_after(place(n, order), &udp()))
+    word(list.classify_rule_after(place(n, order), &udp()).verdict)
 }
 
 fn answer(list: &mut RuleList, call: Call) -> &'static str {
@@ -152,9 +147,8 @@ fn answer(list: &mut RuleList, call: Call) -> &'static str {
         Call::Send => send(list),
         Call::Look => look(list),
         Call::SendAfter(n, order) => send_after(list, n, order),
-        Call::LookAfter(n, order) => look_after(list, n, order),
-        Call::Foresee => classify(list),
-        Call::ForeseeAfter(n, order) => classify_after(list, n, order),
+        Call::Classify => classify(list),
+        Call::ClassifyAfter(n, order) => classify_after(list, n, order),
     }
 }
 
@@ -258,9 +252,9 @@ fn rule_replaced_behind_a_pipe(rt: HostRuntime) -> Result<(), Fail> {
         (Call::Send, "pipe"),
         (Call::SendAfter(100, 0), "allow"),
         (Call::Delete(100), "ok"),
-        (Call::LookAfter(100, 0), "allow"),
+        (Call::ClassifyAfter(100, 0), "allow"),
         (Call::Deny(100), "ok"),
-        (Call::LookAfter(100, 0), "deny"),
+        (Call::ClassifyAfter(100, 0), "deny"),
         (Call::SendAfter(100, 0), "deny"),
     ];
     let answered = answers(&mut list, &steps);
@@ -279,16 +273,16 @@ fn what_was_found_before_changes(rt: HostRuntime) -> Result<(), Fail> {
         grown = grown && grows(&mut list, n);
     }
     let steps = [
-        (Call::Foresee, "deny"),
+        (Call::Classify, "deny"),
         (Call::Send, "deny"),
         (Call::Allow(6), "ok"),
-        (Call::Foresee, "allow"),
+        (Call::Classify, "allow"),
         (Call::Send, "allow"),
-        (Call::ForeseeAfter(1, 0), "allow"),
+        (Call::ClassifyAfter(1, 0), "allow"),
         (Call::Delete(3), "ok"),
         (Call::SendAfter(1, 0), "allow"),
         (Call::Delete(6), "ok"),
-        (Call::Foresee, "deny"),
+        (Call::Classify, "deny"),
         (Call::SendAfter(1, 0), "deny"),
     ];
     let answered = answers(&mut list, &steps);
@@ -315,14 +309,14 @@ fn what_a_path_counted(rt: HostRuntime) -> Result<(), Fail> {
     let steps = [
         (Call::Skip(3, 5), "ok"),
         (Call::Allow(7), "ok"),
-        (Call::Foresee, "allow"),
+        (Call::Classify, "allow"),
         (Call::Send, "allow"),
         (Call::Send, "allow"),
         (Call::Delete(2), "ok"),
         (Call::Count(2), "ok"),
-        (Call::Foresee, "allow"),
+        (Call::Classify, "allow"),
         (Call::Send, "allow"),
-        (Call::ForeseeAfter(2, 7), "allow"),
+        (Call::ClassifyAfter(2, 7), "allow"),
         (Call::SendAfter(2, 7), "allow"),
     ];
     let answered = answers(&mut list, &steps);

@@ -255,29 +255,6 @@ fn codel_begins_again_after_it_ended(rt: HostRuntime) {
     are(&rt, &events, &BEGUN_AGAIN);
 }
 
-/// What waits in it comes from before; its limit and its times are new.
-fn codel_goes_on(rt: &impl Abort, queue: &mut Codel<u32>) {
-    assert!(rt; queue.enqueue_ready(size(rt, 300), 3) == Ok(()));
-    comes_to_codel(rt, queue, 3, 300, None);
-    comes_to_codel(rt, queue, 4, 300, FULL);
-    queue.set_limit(slots(rt, 1));
-    queue.set_times(time(rt, 1000), time(rt, 1000));
-    assert!(rt; (queue.waiting(), queue.bytes()) == (3, 600));
-    assert!(rt; parts(queue.take()) == Some((1, 100, 10)));
-}
-
-#[test]
-fn disciplines_change_in_place(rt: HostRuntime) {
-    let mut tail = DropTail::new(rt.alloc(), slots(&rt, 3));
-    comes(&rt, &mut tail, 1, 100, None);
-    comes(&rt, &mut tail, 2, 200, None);
-    let mut queue = tail.into_codel(time(&rt, 5 * MILLISECOND), time(&rt, 100 * MILLISECOND));
-    codel_goes_on(&rt, &mut queue);
-    let mut tail = queue.into_drop_tail();
-    assert!(rt; parts(tail.dequeue()) == Some((2, 200, 20)));
-    assert!(rt; (tail.waiting(), tail.bytes()) == (1, 300));
-}
-
 /// Takes blocks of memory, ever smaller ones, until not even a few bytes are given; false where the allocator has no
 /// such end.
 fn fill(alloc: Global, blocks: &mut Vec<Vec<u64>>) -> bool {
@@ -362,20 +339,25 @@ fn tail_is_replaced(rt: &impl Abort, tail: &mut DropTail<u32>) {
 }
 
 fn codel_is_replaced(rt: &impl Abort, queue: &mut Codel<u32>) {
+    for packet in 0..3 {
+        comes_to_codel(rt, queue, packet, 100 + packet as u16, None);
+    }
     assert!(rt; queue.waiting() == 3);
     queue.replace(0, 10);
+    queue.replace(1, 11);
     let items = [queue.at(0), queue.at(1), queue.at(3)];
     assert!(rt; items == [Some(10), Some(11), None]);
     assert!(rt; (queue.waiting(), queue.bytes()) == (3, 303));
-    assert!(rt; parts(queue.take()) == Some((10, 100, 0)));
-    assert!(rt; parts(queue.take()) == Some((11, 101, 10)));
-    assert!(rt; parts(queue.take()) == Some((2, 102, 20)));
+    for wanted in [(10, 100, 0), (11, 101, 10), (2, 102, 20)] {
+        let dequeued = queue.dequeue(20).ok().expect(rt, "memory");
+        assert!(rt; parts(dequeued.given) == Some(wanted));
+    }
 }
 
 #[test]
 fn items_are_replaced_in_place(rt: HostRuntime) {
     let mut tail = DropTail::new(rt.alloc(), slots(&rt, 3));
     tail_is_replaced(&rt, &mut tail);
-    let mut queue = tail.into_codel(time(&rt, 5 * MILLISECOND), time(&rt, 100 * MILLISECOND));
+    let mut queue = codel(&rt);
     codel_is_replaced(&rt, &mut queue);
 }

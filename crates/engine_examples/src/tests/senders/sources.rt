@@ -76,7 +76,7 @@ fn begins_train(traffic: &mut Traffic, now: u64, n: u16) -> bool
         return false;
     };
     if traffic.start_train(now, number, &train).is_ok() {
-        return traffic.next_send(number).is_some();
+        return traffic.find(number).is_some();
     }
     let None = traffic.refusal(number) else {
         return false;
@@ -113,7 +113,8 @@ fn sends(traffic: &mut Traffic, now: u64, end: u64) -> Option<Sending>
         return None;
     };
     let number = FlowNumber::new(due.source.number as u16)?;
-    traffic.emit(now, number)
+    let found = traffic.find(number)?;
+    Some(traffic.emit_at(now, &found))
 }
 
 /// Just the segments that begin at these bytes are sent.
@@ -279,6 +280,12 @@ fn least_number_sends_and_first_timer_expires(rt: HostRuntime) -> Result<(), Fai
     Ok(())
 }
 
+/// The header of what is sent next.
+fn header_of(traffic: &Traffic, number: FlowNumber) -> Option<SendSpec> {
+    let found = traffic.find(number)?;
+    Some(traffic.header_at(&found))
+}
+
 /// A plain packet of 1000 bytes with this header was sent.
 fn is_thousand(sent: Option<Sending>, header: Option<SendSpec>) -> bool {
     let Some(Sending { load, send }) = sent else {
@@ -298,7 +305,7 @@ fn train_sends_its_packets(rt: HostRuntime) -> Result<(), Fail> {
     for now in [0, 5, 10] {
         let due = traffic.earliest(now, command(20));
         assert_eq!(rt; (due.moment, due.source.number), (now, 1));
-        let header = traffic.next_send(one);
+        let header = header_of(&traffic, one);
         let sent = sends(&mut traffic, now, 20);
         assert!(rt; is_thousand(sent, header), "a packet at {now}");
     }

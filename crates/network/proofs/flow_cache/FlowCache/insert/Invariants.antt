@@ -1,4 +1,4 @@
-use Rattle.std.proofs.Common.{ℕ, ◌+◌, ◌-◌, List}
+use Rattle.std.proofs.Common.{◌+◌, ◌-◌, List}
 use Rattle.std.specs.Prelude.{length}
 use Rattle.emu_model.specs.Rules.{Counted}
 use Rattle.pipe_core.specs.Keyed.{KeyedPipe}

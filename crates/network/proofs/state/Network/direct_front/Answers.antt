@@ -7,4 +7,4 @@ use Rattle.network.proofs.state.Network.direct_front.Goals as goal
 pub returns : goal.returns
 returns g c =
     let p = g.S.Shelf.pocket c.args.shelf.now c.args.owner in
-    front-seen p c.args.self.now c.in-Some.key c.look.result c.requires (c.in-Some.ensures ∙ ap (λ (m : KeptNet). first_item m.direct.line.in_flight) c.self.view_is) c.look.ensures
+    front-seen p c.args.self.now c.in_ok-key.key c.look.result c.requires (c.in_ok-key.ensures ∙ ap (λ (m : KeptNet). first_item m.direct.line.in_flight) c.self.view_is) c.look.ensures

@@ -11,5 +11,5 @@ returns-in_default-clause-ready g c =
 
 pub returns-clause-ready : goal.returns-clause-ready
 returns-clause-ready g c =
-    if_ok (λ passage. CanDeliver c.in-Some.packet.load passage c.deliver_ready.new.self) _ c.deliver_ready.result
-    (λ passage. only_one (λ (x : Packet). CanDeliver x.load passage c.deliver_ready.new.self) c.in-Some.packet _ c.in-Some.ensures) c.deliver_ready.ensures.ready
+    if_ok (λ lookup. CanDeliver c.in-Some.packet.load lookup c.deliver_ready.new.self) _ c.deliver_ready.result
+    (λ lookup. only_one (λ (x : Packet). CanDeliver x.load lookup c.deliver_ready.new.self) c.in-Some.packet _ c.in-Some.ensures) c.deliver_ready.ensures.ready

@@ -1,12 +1,11 @@
-use Rattle.std.proofs.Common.{◌≡◌, ◌≤◌, ◌++◌, sym, ap, ◌∙◌, subst, refl, Some, arith}
+use Rattle.std.proofs.Common.{◌≡◌, ◌++◌, sym, ap, ◌∙◌, subst, refl, Some, arith}
 use Rattle.std.specs.Prelude.{IsSome, IfSome, option_to_list}
 use Rattle.std.specs.List.{best_of}
-use Rattle.std.proofs.lemmas.Option.{same_Some}
 use Rattle.emu_model.specs.declared.sources.Due.{Due}
 use Rattle.emu_model.specs.Dues.{is_before, dues_of, line_dues}
 use Rattle.due_index.specs.Least.{lesser, least_of}
 use Rattle.packet_store.specs.Pocket.{Pocket, empty_pocket}
-use Rattle.traffic.specs.Sends.{source_dues, IsAllowed, IsNumbered}
+use Rattle.traffic.specs.Sends.{source_dues}
 use Rattle.network.specs.contracts.state.Network.{the_view}
 use Rattle.network.specs.Kept.{KeptNet, net_of}
 use Rattle.network.specs.Due.{IsDue}
@@ -57,4 +56,4 @@ returns-clause-due c = λ due.
     (c.earliest-least.ensures.least p m) c.some.ensures (c.earliest.ensures.least m) n
     (subst (λ (x : KeptNet). IsDue c.args.best x) (sym c.self.view_is) due)
     (subst (λ (x : KeptNet). IfSome c.direct_due.result (λ y. IsDue y x)) (sym c.self.view_is) c.direct_due.ensures.due)
-    c.earliest-least.ensures.finishing c.earliest-least.ensures.piped c.earliest.ensures.allowed c.earliest.ensures.numbered)
+    c.earliest-least.ensures.finishing c.earliest-least.ensures.leaving c.earliest-least.ensures.piped c.earliest.ensures.allowed c.earliest.ensures.numbered)

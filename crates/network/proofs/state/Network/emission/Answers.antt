@@ -1,11 +1,11 @@
-use Rattle.std.proofs.Common.{◌≡◌, refl, sym, ap, ◌∙◌, subst, arith, Some, Option}
+use Rattle.std.proofs.Common.{◌≡◌, refl, sym, ap, ◌∙◌, subst, arith, Some}
 use Rattle.std.proofs.lemmas.Option.{same_Some}
 use Rattle.emu_model.specs.declared.sources.SendSpec.{SendSpec}
 use Rattle.emu_model.specs.Net.{initial_net, make}
 use Rattle.emu_model.specs.Events.{emission}
 use Rattle.traffic.specs.Kept.{KeptTraffic, with_traffic}
 use Rattle.traffic.specs.Sends.{IsEmitting, next_send}
-use Rattle.traffic.specs.Standing.{source_place, MaySendAt}
+use Rattle.traffic.specs.Standing.{source_place}
 use Rattle.network.specs.contracts.state.Network.{the_view}
 use Rattle.network.specs.Kept.{KeptNet, net_of}
 use Rattle.network.specs.Ready.{CanMake}
@@ -48,9 +48,9 @@ make-requires-clause-ready g c =
     (sym (c.header_at-send.ensures c.args.source initial_net before)
     ∙ ap (λ (t : KeptTraffic). next_send c.args.source (with_traffic t initial_net)) (first ∙ sym tr)
     ∙ c.emit_at-sending.ensures.header c.args.source initial_net there) in
-    as-make n (record n { traffic = c.emit_at-sending.new.self }) (roomy-same n _ refl (omega arith) refl refl) sent c.in_ok-passage.passage
-    (subst (λ (s : SendSpec). CanMake s c.in_ok-passage.passage n) same
-    (subst (λ (m : KeptNet). CanMake send c.in_ok-passage.passage m) (sym c.self-2.view_is) c.in_ok-passage.ensures.ready))
+    as-make n (record n { traffic = c.emit_at-sending.new.self }) (roomy-same n _ refl (omega arith) refl refl) sent c.in_ok-lookup.lookup
+    (subst (λ (s : SendSpec). CanMake s c.in_ok-lookup.lookup n) same
+    (subst (λ (m : KeptNet). CanMake send c.in_ok-lookup.lookup m) (sym c.self-2.view_is) c.in_ok-lookup.ensures.ready))
 
 pub returns-clause-ok : goal.returns-clause-ok
 returns-clause-ok g c =

@@ -16,7 +16,7 @@ pass_on_line-requires-clause-ready g c =
     packet-known c.args.sending.now.load c.args.sending.now.send c.self.inside.made c.in-Cached.line c.packet_of-packet.result n c.note_made.new.self
     (subst (λ (m : KeptNet). IsRoomy n m) (sym c.note_made.ensures.rest) (roomy-same n _ refl (omega arith) refl refl)) c.packet_of-packet.ensures
     (subst (λ (w : Lookup). CanMake c.args.sending.now.send w n) c.in-Cached.is
-    (at_view (CanMake c.args.sending.now.send c.args.passage.now) _ _ c.self.view_is c.requires.ready))
+    (at_view (CanMake c.args.sending.now.send c.args.lookup.now) _ _ c.self.view_is c.requires.ready))
 
 pub pass_rules-requires-clause-ready : goal.pass_rules-requires-clause-ready
 pass_rules-requires-clause-ready g c =
@@ -24,7 +24,7 @@ pass_rules-requires-clause-ready g c =
     packet-ready c.args.sending.now.load c.args.sending.now.send c.self.inside.made c.packet_of-packet.result n c.note_made.new.self
     (subst (λ (m : KeptNet). IsRoomy n m) (sym c.note_made.ensures.rest) (roomy-same n _ refl (omega arith) refl refl)) c.packet_of-packet.ensures
     (subst (λ (w : Lookup). CanMake c.args.sending.now.send w n) c.in-Searched.is
-    (at_view (CanMake c.args.sending.now.send c.args.passage.now) _ _ c.self.view_is c.requires.ready))
+    (at_view (CanMake c.args.sending.now.send c.args.lookup.now) _ _ c.self.view_is c.requires.ready))
 
 pub returns-in-Cached-clause-becomes : goal.returns-in-Cached-clause-becomes
 returns-in-Cached-clause-becomes g c =

@@ -1,4 +1,4 @@
-use Rattle.std.proofs.Common.{◌≡◌, ℕ, refl, sym, subst, Some}
+use Rattle.std.proofs.Common.{ℕ, refl, sym, subst}
 use Rattle.std.specs.Prelude.{IfSome}
 use Rattle.emu_model.specs.declared.packets.Packet.{Packet}
 use Rattle.emu_model.specs.Rules.{RuleBook}
@@ -14,7 +14,7 @@ invariant_of-self-then-insert g c =
     let f = c.classify_rule-found.result in
     let route = c.in-Some.route in
     let old = c.classify_rule-found.new.self.rules in
-    let foreseen : IsMatch 0 x f old =
+    let classified : IsMatch 0 x f old =
     subst (λ (b : RuleBook). IsMatch 0 x f b.rules) (sym c.classify_rule-found.ensures.same)
     (record { verdict = c.classify_rule-found.ensures.verdict; rule = c.classify_rule-found.ensures.rule }) in
     let after = c.arrival_ready.new.self in
@@ -24,7 +24,7 @@ invariant_of-self-then-insert g c =
     let go : CanGo 0 (plain c.args.send) route m =
     subst (λ (n : KeptNet). CanGo 0 (plain c.args.send) route n) (sym c.self-2.view_is)
     (subst (λ (y : Packet). CanGo 0 y route after) c.packet_of-packet.ensures
-    (known 0 foreseen)) in
+    (known 0 classified)) in
     c.insert.ensures.known m.book.rules m.table.pipes c.self-2.invariant go.route
 
 pub returns-then-insert-clause-ready : goal.returns-then-insert-clause-ready
@@ -33,7 +33,7 @@ returns-then-insert-clause-ready g c =
     let f = c.classify_rule-found.result in
     let route = c.in-Some.route in
     let old = c.classify_rule-found.new.self.rules in
-    let foreseen : IsMatch 0 x f old =
+    let classified : IsMatch 0 x f old =
     subst (λ (b : RuleBook). IsMatch 0 x f b.rules) (sym c.classify_rule-found.ensures.same)
     (record { verdict = c.classify_rule-found.ensures.verdict; rule = c.classify_rule-found.ensures.rule }) in
     let after = c.arrival_ready.new.self in
@@ -43,7 +43,7 @@ returns-then-insert-clause-ready g c =
     let go : CanGo 0 (plain c.args.send) route m =
     subst (λ (n : KeptNet). CanGo 0 (plain c.args.send) route n) (sym c.self-2.view_is)
     (subst (λ (y : Packet). CanGo 0 y route after) c.packet_of-packet.ensures
-    (known 0 foreseen)) in
+    (known 0 classified)) in
     record { route = route; there = c.if-insert.ensures.there refl; room = go.room }
 
 pub invariant_of-self-2 : goal.invariant_of-self-2
@@ -52,7 +52,7 @@ invariant_of-self-2 g c =
     let f = c.classify_rule-found.result in
     let route = c.in-Some.route in
     let old = c.classify_rule-found.new.self.rules in
-    let foreseen : IsMatch 0 x f old =
+    let classified : IsMatch 0 x f old =
     subst (λ (b : RuleBook). IsMatch 0 x f b.rules) (sym c.classify_rule-found.ensures.same)
     (record { verdict = c.classify_rule-found.ensures.verdict; rule = c.classify_rule-found.ensures.rule }) in
     let after = c.arrival_ready.new.self in
@@ -62,5 +62,5 @@ invariant_of-self-2 g c =
     let go : CanGo 0 (plain c.args.send) route m =
     subst (λ (n : KeptNet). CanGo 0 (plain c.args.send) route n) (sym c.self-2.view_is)
     (subst (λ (y : Packet). CanGo 0 y route after) c.packet_of-packet.ensures
-    (known 0 foreseen)) in
+    (known 0 classified)) in
     c.insert.ensures.known m.book.rules m.table.pipes c.self-2.invariant go.route

@@ -1,5 +1,5 @@
-use Rattle.std.proofs.Common.{◌≡◌, ◌≤◌, ◌++◌, sym, ap, ◌∙◌, subst, refl, Some, arith}
-use Rattle.std.specs.Prelude.{IsSome, IfSome, option_to_list}
+use Rattle.std.proofs.Common.{◌≡◌, sym, ap, ◌∙◌, subst, refl, Some, arith}
+use Rattle.std.specs.Prelude.{IsSome, IfSome}
 use Rattle.std.specs.List.{best_of}
 use Rattle.std.proofs.lemmas.Option.{same_Some}
 use Rattle.emu_model.specs.declared.sources.Due.{Due}
@@ -54,5 +54,5 @@ returns-clause-due c = λ due.
     (c.earliest-least.ensures.least p (net_of p n)) (c.next_due.ensures.least (net_of p n)) n
     (subst (λ (m : KeptNet). IsDue c.args.best m) (sym c.self.view_is) due)
     (subst (λ (m : KeptNet). IfSome c.direct_due.result (λ x. IsDue x m)) (sym c.self.view_is) c.direct_due.ensures.due)
-    c.earliest-least.ensures.finishing c.earliest-least.ensures.piped c.next_due.ensures.allowed c.next_due.ensures.numbered
+    c.earliest-least.ensures.finishing c.earliest-least.ensures.leaving c.earliest-least.ensures.piped c.next_due.ensures.allowed c.next_due.ensures.numbered
     c.some.result c.some.ensures)

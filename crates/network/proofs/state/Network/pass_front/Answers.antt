@@ -1,10 +1,11 @@
-use Rattle.std.proofs.Common.{◌≡◌, ◌<◌, ℕ, refl, sym, ap, ◌∙◌, subst, Some, None, Option, [], ◌∷◌, arith}
+use Rattle.std.proofs.Common.{◌≡◌, ◌<◌, ℕ, sym, ap, ◌∙◌, subst, Some, Option, [], ◌∷◌}
 use Rattle.std.specs.Prelude.{option_and_then, OnSome}
 use Rattle.emu_model.specs.declared.packets.Packet.{Packet}
 use Rattle.emu_model.specs.Net.{Net, find_pipe}
-use Rattle.emu_model.specs.Events.{flying_in, leave_pipe_some}
-use Rattle.pipe_table.specs.Table.{with_pipes, has_number}
-use Rattle.pipe_table.specs.Places.{StandsAt}
+use Rattle.emu_model.specs.Events.{flying_in}
+use Rattle.pipe_table.specs.Table.{IsLeaving}
+use Rattle.pipe_table.specs.Places.{StandsAt, IsInside}
+use Rattle.pipe_table.proofs.CallerLemmas.{leaving-flies, leaving-inside}
 use Rattle.network.specs.contracts.state.Network.{the_view}
 use Rattle.network.specs.Kept.{KeptNet, net_of, IsHoused, Stands}
 use Rattle.emu_model.specs.declared.records.Record.TheVariants.{PacketPassed}
@@ -22,16 +23,26 @@ front-requires-clause-named g c =
     let p = g.S.Shelf.pocket c.args.shelf.now c.args.owner in
     pipes-named p (the_view c.self.inside) (at_view (IsHoused p) _ _ c.self.view_is c.requires.stands.housed)
 
-pub exit_nothing-requires-clause-none : goal.exit_nothing-requires-clause-none
-exit_nothing-requires-clause-none g c =
+pub front-requires-clause-inside : goal.front-requires-clause-inside
+front-requires-clause-inside g c =
+    let n = the_view c.self.inside in
+    let k = c.args.pipe in
+    subst (λ (j : ℕ). IsInside c.args.place j n.table.pipes) (sym c.from-index.ensures)
+    (leaving-inside k c.args.place c.args.instance c.args.at.now n.table.pipes
+    (at_view (λ (m : KeptNet). StandsAt k c.args.place m.table.pipes) n c.args.self.now c.self.view_is c.requires.place)
+    (at_view (λ (m : KeptNet). IsLeaving k c.args.instance c.args.at.now m.table.pipes) n c.args.self.now c.self.view_is c.requires.due))
+
+pub unreachable-requires : goal.unreachable-requires
+unreachable-requires g c =
     let p = g.S.Shelf.pocket c.args.shelf.now c.args.owner in
     let n = the_view c.self.inside in
     let k = c.args.pipe in
     let at_first : StandsAt k c.args.place n.table.pipes =
     at_view (λ (m : KeptNet). StandsAt k c.args.place m.table.pipes) n c.args.self.now c.self.view_is c.requires.place in
-    subst (λ (j : ℕ). option_and_then (flying_in j) (find_pipe k (net_of p c.args.self.now)) ≡ None) c.from-index.ensures
-    (ap (λ (m : KeptNet). option_and_then (flying_in c.from-index.result) (find_pipe k (net_of p m))) (sym c.self.view_is)
-    ∙ sym (c.front.ensures.packet k at_first (net_of p n)) ∙ c.in_default.is)
+    leaving-flies k c.from-index.result c.args.at.now n.table.pipes
+    (subst (λ (j : ℕ). IsLeaving k j c.args.at.now n.table.pipes) (sym c.from-index.ensures)
+    (at_view (λ (m : KeptNet). IsLeaving k c.args.instance c.args.at.now m.table.pipes) n c.args.self.now c.self.view_is c.requires.due))
+    p (net_of p n) (sym (c.front.ensures k at_first (net_of p n)) ∙ c.in_default.is)
 
 pub exit-gone-requires-clause-named : goal.exit-gone-requires-clause-named
 exit-gone-requires-clause-named g c =
@@ -59,7 +70,7 @@ reinject-requires-clause-stands g c =
     let gone : c.exit-gone.result ≡ Some x =
     c.exit-gone.ensures.packet k stands (net_of p n)
     ∙ ap (λ (z : Net). option_and_then (flying_in j) (find_pipe k z)) (r.shown ∙ ap (net_of o) (sym c.self.view_is))
-    ∙ sym (c.front.ensures.packet k at_first (net_of o (the_view c.self.inside))) ∙ c.in-Some.is in
+    ∙ sym (c.front.ensures k at_first (net_of o (the_view c.self.inside))) ∙ c.in-Some.is in
     let noted = c.note.ensures in
     let mid = c.note.new.self in
     let stays : Stands c.args.at q m = exit-stands c.args.at o p q old n table k j r c.exit-gone.ensures.keys c.exit-gone.ensures.seed c.requires.stands in
@@ -86,7 +97,7 @@ reinject-requires-clause-budget g c =
     let gone : c.exit-gone.result ≡ Some x =
     c.exit-gone.ensures.packet k stands (net_of p n)
     ∙ ap (λ (z : Net). option_and_then (flying_in j) (find_pipe k z)) (r.shown ∙ ap (net_of o) (sym c.self.view_is))
-    ∙ sym (c.front.ensures.packet k at_first (net_of o (the_view c.self.inside))) ∙ c.in-Some.is in
+    ∙ sym (c.front.ensures k at_first (net_of o (the_view c.self.inside))) ∙ c.in-Some.is in
     subst (λ (y : Option Packet). OnSome y (q.count < q.budget)) gone c.exit-gone.ensures.below
 
 pub reinject-requires-clause-room : goal.reinject-requires-clause-room
@@ -110,7 +121,7 @@ reinject-requires-clause-room g c =
     let gone : c.exit-gone.result ≡ Some x =
     c.exit-gone.ensures.packet k stands (net_of p n)
     ∙ ap (λ (z : Net). option_and_then (flying_in j) (find_pipe k z)) (r.shown ∙ ap (net_of o) (sym c.self.view_is))
-    ∙ sym (c.front.ensures.packet k at_first (net_of o (the_view c.self.inside))) ∙ c.in-Some.is in
+    ∙ sym (c.front.ensures k at_first (net_of o (the_view c.self.inside))) ∙ c.in-Some.is in
     subst (λ (y : Option Packet). OnSome y (0 < g.S.Shelf.room c.exit-gone.new.shelf c.args.owner)) gone c.exit-gone.ensures.freed
 
 pub reinject-requires-clause-ready : goal.reinject-requires-clause-ready
@@ -134,7 +145,7 @@ reinject-requires-clause-ready g c =
     let gone : c.exit-gone.result ≡ Some x =
     c.exit-gone.ensures.packet k stands (net_of p n)
     ∙ ap (λ (z : Net). option_and_then (flying_in j) (find_pipe k z)) (r.shown ∙ ap (net_of o) (sym c.self.view_is))
-    ∙ sym (c.front.ensures.packet k at_first (net_of o (the_view c.self.inside))) ∙ c.in-Some.is in
+    ∙ sym (c.front.ensures k at_first (net_of o (the_view c.self.inside))) ∙ c.in-Some.is in
     let noted = c.note.ensures in
     let mid = c.note.new.self in
     let stays : Stands c.args.at q m = exit-stands c.args.at o p q old n table k j r c.exit-gone.ensures.keys c.exit-gone.ensures.seed c.requires.stands in
@@ -165,7 +176,7 @@ returns-clause-ok g c =
     let gone : c.exit-gone.result ≡ Some x =
     c.exit-gone.ensures.packet k stands (net_of p n)
     ∙ ap (λ (z : Net). option_and_then (flying_in j) (find_pipe k z)) (r.shown ∙ ap (net_of o) (sym c.self.view_is))
-    ∙ sym (c.front.ensures.packet k at_first (net_of o (the_view c.self.inside))) ∙ c.in-Some.is in
+    ∙ sym (c.front.ensures k at_first (net_of o (the_view c.self.inside))) ∙ c.in-Some.is in
     let noted = c.note.ensures in
     let mid = c.note.new.self in
     let stays : Stands c.args.at q m = exit-stands c.args.at o p q old n table k j r c.exit-gone.ensures.keys c.exit-gone.ensures.seed c.requires.stands in

@@ -26,6 +26,6 @@ returns-clause-still g c =
 
 pub returns-clause-ready : goal.returns-clause-ready
 returns-clause-ready g c =
-    if_ok (λ passage. CanMake c.in-Some.send passage c.make_ready.new.self) (λ passage. CanDeliver (Seg c.args.flow c.args.first) passage c.make_ready.new.self) c.make_ready.result
-    (λ passage. can-segment c.args.flow c.args.first c.in-Some.send passage c.make_ready.new.self c.take_ready.new.self (ap (λ (m : KeptNet). m.traffic) c.make_ready.ensures.rest)
+    if_ok (λ lookup. CanMake c.in-Some.send lookup c.make_ready.new.self) (λ lookup. CanDeliver (Seg c.args.flow c.args.first) lookup c.make_ready.new.self) c.make_ready.result
+    (λ lookup. can-segment c.args.flow c.args.first c.in-Some.send lookup c.make_ready.new.self c.take_ready.new.self (ap (λ (m : KeptNet). m.traffic) c.make_ready.ensures.rest)
     c.in_ok-take_ready.ensures.ready c.in-Some.ensures) c.make_ready.ensures.ready

@@ -13,8 +13,8 @@ pub make-requires-clause-ready : goal.make-requires-clause-ready
 make-requires-clause-ready g c =
     let n = the_view c.self.inside in
     let send = c.in-Some.sending.send in
-    as-make n (record n { traffic = c.take-answer.new.self }) (roomy-same n _ refl (omega arith) refl refl) send c.args.passage.now
-    ((at_view (CanDeliver (Seg c.args.flow c.args.first) c.args.passage.now) n _ c.self.view_is c.requires.ready).1 send (λ m. sym (c.in-Some.ensures.header m)))
+    as-make n (record n { traffic = c.take-answer.new.self }) (roomy-same n _ refl (omega arith) refl refl) send c.args.lookup.now
+    ((at_view (CanDeliver (Seg c.args.flow c.args.first) c.args.lookup.now) n _ c.self.view_is c.requires.ready).1 send (λ m. sym (c.in-Some.ensures.header m)))
 
 pub returns-in-Some-clause-becomes : goal.returns-in-Some-clause-becomes
 returns-in-Some-clause-becomes g c =

@@ -1,15 +1,16 @@
-use Rattle.std.proofs.Common.{sym, ap, ◌∙◌}
+use Rattle.std.proofs.Common.{◌≡◌, ℕ, List, Option, Some, None, sym, ap, ◌∙◌, position}
 use Rattle.std.specs.Prelude.{is_some}
-use Rattle.pipe_table.specs.Table.{has_number}
+use Rattle.pipe_core.specs.Keyed.{KeyedPipe}
+use Rattle.pipe_table.specs.Table.{has_number, pipe_of}
 use Rattle.pipe_table.proofs.Splits.{position-none, position-some}
-use Rattle.pipe_table.proofs.NetFacts.{find-none, has-is}
+use Rattle.pipe_table.proofs.NetFacts.{has-is}
 use Rattle.pipe_table.proofs.table.PipeTable.has.Goals as goal
 
-pub returns-in_default : goal.returns-in_default
-returns-in_default c = λ p n.
-    sym (ap is_some (find-none p c.args.number c.args.self.now.pipes n (position-none (has_number c.args.number) c.args.self.now.pipes c.in_default.ensures)))
+stands-there : (k : ℕ) (ps : List KeyedPipe) (o : Option ℕ) → o ≡ position (has_number k) ps → is_some o ≡ is_some (pipe_of k ps)
+stands-there k ps None e = sym (ap is_some (position-none (has_number k) ps e))
+stands-there k ps (Some i) e = sym (position-some (has_number k) ps i e)
 
 pub returns : goal.returns
 returns c = λ p n.
-    sym (position-some (has_number c.args.number) c.args.self.now.pipes c.in-Some._place c.in-Some.ensures)
+    c.is_some.ensures ∙ stands-there c.args.number c.args.self.now.pipes c.place_of.result c.place_of.ensures
     ∙ has-is p c.args.number c.args.self.now.pipes n

@@ -1,18 +1,19 @@
-use Rattle.std.proofs.Common.{ap, length, arith}
+use Rattle.std.proofs.Common.{◌≡◌, ℕ, List, length, Option, Some, None, ap, ◌∙◌, position, arith}
+use Rattle.std.specs.Prelude.{unwrap_or}
+use Rattle.std.specs.List.{position_or_len}
+use Rattle.pipe_core.specs.Keyed.{KeyedPipe}
 use Rattle.pipe_table.specs.Table.{Table, is_above}
 use Rattle.pipe_table.proofs.Splits.{position-len, none-len}
 use Rattle.pipe_table.proofs.At.{place-fits}
 use Rattle.pipe_table.proofs.table.PipeTable.place_behind.Goals as goal
 
-pub returns-in-Some : goal.returns-in-Some
-returns-in-Some c = position-len (is_above c.args.number) c.args.self.now.pipes c.in-Some.place c.in-Some.ensures
+stands-behind : (k : ℕ) (ps : List KeyedPipe) (o : Option ℕ) → o ≡ position (is_above k) ps → unwrap_or o (length ps) ≡ position_or_len (is_above k) ps
+stands-behind k ps None e = none-len (is_above k) ps (place-fits k ps) e
+stands-behind k ps (Some i) e = position-len (is_above k) ps i e
 
-pub returns-in-None : goal.returns-in-None
-returns-in-None c =
-    omega (
-      arith,
-      none-len (is_above c.args.number) c.args.self.now.pipes (place-fits c.args.number c.args.self.now.pipes) c.in-None.ensures,
-      c.len.ensures,
-      c.self.inside.pipes.ok.0,
-      ap (λ (t : Table). length t.pipes) c.self.view_is,
-    )
+pub returns : goal.returns
+returns c =
+    let long : c.len.result ≡ length c.args.self.now.pipes =
+    omega (arith, c.len.ensures, c.self.inside.pipes.ok.0, ap (λ (t : Table). length t.pipes) c.self.view_is) in
+    c.unwrap_or.ensures ∙ ap (unwrap_or c.place_above.result) long
+    ∙ stands-behind c.args.number c.args.self.now.pipes c.place_above.result c.place_above.ensures

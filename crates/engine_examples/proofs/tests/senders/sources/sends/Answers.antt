@@ -20,7 +20,11 @@ overflow_cast-due c =
     let fits : IsNumber c.earliest-due.result.source.number = (c.earliest-due.ensures.numbered (command_numbered _ _ c.command.ensures)).1 c.in-Emission.is in
     omega (arith, fits)
 
-pub emit-requires-clause-may : goal.emit-requires-clause-may
-emit-requires-clause-may c =
+pub emit_at-requires-clause-may : goal.emit_at-requires-clause-may
+emit_at-requires-clause-may c =
     let may = c.earliest-due.ensures.allowed (command_allowed _ _ _ c.command.ensures) c.in-Emission.is in
-    subst (λ (k : ℕ). IsEmitting k c.args.traffic.now) (sym c.in_ok-number.ensures.1) may
+    record {
+      number = c.in_ok-number.number;
+      place = sym c.find.ensures.place ∙ c.in_ok-found.was;
+      may = subst (λ (k : ℕ). IsEmitting k c.args.traffic.now) (sym c.in_ok-number.ensures.1) may;
+    }

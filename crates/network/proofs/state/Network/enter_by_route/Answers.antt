@@ -6,7 +6,7 @@ use Rattle.network.proofs.Steps.{at_view, from_view}
 use Rattle.pipe_table.specs.Places.{StandsAt}
 use Rattle.network.proofs.Frame.{pipes-named}
 use Rattle.network.proofs.Arriving.{taken-in, turned-away}
-use Rattle.network.proofs.state.Network.enter_by_way.Goals as goal
+use Rattle.network.proofs.state.Network.enter_by_route.Goals as goal
 
 pub arrive_at-answer-requires-clause-named : goal.arrive_at-answer-requires-clause-named
 arrive_at-answer-requires-clause-named g c =
