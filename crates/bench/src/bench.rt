@@ -216,11 +216,11 @@ impl Bench {
     }
 
     /// What each resident keeps: it shows the state of running it alone.
-    pub fn known(&self)
+    pub fn reveal_invariant(&self)
         ensures { (slot : ℕ) (s : Seat RingMail) →
             seat_at (bench_seating self.now).seats slot ≡ Some s → IsTold ring_seen s.stand }
     {
-        self.shard.known();
+        self.shard.reveal_invariant();
     }
 
     /// Pushes a resident onto the deque.

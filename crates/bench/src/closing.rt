@@ -119,7 +119,7 @@ fn greatest_in(c: &Closing, so_far: u32) -> u32
     greatest_of(c.deque.as_slice(), most)
 }
 
-fn greatest(closings: &[Closing]) -> u32
+fn greatest_name(closings: &[Closing]) -> u32
     ensures { (x : ℕ) → result < x → NowhereAt x closings.now }
 {
     let mut most = 0;
@@ -134,7 +134,7 @@ pub fn audit(closings: &[Closing]) -> Result<(), Lost>
     ensures ok { OnOk result ((x : ℕ) → Accounted closings.now x) }
     ensures lost { IfErr result (λ e. IsLeast closings.now e.0) }
 {
-    let most = greatest(closings);
+    let most = greatest_name(closings);
     for x in 0..most {
         if !is_accounted(x, closings) {
             return Err(Lost(x));

@@ -92,7 +92,7 @@ impl Outcome {
     }
 
     /// What every outcome keeps: its records and counters, and how it ended, are those of running it alone.
-    pub fn known(&self)
+    pub fn reveal_invariant(&self)
         ensures records { self.now.records
             ≡ (alone self.now.spec self.now.commands self.now.events).net.records }
         ensures counters { self.now.counters
@@ -103,6 +103,6 @@ impl Outcome {
         ensures made { (alone self.now.spec self.now.commands self.now.events).steps
             ≡ self.now.events }
     {
-        self.dossier.known();
+        self.dossier.reveal_invariant();
     }
 }

@@ -180,7 +180,7 @@ impl Tenant {
     {
         dossier.name() == self.name
             && dossier.spec() == self.spec
-            && took(dossier.ending(), self.posted.as_slice(), dossier.consumed())
+            && matches_posted(dossier.ending(), self.posted.as_slice(), dossier.consumed())
             && begins(dossier, self.read.as_slice())
     }
 
@@ -235,7 +235,7 @@ fn begins(dossier: &Dossier<RingMail>, first: &[Record]) -> bool
 }
 
 // Whether these commands were taken of the posted ones, as the ending says.
-fn took(ending: Ending, posted: &[Timed], commands: &[Timed]) -> bool
+fn matches_posted(ending: Ending, posted: &[Timed], commands: &[Timed]) -> bool
     ensures { Decides result (Took ending posted.now commands.now) }
 {
     match ending {

@@ -13,7 +13,7 @@ ghost use Rattle.command_line.specs.Status.{status_after};
 use clap::Error;
 use clap::error::ErrorKind;
 use explain::{Account, Note, Subject};
-use explain_text::{account_of, explained, faults_text, scenario_explained};
+use explain_text::{account_of, explanation, faults_text, scenario_explained};
 use hinted::LineHints;
 use lab::{
     Device, Made, OpenGate, Plan, RunFault, Stop, check_kept, live, run_alone_within, run_within,
@@ -59,7 +59,7 @@ fn fail(rt: &impl Eprint, fault: RunFault) -> ExitCode {
 }
 
 // What a call without limits answers that makes no reports.
-fn unlimited(outcome: Result<(), RunFault>) -> Result<Option<Made>, Stop> {
+fn unlimited_outcome(outcome: Result<(), RunFault>) -> Result<Option<Made>, Stop> {
     match outcome {
         Ok(()) => Ok(None),
         Err(fault) => Err(Stop::Fault(fault)),
@@ -127,7 +127,7 @@ fn end_unrun(
     task: &Task,
 ) -> Result<ExitCode, AllocError> {
     if task.explains() {
-        let said = explained(alloc, text, None)?;
+        let said = explanation(alloc, text, None)?;
         print(rt, said.as_slice());
     }
     Ok(ExitCode::from(0))
@@ -241,10 +241,15 @@ where
             let (from, to) = (&mut reader, &mut writer);
             with_reports(run_alone_within(alloc, from, to, &mut text, &limits, &meter))
         }
-        Task::Check { .. } => unlimited(check_kept(alloc, &mut reader, &mut writer, &mut text)),
+        Task::Check { .. } => unlimited_outcome(check_kept(
+            alloc,
+            &mut reader,
+            &mut writer,
+            &mut text,
+        )),
         Task::Live { explain } => {
             let hints = LineHints { wanted: explain };
-            unlimited(live(alloc, &mut reader, &mut writer, &hints))
+            unlimited_outcome(live(alloc, &mut reader, &mut writer, &hints))
         }
     };
     end_with(rt, alloc, text.as_slice(), outcome, &task)

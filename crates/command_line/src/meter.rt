@@ -51,7 +51,7 @@ impl<'a, R: Eprint + Clock> Meter<'a, R> {
 }
 
 impl<R: Eprint + Clock + Sync> Progress for Meter<'_, R> {
-    fn ended(&self, ended: u64, total: u64) {
+    fn note_ends(&self, ended: u64, total: u64) {
         self.ended.store(ended, Ordering::SeqCst);
         if self.is_time() {
             // There is nowhere else to say that this can't be printed.
@@ -59,7 +59,7 @@ impl<R: Eprint + Clock + Sync> Progress for Meter<'_, R> {
         }
     }
 
-    fn stepped(&self, steps: u64, most: u64) {
+    fn note_steps(&self, steps: u64, most: u64) {
         if self.is_time() {
             let ended = self.ended.load(Ordering::SeqCst);
             let _ = eprintln!(self.rt;

@@ -279,7 +279,7 @@ fn flow_setting_chosen(seen: FlowSeen, word: &[u8]) -> Option<Expected>
 }
 
 /// What is expected behind this word, if it is one of several by which the line goes on. Own.
-pub fn chosen(expected: Expected, word: &[u8]) -> Option<Expected>
+pub fn choice_of(expected: Expected, word: &[u8]) -> Option<Expected>
     ensures { result ≡ chosen expected word.now }
 {
     match expected {
@@ -296,7 +296,7 @@ pub fn chosen(expected: Expected, word: &[u8]) -> Option<Expected>
 }
 
 // The same place, as if no option had stood before it.
-fn afresh(expected: Expected) -> Expected
+fn without_options(expected: Expected) -> Expected
     ensures { result ≡ afresh expected }
 {
     match expected {
@@ -321,5 +321,5 @@ pub fn stood_before(expected: Expected, word: &[u8]) -> bool
     ensures { result
         ≡ (is_none (chosen expected word.now) && is_some (chosen (afresh expected) word.now)) }
 {
-    chosen(expected, word).is_none() && chosen(afresh(expected), word).is_some()
+    choice_of(expected, word).is_none() && choice_of(without_options(expected), word).is_some()
 }

@@ -34,7 +34,7 @@ pub enum Keyword {
 }
 
 /// The keyword's text. Own.
-pub fn spelled(keyword: Keyword) -> &'static str
+pub fn text_of(keyword: Keyword) -> &'static str
     ensures { result.now ≡ spelling keyword }
 {
     match keyword {
@@ -81,7 +81,7 @@ pub enum Form {
 }
 
 // Whether it is asked for, and is so.
-fn asked(check: Check, is_so: bool) -> bool
+fn passes_check(check: Check, is_so: bool) -> bool
     ensures { result ≡ asked check is_so }
 {
     match check {
@@ -102,7 +102,7 @@ fn number(check: Check, number: Option<u128>, least: u64, most: u64) -> bool
 {
     match number {
         None => false,
-        Some(n) => asked(check, is_within(n, least, most)),
+        Some(n) => passes_check(check, is_within(n, least, most)),
     }
 }
 
@@ -121,7 +121,7 @@ fn address(check: Check, word: &[u8]) -> bool
 {
     match addresses::address(word) {
         None => false,
-        Some(raw) => asked(check, is_address(raw)),
+        Some(raw) => passes_check(check, is_address(raw)),
     }
 }
 
@@ -137,7 +137,7 @@ fn prefix(check: Check, word: &[u8]) -> bool
 {
     match addresses::prefix(word) {
         None => false,
-        Some(raw) => asked(check, is_prefix(raw)),
+        Some(raw) => passes_check(check, is_prefix(raw)),
     }
 }
 
@@ -153,7 +153,7 @@ fn ports(check: Check, word: &[u8]) -> bool
 {
     match addresses::ports(word) {
         None => false,
-        Some(raw) => asked(check, is_span(raw)),
+        Some(raw) => passes_check(check, is_span(raw)),
     }
 }
 
@@ -172,7 +172,7 @@ fn queue(check: Check, word: &[u8]) -> bool
 {
     match numbers::queue(word) {
         None => false,
-        Some(raw) => asked(check, is_queue(raw)),
+        Some(raw) => passes_check(check, is_queue(raw)),
     }
 }
 
@@ -191,7 +191,7 @@ fn timing(check: Check, word: &[u8]) -> bool
 {
     match numbers::timing(word) {
         None => false,
-        Some(raw) => asked(check, is_timing(raw)),
+        Some(raw) => passes_check(check, is_timing(raw)),
     }
 }
 
@@ -201,7 +201,7 @@ pub fn fits(check: Check, form: Form, word: &[u8]) -> bool
     ensures { result ≡ fits check form word.now }
 {
     match form {
-        Form::Word(keyword) => is(word, spelled(keyword)),
+        Form::Word(keyword) => is(word, text_of(keyword)),
         Form::Number(least, most) => number(check, numbers::number(word), least, most),
         Form::Segment => number(check, numbers::number(word), 64, 1460),
         Form::Window => number(check, numbers::number(word), 1, 65_535),

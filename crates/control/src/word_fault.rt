@@ -7,7 +7,7 @@ ghost use Rattle.control.specs.Behind.{value_behind, found, behind};
 ghost use Rattle.control.specs.Walk.{next_of, next, walk};
 ghost use Rattle.control.specs.declared.expected.Expected.TheVariants.{First};
 
-use crate::choice::chosen;
+use crate::choice::choice_of;
 use crate::expected::Expected;
 use crate::form::{Form, fits};
 use crate::value::{Value, value_at};
@@ -46,7 +46,7 @@ fn next_of(check: Check, value: Option<Value>, word: &[u8]) -> Option<Expected>
 fn next(check: Check, expected: Expected, word: &[u8]) -> Option<Expected>
     ensures { result ≡ next check expected word.now }
 {
-    match chosen(expected, word) {
+    match choice_of(expected, word) {
         Some(next) => Some(next),
         None => next_of(check, value_at(expected), word),
     }
@@ -107,7 +107,7 @@ pub enum Behind {
     Unsure,
 }
 
-fn found(blamed: Option<Blamed>) -> Behind
+fn behind_of(blamed: Option<Blamed>) -> Behind
     ensures { result ≡ found blamed }
 {
     match blamed {
@@ -146,5 +146,5 @@ pub fn blame_behind(line: &[u8], before: &Blamed) -> Behind
     let Some(next) = value_behind(before.expected) else {
         return Behind::Unsure;
     };
-    found(walk(Check::Ranges, before.index + 1, next, words))
+    behind_of(walk(Check::Ranges, before.index + 1, next, words))
 }

@@ -80,7 +80,7 @@ fn in_ranges(line: RawLine) -> Option<LineEntry>
                 spec,
             })
         }
-        RawLine::Command(command) => Some(LineEntry::Does(ranges::timed(command)?)),
+        RawLine::Command(command) => Some(LineEntry::Does(ranges::timed_command(command)?)),
     }
 }
 

@@ -365,7 +365,7 @@ fn command(raw: RawCommand) -> Option<Command>
 /// The command of a line with its moment (ns); None where a number is out of its range (our choice:
 /// 10^15 ns at most, and the ranges of docs/reference/scenario.md).
 #[tactic(auto, unfolding(crate::specs::Ranges::timed_within))]
-pub fn timed(raw: RawTimed) -> Option<Timed>
+pub fn timed_command(raw: RawTimed) -> Option<Timed>
     ensures { result ≡ timed_within raw }
 {
     let moment = in_range(raw.moment, 0, LATEST_MOMENT)?;

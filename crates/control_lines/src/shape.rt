@@ -42,7 +42,7 @@ fn last_number(words: &mut Words) -> Option<u128>
     ensures { result ≡ last_number_of (words_of words.old.rest.now) }
 {
     let n = number(words)?;
-    words.finished()?;
+    words.expect_end()?;
     Some(n)
 }
 
@@ -91,7 +91,7 @@ fn last_ports(words: &mut Words) -> Option<Option<RawPorts>>
         return Some(None);
     };
     let ports = addresses::ports(word)?;
-    words.finished()?;
+    words.expect_end()?;
     Some(Some(ports))
 }
 
@@ -190,7 +190,7 @@ fn pipe(words: &mut Words) -> Option<RawCommand>
 {
     let word = words.next_word()?;
     if is(word, "show") {
-        words.finished()?;
+        words.expect_end()?;
         Some(RawCommand::PipeShow)
     } else if is(word, "delete") {
         Some(RawCommand::PipeDelete(last_number(words)?))
@@ -208,7 +208,7 @@ fn source(verb: &[u8], words: &mut Words) -> Option<RawCommand>
 {
     if is(verb, "inject") {
         let send = send(words)?;
-        words.finished()?;
+        words.expect_end()?;
         Some(RawCommand::Inject(send))
     } else if is(verb, "train") {
         Some(RawCommand::Train(train(words)?))
@@ -233,14 +233,14 @@ fn command(words: &mut Words) -> Option<RawCommand>
     } else if is(verb, "pipe") {
         pipe(words)
     } else if is(verb, "show") {
-        words.finished()?;
+        words.expect_end()?;
         Some(RawCommand::Show)
     } else if is(verb, "one_pass") {
         Some(RawCommand::OnePass(last_number(words)?))
     } else if is(verb, "trace") {
         Some(RawCommand::Trace(last_number(words)?))
     } else if is(verb, "end") {
-        words.finished()?;
+        words.expect_end()?;
         Some(RawCommand::End)
     } else {
         source(verb, words)

@@ -14,7 +14,7 @@ ghost use Rattle.control_words.specs.Addresses.{
 
 use crate::numbers;
 use crate::raw::{RawAddress, RawPorts, RawPrefix};
-use crate::text::{cut, is};
+use crate::text::{is, split_once};
 use emu_model::{Protocol, ProtocolMatch};
 
 /// `tcp` or `udp`. `None` for any other word (ipfw(8), proto).
@@ -52,10 +52,10 @@ pub fn protocol_match(word: &[u8]) -> Option<ProtocolMatch>
 pub fn address(word: &[u8]) -> Option<RawAddress>
     ensures { result ≡ address_of word.now }
 {
-    let (first, rest) = cut(word, b'.')?;
-    let (second, rest) = cut(rest, b'.')?;
-    let (third, fourth) = cut(rest, b'.')?;
-    if let Some((_extra, _rest)) = cut(fourth, b'.') {
+    let (first, rest) = split_once(word, b'.')?;
+    let (second, rest) = split_once(rest, b'.')?;
+    let (third, fourth) = split_once(rest, b'.')?;
+    if let Some((_extra, _rest)) = split_once(fourth, b'.') {
         return None;
     }
     Some(RawAddress {
@@ -81,14 +81,14 @@ pub fn prefix(word: &[u8]) -> Option<RawPrefix>
         };
         return Some(RawPrefix { address, length: 0 });
     }
-    let Some((host, bits)) = cut(word, b'/') else {
+    let Some((host, bits)) = split_once(word, b'/') else {
         let address = address(word)?;
         return Some(RawPrefix {
             address,
             length: 32,
         });
     };
-    if let Some((_extra, _rest)) = cut(bits, b'/') {
+    if let Some((_extra, _rest)) = split_once(bits, b'/') {
         return None;
     }
     let address = address(host)?;
@@ -101,14 +101,14 @@ pub fn prefix(word: &[u8]) -> Option<RawPrefix>
 pub fn ports(word: &[u8]) -> Option<RawPorts>
     ensures { result ≡ ports_of word.now }
 {
-    let Some((first, last)) = cut(word, b'-') else {
+    let Some((first, last)) = split_once(word, b'-') else {
         let port = numbers::number(word)?;
         return Some(RawPorts {
             first: port,
             last: port,
         });
     };
-    if let Some((_extra, _rest)) = cut(last, b'-') {
+    if let Some((_extra, _rest)) = split_once(last, b'-') {
         return None;
     }
     let first = numbers::number(first)?;

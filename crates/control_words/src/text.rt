@@ -37,7 +37,7 @@ fn around(bytes: &[u8], place: usize) -> (&[u8], &[u8])
 }
 
 /// What stands before the first separator, and what follows it. `None` where there is none.
-pub fn cut(bytes: &[u8], separator: u8) -> Option<(&[u8], &[u8])>
+pub fn split_once(bytes: &[u8], separator: u8) -> Option<(&[u8], &[u8])>
     ensures value { MatchOption result (parts separator bytes.now ≡ bytes.now ∷ [])
         (λ x. parts separator bytes.now ≡ x.0.now ∷ parts separator x.1.now) }
     ensures shorter { IfSome result (λ x. length x.1.now < length bytes.now) }
@@ -127,7 +127,7 @@ impl<'a> Words<'a> {
     }
 
     /// Takes the next word, if one is left, and is `None` then. Own.
-    pub fn finished(&mut self) -> Option<()>
+    pub fn expect_end(&mut self) -> Option<()>
         ensures value { option_map (λ _. []) result ≡ none_left (words self.old.rest.now) }
         ensures left { words self.new.rest.now ≡ drop 1 (words self.old.rest.now) }
     {

@@ -50,7 +50,7 @@ fn cause_number(cause: Cause) -> u32
 }
 
 // The answer of a text that has no fault.
-fn told(status: u32, length: usize) -> Answer
+fn answer_of(status: u32, length: usize) -> Answer
     ensures status { result.status ≡ status }
     ensures length { result.length ≡ length }
 {
@@ -66,21 +66,21 @@ fn told(status: u32, length: usize) -> Answer
 pub fn no_memory() -> Answer
     ensures { result.status ≡ 3 }
 {
-    told(MEMORY, 0)
+    answer_of(MEMORY, 0)
 }
 
 /// The answer where there is no session.
 pub fn no_session() -> Answer
     ensures { result.status ≡ 2 }
 {
-    told(CLOSED, 0)
+    answer_of(CLOSED, 0)
 }
 
 /// The answer where all is well, and nothing is put into a room.
 pub fn all_well() -> Answer
     ensures { result.status ≡ 0 }
 {
-    told(DONE, 0)
+    answer_of(DONE, 0)
 }
 
 /// The answer where an experiment has no end, as is found at a line.
@@ -89,14 +89,14 @@ pub fn no_end(line: u64) -> Answer
     ensures line { result.line ≡ line }
     ensures cause { result.cause ≡ cause_number NoEnd }
 {
-    faulty(&Fault {
+    fault_answer(&Fault {
         line,
         cause: Cause::NoEnd,
     })
 }
 
 /// The answer where the text has a fault.
-pub fn faulty(fault: &Fault) -> Answer
+pub fn fault_answer(fault: &Fault) -> Answer
     ensures status { result.status ≡ 1 }
     ensures line { result.line ≡ fault.now.line }
     ensures cause { result.cause ≡ cause_number fault.now.cause }
@@ -116,10 +116,10 @@ pub fn put(text: &[u8], room: &mut [u8]) -> Answer
 {
     let length = text.len();
     if length > room.len() {
-        return told(ROOM, length);
+        return answer_of(ROOM, length);
     }
     room[..length].copy_from_slice(text);
-    told(DONE, length)
+    answer_of(DONE, length)
 }
 
 /// Puts reports into the room, one after the other, where it has room for all of them; else the first that fit.
@@ -130,7 +130,7 @@ pub fn put_all(alloc: Global, reports: &[Report], room: &mut [u8]) -> Answer
         return no_memory();
     };
     if length > room.len() {
-        return told(ROOM, length);
+        return answer_of(ROOM, length);
     }
-    told(DONE, length)
+    answer_of(DONE, length)
 }

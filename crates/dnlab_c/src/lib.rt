@@ -14,8 +14,8 @@ ghost use Rattle.dnlab_c.specs.Answers.{Answers};
 ghost use Rattle.dnlab_c.specs.Guests.{Opens, TakesAt, ClosesAt};
 
 pub use answer::Answer;
-use answer::{all_well, faulty, no_memory, no_session, put, put_all};
-use explain_text::{explained, faults_text};
+use answer::{all_well, fault_answer, no_memory, no_session, put, put_all};
+use explain_text::{explanation, faults_text};
 use guest::Guest;
 use lab::{Device, RunFault, check, reports_of};
 use loose::Loose;
@@ -32,7 +32,7 @@ pub extern "C" fn dnlab_alone(alloc: Global, text: &[u8], room: &mut [u8], answe
 {
     *answer = match reports_of(alloc, text) {
         Ok(reports) => put_all(alloc, reports.each(), room),
-        Err(RunFault::Scenario(fault)) => faulty(&fault),
+        Err(RunFault::Scenario(fault)) => fault_answer(&fault),
         Err(_) => no_memory(),
     };
 }
@@ -48,7 +48,7 @@ pub extern "C" fn dnlab_check(alloc: Global, text: &[u8], room: &mut [u8], answe
     let line = writer.into_inner();
     *answer = match outcome {
         Ok(()) => put(line.as_slice(), room),
-        Err(RunFault::Scenario(fault)) => faulty(&fault),
+        Err(RunFault::Scenario(fault)) => fault_answer(&fault),
         Err(_) => no_memory(),
     };
 }
@@ -56,10 +56,10 @@ pub extern "C" fn dnlab_check(alloc: Global, text: &[u8], room: &mut [u8], answe
 // What is said of a text, and of its run, if that is asked for.
 fn said_of(alloc: Global, text: &[u8], runs: bool) -> Result<Vec<u8>, AllocError> {
     if !runs {
-        return explained(alloc, text, None);
+        return explanation(alloc, text, None);
     }
     match reports_of(alloc, text) {
-        Ok(reports) => explained(alloc, text, Some(reports.each())),
+        Ok(reports) => explanation(alloc, text, Some(reports.each())),
         Err(RunFault::Scenario(fault)) => faults_text(alloc, text, &fault),
         Err(_) => Err(AllocError),
     }

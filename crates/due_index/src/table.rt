@@ -43,7 +43,7 @@ impl NumberTable {
 
     /// Makes an entry for a number and for all below it. No number leads elsewhere than before; refused, nothing has
     /// changed.
-    pub fn ready(&mut self, number: u16) -> Result<(), AllocError>
+    pub fn make_room(&mut self, number: u16) -> Result<(), AllocError>
         ensures same { (k : ℕ) → place_in self.new k ≡ place_in self.old k }
         ensures grows { length self.old ≤ length self.new }
         ensures ready { OnOk result (number < length self.new) }

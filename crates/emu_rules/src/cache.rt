@@ -45,7 +45,7 @@ impl CachedSearch {
 
     /// The same cached search, which has counted a packet more.
     #[inline(always)]
-    fn counting(&self, packet: &Packet) -> Self
+    fn with_packet(&self, packet: &Packet) -> Self
         ensures { result ≡ with_one packet.now.size self.now }
     {
         CachedSearch {
@@ -231,7 +231,7 @@ impl RuleCache {
         if path.found.rule != NO_RULE {
             return path.found;
         }
-        self.held[place] = Some(path.counting(packet));
+        self.held[place] = Some(path.with_packet(packet));
         self.is_pending = true;
         path.found
     }

@@ -207,7 +207,7 @@ pub const NO_RULE: usize = usize::MAX;
 
 /// What a search found, as a verdict and a rule.
 #[inline(always)]
-fn foretold(rules: &[CountedRule], found: Found) -> Match
+fn match_of(rules: &[CountedRule], found: Found) -> Match
     ensures verdict { result.verdict
         ≡ verdict_of_match (option_and_then (slice_get rules.now) found.last) }
     ensures rule { result.rule ≡ found.rule }
@@ -241,10 +241,10 @@ pub(crate) fn classify(
 {
     if is_short(rules, start, packet) {
         let found = search(rules, jumps, start, packet);
-        return foretold(rules, found);
+        return match_of(rules, found);
     }
     let found = far_search(cache, rules, jumps, start, packet);
-    foretold(rules, found)
+    match_of(rules, found)
 }
 
 /// The search where many rules are left: by the cached search that is remembered, else by a walk, which is remembered then.

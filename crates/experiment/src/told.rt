@@ -60,7 +60,7 @@ impl Experiment {
     }
 
     /// How many packets are on the shelf.
-    pub fn held(&self) -> u64
+    pub fn packet_count(&self) -> u64
         ensures { (p : Pocket) → IsHousedIn p self.now → result ≡ p.count }
     {
         self.held

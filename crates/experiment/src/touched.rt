@@ -32,7 +32,7 @@ impl Experiment {
     }
 
     /// What was due when that was noted last.
-    pub fn noted(&self) -> &[Due]
+    pub fn noted_dues(&self) -> &[Due]
         ensures { result.now ≡ self.now.noted }
     {
         self.noted.as_slice()

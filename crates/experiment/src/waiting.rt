@@ -91,7 +91,7 @@ impl Experiment {
     }
 
     /// How many packets were made.
-    pub fn made(&self) -> u64
+    pub fn made_count(&self) -> u64
         ensures { (p : Pocket) → IsHousedIn p self.now → result ≡ (view p self.now).net.made }
     {
         self.counters().made

@@ -41,7 +41,7 @@ pub struct Finding<'a> {
 }
 
 // Of the whole line.
-fn whole(expected: &'static str, hint: Option<&'static str>) -> Inside
+fn inside_of_line(expected: &'static str, hint: Option<&'static str>) -> Inside
     ensures { result.place ≡ None }
 {
     Inside {
@@ -86,7 +86,7 @@ fn bad_byte(line: &[u8]) -> Inside
             };
         }
     }
-    whole(expected, None)
+    inside_of_line(expected, None)
 }
 
 // A word without the form that is wanted, or a number outside its range.
@@ -95,7 +95,7 @@ fn bad_word(line: &[u8], check: Check) -> Inside
     ensures word { MarksWord check result.place line.now }
 {
     let Some(blamed) = blame(line, check) else {
-        return whole("a line of docs/reference/scenario.md", None);
+        return inside_of_line("a line of docs/reference/scenario.md", None);
     };
     let place = span_of_word(line, blamed.index);
     let word = part(line, place);
@@ -144,17 +144,17 @@ fn in_line(line: &[u8], cause: Cause) -> Inside
     ensures blamed { MarksBlamed cause result.place line.now }
 {
     match cause {
-        Cause::TooBig => whole(
+        Cause::TooBig => inside_of_line(
             "at most 16777216 bytes",
             Some("split it between its experiments (docs/howto/many_machines.md)"),
         ),
         Cause::Cut => cut_off(line),
-        Cause::TooLong => whole("at most 512 bytes in a line, comments too", None),
+        Cause::TooLong => inside_of_line("at most 512 bytes in a line, comments too", None),
         Cause::BadByte => bad_byte(line),
         Cause::BadWord => bad_word(line, Check::Forms),
         Cause::OutOfRange => bad_word(line, Check::Ranges),
         Cause::NoEnd => at_word(line, 0, NO_END, Some("@5000000000 end")),
-        Cause::TooMany => whole(
+        Cause::TooMany => inside_of_line(
             "at most 256 experiments",
             Some("put the others into a text of their own"),
         ),
@@ -176,7 +176,7 @@ fn in_line(line: &[u8], cause: Cause) -> Inside
 }
 
 // The line that the fault goes by.
-fn earlier<'a>(past: &Past<'a>, cause: Cause) -> Option<Earlier<'a>>
+fn earlier_line<'a>(past: &Past<'a>, cause: Cause) -> Option<Earlier<'a>>
     ensures before { (ls : List (List ℕ)) (n : ℕ) → IsPastOf ls n past.now → IsBefore ls n result }
     ensures which { result ≡ line_for cause past.now }
 {
@@ -204,7 +204,7 @@ fn before<'a>(text: &'a [u8], line: &[u8], fault: &Fault) -> Option<Earlier<'a>>
         return None;
     }
     let past = past_of(text, fault.line, name_in(line));
-    earlier(&past, fault.cause)
+    earlier_line(&past, fault.cause)
 }
 
 fn with_a_byte(line: &[u8]) -> Option<&[u8]>

@@ -30,7 +30,7 @@ pub struct Note {
     pub count: u64,
 }
 
-fn denied(load: Load) -> Subject
+fn subject_of_denial(load: Load) -> Subject
     ensures { result ≡ denied load }
 {
     match load {
@@ -41,11 +41,11 @@ fn denied(load: Load) -> Subject
 }
 
 // What is counted of a drop.
-fn dropped(cause: DropCause, load: Load) -> Option<Subject>
+fn subject_of_drop(cause: DropCause, load: Load) -> Option<Subject>
     ensures { result ≡ dropped cause load }
 {
     match cause {
-        DropCause::Denied => Some(denied(load)),
+        DropCause::Denied => Some(subject_of_denial(load)),
         DropCause::Budget => Some(Subject::OverBudget),
         _ => None,
     }
@@ -132,7 +132,7 @@ pub(crate) fn count_record(
             load,
             cause,
             ..
-        } => put_if(notes, experiment, moment, dropped(cause, load)),
+        } => put_if(notes, experiment, moment, subject_of_drop(cause, load)),
         _ => Ok(()),
     }
 }

@@ -42,7 +42,7 @@ pub fn segment_ends(flow: &FlowSpec) -> Ends
 }
 
 /// The other direction.
-pub fn turned(ends: Ends) -> Ends
+pub fn reverse_of(ends: Ends) -> Ends
     ensures { result ≡ turned ends }
 {
     Ends {

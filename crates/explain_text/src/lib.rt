@@ -61,7 +61,7 @@ pub fn scenario_explained(
 
 /// What is said of a text and of its reports, where it was run: its first faults, else what is said of the scenario.
 /// `AllocError` where memory was refused.
-pub fn explained(
+pub fn explanation(
     alloc: Global,
     text: &[u8],
     reports: Option<&[Report]>,

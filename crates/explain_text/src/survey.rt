@@ -50,14 +50,14 @@ fn note_configured(table: &mut NumberTable, command: &Command) -> Result<(), All
         ≡ (configures n command.now || is_some (place_in table.old n))) }
 {
     if let Command::Config { pipe, .. } = command {
-        table.ready(pipe.get())?;
+        table.make_room(pipe.get())?;
         table.set(pipe.get(), 0);
     }
     Ok(())
 }
 
 // The numbers of the pipes that are configured somewhere.
-fn configured(alloc: Global, commands: &[Timed]) -> Result<NumberTable, AllocError>
+fn configured_pipes(alloc: Global, commands: &[Timed]) -> Result<NumberTable, AllocError>
     ensures { IfOk result (λ t. (n : ℕ) → is_some (place_in t n) ≡ is_configured commands.now n) }
 {
     let mut table = NumberTable::new(alloc);
@@ -91,7 +91,7 @@ fn note_missing(
 pub fn pipes_missing(alloc: Global, commands: &[Timed]) -> Result<Vec<Warning>, AllocError>
     ensures { IfOk result (λ out. out.items ≡ pipes_missing commands.now) }
 {
-    let table = configured(alloc, commands)?;
+    let table = configured_pipes(alloc, commands)?;
     let mut out = Vec::new(alloc);
     for (number, timed) in commands.iter().enumerate() {
         note_missing(&mut out, &table, number as u64, named_in(&timed.command))?;

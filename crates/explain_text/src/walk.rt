@@ -3,7 +3,7 @@
 ghost use Rattle.std.specs.Prelude.{◌≡◌, ◌++◌, OnOk, IfOk};
 ghost use Rattle.explain_text.specs.Walk.{denied, denied_flow, denials_at, denials};
 
-use crate::ends::{Ends, segment_ends, sent_ends, turned};
+use crate::ends::{Ends, reverse_of, segment_ends, sent_ends};
 use crate::rules::{apply, go_behind, is_denied};
 use crate::warning::{Concern, Sent, Warning};
 use emu_model::{Command, Timed};
@@ -23,7 +23,7 @@ fn note_denied(
     if !is_denied(rules, &ends) {
         return Ok(());
     }
-    let other = !is_denied(rules, &turned(ends));
+    let other = !is_denied(rules, &reverse_of(ends));
     out.push(Warning {
         command: Some(command),
         concern: Concern::NoWay {
@@ -47,7 +47,7 @@ fn note_flow(
     if is_denied(rules, &ends) {
         note_denied(out, command, Sent::Segments, rules, ends)
     } else {
-        note_denied(out, command, Sent::Acks, rules, turned(ends))
+        note_denied(out, command, Sent::Acks, rules, reverse_of(ends))
     }
 }
 

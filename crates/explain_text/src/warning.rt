@@ -3,7 +3,7 @@
 ghost use Rattle.std.specs.Prelude.{◌≡◌, ◌++◌, ◌∷◌, [], take, IfOk, OnOk, None, option_map};
 ghost use Rattle.explain_text.specs.Warnings.{way_of, no_way_of, flow_denied, of_subject, of_notes, of_seed, of_commands, warnings_of};
 
-use crate::ends::{Ends, segment_ends, turned};
+use crate::ends::{Ends, reverse_of, segment_ends};
 use crate::rules::{go_behind, is_denied};
 use crate::survey::{flow_place, has_loss, last_moment, pipes_missing};
 use crate::walk::denials;
@@ -79,7 +79,7 @@ fn way_of(sent: Sent, ends: Ends) -> Ends
 {
     match sent {
         Sent::Packets | Sent::Segments => ends,
-        Sent::Acks => turned(ends),
+        Sent::Acks => reverse_of(ends),
     }
 }
 
@@ -99,7 +99,7 @@ fn put_no_way(
         return Ok(());
     };
     let ends = way_of(sent, segment_ends(flow));
-    let other = !is_denied(rules, &turned(ends));
+    let other = !is_denied(rules, &reverse_of(ends));
     out.push(Warning {
         command: Some(place),
         concern: Concern::NoWay {

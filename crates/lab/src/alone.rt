@@ -26,7 +26,7 @@ fn tell<P: Progress>(experiment: &Experiment, progress: &P)
 {
     let steps = experiment.events();
     if steps % TOLD == 0 {
-        progress.stepped(steps, u64::from(experiment.spec().budget.steps.get()));
+        progress.note_steps(steps, u64::from(experiment.spec().budget.steps.get()));
     }
 }
 
@@ -141,7 +141,7 @@ pub fn run_all<P: Progress>(
     for script in scripts {
         let report = report_by_itself(alloc, script, progress)?;
         reports.push(report)?;
-        progress.ended(reports.len() as u64, scripts.len() as u64);
+        progress.note_ends(reports.len() as u64, scripts.len() as u64);
     }
     Ok(reports)
 }

@@ -21,7 +21,7 @@ use std::sync::Wait;
 use std::thread::Threads;
 
 // What a call answers that has no limit.
-fn unlimited(outcome: Result<Made, Stop>) -> Result<(), RunFault>
+fn unlimited_outcome(outcome: Result<Made, Stop>) -> Result<(), RunFault>
     requires { IsUnlimited (done_of outcome) }
     ensures { result ≡ leaves (done_of outcome) }
 {
@@ -87,7 +87,7 @@ pub fn run_alone_told<R: Inlet, W: Outlet, P: Progress>(
     let limits = Limits::none();
     let mut text = Vec::new(alloc);
     let outcome = run_alone_within(alloc, reader, writer, &mut text, &limits, progress);
-    unlimited(outcome)
+    unlimited_outcome(outcome)
 }
 
 /// Reads a scenario and runs its experiments by the workers of a plan, each of which has a thread; then writes their
@@ -135,7 +135,7 @@ pub fn run_told<H: Threads + Wait + Sync, R: Inlet, W: Outlet, G: Gate, P: Progr
     let outcome = run_within(
         rt, alloc, reader, writer, &mut text, &limits, plan, gate, progress,
     );
-    unlimited(outcome)
+    unlimited_outcome(outcome)
 }
 
 /// Reads a scenario and writes `ok`, how many experiments and how many commands it has. The faults are

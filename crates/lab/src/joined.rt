@@ -27,7 +27,7 @@ pub(crate) struct Joined {
 }
 
 // The graver of two faults: memory, then the gate, then what is strange.
-fn graver(a: Option<RunFault>, b: RunFault) -> RunFault
+fn graver_of(a: Option<RunFault>, b: RunFault) -> RunFault
     ensures { result ≡ graver_of a b }
 {
     match (a, b) {
@@ -79,7 +79,7 @@ impl Joined {
         ensures same { (self.new.dossiers ≡ self.old.dossiers)
             × (self.new.closings ≡ self.old.closings) }
     {
-        self.fault = Some(graver(self.fault, fault));
+        self.fault = Some(graver_of(self.fault, fault));
     }
 
     // Notes a worker's fault, where it has one.

@@ -173,7 +173,7 @@ fn settle_one(
     let Ok(outcome) = tenant.settle(dossier) else {
         return Err(RunFault::Strange);
     };
-    outcome.known();
+    outcome.reveal_invariant();
     later_commands_wait();
     let counters = outcome.counters();
     let (archive, rest) = outcome.into_records();

@@ -50,7 +50,7 @@ impl Board {
     // One more has ended.
     fn count<P: Progress>(&self, progress: &P) {
         let before = self.ended.fetch_add(1, Ordering::SeqCst);
-        progress.ended(before.wrapping_add(1), self.total);
+        progress.note_ends(before.wrapping_add(1), self.total);
     }
 }
 

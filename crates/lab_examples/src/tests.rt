@@ -128,7 +128,7 @@ fn faults(rt: HostRuntime) -> Result<(), Fail> {
 
 /// A reader that never ends: what it gives is too long.
 #[test]
-fn endless(rt: HostRuntime) {
+fn endless_reader(rt: HostRuntime) {
     let mut reader = Device::new(io::repeat(b' '));
     let mut writer = Device::new(Vec::new(rt.alloc()));
     let outcome = run_alone(rt.alloc(), &mut reader, &mut writer);
@@ -142,7 +142,7 @@ fn endless(rt: HostRuntime) {
 
 /// All of it is written, or `Memory` is answered and nothing is.
 #[test]
-fn refused(rt: HostRuntime) {
+fn memory_refusal(rt: HostRuntime) {
     let (outcome, written) = run_text(rt.alloc(), texts::FOUR_EXPERIMENTS);
     if outcome == Err(RunFault::Memory) {
         assert!(rt; written.is_empty());

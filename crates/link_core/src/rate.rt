@@ -49,7 +49,7 @@ impl Busy {
 
     /// The period with one packet more: what is left over is served with it.
     #[inline(always)]
-    fn followed(self, bw: Bandwidth, size: Size) -> Self
+    fn with_packet(self, bw: Bandwidth, size: Size) -> Self
         requires tells { Tells bw self }
         requires early { IsMoment (period_of self).finish }
         ensures period { period_of result ≡ follow bw size (period_of self) }
@@ -105,7 +105,7 @@ impl RateServer {
         requires early { IsMoment now }
         ensures { self.new ≡ record self.old { busy = Some (begin self.old.bw now size) } }
     {
-        self.busy = Some(Busy::at(now).followed(self.bw, size));
+        self.busy = Some(Busy::at(now).with_packet(self.bw, size));
     }
 
     /// Takes the next packet into service at the finish of the one before. At rest it does nothing.
@@ -116,7 +116,7 @@ impl RateServer {
             ≡ record self.old { busy = option_map (follow self.old.bw size) self.old.busy } }
     {
         if let Some(busy) = self.busy {
-            self.busy = Some(busy.followed(self.bw, size));
+            self.busy = Some(busy.with_packet(self.bw, size));
         }
     }
 

@@ -57,34 +57,34 @@ pub fn asked_in(line: &[u8]) -> Option<&[u8]>
 
 // The number that stands last, if one does, and else 1.
 #[tactic(auto, unfolding(crate::specs::Requests::hold_of))]
-fn hold(words: &mut Words) -> Option<u128>
+fn hold_number(words: &mut Words) -> Option<u128>
     ensures { result ≡ hold_of (words_of words.old.rest.now) }
 {
     let Some(word) = words.next_word() else {
         return Some(1);
     };
     let hold = number(word)?;
-    words.finished()?;
+    words.expect_end()?;
     Some(hold)
 }
 
 // What stands after `until @M first`.
 #[tactic(auto, unfolding(crate::specs::Requests::first_of))]
-fn first<'a>(words: &mut Words<'a>, limit: u128) -> Option<RawRequest<'a>>
+fn first_request<'a>(words: &mut Words<'a>, limit: u128) -> Option<RawRequest<'a>>
     ensures { option_map view_raw result ≡ first_of limit (words_of words.old.rest.now) }
 {
     let mut ahead = *words;
     if ahead.expect_word("any").is_some() {
-        let hold = hold(&mut ahead)?;
+        let hold = hold_number(&mut ahead)?;
         return Some(RawRequest::UntilAny { limit, hold });
     }
-    let hold = hold(words)?;
+    let hold = hold_number(words)?;
     Some(RawRequest::UntilMine { limit, hold })
 }
 
 // What stands after `until`.
 #[tactic(auto, unfolding(crate::specs::Requests::until_of))]
-fn until<'a>(words: &mut Words<'a>) -> Option<RawRequest<'a>>
+fn until_request<'a>(words: &mut Words<'a>) -> Option<RawRequest<'a>>
     ensures { option_map view_raw result ≡ until_of (words_of words.old.rest.now) }
 {
     let limit = moment(words.next_word()?)?;
@@ -94,22 +94,22 @@ fn until<'a>(words: &mut Words<'a>) -> Option<RawRequest<'a>>
     if !is(word, "first") {
         return None;
     }
-    first(words, limit)
+    first_request(words, limit)
 }
 
 // What stands after `use`.
 #[tactic(auto, unfolding(crate::specs::Requests::used_of))]
-fn used<'a>(words: &mut Words<'a>) -> Option<RawRequest<'a>>
+fn use_request<'a>(words: &mut Words<'a>) -> Option<RawRequest<'a>>
     ensures { option_map view_raw result ≡ used_of (words_of words.old.rest.now) }
 {
     let name = name_in(words.next_word()?)?;
-    words.finished()?;
+    words.expect_end()?;
     Some(RawRequest::Use { name })
 }
 
 // What stands after `show`.
 #[tactic(auto, unfolding(crate::specs::Requests::shown_of))]
-fn shown<'a>(words: &mut Words<'a>) -> Option<RawRequest<'a>>
+fn show_request<'a>(words: &mut Words<'a>) -> Option<RawRequest<'a>>
     ensures { option_map view_raw result ≡ shown_of (words_of words.old.rest.now) }
 {
     let word = words.next_word()?;
@@ -117,17 +117,17 @@ fn shown<'a>(words: &mut Words<'a>) -> Option<RawRequest<'a>>
     if !all && !is(word, "mine") {
         return None;
     }
-    words.finished()?;
+    words.expect_end()?;
     Some(RawRequest::Show { all })
 }
 
 // A request of one word.
 #[tactic(auto, unfolding(crate::specs::Requests::ended_of))]
-fn ended<'a>(words: &mut Words<'a>, request: RawRequest<'a>) -> Option<RawRequest<'a>>
+fn word_request<'a>(words: &mut Words<'a>, request: RawRequest<'a>) -> Option<RawRequest<'a>>
     ensures { option_map view_raw result
         ≡ ended_of (view_raw request.entry) (words_of words.old.rest.now) }
 {
-    words.finished()?;
+    words.expect_end()?;
     Some(request)
 }
 
@@ -138,15 +138,15 @@ fn shape<'a>(words: &mut Words<'a>) -> Option<RawRequest<'a>>
 {
     let word = words.next_word()?;
     if is(word, "until") {
-        until(words)
+        until_request(words)
     } else if is(word, "next") {
-        ended(words, RawRequest::Next)
+        word_request(words, RawRequest::Next)
     } else if is(word, "use") {
-        used(words)
+        use_request(words)
     } else if is(word, "show") {
-        shown(words)
+        show_request(words)
     } else if is(word, "help") {
-        ended(words, RawRequest::Help)
+        word_request(words, RawRequest::Help)
     } else {
         None
     }

@@ -254,7 +254,7 @@ impl Run {
         waits_begin();
         commands_go_on();
         records_are_not_read();
-        let number = self.experiment.made();
+        let number = self.experiment.made_count();
         let seen = self.experiment.records().len();
         mark_injected(&mut self.mine, &command.command, number)?;
         match self.experiment.apply(command) {

@@ -74,7 +74,7 @@ impl Network {
     }
 
     // Records that a command is done.
-    fn done(&mut self, now: u64, number: u64)
+    fn note_done(&mut self, now: u64, number: u64)
         requires { 0 < self.old.log.spare }
         ensures { Notes (CommandDone now number ∷ []) self.old self.new }
     {
@@ -107,7 +107,7 @@ impl Network {
         ensures succeeds { IsSome (add_refusal rule.now self.old.book) → IsOk result }
     {
         match self.book.add(*rule) {
-            Ok(()) => self.done(at.now, number),
+            Ok(()) => self.note_done(at.now, number),
             Err(AddError::Refused(refusal)) => self.refuse(at.now, number, refusal),
             Err(AddError::NoMemory) => return Err(AllocError),
         }
@@ -125,7 +125,7 @@ impl Network {
         ensures succeeds { IsOk result }
     {
         match self.book.delete(rule) {
-            Ok(()) => self.done(at.now, number),
+            Ok(()) => self.note_done(at.now, number),
             Err(refusal) => self.refuse(at.now, number, refusal),
         }
         Ok(())
@@ -150,7 +150,7 @@ impl Network {
         ensures kept { IsSome (pipe_of pipe self.old.table.pipes) → IsOk result }
     {
         match self.table.configure(pipe, config) {
-            Ok(()) => self.done(at.now, number),
+            Ok(()) => self.note_done(at.now, number),
             Err(ConfigureError::Refused(refusal)) => self.refuse(at.now, number, refusal),
             Err(ConfigureError::NoMemory) => return Err(AllocError),
         }
@@ -188,7 +188,7 @@ impl Network {
         match self.table.delete(shelf, owner, pipe)? {
             None => self.refuse(at.now, number, Refusal::NoSuchPipe),
             Some(packets) => {
-                self.done(at.now, number);
+                self.note_done(at.now, number);
                 self.drop_all(at.now, &packets, DropCause::Deleted);
             }
         }
@@ -203,7 +203,7 @@ impl Network {
     {
         let lines = self.table.lines();
         self.reserve_besides(lines)?;
-        self.done(at.now, number);
+        self.note_done(at.now, number);
         self.table.show(&mut self.log);
         Ok(())
     }
@@ -217,7 +217,7 @@ impl Network {
     {
         let lines = self.book.len();
         self.reserve_besides(lines)?;
-        self.done(at.now, number);
+        self.note_done(at.now, number);
         note_rules(&mut self.log, &mut self.book);
         Ok(())
     }
@@ -243,7 +243,7 @@ impl Network {
     {
         shelf.put_ready(owner)?;
         self.inject_ready(shelf, owner, at.now, send)?;
-        self.done(at.now, number);
+        self.note_done(at.now, number);
         let sending = plain_sending(send);
         self.make(shelf, owner, at, &sending, &Lookup::Searched);
         Ok(())
@@ -270,7 +270,7 @@ impl Network {
             return Ok(());
         }
         self.traffic.start_train(at.now, source, train)?;
-        self.done(at.now, number);
+        self.note_done(at.now, number);
         Ok(())
     }
 
@@ -294,7 +294,7 @@ impl Network {
             return Ok(());
         }
         self.traffic.start_flow(source, flow)?;
-        self.done(at.now, number);
+        self.note_done(at.now, number);
         Ok(())
     }
 
@@ -311,7 +311,7 @@ impl Network {
             return Ok(());
         }
         self.traffic.stop(flow);
-        self.done(at.now, number);
+        self.note_done(at.now, number);
         Ok(())
     }
 
@@ -329,7 +329,7 @@ impl Network {
         ensures succeeds { IsOk result }
     {
         self.one_pass = one_pass;
-        self.done(at.now, number);
+        self.note_done(at.now, number);
         Ok(())
     }
 
@@ -342,7 +342,7 @@ impl Network {
         ensures succeeds { IsOk result }
     {
         self.trace = trace;
-        self.done(at.now, number);
+        self.note_done(at.now, number);
         Ok(())
     }
 
@@ -354,7 +354,7 @@ impl Network {
         ensures refused { OnErr result (IsStill self.old self.new) }
         ensures succeeds { IsOk result }
     {
-        self.done(at.now, number);
+        self.note_done(at.now, number);
         Ok(())
     }
 }

@@ -110,7 +110,7 @@ impl Network {
         keys_say_all();
         Counters {
             made: self.made,
-            delivered: self.log.delivered(),
+            delivered: self.log.delivered_count(),
             held,
             drops: self.log.drops(),
         }

@@ -55,7 +55,7 @@ impl OwnShelf {
         ensures room { own_room self.old 0 ≤ own_room self.new 0 }
         ensures succeeds { additional ≤ own_room self.old 0 → IsOk result }
     {
-        let left = self.budget.saturating_sub(self.held());
+        let left = self.budget.saturating_sub(self.packet_count());
         let wanted = additional.min(left).saturating_sub(self.free.len());
         self.grow(wanted)
     }
@@ -72,7 +72,7 @@ impl OwnShelf {
 
     // How many packets stand there.
     #[inline(always)]
-    fn held(&self) -> usize
+    fn packet_count(&self) -> usize
         ensures count { result ≡ (own_pocket self.now).count }
         ensures within { result ≤ (own_pocket self.now).budget }
     {
@@ -105,7 +105,7 @@ impl OwnShelf {
         ensures { IsTrue result ↔
             ((pocket_of_own self.now owner).budget ≤ (pocket_of_own self.now owner).count) }
     {
-        owner != 0 || self.budget <= self.held()
+        owner != 0 || self.budget <= self.packet_count()
     }
 }
 
@@ -163,6 +163,6 @@ impl Shelf for OwnShelf {
 
     #[inline(always)]
     fn count(&self, owner: Owner) -> usize {
-        if owner == 0 { self.held() } else { 0 }
+        if owner == 0 { self.packet_count() } else { 0 }
     }
 }

@@ -258,7 +258,7 @@ impl Instance {
     }
 
     /// How many keys it holds.
-    pub fn held(&self) -> usize
+    pub fn key_count(&self) -> usize
         ensures { result ≡ length (keys_in self.now) }
     {
         let moving = self.line.in_flight() + usize::from(self.service.is_busy());

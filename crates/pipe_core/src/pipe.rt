@@ -546,7 +546,7 @@ impl Pipe {
         ensures refused_pocket { OnErr result
             (S.pocket shelf.new owner ≡ S.pocket shelf.old owner) }
     {
-        let Some(held) = self.held() else {
+        let Some(held) = self.packet_count() else {
             return Err(AllocError);
         };
         let mut gone = Vec::new(self.alloc);
@@ -586,12 +586,12 @@ impl Pipe {
     }
 
     // How many packets all instances hold; None where that is more than a `usize` counts.
-    fn held(&self) -> Option<usize>
+    fn packet_count(&self) -> Option<usize>
         ensures { IfSome result (λ n. n ≡ length (keys_of self.now.slots)) }
     {
         let mut held: usize = 0;
         for slot in &self.slots {
-            held = held.checked_add(slot.held()?)?;
+            held = held.checked_add(slot.packet_count()?)?;
         }
         Some(held)
     }

@@ -92,7 +92,7 @@ fn rehouse_instance<S: Shelf, T: Shelf>(
     ensures others_from { OthersStay owner (S.pocket from.old) (S.pocket from.new) }
     ensures others_to { OthersStay other (T.pocket to.old) (T.pocket to.new) }
 {
-    for place in 0..instance.held() {
+    for place in 0..instance.key_count() {
         let Some(key) = instance.key_at(place) else {
             unreachable!();
         };

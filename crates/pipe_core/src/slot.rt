@@ -166,7 +166,7 @@ impl Slot {
     }
 
     /// How many packets it holds; None where that is more than a `usize` counts.
-    pub(crate) fn held(&self) -> Option<usize>
+    pub(crate) fn packet_count(&self) -> Option<usize>
         ensures { IfSome result (λ n. n ≡ length (keys_in self.now.instance)) }
     {
         let shown = self.instance.shown();

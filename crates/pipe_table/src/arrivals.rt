@@ -13,7 +13,7 @@ use emu_model::{Mask, Packet, PipeNumber, Record};
 use pipe_core::Pipe;
 
 // The line of the instance that a packet makes.
-fn identified(pipe: &Pipe, now: u64, instance: u8, packet: &Packet) -> Record
+fn identify_record(pipe: &Pipe, now: u64, instance: u8, packet: &Packet) -> Record
     ensures { result ≡ identify_record now pipe.now.number instance
         (flow_id pipe.now.config.mask packet.now) }
 {
@@ -56,7 +56,7 @@ fn note_at(pipe: &Pipe, log: &mut RecordLog, now: u64, packet: &Packet)
         log.note(&arrived);
         return;
     }
-    log.note(&identified(pipe, now, instance, packet));
+    log.note(&identify_record(pipe, now, instance, packet));
     log.note(&arrived);
 }
 

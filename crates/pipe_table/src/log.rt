@@ -122,7 +122,7 @@ impl RecordLog {
     }
 
     /// How many packets were delivered.
-    pub fn delivered(&self) -> u64
+    pub fn delivered_count(&self) -> u64
         ensures { result ≡ delivered_of self.now.records }
     {
         self.delivered // as counted

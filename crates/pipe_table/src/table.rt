@@ -396,7 +396,7 @@ impl PipeTable {
         let Ok(()) = self.dues.push_ready() else {
             return Err(ConfigureError::NoMemory);
         };
-        let Ok(()) = self.places.ready(number.get()) else {
+        let Ok(()) = self.places.make_room(number.get()) else {
             return Err(ConfigureError::NoMemory);
         };
         let place = self.place_behind(number);

@@ -58,7 +58,7 @@ fn plan_head<A>(queue: &DropTail<A>, times: Times, control: CodelState, now: u64
     };
     let left = queue.bytes() - u64::from(head.size.get());
     let short = times.is_short(now, head.stamp, left);
-    let found = control.found(times, now, short);
+    let found = control.examine(times, now, short);
     let seen = control.look(found);
     if !found.ok_to_drop() {
         return DropPlan {
@@ -88,7 +88,7 @@ fn judge_first<A>(
         Some(next) => {
             let behind = left - u64::from(next.size.get());
             let short = times.is_short(now, next.stamp, behind);
-            seen.look(seen.found(times, now, short))
+            seen.look(seen.examine(times, now, short))
         }
         None => seen.look_empty(),
     };
@@ -125,7 +125,7 @@ fn plan_dropping<A>(
         };
         left -= u64::from(next.size.get());
         let short = times.is_short(now, next.stamp, left);
-        let found = counted.found(times, now, short);
+        let found = counted.examine(times, now, short);
         let looked = counted.look(found);
         if !found.ok_to_drop() {
             return DropPlan {

@@ -58,7 +58,7 @@ impl<A> Queue<A> {
         Queue {
             tail: DropTail::new(alloc, limit),
             discipline,
-            control: CodelState::initial(),
+            control: CodelState::new(),
         }
     }
 
@@ -257,7 +257,7 @@ impl<A> Queue<A> {
         self.tail.set_limit(limit);
         self.discipline = discipline;
         if !is_same {
-            self.control = CodelState::initial();
+            self.control = CodelState::new();
         }
     }
 }

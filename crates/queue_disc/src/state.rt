@@ -112,7 +112,7 @@ impl Model for CodelState {
 }
 
 impl CodelState {
-    pub(crate) fn initial() -> Self
+    pub(crate) fn new() -> Self
         ensures { result ≡ initial_control }
     {
         CodelState {
@@ -138,7 +138,7 @@ impl CodelState {
     }
 
     /// What is found of a head whose stay is short, or isn't (RFC 8289, section 5.6, `dodequeue`).
-    pub(crate) fn found(self, times: Times, now: u64, short: bool) -> Found
+    pub(crate) fn examine(self, times: Times, now: u64, short: bool) -> Found
         requires early { IsMoment now }
         ensures { result ≡ found_by times now self.first_above_time short }
     {

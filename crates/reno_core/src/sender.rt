@@ -35,7 +35,7 @@ impl Sender {
     pub fn new(flow: FlowSpec) -> Self
         ensures { result ≡ record { flow = flow; sender = initial_sender flow } }
     {
-        let state = State::initial(&flow);
+        let state = State::new(&flow);
         Sender { flow, state }
     }
 

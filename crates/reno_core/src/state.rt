@@ -55,7 +55,7 @@ pub(crate) fn total_bytes(flow: &FlowSpec) -> u64
 
 impl State {
     /// Nothing is sent yet (RFC 5681, section 3.1).
-    pub(crate) fn initial(flow: &FlowSpec) -> Self
+    pub(crate) fn new(flow: &FlowSpec) -> Self
         ensures sender { sender_of result ≡ initial_sender flow.now }
         ensures flow { IsFlow flow.now }
     {

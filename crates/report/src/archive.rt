@@ -8,7 +8,7 @@ ghost use Rattle.emu_model.specs.declared.records.Record.TheVariants.{StepsSpent
 
 use crate::clock::Clock;
 use crate::events::put_parts;
-use crate::packed::{Kind, Packed, pack, parts_of, record_of, unpack, whole};
+use crate::packed::{Kind, Packed, pack, parts_of, place_mark, record_of, unpack};
 use crate::source::Source;
 use emu_model::Record;
 use std::alloc::{AllocError, Global};
@@ -144,7 +144,7 @@ fn note_whole(
         }
     }
     others.reserve(1)?;
-    words.push_reserved(whole(others.len()));
+    words.push_reserved(place_mark(others.len()));
     put(others, entry);
     Ok(())
 }

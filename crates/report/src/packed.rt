@@ -367,7 +367,7 @@ pub(crate) fn pack(parts: Parts) -> Option<Packed>
 }
 
 /// What stands whole at a place.
-pub(crate) fn whole(place: usize) -> Packed
+pub(crate) fn place_mark(place: usize) -> Packed
     ensures kind { (parts_in result).kind ≡ Whole }
     ensures place { result.high ≡ place }
 {

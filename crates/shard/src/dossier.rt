@@ -140,7 +140,7 @@ impl<M: Mail> Dossier<M> {
 
     /// What every dossier keeps: its records and counters are those of running it alone on the commands that came,
     /// which its mail gave; the letters that its mail took are the first of its records.
-    pub fn known(&self)
+    pub fn reveal_invariant(&self)
         ensures records { self.now.records
             ≡ (alone self.now.spec self.now.commands self.now.events).net.records }
         ensures counters { self.now.counters

@@ -44,7 +44,7 @@ impl<M: Mail> Model for Parcel<M> {
 }
 
 // An experiment to which no command came.
-fn unused(alloc: Global, spec: Spec) -> Result<Experiment, AllocError>
+fn new_experiment(alloc: Global, spec: Spec) -> Result<Experiment, AllocError>
     ensures { IfOk result (IsNew spec) }
 {
     let experiment = Experiment::new(alloc, spec)?;
@@ -60,7 +60,7 @@ impl<M: Mail> Parcel<M> {
         requires kept { M.kept mail ≡ [] }
         ensures { MatchResult result (λ p. p ≡ opened_stand name spec mail) (λ e. e.mail ≡ mail) }
     {
-        let Ok(experiment) = unused(alloc, spec) else {
+        let Ok(experiment) = new_experiment(alloc, spec) else {
             return Err(Unopened { mail });
         };
         let packets = experiment.spec().budget.packets;
@@ -106,7 +106,7 @@ impl<M: Mail> Parcel<M> {
     }
 
     /// What every parcel keeps: it shows the state of running it alone.
-    pub fn known(&self)
+    pub fn reveal_invariant(&self)
         ensures { IsTold M.seen self.now }
     {
         let _ = &self.shelf;

@@ -318,7 +318,7 @@ impl<A: Agenda, M: Mail> Shard<A, M> {
     }
 
     /// What each resident keeps: it shows the state of running it alone.
-    pub fn known(&self)
+    pub fn reveal_invariant(&self)
         ensures { (slot : ℕ) (s : Seat M) → seat_at self.now.seats slot ≡ Some s →
             IsTold M.seen s.stand }
     {

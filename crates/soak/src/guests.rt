@@ -29,7 +29,7 @@ impl Guest {
 }
 
 /// The guests of a text.
-pub fn invited(alloc: Global, text: &[u8]) -> Result<Vec<Guest>, Fault> {
+pub fn guests_in(alloc: Global, text: &[u8]) -> Result<Vec<Guest>, Fault> {
     match parse_scenario(alloc, text) {
         Ok(scenario) => Ok(guests_of(alloc, scenario.into_vec())?),
         Err(ParseError::Fault(_)) => Err(Fault::Scenario),

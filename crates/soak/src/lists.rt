@@ -135,7 +135,7 @@ fn kind(words: &mut ChaCha20Rng, weights: &[u32; 9]) -> usize {
 }
 
 // A step; now and then one that can't be done, since nobody has that name, shard or slot.
-fn drawn(words: &mut ChaCha20Rng, guests: &[Guest], odds: &Odds) -> Step {
+fn draw_step(words: &mut ChaCha20Rng, guests: &[Guest], odds: &Odds) -> Step {
     let name = below(words, odds.guests.saturating_add(1));
     let shard = below(words, odds.shards.saturating_add(1)) as usize;
     let from = below(words, odds.shards) as usize;
@@ -307,7 +307,7 @@ fn reports<W: Stage>(
 ) -> Result<Vec<u8>, Fault> {
     let mut all = Vec::new(alloc);
     for (index, guest) in guests.iter().enumerate() {
-        let Some(written) = world.written(alloc, name_of(index), guest.title())? else {
+        let Some(written) = world.report_of(alloc, name_of(index), guest.title())? else {
             return Err(Fault::Unfinished(list));
         };
         all.extend_from_slice(written.text.as_slice())?;
@@ -337,7 +337,7 @@ fn lives<W: Stage>(
         register(world, &spec, tally)?;
     }
     for _ in 0..plan.steps {
-        let step = drawn(words, guests, odds);
+        let step = draw_step(words, guests, odds);
         make_drawn(world, guests, step, tally)?;
     }
     finish(world, guests, plan.list, tally)
@@ -352,7 +352,7 @@ pub fn left_by<W: Stage>(
 ) -> Result<Vec<u8>, Fault> {
     let mut words = words_of(plan);
     let odds = odds_of(&mut words, guests.len());
-    let mut world = W::built(alloc, odds.shards as usize)?;
+    let mut world = W::build(alloc, odds.shards as usize)?;
     lives(&mut world, guests, plan, &mut words, &odds, tally)?;
     reports(alloc, &world, guests, plan.list, tally.goes_on)
 }

@@ -60,7 +60,7 @@ fn main(rt: HostRuntime) -> anyhow::Result<()> {
     let task = task_of(words.as_slice())?;
     let mut text = Vec::new(alloc);
     rt.reader().read_to_end(&mut text)?;
-    let mut guests = guests::invited(alloc, text.as_slice())?;
+    let mut guests = guests::guests_in(alloc, text.as_slice())?;
     let mut tally = Tally::new(task.goes_on);
     let first = Plan {
         list: 0,

@@ -15,7 +15,7 @@ pub struct Written {
 
 /// A world. All else is written over any, so that its proofs needn't take a world apart wherever it is dropped.
 pub trait Stage: Drop {
-    fn built(alloc: Global, shards: usize) -> Result<Self, AllocError>;
+    fn build(alloc: Global, shards: usize) -> Result<Self, AllocError>;
 
     fn makes(&mut self, step: Step) -> Did;
 
@@ -25,7 +25,7 @@ pub trait Stage: Drop {
     fn place_of(&self, name: u32) -> Option<Place>;
 
     /// Of a name that has ended, under a title.
-    fn written(
+    fn report_of(
         &self,
         alloc: Global,
         name: u32,
@@ -34,7 +34,7 @@ pub trait Stage: Drop {
 }
 
 impl<A: Agenda> Stage for World<A> {
-    fn built(alloc: Global, shards: usize) -> Result<World<A>, AllocError> {
+    fn build(alloc: Global, shards: usize) -> Result<World<A>, AllocError> {
         World::new(alloc, shards)
     }
 
@@ -50,13 +50,13 @@ impl<A: Agenda> Stage for World<A> {
         self.place(name)
     }
 
-    fn written(
+    fn report_of(
         &self,
         alloc: Global,
         name: u32,
         title: &[u8],
     ) -> Result<Option<Written>, AllocError> {
-        let Some(left) = self.ended(name) else {
+        let Some(left) = self.dossier_of(name) else {
             return Ok(None);
         };
         let text = report_text(alloc, title, left.records(), &left.counters())?;

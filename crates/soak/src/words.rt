@@ -24,7 +24,7 @@ fn number(word: Option<&String>) -> Result<u64, Fault> {
 }
 
 // The same, of 32 bits.
-fn small(word: Option<&String>) -> Result<u32, Fault> {
+fn small_number(word: Option<&String>) -> Result<u32, Fault> {
     let Ok(small) = u32::try_from(number(word)?) else {
         return Err(Fault::Words);
     };
@@ -44,8 +44,8 @@ fn is_on(word: Option<&String>) -> Result<bool, Fault> {
 
 /// What the words ask for, the program's name first.
 pub fn task_of(words: &[String]) -> Result<Task, Fault> {
-    let lists = small(words.get(1))?;
-    let steps = small(words.get(2))?;
+    let lists = small_number(words.get(1))?;
+    let steps = small_number(words.get(2))?;
     let seed = number(words.get(3))?;
     let goes_on = is_on(words.get(4))?;
     if lists == 0 || words.len() > 5 {

@@ -29,7 +29,7 @@ fn play(experiment: &mut Experiment, shelf: &mut OwnShelf, plan: &Plan) -> Resul
     requires { IsHousedIn (own_pocket shelf.old) experiment.old }
 {
     for k in 0..plan.orders.len() {
-        if experiment.apply(&plan.orders[k].timed()).is_err() {
+        if experiment.apply(&plan.orders[k].timed_command()).is_err() {
             return Err(Fault::Memory);
         }
         advance(experiment, shelf)?;

@@ -32,7 +32,7 @@ use timer_wheel::{Agenda, ListAgenda, Wheel};
 use words::{Kind, Work, work_of};
 
 // Does an agenda's rounds, and says how many dues were popped.
-fn popped(alloc: Global, kind: Kind, rounds: Rounds) -> anyhow::Result<u64> {
+fn count_popped(alloc: Global, kind: Kind, rounds: Rounds) -> anyhow::Result<u64> {
     match kind {
         Kind::Wheel => {
             let mut agenda: Wheel = Agenda::new(alloc, 0)?;
@@ -68,7 +68,7 @@ fn work(rt: &HostRuntime, alloc: Global, work: Work) -> anyhow::Result<()> {
             println!(rt; "packets moved in {times} moves: {moved}")?;
         }
         Work::Agenda { kind, rounds } => {
-            let popped = popped(alloc, kind, rounds)?;
+            let popped = count_popped(alloc, kind, rounds)?;
             println!(rt; "dues popped: {popped}")?;
         }
         Work::Report { told, lines, times } => {

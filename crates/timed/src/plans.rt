@@ -29,7 +29,7 @@ pub struct Plan {
 
 impl Order {
     /// The command at its moment (ns).
-    pub fn timed(&self) -> Timed
+    pub fn timed_command(&self) -> Timed
         ensures { result.moment ≤ 10 ^ 15 }
     {
         Timed {

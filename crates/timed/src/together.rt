@@ -51,7 +51,7 @@ fn fill(alloc: Global, shard: &mut Wheels, residents: usize, plan: &Plan) -> Res
         };
         name = name.wrapping_add(1);
         for k in 0..plan.orders.len() {
-            if shard.put(slot, plan.orders[k].timed()).is_err() {
+            if shard.put(slot, plan.orders[k].timed_command()).is_err() {
                 return Err(Fault::Unfinished);
             }
         }

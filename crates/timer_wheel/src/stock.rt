@@ -115,7 +115,7 @@ impl Stock {
     }
 
     /// What always holds of entries and keys.
-    pub fn known(&self)
+    pub fn reveal_invariant(&self)
         ensures { IsStock self.now }
     {
         let _ = &self.entries;
@@ -211,7 +211,7 @@ impl Stock {
     }
 
     /// Makes room for one entry more.
-    pub fn ready(&mut self) -> Result<(), AllocError>
+    pub fn make_room(&mut self) -> Result<(), AllocError>
         ensures ok { OnOk result (0 < room_of self.new) }
         ensures succeeds { 0 < room_of self.old → IsOk result }
         ensures holds { (k : ℕ) (e : Entry) (p : ℕ) → Holds self.new.entries self.new.slots k e p →
@@ -269,7 +269,7 @@ impl Stock {
     }
 
     // A key of a list by owner.
-    fn owned(&self, list: usize) -> Option<usize>
+    fn owned_key(&self, list: usize) -> Option<usize>
         requires { list < 2050 }
         ensures some { IfSome result (λ k. slice_get self.now.owners k ≡ Some list) }
         ensures holds { IfSome result
@@ -297,15 +297,15 @@ impl Stock {
             due_of self.new o s ≡ due_of self.old o s }
         ensures room { room_of self.old ≤ room_of self.new }
     {
-        while let Some(key) = self.owned(owner % SLOTS) {
+        while let Some(key) = self.owned_key(owner % SLOTS) {
             if self.entry(key).owner == owner {
                 self.remove(key);
             } else {
                 self.lay(key, LOOSE);
             }
         }
-        self.known();
-        while let Some(key) = self.owned(LOOSE) {
+        self.reveal_invariant();
+        while let Some(key) = self.owned_key(LOOSE) {
             let entry = self.entry(key);
             if entry.owner == owner {
                 self.remove(key);
@@ -313,7 +313,7 @@ impl Stock {
                 self.lay(key, entry.owner % SLOTS);
             }
         }
-        self.known();
+        self.reveal_invariant();
     }
 
     /// Takes all entries away.
@@ -329,6 +329,6 @@ impl Stock {
             }
             self.remove(key);
         }
-        self.known();
+        self.reveal_invariant();
     }
 }

@@ -42,7 +42,7 @@ impl Ties {
     }
 
     /// Makes room for so many sources, if there is memory.
-    pub fn ready(&mut self, count: usize)
+    pub fn make_room(&mut self, count: usize)
         ensures { self.new ≡ self.old }
     {
         if count <= self.items.capacity() {

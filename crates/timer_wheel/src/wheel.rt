@@ -63,18 +63,18 @@ fn gather(stock: &mut Stock, from: usize) -> Option<Entry>
     ensures none { IfNone result ((k : ℕ) → slice_get stock.old.slots k ≢ Some from) }
     ensures room { room_of stock.new ≡ room_of stock.old }
 {
-    stock.known();
+    stock.reveal_invariant();
     let mut least: Option<Entry> = None;
     while let Some(key) = stock.first_of(from) {
         let entry = stock.entry(key);
-        least = Some(lesser(least, entry));
+        least = Some(lesser_of(least, entry));
         stock.put(key, LOOSE);
     }
     least
 }
 
 // The lesser of an entry and what may be there.
-fn lesser(least: Option<Entry>, entry: Entry) -> Entry
+fn lesser_of(least: Option<Entry>, entry: Entry) -> Entry
     ensures either { MatchOption least (result ≡ entry) (λ l. (result ≡ entry) ⊎ (result ≡ l)) }
     ensures entry { is_before entry result ≡ false }
     ensures least { IfSome least (λ l. is_before l result ≡ false) }
@@ -137,7 +137,7 @@ fn is_waiting(stock: &Stock, tie: Tie) -> bool
     ensures no { IsFalse result → (k : ℕ) (e : Entry) →
         Holds stock.now.entries stock.now.slots k e 2048 → tie_of e ≢ tie }
 {
-    stock.known();
+    stock.reveal_invariant();
     let Some(key) = stock.find(tie.owner, tie.source) else {
         return false;
     };
@@ -145,7 +145,7 @@ fn is_waiting(stock: &Stock, tie: Tie) -> bool
 }
 
 // The first of the ties whose key is among them still, once those before it were passed.
-fn waiting(stock: &Stock, ties: &mut Ties) -> Option<Tie>
+fn next_tie(stock: &Stock, ties: &mut Ties) -> Option<Tie>
     ensures items { ties.new.items ≡ ties.old.items }
     ensures kept { (k : ℕ) (e : Entry) → Holds stock.now.entries stock.now.slots k e 2048 →
         Waits ties.old (tie_of e) → Waits ties.new (tie_of e) }
@@ -176,7 +176,7 @@ fn lift(stock: &mut Stock, from: usize) -> Entry
               (place_of result.due result.due);
         }) }
 {
-    stock.known();
+    stock.reveal_invariant();
     let Some(key) = stock.first_of(from) else {
         unreachable!()
     };
@@ -192,7 +192,7 @@ fn turn(stock: &mut Stock, ties: &mut Ties, clock: u64) -> Option<Entry>
     ensures some { IfSome result (λ e. IsTurned clock stock.old e stock.new ties.new) }
     ensures none { IfNone result (IsStill clock stock.old stock.new ties.new) }
 {
-    stock.known();
+    stock.reveal_invariant();
     let first = stock.first()?;
     if stock.is_alone(first) {
         ties.clear();
@@ -215,7 +215,7 @@ fn meet(stock: &mut Stock, ties: &Ties, clock: u64, tie: Tie) -> Entry
     requires top { slice_get ties.now.items ties.now.next ≡ Some tie }
     ensures { IsTurned clock stock.old result stock.new ties.now }
 {
-    stock.known();
+    stock.reveal_invariant();
     let arrival = gather(stock, place(clock, clock));
     spread(stock, clock);
     let entry = Entry {
@@ -223,7 +223,7 @@ fn meet(stock: &mut Stock, ties: &Ties, clock: u64, tie: Tie) -> Entry
         owner: tie.owner,
         source: tie.source,
     };
-    lesser(arrival, entry)
+    lesser_of(arrival, entry)
 }
 
 // The least entry, with all others where the clock at its due wants them.
@@ -232,7 +232,7 @@ fn least(stock: &mut Stock, ties: &mut Ties, clock: u64) -> Option<Entry>
     ensures some { IfSome result (λ e. IsTurned clock stock.old e stock.new ties.new) }
     ensures none { IfNone result (IsStill clock stock.old stock.new ties.new) }
 {
-    let Some(tie) = waiting(stock, ties) else {
+    let Some(tie) = next_tie(stock, ties) else {
         return turn(stock, ties, clock);
     };
     Some(meet(stock, ties, clock, tie))
@@ -246,7 +246,7 @@ fn place_anew(stock: &mut Stock)
     ensures room { room_of stock.new ≡ room_of stock.old }
 {
     for key in 0..stock.len() {
-        stock.known();
+        stock.reveal_invariant();
         if stock.list(key) == FREE {
             continue;
         }
@@ -280,8 +280,8 @@ impl Agenda for Wheel {
             self.stock.reset(key, due, list);
             return Ok(());
         }
-        self.stock.ready()?;
-        self.ties.ready(self.stock.len());
+        self.stock.make_room()?;
+        self.ties.make_room(self.stock.len());
         self.stock.insert(Entry { due, owner, source }, list);
         Ok(())
     }

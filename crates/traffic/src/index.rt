@@ -62,7 +62,7 @@ impl SourceIndex {
             AreIndexed fs ts self.new }
         ensures ready { OnOk result (HasFlowRoom number self.new) }
     {
-        self.ready.ready(number)?;
+        self.ready.make_room(number)?;
         self.timers.push_ready()
     }
 
@@ -159,7 +159,7 @@ impl SourceIndex {
 
     /// The least of a due and what may be sent, where the last event was at the moment `clock`.
     #[inline(always)]
-    fn sending(&self, clock: u64, best: DueNumber) -> DueNumber
+    fn earliest_send(&self, clock: u64, best: DueNumber) -> DueNumber
         requires { IsWhole self.now.ready }
         ensures { (fs : List KeptFlow) (ts : List TrainState) → AreIndexed fs ts self.now →
             result ≡ lesser best (least_of (sends_due clock fs ts)) }
@@ -176,13 +176,13 @@ impl SourceIndex {
 
     /// The same, and the timers as they are told.
     #[inline(always)]
-    fn bound(&self, clock: u64, best: DueNumber) -> DueNumber
+    fn lower_bound(&self, clock: u64, best: DueNumber) -> DueNumber
         requires { IsWhole self.now.ready }
         ensures { (fs : List KeptFlow) (ts : List TrainState) → AreIndexed fs ts self.now →
             result ≡ lesser (lesser best (least_of (dues_in self.now.timers.leaves)))
             (least_of (sends_due clock fs ts)) }
     {
-        self.sending(clock, best.or_earlier(self.timers.least()))
+        self.earliest_send(clock, best.or_earlier(self.timers.least()))
     }
 
     /// The least of a due and those of all flows and trains, where the last event was at the moment
@@ -201,7 +201,7 @@ impl SourceIndex {
             result ≡ least_of (option_to_list best
             ++ (flat_map (λ f. flow_dues clock f.state) flows.now ++ flat_map train_dues ts)) }
     {
-        let bound = self.bound(clock, best);
+        let bound = self.lower_bound(clock, best);
         if !bound.is_expiry() {
             return bound;
         }
@@ -218,7 +218,7 @@ impl SourceIndex {
             result ≡ least_of (option_to_list best
             ++ (flat_map (λ f. flow_dues clock f.state) flows.now ++ flat_map train_dues ts)) }
     {
-        let mut best = self.sending(clock, best);
+        let mut best = self.earliest_send(clock, best);
         for flow in flows {
             best = best.or_earlier(flow.timer());
         }
@@ -243,11 +243,11 @@ impl SourceIndex {
         ensures indexed { (ts : List TrainState) → AreIndexed flows.now ts self.old →
             AreIndexed flows.now ts self.new }
     {
-        let bound = self.bound(clock, best);
+        let bound = self.lower_bound(clock, best);
         if !bound.is_expiry() {
             return bound;
         }
         self.settle(flows, places);
-        self.bound(clock, best)
+        self.lower_bound(clock, best)
     }
 }

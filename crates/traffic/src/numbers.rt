@@ -30,7 +30,7 @@ fn with_bit(word: u64, place: u64, set: bool) -> u64
 
 /// The place of its lowest bit that is set.
 #[inline(always)]
-fn lowest(word: u64) -> u32
+fn lowest_bit(word: u64) -> u32
     requires { 0 < word }
     ensures { IsLowest word result }
 {
@@ -63,7 +63,7 @@ impl NumberSet {
     }
 
     /// Makes the growth of one `set` of a number. Only room grows, also where it is refused.
-    pub(crate) fn ready(&mut self, number: u16) -> Result<(), AllocError>
+    pub(crate) fn make_room(&mut self, number: u16) -> Result<(), AllocError>
         ensures same { (k : ℕ) → is_in self.new k ≡ is_in self.old k }
         ensures whole { IsWhole self.old → IsWhole self.new }
         ensures grows { length self.old.words.items ≤ length self.new.words.items }
@@ -114,8 +114,8 @@ impl NumberSet {
         if self.any == 0 {
             return None;
         }
-        let group = lowest(self.any);
-        let word = group * 64 + lowest(self.some[group as usize]);
-        Some(word * 64 + lowest(self.words[word as usize]))
+        let group = lowest_bit(self.any);
+        let word = group * 64 + lowest_bit(self.some[group as usize]);
+        Some(word * 64 + lowest_bit(self.words[word as usize]))
     }
 }

@@ -109,7 +109,7 @@ impl Traffic {
         ensures err { OnErr result (self.new ≡ self.old) }
     {
         self.flows.reserve(1)?;
-        self.flow_places.ready(number.get())?;
+        self.flow_places.make_room(number.get())?;
         self.index.flow_ready(number.get())?;
         let flow = Flow::new(self.alloc, number, flow);
         self.index.add_flow(&flow);
@@ -133,7 +133,7 @@ impl Traffic {
         ensures err { OnErr result (self.new ≡ self.old) }
     {
         self.trains.reserve(1)?;
-        self.train_places.ready(number.get())?;
+        self.train_places.make_room(number.get())?;
         self.index.train_ready()?;
         let train = Train::new(number, train, now);
         self.index.add_train(&train);

@@ -133,7 +133,7 @@ impl<A: Agenda> World<A> {
         };
         let housed = house(&mut self.shards[i], i, parcel);
         desk.go(housed.home);
-        housed.did.brought()
+        housed.did.bring_outcome()
     }
 
     // A resident goes to the back of its shard's deque, or into the caller's hands where memory is refused there.

@@ -30,7 +30,7 @@ impl<A: Agenda> World<A> {
             let did = self.step(*step);
             refused += did.refusals();
         }
-        self.known();
+        self.reveal_invariant();
         refused
     }
 }

@@ -54,7 +54,7 @@ impl Did {
     }
 
     // What it is that somebody came out of a deque, who was taken in so. One who is refused is handed out.
-    pub(crate) fn brought(self) -> Did
+    pub(crate) fn bring_outcome(self) -> Did
         ensures { result ≡ did_bring self }
     {
         match self {
@@ -66,7 +66,7 @@ impl Did {
 }
 
 // What a turn is that ended a resident so.
-fn ended(ending: Ending) -> Did
+fn end_outcome(ending: Ending) -> Did
     ensures { result ≡ did_end ending }
 {
     match ending {
@@ -77,7 +77,7 @@ fn ended(ending: Ending) -> Did
 }
 
 // What a poll is with that answer.
-fn polled(answer: Polled) -> Did
+fn poll_outcome(answer: Polled) -> Did
     ensures { result ≡ did_poll answer }
 {
     match answer {
@@ -115,7 +115,7 @@ impl<A: Agenda> World<A> {
         let Ok(parcel) = Parcel::open(self.alloc, name as u32, spec, mail) else {
             return Did::NoMemory;
         };
-        parcel.known();
+        parcel.reveal_invariant();
         self.desks.push_reserved(Desk {
             home: Home::Handed(parcel),
             closed: false,
@@ -133,15 +133,15 @@ impl<A: Agenda> World<A> {
         }
         let shard = &mut self.shards[i];
         let turned = shard.turn();
-        shard.known();
+        shard.reveal_invariant();
         match turned {
             Turned::Ran(_) => return Did::Done,
             Turned::Ended(dossier) => {
-                dossier.known();
+                dossier.reveal_invariant();
                 let ending = dossier.ending();
                 let desk = &mut self.desks[dossier.name() as usize];
                 desk.go(Home::Left(dossier));
-                return ended(ending);
+                return end_outcome(ending);
             }
             Turned::Idle => return Did::Still,
         }
@@ -156,8 +156,8 @@ impl<A: Agenda> World<A> {
         }
         let shard = &mut self.shards[i];
         let answer = shard.poll(slot);
-        shard.known();
-        polled(answer)
+        shard.reveal_invariant();
+        poll_outcome(answer)
     }
 
     // The time of a shard begins anew.
@@ -185,7 +185,7 @@ impl<A: Agenda> World<A> {
         ensures one_place { AreAtOnePlace self.new }
     {
         let did = self.do_step(step);
-        self.known();
+        self.reveal_invariant();
         did
     }
 

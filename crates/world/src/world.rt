@@ -70,7 +70,7 @@ impl<A: Agenda> World<A> {
     /// alone**, on the commands that came to it, for as many events as it made; one that goes on shows the whole
     /// state. What was posted are those commands and those that wait; the letters are the first records; and each
     /// name is at one place.
-    pub fn known(&self)
+    pub fn reveal_invariant(&self)
         ensures headline { (n : ℕ) (t : Tenant) → tenant_at self.now n ≡ Some t →
             IsAlone (shown t.life) }
         ensures whole { (n : ℕ) (t : Tenant) → tenant_at self.now n ≡ Some t → IsAloneState t.life }
@@ -127,7 +127,7 @@ impl<A: Agenda> World<A> {
     }
 
     /// What a name left that has ended; None for any other.
-    pub fn ended(&self, name: u32) -> Option<&Dossier<ListMail>>
+    pub fn dossier_of(&self, name: u32) -> Option<&Dossier<ListMail>>
         ensures some { IfSome result (λ d. life_at self.now name ≡ Some (Over d.now)) }
         ensures none { IfNone result
             ((d : Final MailBook) → life_at self.now name ≢ Some (Over d)) }

@@ -54,7 +54,7 @@ impl Bench {
     }
 
     /// How many records, commands, steps and packets there are.
-    fn seen(&self) -> (usize, usize, u64, u64) {
+    fn totals(&self) -> (usize, usize, u64, u64) {
         let records = self.experiment.records().len();
         let commands = self.experiment.consumed().len();
         (
@@ -69,12 +69,12 @@ impl Bench {
     fn applies_in_the_end(&mut self, moment: u32, command: Command) -> bool {
         let moment = u64::from(moment);
         let timed = Timed { moment, command };
-        let before = self.seen();
+        let before = self.totals();
         match self.experiment.apply(&timed) {
             Ok(()) => true,
             Err(error) => {
                 error == ApplyError::NoMemory
-                    && self.seen() == before
+                    && self.totals() == before
                     && self.experiment.apply(&timed).is_ok()
             }
         }
@@ -96,16 +96,16 @@ impl Bench {
 
     /// What an event does. None where it halts and not all is as before, or something follows.
     fn event_or_halt(&mut self) -> Option<Event> {
-        let before = self.seen();
+        let before = self.totals();
         let event = self.event();
         if event != Event::Halted {
             return Some(event);
         }
-        let ends = self.seen() == before
+        let ends = self.totals() == before
             && matches!(self.experiment.ending(), Some(Ending::Halted))
             && self.event() == Event::Still
             && self.apply(u32::MAX, Command::End) == Err(ApplyError::Over)
-            && self.seen() == before;
+            && self.totals() == before;
         if ends { Some(event) } else { None }
     }
 }
@@ -157,7 +157,7 @@ fn inject() -> Option<Command> {
     }))
 }
 
-fn done(moment: u64, command: u64) -> Record {
+fn done_record(moment: u64, command: u64) -> Record {
     Record::CommandDone { moment, command }
 }
 
@@ -184,8 +184,8 @@ fn refuses_all_after_the_end(rt: &impl Abort, bench: &mut Bench) {
     // The reply, the line of the default rule, the reply.
     let records = bench.experiment.records();
     assert!(rt; records.len() == 3);
-    assert!(rt; records[2] == done(5, 1));
-    assert!(rt; bench.seen() == (3, 2, 2, 0));
+    assert!(rt; records[2] == done_record(5, 1));
+    assert!(rt; bench.totals() == (3, 2, 2, 0));
 }
 
 /// Busy, then backward, then over.
@@ -210,7 +210,7 @@ fn refusals_have_their_numbers(rt: HostRuntime) {
 }
 
 /// The packet enters a pipe of 1 Mbit/s and 10 ms at 0.
-fn sent(rt: &(impl Abort + AllocGlobal)) -> Bench {
+fn bench_with_packet(rt: &(impl Abort + AllocGlobal)) -> Bench {
     let mut bench = Bench::new(rt.alloc(), 10, 1000).expect(rt, "a bench");
     assert!(rt; bench.takes(0, config().expect(rt, "in range")));
     assert!(rt; bench.takes(0, rule().expect(rt, "in range")));
@@ -221,13 +221,13 @@ fn sent(rt: &(impl Abort + AllocGlobal)) -> Bench {
 /// The packet finishes, is delivered, and the end comes.
 fn goes_through(rt: &impl Abort, bench: &mut Bench) {
     assert!(rt; bench.experiment.counters().held == 1);
-    assert!(rt; bench.experiment.held() == 1);
+    assert!(rt; bench.experiment.packet_count() == 1);
     assert!(rt; bench.experiment.clock() == 0);
     assert!(rt; bench.apply(20_000_000, Command::End).is_ok());
     assert!(rt; bench.event() == Event::Ran);
     assert!(rt; bench.experiment.clock() == 8_000_000);
     assert!(rt; bench.event() == Event::Ran);
-    assert!(rt; bench.experiment.held() == 0);
+    assert!(rt; bench.experiment.packet_count() == 0);
     assert!(rt; bench.event() == Event::Ended);
     assert!(rt; bench.experiment.clock() == 20_000_000);
     assert!(rt; bench.experiment.spec().seed == 0);
@@ -253,14 +253,14 @@ fn one_packet(rt: HostRuntime) {
         packet: 0,
         load: Load::Plain,
     };
-    let mut bench = sent(&rt);
+    let mut bench = bench_with_packet(&rt);
     goes_through(&rt, &mut bench);
     let (commands, records) = lists(bench);
     assert!(rt; commands.len() == 4);
     assert!(rt; records.len() == 6);
     assert!(rt; records[3] == finished);
     assert!(rt; records[4] == delivered);
-    assert!(rt; records[5] == done(20_000_000, 3));
+    assert!(rt; records[5] == done_record(20_000_000, 3));
 }
 
 fn due(class: Class, number: u32, moment: u64) -> Due {
@@ -296,7 +296,7 @@ fn dues_to_the_end(rt: &(impl Abort + AllocGlobal), bench: &mut Bench) {
     let exit = due(Class::Exit, 256, 18_000_000);
     assert!(rt; bench.apply(20_000_000, Command::End).is_ok());
     are_due(rt, bench, &[end, finish], &[(finish, true), (end, true)]);
-    assert!(rt; bench.experiment.noted() == [end, finish].as_slice());
+    assert!(rt; bench.experiment.noted_dues() == [end, finish].as_slice());
     assert!(rt; bench.event() == Event::Ran);
     let touched = [(finish, true), (exit, true), (end, false)];
     are_due(rt, bench, &[end, exit], &touched);
@@ -310,7 +310,7 @@ fn dues_to_the_end(rt: &(impl Abort + AllocGlobal), bench: &mut Bench) {
 /// the next command.
 #[test]
 fn dues_of_one_packet(rt: HostRuntime) {
-    let mut bench = sent(&rt);
+    let mut bench = bench_with_packet(&rt);
     dues_to_the_end(&rt, &mut bench);
     drop(bench);
 }
@@ -327,7 +327,7 @@ fn is_held_in_the_end(rt: &impl Abort, bench: &mut Bench) {
 /// With the end at the moment of the exit it isn't delivered: the command comes first.
 #[test]
 fn one_packet_held(rt: HostRuntime) {
-    let mut bench = sent(&rt);
+    let mut bench = bench_with_packet(&rt);
     is_held_in_the_end(&rt, &mut bench);
     drop(bench);
 }
@@ -342,7 +342,7 @@ fn spends_two_steps(rt: &impl Abort, bench: &mut Bench) {
     assert!(rt; bench.event() == Event::Still);
     let records = bench.experiment.records();
     assert!(rt; records.len() == 5);
-    assert!(rt; records[0] == done(0, 0));
+    assert!(rt; records[0] == done_record(0, 0));
     assert!(rt;
         matches!(
             records[1],
@@ -353,7 +353,7 @@ fn spends_two_steps(rt: &impl Abort, bench: &mut Bench) {
             }
         )
     );
-    assert!(rt; records[2] == done(0, 1));
+    assert!(rt; records[2] == done_record(0, 1));
     assert!(rt; records[4] == Record::StepsSpent { moment: 0 });
     assert!(rt; bench.experiment.events() == 2);
 }
@@ -384,9 +384,9 @@ fn last_step_is_the_end(rt: HostRuntime) {
 
 /// There is room at the second try at the latest, and nothing has changed.
 fn has_room_in_the_end(rt: &impl Abort, bench: &mut Bench) {
-    let before = bench.seen();
+    let before = bench.totals();
     assert!(rt; bench.has_room() || bench.has_room());
-    assert!(rt; bench.seen() == before);
+    assert!(rt; bench.totals() == before);
     assert!(rt; bench.apply(5, Command::Show).is_ok());
 }
 
@@ -461,10 +461,10 @@ fn lines_of_a_traced_packet() -> Option<[Record; 10]> {
     let pipe = PipeNumber::new(1)?;
     let (packet, instance) = (0, 0);
     Some([
-        done(0, 0),
-        done(0, 1),
-        done(0, 2),
-        done(0, 3),
+        done_record(0, 0),
+        done_record(0, 1),
+        done_record(0, 2),
+        done_record(0, 3),
         Record::PacketMade {
             moment: 0,
             packet,
@@ -503,7 +503,7 @@ fn lines_of_a_traced_packet() -> Option<[Record; 10]> {
             packet,
             load: Load::Plain,
         },
-        done(20_000_000, 4),
+        done_record(20_000_000, 4),
     ])
 }
 

@@ -71,7 +71,7 @@ fn obeys_once(
 }
 
 /// How many records, packets made and packets held there are, and what is due first.
-fn seen(net: &Network, shelf: &OwnShelf) -> (usize, u64, usize, Due) {
+fn totals_and_due(net: &Network, shelf: &OwnShelf) -> (usize, u64, usize, Due) {
     let held = shelf.count(0);
     (
         net.records().len(),
@@ -103,11 +103,11 @@ fn obeys(
     ensures made { net.new.made ≤ net.old.made + 2 }
     ensures spare { IsTrue result → 0 < net.new.log.spare }
 {
-    let before = seen(net, shelf);
+    let before = totals_and_due(net, shelf);
     if obeys_once(net, shelf, at(room, now), number, command) {
         return true;
     }
-    if seen(net, shelf) != before {
+    if totals_and_due(net, shelf) != before {
         return false;
     }
     obeys_once(net, shelf, at(room, now), number, command)
@@ -158,10 +158,10 @@ fn goes_on(
         if due.source.class == Class::NextCommand {
             return true;
         }
-        let before = seen(net, shelf);
+        let before = totals_and_due(net, shelf);
         if happens(net, shelf, at(room, due.moment), due) {
             clock = due.moment;
-        } else if seen(net, shelf) != before {
+        } else if totals_and_due(net, shelf) != before {
             return false;
         }
     }
@@ -308,15 +308,15 @@ fn between(number: u32, from: u32, to: u32, pipe: u16) -> Option<Command> {
     }))
 }
 
-fn timed(moment: u64, command: Command) -> Timed {
+fn timed_command(moment: u64, command: Command) -> Timed {
     Timed { moment, command }
 }
 
-fn done(moment: u64, command: u64) -> Record {
+fn done_record(moment: u64, command: u64) -> Record {
     Record::CommandDone { moment, command }
 }
 
-fn finished(moment: u64, packet: u64, pipe: PipeNumber) -> Record {
+fn finish_record(moment: u64, packet: u64, pipe: PipeNumber) -> Record {
     Record::PacketFinished {
         moment,
         packet,
@@ -325,7 +325,7 @@ fn finished(moment: u64, packet: u64, pipe: PipeNumber) -> Record {
     }
 }
 
-fn passed(moment: u64, packet: u64, pipe: PipeNumber) -> Record {
+fn pass_record(moment: u64, packet: u64, pipe: PipeNumber) -> Record {
     Record::PacketPassed {
         moment,
         packet,
@@ -334,7 +334,7 @@ fn passed(moment: u64, packet: u64, pipe: PipeNumber) -> Record {
     }
 }
 
-fn delivered(moment: u64, packet: u64, load: Load) -> Record {
+fn delivery_record(moment: u64, packet: u64, load: Load) -> Record {
     Record::PacketDelivered {
         moment,
         packet,
@@ -342,7 +342,7 @@ fn delivered(moment: u64, packet: u64, load: Load) -> Record {
     }
 }
 
-fn dropped(moment: u64, packet: u64, cause: DropCause) -> Record {
+fn drop_record(moment: u64, packet: u64, cause: DropCause) -> Record {
     Record::PacketDropped {
         moment,
         packet,
@@ -351,7 +351,7 @@ fn dropped(moment: u64, packet: u64, cause: DropCause) -> Record {
     }
 }
 
-fn counted(rule: Rule, packets: u64, bytes: u64) -> Record {
+fn rule_line(rule: Rule, packets: u64, bytes: u64) -> Record {
     Record::RuleLine {
         rule,
         packets,
@@ -374,22 +374,22 @@ fn two_pipes_in_turn(rt: HostRuntime) -> Result<(), Fail> {
     let third = rule(300, Action::Allow).ok_or("300")?;
     let send = thousand().ok_or("packet")?;
     let commands = [
-        timed(0, Command::OnePass(false)),
-        timed(0, slow),
-        timed(0, fast),
-        timed(0, Command::Add(first)),
-        timed(0, Command::Add(second)),
-        timed(0, Command::Add(third)),
-        timed(0, Command::Inject(send)),
-        timed(20_000_000, Command::End),
+        timed_command(0, Command::OnePass(false)),
+        timed_command(0, slow),
+        timed_command(0, fast),
+        timed_command(0, Command::Add(first)),
+        timed_command(0, Command::Add(second)),
+        timed_command(0, Command::Add(third)),
+        timed_command(0, Command::Inject(send)),
+        timed_command(20_000_000, Command::End),
     ];
     let expected = [
-        finished(0, 0, one),
-        passed(10_000_000, 0, one),
-        finished(10_000_000, 0, two),
-        passed(15_000_000, 0, two),
-        delivered(15_000_001, 0, Load::Plain),
-        done(20_000_000, 7),
+        finish_record(0, 0, one),
+        pass_record(10_000_000, 0, one),
+        finish_record(10_000_000, 0, two),
+        pass_record(15_000_000, 0, two),
+        delivery_record(15_000_001, 0, Load::Plain),
+        done_record(20_000_000, 7),
     ];
     let records = plays(rt.alloc(), room, &commands).ok_or("memory")?;
     assert_eq!(rt; records.len(), 13);
@@ -407,23 +407,23 @@ fn pipe_deleted(rt: HostRuntime) -> Result<(), Fail> {
     let other = thousand().ok_or("packet")?;
     let send = thousand().ok_or("packet")?;
     let commands = [
-        timed(0, config),
-        timed(0, Command::Add(all)),
-        timed(0, Command::Inject(send)),
-        timed(10_000_000, Command::PipeDelete(one)),
-        timed(10_000_000, Command::Inject(other)),
-        timed(200_000_000, Command::End),
+        timed_command(0, config),
+        timed_command(0, Command::Add(all)),
+        timed_command(0, Command::Inject(send)),
+        timed_command(10_000_000, Command::PipeDelete(one)),
+        timed_command(10_000_000, Command::Inject(other)),
+        timed_command(200_000_000, Command::End),
     ];
     let expected = [
-        done(0, 0),
-        done(0, 1),
-        done(0, 2),
-        finished(0, 0, one),
-        done(10_000_000, 3),
-        dropped(10_000_000, 0, DropCause::Deleted),
-        done(10_000_000, 4),
-        dropped(10_000_000, 1, DropCause::NoPipe),
-        done(200_000_000, 5),
+        done_record(0, 0),
+        done_record(0, 1),
+        done_record(0, 2),
+        finish_record(0, 0, one),
+        done_record(10_000_000, 3),
+        drop_record(10_000_000, 0, DropCause::Deleted),
+        done_record(10_000_000, 4),
+        drop_record(10_000_000, 1, DropCause::NoPipe),
+        done_record(200_000_000, 5),
     ];
     let records = plays(rt.alloc(), room, &commands).ok_or("memory")?;
     assert!(rt; records[..] == expected[..]);
@@ -445,19 +445,19 @@ fn stopped_flow(rt: HostRuntime) -> Result<(), Fail> {
     let answers = between(200, 0x0a00_0002, 0x0a00_0001, 2).ok_or("200")?;
     let flow = four_segments().ok_or("segments")?;
     let commands = [
-        timed(0, there),
-        timed(0, back),
-        timed(0, data),
-        timed(0, answers),
-        timed(0, Command::Flow { number, flow }),
-        timed(21_300_000, Command::Stop(number)),
-        timed(100_000_000, Command::End),
+        timed_command(0, there),
+        timed_command(0, back),
+        timed_command(0, data),
+        timed_command(0, answers),
+        timed_command(0, Command::Flow { number, flow }),
+        timed_command(21_300_000, Command::Stop(number)),
+        timed_command(100_000_000, Command::End),
     ];
     let expected = [
-        finished(1_200_000, 0, one),
-        finished(2_400_000, 1, one),
-        finished(3_600_000, 2, one),
-        delivered(
+        finish_record(1_200_000, 0, one),
+        finish_record(2_400_000, 1, one),
+        finish_record(3_600_000, 2, one),
+        delivery_record(
             11_200_000,
             0,
             Load::Seg {
@@ -465,8 +465,8 @@ fn stopped_flow(rt: HostRuntime) -> Result<(), Fail> {
                 first: 0,
             },
         ),
-        finished(11_200_000, 3, two),
-        delivered(
+        finish_record(11_200_000, 3, two),
+        delivery_record(
             12_400_000,
             1,
             Load::Seg {
@@ -474,8 +474,8 @@ fn stopped_flow(rt: HostRuntime) -> Result<(), Fail> {
                 first: 1460,
             },
         ),
-        finished(12_400_000, 4, two),
-        delivered(
+        finish_record(12_400_000, 4, two),
+        delivery_record(
             13_600_000,
             2,
             Load::Seg {
@@ -483,8 +483,8 @@ fn stopped_flow(rt: HostRuntime) -> Result<(), Fail> {
                 first: 2920,
             },
         ),
-        finished(13_600_000, 5, two),
-        delivered(
+        finish_record(13_600_000, 5, two),
+        delivery_record(
             21_200_000,
             3,
             Load::Ack {
@@ -498,8 +498,8 @@ fn stopped_flow(rt: HostRuntime) -> Result<(), Fail> {
             cwnd: 5840,
             ssthresh: 65535,
         },
-        done(21_300_000, 5),
-        delivered(
+        done_record(21_300_000, 5),
+        delivery_record(
             22_400_000,
             4,
             Load::Ack {
@@ -507,8 +507,8 @@ fn stopped_flow(rt: HostRuntime) -> Result<(), Fail> {
                 upto: 2920,
             },
         ),
-        finished(22_400_000, 6, one),
-        delivered(
+        finish_record(22_400_000, 6, one),
+        delivery_record(
             23_600_000,
             5,
             Load::Ack {
@@ -516,7 +516,7 @@ fn stopped_flow(rt: HostRuntime) -> Result<(), Fail> {
                 upto: 4380,
             },
         ),
-        delivered(
+        delivery_record(
             32_400_000,
             6,
             Load::Seg {
@@ -524,8 +524,8 @@ fn stopped_flow(rt: HostRuntime) -> Result<(), Fail> {
                 first: 4380,
             },
         ),
-        finished(32_400_000, 7, two),
-        delivered(
+        finish_record(32_400_000, 7, two),
+        delivery_record(
             42_400_000,
             7,
             Load::Ack {
@@ -533,7 +533,7 @@ fn stopped_flow(rt: HostRuntime) -> Result<(), Fail> {
                 upto: 5840,
             },
         ),
-        done(100_000_000, 6),
+        done_record(100_000_000, 6),
     ];
     let records = plays(rt.alloc(), room, &commands).ok_or("memory")?;
     assert_eq!(rt; records.len(), 24);
@@ -561,26 +561,26 @@ fn listings(rt: HostRuntime) -> Result<(), Fail> {
     let [count, skip, deny, send] = listed_rules(one).ok_or("rules")?;
     let packet = thousand().ok_or("packet")?;
     let commands = [
-        timed(0, Command::Add(send)),
-        timed(0, Command::Add(count)),
-        timed(0, Command::Add(skip)),
-        timed(0, Command::Add(deny)),
-        timed(0, made),
-        timed(0, Command::Inject(packet)),
-        timed(0, Command::Show),
-        timed(0, Command::PipeShow),
+        timed_command(0, Command::Add(send)),
+        timed_command(0, Command::Add(count)),
+        timed_command(0, Command::Add(skip)),
+        timed_command(0, Command::Add(deny)),
+        timed_command(0, made),
+        timed_command(0, Command::Inject(packet)),
+        timed_command(0, Command::Show),
+        timed_command(0, Command::PipeShow),
     ];
     let [count, skip, deny, send] = listed_rules(one).ok_or("rules")?;
     let default = rule(65535, Action::Deny).ok_or("default")?;
     let config = config(1_000_000, 0).ok_or("config")?;
     let expected = [
-        done(0, 6),
-        counted(count, 1, 1000),
-        counted(skip, 1, 1000),
-        counted(deny, 0, 0),
-        counted(send, 1, 1000),
-        counted(default, 0, 0),
-        done(0, 7),
+        done_record(0, 6),
+        rule_line(count, 1, 1000),
+        rule_line(skip, 1, 1000),
+        rule_line(deny, 0, 0),
+        rule_line(send, 1, 1000),
+        rule_line(default, 0, 0),
+        done_record(0, 7),
         Record::PipeLine { pipe: one, config },
         Record::InstanceLine {
             pipe: one,
@@ -604,8 +604,8 @@ fn steps_are_spent(rt: HostRuntime) -> Result<(), Fail> {
     let room = PacketBudget::new(10).ok_or("budget")?;
     let default = rule(65535, Action::Deny).ok_or("default")?;
     let expected = [
-        done(0, 0),
-        counted(default, 0, 0),
+        done_record(0, 0),
+        rule_line(default, 0, 0),
         Record::StepsSpent { moment: 0 },
     ];
     let Some(mut net) = opens(rt.alloc()) else {

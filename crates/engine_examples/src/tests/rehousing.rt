@@ -90,7 +90,7 @@ fn plays(
 
 /// What an experiment of seed 1 records that moves between its events, beside another owner. (What is made here is
 /// dropped by calls: where it stands, each of its parts would be proved.)
-fn recorded(alloc: Global, commands: &[Timed]) -> Option<Vec<Record>> {
+fn records_of_moves(alloc: Global, commands: &[Timed]) -> Option<Vec<Record>> {
     let packets = PacketBudget::new(100)?;
     let steps = StepBudget::new(1000)?;
     let budget = Budget { packets, steps };
@@ -167,19 +167,19 @@ fn four_segments() -> Option<Command> {
     })
 }
 
-fn timed(moment: u64, command: Command) -> Timed {
+fn timed_command(moment: u64, command: Command) -> Timed {
     Timed { moment, command }
 }
 
 /// The commands of the example of four segments.
 fn commands() -> Option<[Timed; 6]> {
     Some([
-        timed(0, pipe(1, 10_000_000)?),
-        timed(0, pipe(2, 0)?),
-        timed(0, between(100, 0x0a00_0001, 0x0a00_0002, 1)?),
-        timed(0, between(200, 0x0a00_0002, 0x0a00_0001, 2)?),
-        timed(0, four_segments()?),
-        timed(100_000_000, Command::End),
+        timed_command(0, pipe(1, 10_000_000)?),
+        timed_command(0, pipe(2, 0)?),
+        timed_command(0, between(100, 0x0a00_0001, 0x0a00_0002, 1)?),
+        timed_command(0, between(200, 0x0a00_0002, 0x0a00_0001, 2)?),
+        timed_command(0, four_segments()?),
+        timed_command(100_000_000, Command::End),
     ])
 }
 
@@ -268,7 +268,7 @@ fn are_the_lines(rt: &impl Abort, records: &[Record]) {
 #[test]
 fn four_segments_on_two_shelves(rt: HostRuntime) {
     let commands = commands().expect(&rt, "in range");
-    if let Some(records) = recorded(rt.alloc(), &commands) {
+    if let Some(records) = records_of_moves(rt.alloc(), &commands) {
         are_the_lines(&rt, &records);
     }
 }

@@ -1,6 +1,6 @@
 //! As many experiments as a scenario may have, no two of them alike: each has its own report, to the last one.
 
-use super::workers::ran;
+use super::workers::run_by_workers;
 use super::*;
 use shard::MOST_RESIDENTS;
 use std::alloc::AllocError;
@@ -33,7 +33,7 @@ fn each_experiment_is_its_own(rt: HostRuntime) -> Result<(), Fail> {
     let wanted = reports(rt.alloc())?;
     for (workers, moves) in [(1, 0), (2, 1), (3, 64)] {
         let plan = Plan::new(workers, moves).ok_or("a plan")?;
-        let (outcome, written) = ran(&rt, rt.alloc(), text.as_str(), plan, &OpenGate);
+        let (outcome, written) = run_by_workers(&rt, rt.alloc(), text.as_str(), plan, &OpenGate);
         assert!(rt; outcome == Ok(()), "{workers} {moves}");
         assert!(rt;
             written.as_slice() == wanted.as_bytes(),

@@ -247,7 +247,7 @@ fn flushes<H: Threads + Wait + Sync>(
 }
 
 #[test]
-fn flushed(rt: HostRuntime) {
+fn interrupted_flush(rt: HostRuntime) {
     for way in [Way::Alone, Way::Together] {
         for interrupts in [0, 1, 1000] {
             let (outcome, out) = flushes(&rt, rt.alloc(), way, interrupts, false);

@@ -108,7 +108,7 @@ impl Outlet for Drain {
 }
 
 // A reader of this text.
-fn dripping(text: &str, reads: usize, interrupts: u32) -> Drip<'_> {
+fn drip_of(text: &str, reads: usize, interrupts: u32) -> Drip<'_> {
     Drip {
         left: text.as_bytes(),
         reads,
@@ -119,7 +119,7 @@ fn dripping(text: &str, reads: usize, interrupts: u32) -> Drip<'_> {
 }
 
 // A writer that holds nothing yet.
-fn draining(alloc: Global, calls: usize, interrupts: u32) -> Drain {
+fn new_drain(alloc: Global, calls: usize, interrupts: u32) -> Drain {
     Drain {
         taken: Vec::new(alloc),
         calls,
@@ -141,8 +141,8 @@ fn byte_by_byte(rt: HostRuntime) {
     // A read for each byte and one for the end, a write for each byte and a flush: no call more.
     for (way, report) in WRITTEN {
         for interrupts in [0, 1, 100] {
-            let mut reader = dripping(texts::ONE_PACKET, texts::ONE_PACKET.len() + 1, interrupts);
-            let mut writer = draining(rt.alloc(), report.len() + 1, interrupts);
+            let mut reader = drip_of(texts::ONE_PACKET, texts::ONE_PACKET.len() + 1, interrupts);
+            let mut writer = new_drain(rt.alloc(), report.len() + 1, interrupts);
             let outcome = call(&rt, rt.alloc(), way, &mut reader, &mut writer);
             assert!(rt; outcome == Ok(()));
             assert!(rt; writer.taken.as_slice() == report.as_bytes());
@@ -156,8 +156,8 @@ fn byte_by_byte(rt: HostRuntime) {
 fn each_byte_fails(rt: HostRuntime) {
     for (way, _) in WRITTEN {
         for reads in 0..=texts::ONE_PACKET.len() {
-            let mut reader = dripping(texts::ONE_PACKET, reads, 1);
-            let mut writer = draining(rt.alloc(), 0, 0);
+            let mut reader = drip_of(texts::ONE_PACKET, reads, 1);
+            let mut writer = new_drain(rt.alloc(), 0, 0);
             let outcome = call(&rt, rt.alloc(), way, &mut reader, &mut writer);
             assert!(rt; outcome == Err(RunFault::Read));
             assert!(rt; reader.failed && !writer.failed);
@@ -170,8 +170,8 @@ fn each_byte_fails(rt: HostRuntime) {
 fn each_written_byte_fails(rt: HostRuntime) {
     for (way, report) in WRITTEN {
         for calls in 0..=report.len() {
-            let mut reader = dripping(texts::ONE_PACKET, usize::MAX, 0);
-            let mut writer = draining(rt.alloc(), calls, 1);
+            let mut reader = drip_of(texts::ONE_PACKET, usize::MAX, 0);
+            let mut writer = new_drain(rt.alloc(), calls, 1);
             let outcome = call(&rt, rt.alloc(), way, &mut reader, &mut writer);
             assert!(rt; outcome == Err(RunFault::Write));
             assert!(rt; writer.failed && !reader.failed);

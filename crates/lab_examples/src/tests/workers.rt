@@ -32,7 +32,7 @@ impl Gate for Meeting {
 }
 
 /// What a run by workers answers, and what it wrote.
-pub fn ran<R: Threads + Wait + Sync, G: Gate>(
+pub fn run_by_workers<R: Threads + Wait + Sync, G: Gate>(
     rt: &R,
     alloc: Global,
     scenario: &str,
@@ -47,7 +47,13 @@ pub fn ran<R: Threads + Wait + Sync, G: Gate>(
 
 /// Wants the reports of four experiments, by so many workers with so many turns between two moves.
 fn moves_so<H: Threads + Wait + Sync + Abort + AllocGlobal>(rt: &H, plan: Plan) {
-    let (outcome, written) = ran(rt, rt.alloc(), texts::FOUR_EXPERIMENTS, plan, &OpenGate);
+    let (outcome, written) = run_by_workers(
+        rt,
+        rt.alloc(),
+        texts::FOUR_EXPERIMENTS,
+        plan,
+        &OpenGate,
+    );
     assert!(rt; outcome == Ok(()));
     assert!(rt; written.as_slice() == texts::FOUR_EXPERIMENTS_REPORT.as_bytes());
 }
@@ -101,7 +107,7 @@ fn benches_at_once(rt: HostRuntime) -> Result<(), Fail> {
         right: AtomicU64::new(0),
     };
     let plan = Plan::new(2, 0).ok_or("a plan")?;
-    let (outcome, written) = ran(&rt, rt.alloc(), TWICE, plan, &gate);
+    let (outcome, written) = run_by_workers(&rt, rt.alloc(), TWICE, plan, &gate);
     assert!(rt; outcome == Ok(()));
     assert!(rt; written.as_slice() == TWICE_REPORTS.as_bytes());
     let (left, right) = (
@@ -148,7 +154,7 @@ fn adoptions<H: Threads + Wait + Sync + Abort + AllocGlobal>(rt: &H, plan: Plan)
         last: AtomicU64::new(0),
         adopted: AtomicU64::new(0),
     };
-    let (outcome, written) = ran(rt, rt.alloc(), texts::FOUR_EXPERIMENTS, plan, &gate);
+    let (outcome, written) = run_by_workers(rt, rt.alloc(), texts::FOUR_EXPERIMENTS, plan, &gate);
     assert!(rt; outcome == Ok(()));
     assert!(rt; written.as_slice() == texts::FOUR_EXPERIMENTS_REPORT.as_bytes());
     gate.adopted.load(Ordering::SeqCst)
@@ -156,7 +162,7 @@ fn adoptions<H: Threads + Wait + Sync + Abort + AllocGlobal>(rt: &H, plan: Plan)
 
 /// Experiments go to another bench; where they are never to move, none does.
 #[test]
-fn adopted(rt: HostRuntime) -> Result<(), Fail> {
+fn experiments_are_adopted(rt: HostRuntime) -> Result<(), Fail> {
     let never = Plan::new(2, 0).ok_or("a plan")?;
     assert_eq!(rt; adoptions(&rt, never), 0);
     let always = Plan::new(2, 1).ok_or("a plan")?;
@@ -187,7 +193,13 @@ impl Gate for ShutGate {
 #[test]
 fn gate_says_no(rt: HostRuntime) -> Result<(), Fail> {
     let plan = Plan::new(2, 64).ok_or("a plan")?;
-    let (outcome, written) = ran(&rt, rt.alloc(), texts::FOUR_EXPERIMENTS, plan, &ShutGate);
+    let (outcome, written) = run_by_workers(
+        &rt,
+        rt.alloc(),
+        texts::FOUR_EXPERIMENTS,
+        plan,
+        &ShutGate,
+    );
     assert!(rt; written.is_empty());
     assert!(rt; outcome == Err(RunFault::Gate));
     Ok(())
@@ -197,7 +209,13 @@ fn gate_says_no(rt: HostRuntime) -> Result<(), Fail> {
 #[test]
 fn refused_together(rt: HostRuntime) -> Result<(), Fail> {
     let plan = Plan::new(2, 1).ok_or("a plan")?;
-    let (outcome, written) = ran(&rt, rt.alloc(), texts::FOUR_EXPERIMENTS, plan, &OpenGate);
+    let (outcome, written) = run_by_workers(
+        &rt,
+        rt.alloc(),
+        texts::FOUR_EXPERIMENTS,
+        plan,
+        &OpenGate,
+    );
     if outcome == Err(RunFault::Memory) {
         assert!(rt; written.is_empty());
         return Ok(());
@@ -225,7 +243,13 @@ impl Gate for HalfShut {
 #[test]
 fn gate_says_no_to_one(rt: HostRuntime) -> Result<(), Fail> {
     let plan = Plan::new(2, 0).ok_or("a plan")?;
-    let (outcome, written) = ran(&rt, rt.alloc(), texts::FOUR_EXPERIMENTS, plan, &HalfShut);
+    let (outcome, written) = run_by_workers(
+        &rt,
+        rt.alloc(),
+        texts::FOUR_EXPERIMENTS,
+        plan,
+        &HalfShut,
+    );
     assert!(rt; written.is_empty());
     assert!(rt; outcome == Err(RunFault::Gate));
     Ok(())

@@ -18,7 +18,7 @@ use text_examples as texts;
 const LATEST: u64 = 1_000_000_000_000_000;
 
 // What the tenants here are given that post their end and little else.
-fn small(rt: &impl Abort) -> Spec {
+fn small_spec(rt: &impl Abort) -> Spec {
     let packets = PacketBudget::new(4).expect(rt, "in range");
     let steps = StepBudget::new(100).expect(rt, "in range");
     Spec {
@@ -27,20 +27,20 @@ fn small(rt: &impl Abort) -> Spec {
     }
 }
 
-fn opened<K: Kit>(
+fn open_tenant<K: Kit>(
     rt: &(impl Abort + AllocGlobal),
     registry: &mut Registry,
 ) -> (K::Tenant, K::Parcel) {
-    K::open(registry, rt.alloc(), small(rt)).expect(rt, "a tenant")
+    K::open(registry, rt.alloc(), small_spec(rt)).expect(rt, "a tenant")
 }
 
 // A tenant whose experiment came to a bench.
-fn hosted<K: Kit>(
+fn host_tenant<K: Kit>(
     rt: &(impl Abort + AllocGlobal),
     registry: &mut Registry,
     bench: &mut K::Bench,
 ) -> K::Tenant {
-    let (tenant, parcel) = opened::<K>(rt, registry);
+    let (tenant, parcel) = open_tenant::<K>(rt, registry);
     assert!(rt; admit::<K>(bench, parcel));
     tenant
 }
@@ -76,7 +76,7 @@ fn ends<K: Kit>(rt: &impl Abort, tenant: &mut K::Tenant, moment: u64, wanted: Op
 
 fn posting_refusals_of<K: Kit>(rt: &(impl Abort + AllocGlobal)) {
     let mut registry = Registry::new();
-    let (mut tenant, _parcel) = opened::<K>(rt, &mut registry);
+    let (mut tenant, _parcel) = open_tenant::<K>(rt, &mut registry);
     shows::<K>(rt, &mut tenant, 6, None);
     shows::<K>(rt, &mut tenant, 5, Some(PostError::Early));
     shows::<K>(rt, &mut tenant, LATEST, None);
@@ -96,7 +96,7 @@ fn posting_refusals(rt: HostRuntime) {
 
 fn nothing_is_posted_behind_an_end_of<K: Kit>(rt: &(impl Abort + AllocGlobal)) {
     let mut registry = Registry::new();
-    let (mut tenant, _parcel) = opened::<K>(rt, &mut registry);
+    let (mut tenant, _parcel) = open_tenant::<K>(rt, &mut registry);
     ends::<K>(rt, &mut tenant, 6, None);
     shows::<K>(rt, &mut tenant, LATEST + 1, Some(PostError::Closed));
     ends::<K>(rt, &mut tenant, 6, Some(PostError::Closed));
@@ -109,17 +109,20 @@ fn nothing_is_posted_behind_an_end(rt: HostRuntime) {
 }
 
 // Why no tenant was opened.
-fn unopened<K: Kit>(rt: &(impl Abort + AllocGlobal), registry: &mut Registry) -> Option<OpenError> {
-    K::open(registry, rt.alloc(), small(rt)).err()
+fn open_error<K: Kit>(
+    rt: &(impl Abort + AllocGlobal),
+    registry: &mut Registry,
+) -> Option<OpenError> {
+    K::open(registry, rt.alloc(), small_spec(rt)).err()
 }
 
 fn the_last_name_of<K: Kit>(rt: &(impl Abort + AllocGlobal)) {
-    let mut registry = Registry::starting(999_999);
-    let (tenant, parcel) = opened::<K>(rt, &mut registry);
+    let mut registry = Registry::with_first_name(999_999);
+    let (tenant, parcel) = open_tenant::<K>(rt, &mut registry);
     assert!(rt; K::name(&tenant) == 999_999);
     assert!(rt; K::shape(&parcel).name == 999_999);
-    assert!(rt; unopened::<K>(rt, &mut registry) == Some(OpenError::NamesOut));
-    assert!(rt; unopened::<K>(rt, &mut registry) == Some(OpenError::NamesOut));
+    assert!(rt; open_error::<K>(rt, &mut registry) == Some(OpenError::NamesOut));
+    assert!(rt; open_error::<K>(rt, &mut registry) == Some(OpenError::NamesOut));
 }
 
 #[test]
@@ -128,7 +131,12 @@ fn the_last_name(rt: HostRuntime) {
 }
 
 // Turns a resident whose only command is its end.
-fn ended<K: Kit>(rt: &impl Abort, bench: &mut K::Bench, slot: usize, name: u32) -> K::Dossier {
+fn end_resident<K: Kit>(
+    rt: &impl Abort,
+    bench: &mut K::Bench,
+    slot: usize,
+    name: u32,
+) -> K::Dossier {
     assert!(rt; K::poll(bench, slot) == Polled::Took(name));
     let dossier = last_turn::<K>(bench).expect(rt, "an end");
     assert!(rt; K::ended_name(&dossier) == name);
@@ -150,7 +158,7 @@ fn settles<K: Kit>(rt: &impl Abort, tenant: K::Tenant, dossier: K::Dossier) {
     let outcome = K::settle(tenant, dossier).ok().expect(rt, "strange");
     let last = K::last(&outcome);
     assert!(rt; last.name == name);
-    assert!(rt; last.spec == small(rt));
+    assert!(rt; last.spec == small_spec(rt));
     assert!(rt; last.commands == 1);
     assert!(rt; last.events == 1);
     assert!(rt; matches!(last.ending, Ending::Ended));
@@ -160,12 +168,12 @@ fn settles<K: Kit>(rt: &impl Abort, tenant: K::Tenant, dossier: K::Dossier) {
 fn strange_dossier_of<K: Kit>(rt: &(impl Abort + AllocGlobal)) {
     let mut registry = Registry::new();
     let (mut bench, _peer) = K::with_peer(rt.alloc()).expect(rt, "a bench");
-    let mut zero = hosted::<K>(rt, &mut registry, &mut bench);
-    let mut one = hosted::<K>(rt, &mut registry, &mut bench);
+    let mut zero = host_tenant::<K>(rt, &mut registry, &mut bench);
+    let mut one = host_tenant::<K>(rt, &mut registry, &mut bench);
     ends::<K>(rt, &mut zero, 7, None);
     ends::<K>(rt, &mut one, 7, None);
-    let of_zero = ended::<K>(rt, &mut bench, 0, 0);
-    let of_one = ended::<K>(rt, &mut bench, 1, 1);
+    let of_zero = end_resident::<K>(rt, &mut bench, 0, 0);
+    let of_one = end_resident::<K>(rt, &mut bench, 1, 1);
     let (zero, of_one) = strangers::<K>(rt, zero, of_one);
     assert!(rt; K::name(&zero) == 0 && K::posted_len(&zero) == 1);
     assert!(rt; K::ended_name(&of_one) == 1 && has_records::<K>(&of_one, 1));
@@ -204,11 +212,11 @@ fn two_closings<K: Kit>(rt: &(impl Abort + AllocGlobal)) -> (Closing, Closing) {
     let mut registry = Registry::new();
     let (mut here, mut peer) = K::with_peer(rt.alloc()).expect(rt, "a bench");
     let (mut there, _peer) = K::with_peer(rt.alloc()).expect(rt, "a bench");
-    let mut zero = hosted::<K>(rt, &mut registry, &mut here);
-    hosted::<K>(rt, &mut registry, &mut here);
-    hosted::<K>(rt, &mut registry, &mut here);
+    let mut zero = host_tenant::<K>(rt, &mut registry, &mut here);
+    host_tenant::<K>(rt, &mut registry, &mut here);
+    host_tenant::<K>(rt, &mut registry, &mut here);
     ends::<K>(rt, &mut zero, 7, None);
-    ended::<K>(rt, &mut here, 0, 0);
+    end_resident::<K>(rt, &mut here, 0, 0);
     offers::<K>(rt, &mut here, 1);
     adopts::<K>(rt, &mut there, &mut peer, 1);
     offers::<K>(rt, &mut here, 2);
@@ -287,7 +295,7 @@ fn letters_of<K: Kit>(rt: &(impl Abort + AllocGlobal)) {
     has_read_five::<K>(rt, &guest, &dossier);
     let settled = settle::<K>(rt, guest, dossier);
     let written = text_of::<K>(rt.alloc(), &settled).expect(rt, "memory");
-    assert!(rt; written.as_slice() == settled.wanted());
+    assert!(rt; written.as_slice() == settled.wanted_report());
 }
 
 #[test]
@@ -324,11 +332,11 @@ fn unread_of<K: Kit>(rt: &(impl Abort + AllocGlobal)) {
     assert!(rt; K::record(&settled.outcome, CODEL_RECORDS - 1).is_some());
     assert!(rt; K::record(&settled.outcome, CODEL_RECORDS).is_none());
     let written = text_of::<K>(rt.alloc(), &settled).expect(rt, "memory");
-    assert!(rt; written.as_slice() == settled.wanted());
+    assert!(rt; written.as_slice() == settled.wanted_report());
 }
 
 #[test]
-fn unread(rt: HostRuntime) {
+fn unread_letters(rt: HostRuntime) {
     unread_of::<Real>(&rt);
 }
 

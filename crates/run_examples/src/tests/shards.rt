@@ -11,7 +11,7 @@ mod turns;
 
 use agendas::{Anew, GivesUp};
 use calls::{
-    Desk, Host, advance, arrive, counted, is_crowded, pack, packs_nobody, poll, put, seen_back,
+    Desk, Host, advance, arrive, counts_of, is_crowded, pack, packs_nobody, poll, put, seen_back,
     seen_in, slot_of, take_in,
 };
 use desk::{
@@ -288,7 +288,7 @@ fn waits<A: Agenda>(
     for _ in 0..100 {
         assert_eq!(rt; poll(here, 0), Polled::NoMemory(0));
         assert_eq!(rt; turn(rt, here, guests.as_slice())?, Move::Idle);
-        assert_eq!(rt; counted(here, 0), Some((0, 1)));
+        assert_eq!(rt; counts_of(here, 0), Some((0, 1)));
     }
     moves(rt, here, there, 0)?;
     host(rt, there, guests.as_mut_slice(), true)
@@ -342,7 +342,7 @@ fn crowds(rt: &(impl Abort + AllocGlobal), shard: &mut Desk) -> Result<(), Alloc
 }
 
 #[test]
-fn crowded(rt: HostRuntime) -> Result<(), Fail> {
+fn crowded_shard(rt: HostRuntime) -> Result<(), Fail> {
     let mut shard = Desk::new(rt.alloc())?;
     let done = crowds(&rt, &mut shard);
     drop(shard);
@@ -351,7 +351,7 @@ fn crowded(rt: HostRuntime) -> Result<(), Fail> {
 }
 
 #[test]
-fn unread(rt: HostRuntime) -> Result<(), Fail> {
+fn unread_letters(rt: HostRuntime) -> Result<(), Fail> {
     // Its report has 82 lines of records.
     let cards = [(texts::CODEL_TWO_DROPS, texts::CODEL_TWO_DROPS_REPORT)];
     are_hosted(&rt, &cards, false)?;
@@ -405,19 +405,19 @@ fn long_and_unread(rt: HostRuntime) -> Result<(), Fail> {
 const HELD: usize = 65_538;
 
 // How many records the resident of a slot has.
-fn recorded(shard: &Desk, slot: usize) -> usize {
-    counted(shard, slot).map_or(0, |(records, _)| records)
+fn record_count(shard: &Desk, slot: usize) -> usize {
+    counts_of(shard, slot).map_or(0, |(records, _)| records)
 }
 
 // Has resident 1 of a shard, at slot 0, hold 65535 packets.
-fn flooded(
+fn flood_shard(
     rt: &(impl Abort + AllocGlobal),
     shard: &mut Desk,
     neighbour: &mut [Guest],
 ) -> Result<(), AllocError> {
     settle_all(rt.alloc(), shard, neighbour)?;
     for _ in 0..MOST_TURNS {
-        if recorded(shard, 0) == HELD {
+        if record_count(shard, 0) == HELD {
             return Ok(());
         }
         attend(rt, shard, neighbour, false);
@@ -430,11 +430,11 @@ fn flooded(
 // Has a guest beside a neighbour that holds 65535 packets.
 fn is_beside(rt: &(impl Abort + AllocGlobal), shard: &mut Desk) -> Result<(), AllocError> {
     let mut neighbour = invite_all(rt, 1, &[(texts::NEIGHBOUR, "")])?;
-    flooded(rt, shard, neighbour.as_mut_slice())?;
+    flood_shard(rt, shard, neighbour.as_mut_slice())?;
     let cards = [(texts::PACKET_BUDGET, texts::PACKET_BUDGET_REPORT)];
     let mut guests = invite_all(rt, 0, &cards)?;
     hosts(rt, shard, guests.as_mut_slice(), false)?;
-    assert_eq!(rt; recorded(shard, 0), HELD);
+    assert_eq!(rt; record_count(shard, 0), HELD);
     Ok(())
 }
 

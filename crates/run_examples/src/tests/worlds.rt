@@ -4,9 +4,9 @@ mod calls;
 mod desk;
 mod refusals;
 
-use calls::{Stage, counted, run, step};
+use calls::{Stage, counts_of, run, step};
 use desk::{
-    Guest, MOST_ROUNDS, finish, invite, invite_all, next_post, post_all, register, reported,
+    Guest, MOST_ROUNDS, finish, invite, invite_all, next_post, post_all, register, reports_of_ended,
 };
 use emu_model::Spec;
 use rand_chacha::ChaCha20Rng;
@@ -34,7 +34,7 @@ fn below(words: &mut ChaCha20Rng, most: u32) -> u32 {
 }
 
 // A step that is drawn: most are posts, polls and turns.
-fn drawn(words: &mut ChaCha20Rng, guests: &mut [Guest]) -> Step {
+fn draw_step(words: &mut ChaCha20Rng, guests: &mut [Guest]) -> Step {
     let name = below(words, GUESTS);
     let shard = below(words, SHARDS) as usize;
     let from = below(words, SHARDS) as usize;
@@ -58,7 +58,7 @@ fn drawn(words: &mut ChaCha20Rng, guests: &mut [Guest]) -> Step {
 }
 
 // Six guests.
-fn six(rt: &(impl Abort + AllocGlobal)) -> Result<Vec<Guest>, AllocError> {
+fn six_guests(rt: &(impl Abort + AllocGlobal)) -> Result<Vec<Guest>, AllocError> {
     let texts = [
         (text_examples::ONE_SLOT, text_examples::ONE_SLOT_REPORT),
         (
@@ -95,12 +95,12 @@ fn lives_in<W: Stage>(
     }
     register(world, guests)?;
     for _ in 0..STEPS {
-        let one = [drawn(words, guests)];
+        let one = [draw_step(words, guests)];
         run(world, &one)?;
     }
-    let early = reported(rt, world, guests)?.whole;
+    let early = reports_of_ended(rt, world, guests)?.whole;
     finish(rt, world, guests)?;
-    assert_eq!(rt; reported(rt, world, guests)?.whole, guests.len());
+    assert_eq!(rt; reports_of_ended(rt, world, guests)?.whole, guests.len());
     Ok(early)
 }
 
@@ -115,7 +115,7 @@ fn lives<W: Stage>(
     key[0] = seed;
     key[1] = list;
     let mut words = ChaCha20Rng::from_seed(key);
-    let mut world = W::built(rt.alloc(), SHARDS as usize)?;
+    let mut world = W::build(rt.alloc(), SHARDS as usize)?;
     lives_in(rt, &mut world, &mut words, guests)
 }
 
@@ -138,7 +138,7 @@ fn lives_all<W: Stage>(
     seed: u8,
     lists: u8,
 ) -> Result<usize, AllocError> {
-    let mut guests = six(rt)?;
+    let mut guests = six_guests(rt)?;
     lives_through::<W>(rt, seed, lists, guests.as_mut_slice())
 }
 
@@ -214,7 +214,7 @@ fn travels_through<W: Stage>(
     let moved = travels_in(world)?;
     assert!(rt; world.place_of(0) == Some(Place::Ended));
     finish(rt, world, guests)?;
-    assert_eq!(rt; reported(rt, world, guests)?.whole, 3);
+    assert_eq!(rt; reports_of_ended(rt, world, guests)?.whole, 3);
     Ok(moved)
 }
 
@@ -226,7 +226,7 @@ fn travels<W: Stage>(
 ) -> Result<u64, AllocError> {
     let flood = (text_examples::FLOOD, text_examples::FLOOD_REPORT);
     let mut guests = invite_all(rt, &[(text, report), flood, flood])?;
-    let mut world = W::built(rt.alloc(), 2)?;
+    let mut world = W::build(rt.alloc(), 2)?;
     travels_through(rt, &mut world, guests.as_mut_slice())
 }
 
@@ -260,7 +260,7 @@ fn floods<W: Stage>(world: &mut W) -> Result<(), AllocError> {
     }
     let many = [Step::Turn { shard: 0 }; 100];
     for _ in 0..MOST_ROUNDS {
-        let (records, _) = counted(world, 0);
+        let (records, _) = counts_of(world, 0);
         if records >= HELD {
             return Ok(());
         }
@@ -294,17 +294,17 @@ fn is_beside_a_flood<W: Stage>(
     step(world, Step::Admit { name: 0, shard: 0 })?;
     post_all(world, guests, 0)?;
     floods(world)?;
-    assert!(rt; counted(world, 0) == (HELD, 4));
+    assert!(rt; counts_of(world, 0) == (HELD, 4));
 
     step(world, Step::Admit { name: 1, shard: 0 })?;
     post_all(world, guests, 1)?;
     turns_beside(world)?;
-    assert!(rt; counted(world, 0) == (HELD, 4));
-    assert_eq!(rt; reported(rt, world, guests)?.whole, 1);
+    assert!(rt; counts_of(world, 0) == (HELD, 4));
+    assert_eq!(rt; reports_of_ended(rt, world, guests)?.whole, 1);
     Ok(())
 }
 
-fn flooded<W: Stage>(rt: &(impl Abort + AllocGlobal)) -> Result<(), AllocError> {
+fn flood_world<W: Stage>(rt: &(impl Abort + AllocGlobal)) -> Result<(), AllocError> {
     let texts = [
         (text_examples::NEIGHBOUR, ""),
         (
@@ -313,20 +313,20 @@ fn flooded<W: Stage>(rt: &(impl Abort + AllocGlobal)) -> Result<(), AllocError> 
         ),
     ];
     let mut guests = invite_all(rt, &texts)?;
-    let mut world = W::built(rt.alloc(), 1)?;
+    let mut world = W::build(rt.alloc(), 1)?;
     is_beside_a_flood(rt, &mut world, guests.as_mut_slice())
 }
 
 #[test]
 fn beside_a_flood(rt: HostRuntime) -> Result<(), Fail> {
-    flooded::<World<Wheel>>(&rt)?;
+    flood_world::<World<Wheel>>(&rt)?;
     Ok(())
 }
 
 // Nothing can be done in a world of no name but to begin a shard's time anew.
 fn has_nobody<W: Stage>(rt: &impl Abort, world: &mut W) -> Result<(), AllocError> {
     assert!(rt; world.place_of(0).is_none());
-    assert!(rt; counted(world, 0) == (0, 0));
+    assert!(rt; counts_of(world, 0) == (0, 0));
     assert!(rt; !step(world, Step::Admit { name: 0, shard: 0 })?);
     assert!(rt; !step(world, Step::Turn { shard: 0 })?);
     assert!(rt; !step(world, Step::Turn { shard: 2 })?);
@@ -349,7 +349,7 @@ fn has_one<W: Stage>(rt: &impl Abort, world: &mut W, spec: Spec) -> Result<(), A
 }
 
 fn begins<W: Stage>(rt: &(impl Abort + AllocGlobal), spec: Spec) -> Result<(), AllocError> {
-    let mut world = W::built(rt.alloc(), 2)?;
+    let mut world = W::build(rt.alloc(), 2)?;
     has_nobody(rt, &mut world)?;
     has_one(rt, &mut world, spec)
 }

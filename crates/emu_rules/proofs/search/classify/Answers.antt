@@ -10,11 +10,11 @@ returns-clause-verdict c =
     let cs = c.args.rules.now in
     let new = c.far_search-found.new.rules in
     let last = c.far_search-found.result.last in
-    c.foretold-2.ensures.verdict
+    c.match_of-2.ensures.verdict
     ∙ at-recounted cs new last c.far_search-found.ensures.rules
     ∙ ap (λ at. verdict_of_match (option_and_then (slice_get cs) at)) c.far_search-found.ensures.found.last
 
 pub returns-clause-none : goal.returns-clause-none
 returns-clause-none c = λ none k own first there.
-    let g = c.far_search-found.ensures.found.more (sym c.foretold-2.ensures.rule ∙ none) k first in
+    let g = c.far_search-found.ensures.found.more (sym c.match_of-2.ensures.rule ∙ none) k first in
     no_decision c.args.rules.now k own g.0 there g.1

@@ -158,7 +158,7 @@ fn refused_keeps_the_due<A: Agenda>(agenda: &mut A) -> bool {
 }
 
 // An agenda whose making may be refused once.
-fn made<A: Agenda>(alloc: Global, clock: u64) -> Option<A> {
+fn new_agenda<A: Agenda>(alloc: Global, clock: u64) -> Option<A> {
     match A::new(alloc, clock).ok() {
         Some(agenda) => Some(agenda),
         None => A::new(alloc, clock).ok(),
@@ -178,7 +178,7 @@ fn fault_of<A: Agenda + Drop>(alloc: Global) -> Option<&'static str> {
         ("refused", 0),
         ("refused replacement", 0),
     ] {
-        let Some(mut agenda) = made::<A>(alloc, clock) else {
+        let Some(mut agenda) = new_agenda::<A>(alloc, clock) else {
             return Some("no agenda");
         };
         let passed = match name {
@@ -240,10 +240,10 @@ fn answer_alike<A: Agenda, B: Agenda>(one: &mut A, other: &mut B) -> bool {
 }
 
 fn kinds_answer_alike<A: Agenda + Drop, B: Agenda + Drop>(alloc: Global) -> bool {
-    let Some(mut one) = made::<A>(alloc, 0) else {
+    let Some(mut one) = new_agenda::<A>(alloc, 0) else {
         return false;
     };
-    let alike = match made::<B>(alloc, 0) {
+    let alike = match new_agenda::<B>(alloc, 0) {
         Some(mut other) => {
             let alike = answer_alike(&mut one, &mut other);
             drop(other);
@@ -271,7 +271,7 @@ fn takes_many<A: Agenda>(agenda: &mut A) -> bool {
 }
 
 fn drops_a_long_slot<A: Agenda + Drop>(alloc: Global) -> bool {
-    let Some(mut agenda) = made::<A>(alloc, 0) else {
+    let Some(mut agenda) = new_agenda::<A>(alloc, 0) else {
         return false;
     };
     let first = takes_many(&mut agenda);

@@ -15,7 +15,7 @@ const CAUSES: [DropCause; 8] = [
     DropCause::Budget,
 ];
 
-fn delivered(packet: u64) -> Record {
+fn delivery_record(packet: u64) -> Record {
     Record::PacketDelivered {
         moment: 7,
         packet,
@@ -23,7 +23,7 @@ fn delivered(packet: u64) -> Record {
     }
 }
 
-fn dropped(packet: u64, cause: DropCause) -> Record {
+fn drop_record(packet: u64, cause: DropCause) -> Record {
     Record::PacketDropped {
         moment: 7,
         packet,
@@ -47,12 +47,12 @@ fn notes_all(rt: &impl Abort, log: &mut RecordLog) {
             command: 0,
         },
     );
-    notes(rt, log, &delivered(1));
-    notes(rt, log, &delivered(2));
+    notes(rt, log, &delivery_record(1));
+    notes(rt, log, &delivery_record(2));
     for cause in &CAUSES {
-        notes(rt, log, &dropped(3, *cause));
+        notes(rt, log, &drop_record(3, *cause));
     }
-    notes(rt, log, &dropped(4, DropCause::Full));
+    notes(rt, log, &drop_record(4, DropCause::Full));
     notes(rt, log, &Record::StepsSpent { moment: 9 });
 }
 
@@ -60,17 +60,17 @@ fn notes_all(rt: &impl Abort, log: &mut RecordLog) {
 fn counts_go_by_kind_and_cause(rt: HostRuntime) {
     let mut log = RecordLog::new(rt.alloc());
     notes_all(&rt, &mut log);
-    assert!(rt; log.delivered() == 2);
+    assert!(rt; log.delivered_count() == 2);
     assert!(rt; log.drops() == [1, 1, 1, 1, 2, 1, 1, 1]);
-    assert!(rt; log.as_slice().get(2) == Some(&delivered(2)));
+    assert!(rt; log.as_slice().get(2) == Some(&delivery_record(2)));
     let records = log.into_vec();
     assert!(rt; records.len() == 13);
-    assert!(rt; records[11] == dropped(4, DropCause::Full));
+    assert!(rt; records[11] == drop_record(4, DropCause::Full));
 }
 
 // How many records there are, and how many packets were delivered.
 fn counts(log: &RecordLog) -> (usize, u64) {
-    (log.as_slice().len(), log.delivered())
+    (log.as_slice().len(), log.delivered_count())
 }
 
 // Where memory is refused nothing is lost.
@@ -78,11 +78,11 @@ fn keeps_its_records(rt: &impl Abort, log: &mut RecordLog) {
     if log.reserve(1).is_err() {
         return assert!(rt; counts(log) == (0, 0));
     }
-    log.note(&delivered(1));
+    log.note(&delivery_record(1));
     if log.reserve(100).is_err() {
         return assert!(rt; counts(log) == (1, 1));
     }
-    log.note(&delivered(2));
+    log.note(&delivery_record(2));
     assert!(rt; counts(log) == (2, 2));
 }
 

@@ -5,9 +5,9 @@ use std::process::Abort;
 /// to is as it was then.
 fn leads(rt: &impl Abort, table: &mut NumberTable, number: u16, place: u16) {
     let before = around(table, number);
-    if table.ready(number).is_err() {
+    if table.make_room(number).is_err() {
         assert!(rt; around(table, number) == before, "it has changed");
-        table.ready(number).expect(rt, "memory");
+        table.make_room(number).expect(rt, "memory");
     }
     table.set(number, usize::from(place));
 }

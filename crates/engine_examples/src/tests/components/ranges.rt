@@ -97,7 +97,7 @@ fn ports_stand_in_order(rt: HostRuntime) {
 }
 
 // What is left of 10.1.2.3 at a length, which is kept.
-fn cleared(rt: &impl Abort, len: u8) -> u32 {
+fn cleared_address(rt: &impl Abort, len: u8) -> u32 {
     let length = PrefixLength::new(len).expect(rt, "a length");
     let prefix = Prefix::new(0x0a010203, length);
     assert!(rt; prefix.length().get() == len);
@@ -106,12 +106,12 @@ fn cleared(rt: &impl Abort, len: u8) -> u32 {
 
 #[test]
 fn prefix_clears_what_is_past_its_length(rt: HostRuntime) {
-    assert!(rt; cleared(&rt, 0) == 0);
-    assert!(rt; cleared(&rt, 8) == 0x0a000000);
-    assert!(rt; cleared(&rt, 15) == 0x0a000000);
-    assert!(rt; cleared(&rt, 16) == 0x0a010000);
-    assert!(rt; cleared(&rt, 31) == 0x0a010202);
-    assert!(rt; cleared(&rt, 32) == 0x0a010203);
+    assert!(rt; cleared_address(&rt, 0) == 0);
+    assert!(rt; cleared_address(&rt, 8) == 0x0a000000);
+    assert!(rt; cleared_address(&rt, 15) == 0x0a000000);
+    assert!(rt; cleared_address(&rt, 16) == 0x0a010000);
+    assert!(rt; cleared_address(&rt, 31) == 0x0a010202);
+    assert!(rt; cleared_address(&rt, 32) == 0x0a010203);
 }
 
 fn due(moment: u64, class: Class, number: u32) -> Due {

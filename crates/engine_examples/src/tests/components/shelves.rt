@@ -95,7 +95,7 @@ fn own_shelf_keeps_its_budget(rt: HostRuntime) {
 }
 
 // A new owner, at the second try where memory was refused.
-fn admitted(rt: &impl Abort, store: &mut Store, packets: u16) -> Owner {
+fn new_owner(rt: &impl Abort, store: &mut Store, packets: u16) -> Owner {
     match store.admit(budget(rt, packets)) {
         Ok(owner) => owner,
         Err(_) => store.admit(budget(rt, packets)).expect(rt, "memory"),
@@ -103,8 +103,8 @@ fn admitted(rt: &impl Abort, store: &mut Store, packets: u16) -> Owner {
 }
 
 fn floods(rt: &impl Abort, store: &mut Store) {
-    let quiet = admitted(rt, store, 2);
-    let loud = admitted(rt, store, 65535);
+    let quiet = new_owner(rt, store, 2);
+    let loud = new_owner(rt, store, 65535);
     assert!(rt; flood(store, loud) == Some(65535));
     let kept = puts(rt, store, quiet, 20);
     assert!(rt; look(store, loud, kept) == None);
@@ -115,7 +115,7 @@ fn floods(rt: &impl Abort, store: &mut Store) {
     store.dismiss(loud);
     assert!(rt; flood(store, loud) == Some(0));
     assert!(rt; look(store, quiet, kept) == Some(20));
-    assert!(rt; admitted(rt, store, 3) == loud);
+    assert!(rt; new_owner(rt, store, 3) == loud);
     assert!(rt; flood(store, loud) == Some(3));
 }
 
@@ -126,9 +126,9 @@ fn a_flood_takes_no_place_of_another(rt: HostRuntime) {
 }
 
 fn grows(rt: &impl Abort, store: &mut Store) {
-    let first = admitted(rt, store, 3);
+    let first = new_owner(rt, store, 3);
     let kept = puts(rt, store, first, 40);
-    let second = admitted(rt, store, 3);
+    let second = new_owner(rt, store, 3);
     assert!(rt; look(store, first, kept) == Some(40));
     assert!(rt; flood(store, second) == Some(3));
 }

@@ -2,7 +2,7 @@
 
 use super::*;
 
-fn made(moment: u64, packet: u64) -> Option<Record> {
+fn make_record(moment: u64, packet: u64) -> Option<Record> {
     Some(made_of(moment, packet, &thousand()?))
 }
 
@@ -20,7 +20,7 @@ fn made_of(moment: u64, packet: u64, send: &SendSpec) -> Record {
     }
 }
 
-fn arrived(moment: u64, packet: u64, pipe: PipeNumber, instance: u8) -> Record {
+fn arrival_record(moment: u64, packet: u64, pipe: PipeNumber, instance: u8) -> Record {
     Record::PacketArrived {
         moment,
         packet,
@@ -30,7 +30,7 @@ fn arrived(moment: u64, packet: u64, pipe: PipeNumber, instance: u8) -> Record {
 }
 
 /// The packets from this address have this instance.
-fn identified(pipe: PipeNumber, instance: u8, src: u32) -> Record {
+fn identifier_record(pipe: PipeNumber, instance: u8, src: u32) -> Record {
     Record::InstanceIdentified {
         moment: 0,
         pipe,
@@ -75,18 +75,18 @@ fn traced_budget(rt: HostRuntime) -> Result<(), Fail> {
     let config = pipe(1, 0, 100).ok_or("pipe")?;
     let all = rule(100, Action::Pipe(one)).ok_or("rule")?;
     let commands = [
-        timed(0, Command::Trace(true)),
-        timed(0, config),
-        timed(0, Command::Add(all)),
-        timed(0, Command::Inject(thousand().ok_or("packet")?)),
-        timed(0, Command::Inject(thousand().ok_or("packet")?)),
-        timed(5, Command::Trace(false)),
-        timed(5, Command::Inject(thousand().ok_or("packet")?)),
-        timed(6, Command::End),
+        timed_command(0, Command::Trace(true)),
+        timed_command(0, config),
+        timed_command(0, Command::Add(all)),
+        timed_command(0, Command::Inject(thousand().ok_or("packet")?)),
+        timed_command(0, Command::Inject(thousand().ok_or("packet")?)),
+        timed_command(5, Command::Trace(false)),
+        timed_command(5, Command::Inject(thousand().ok_or("packet")?)),
+        timed_command(6, Command::End),
     ];
     let expected = [
-        done(0, 3),
-        made(0, 0).ok_or("size")?,
+        done_record(0, 3),
+        make_record(0, 0).ok_or("size")?,
         Record::InstanceIdentified {
             moment: 0,
             pipe: one,
@@ -103,14 +103,14 @@ fn traced_budget(rt: HostRuntime) -> Result<(), Fail> {
             pipe: one,
             instance: 0,
         },
-        done(0, 4),
-        made(0, 1).ok_or("size")?,
-        dropped(0, 1, DropCause::Budget),
-        finished(0, 0, one),
-        done(5, 5),
-        done(5, 6),
-        dropped(5, 2, DropCause::Budget),
-        done(6, 7),
+        done_record(0, 4),
+        make_record(0, 1).ok_or("size")?,
+        drop_record(0, 1, DropCause::Budget),
+        finish_record(0, 0, one),
+        done_record(5, 5),
+        done_record(5, 6),
+        drop_record(5, 2, DropCause::Budget),
+        done_record(6, 7),
     ];
     let records = plays(rt.alloc(), room, &commands).ok_or("memory")?;
     assert_eq!(rt; records.len(), 15);
@@ -136,34 +136,34 @@ fn refused_trace_changes_nothing(rt: HostRuntime) -> Result<(), Fail> {
     };
     let number = FlowNumber::new(7).ok_or("7")?;
     let commands = [
-        timed(0, Command::Trace(true)),
-        timed(0, masked),
-        timed(0, Command::Add(all)),
-        timed(0, Command::Inject(send)),
-        timed(0, Command::Train { number, train }),
-        timed(30_000_000, Command::End),
+        timed_command(0, Command::Trace(true)),
+        timed_command(0, masked),
+        timed_command(0, Command::Add(all)),
+        timed_command(0, Command::Inject(send)),
+        timed_command(0, Command::Train { number, train }),
+        timed_command(30_000_000, Command::End),
     ];
     let expected = [
-        done(0, 0),
-        done(0, 1),
-        done(0, 2),
-        done(0, 3),
+        done_record(0, 0),
+        done_record(0, 1),
+        done_record(0, 2),
+        done_record(0, 3),
         made_of(0, 0, &send),
-        identified(one, 0, 0x0a00_0001),
-        arrived(0, 0, one, 0),
-        done(0, 4),
+        identifier_record(one, 0, 0x0a00_0001),
+        arrival_record(0, 0, one, 0),
+        done_record(0, 4),
         made_of(0, 1, &other),
-        identified(one, 1, 0x0a00_0003),
-        arrived(0, 1, one, 1),
+        identifier_record(one, 1, 0x0a00_0003),
+        arrival_record(0, 1, one, 1),
         made_of(4_000_000, 2, &other),
-        arrived(4_000_000, 2, one, 1),
+        arrival_record(4_000_000, 2, one, 1),
         finished_in(8_000_000, 0, one, 0),
         finished_in(8_000_000, 1, one, 1),
         finished_in(16_000_000, 2, one, 1),
-        delivered(18_000_000, 0, Load::Plain),
-        delivered(18_000_000, 1, Load::Plain),
-        delivered(26_000_000, 2, Load::Plain),
-        done(30_000_000, 5),
+        delivery_record(18_000_000, 0, Load::Plain),
+        delivery_record(18_000_000, 1, Load::Plain),
+        delivery_record(26_000_000, 2, Load::Plain),
+        done_record(30_000_000, 5),
     ];
     let records = plays(rt.alloc(), room, &commands).ok_or("refused twice, or changed")?;
     assert!(rt; records[..] == expected[..]);

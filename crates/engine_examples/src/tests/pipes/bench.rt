@@ -106,7 +106,7 @@ pub enum Fate {
 pub type Note = (Fate, u64, u64);
 
 /// The earlier of two, at one moment what leaves, and then the first.
-fn earlier(best: Option<Next>, next: Next) -> Option<Next> {
+fn earlier_of(best: Option<Next>, next: Next) -> Option<Next> {
     match best {
         Some(best)
             if best.moment < next.moment
@@ -259,7 +259,7 @@ impl Bench {
             let dues = self.pipe.dues(index);
             if let Some(moment) = dues.exit {
                 let leaves = true;
-                best = earlier(
+                best = earlier_of(
                     best,
                     Next {
                         moment,
@@ -270,7 +270,7 @@ impl Bench {
             }
             if let Some(moment) = dues.finish {
                 let leaves = false;
-                best = earlier(
+                best = earlier_of(
                     best,
                     Next {
                         moment,

@@ -89,7 +89,7 @@ fn step(
 }
 
 /// A pipe of this rate (bit/s) and delay (ms), with 50 slots.
-fn plain(rt: &impl Abort, bw: u64, delay: u16) -> PipeConfig {
+fn plain_config(rt: &impl Abort, bw: u64, delay: u16) -> PipeConfig {
     let slots = QueueLimit::Slots(SlotLimit::new(50).expect(rt, "a limit"));
     pipe(bw, delay, slots, Discipline::TailDrop).expect(rt, "a pipe")
 }
@@ -105,7 +105,10 @@ fn one_arrives(rt: &impl Abort, instance: &mut Instance, shelf: &mut OwnShelf) {
 /// Nothing came: a configuration changes the rate, and nothing is left.
 #[test]
 fn configured_and_given_up(rt: HostRuntime) {
-    let (first, second) = (plain(&rt, 1_000_000, 0), plain(&rt, 2_000_000, 0));
+    let (first, second) = (
+        plain_config(&rt, 1_000_000, 0),
+        plain_config(&rt, 2_000_000, 0),
+    );
     let number = PipeNumber::new(1).expect(&rt, "a number");
     let budget = PacketBudget::new(1).expect(&rt, "a budget");
     let mut instance = Instance::new(rt.alloc(), &first, 0, number, 0);
@@ -141,7 +144,7 @@ fn change_places(
         keys.push(key).ok()?;
     }
     for place in 0..keys.len() {
-        let held = instance.held();
+        let held = instance.key_count();
         if held != 3 || held <= place {
             return None;
         }
@@ -156,11 +159,11 @@ fn change_places(
 /// They leave in the new order, at the old moments.
 #[test]
 fn keys_are_replaced_in_place(rt: HostRuntime) {
-    let config = plain(&rt, 1_000_000, 20);
+    let config = plain_config(&rt, 1_000_000, 20);
     let number = PipeNumber::new(1).expect(&rt, "a number");
     let budget = PacketBudget::new(3).expect(&rt, "a budget");
     let mut instance = Instance::new(rt.alloc(), &config, 0, number, 0);
-    assert!(rt; instance.held() == 0);
+    assert!(rt; instance.key_count() == 0);
     assert!(rt; instance.key_at(0).is_none());
     let mut shelf = OwnShelf::new(rt.alloc(), budget);
     let mut left = Vec::new(rt.alloc());

@@ -10,15 +10,15 @@ use pipe_core::{Shown, rehouse_line};
 use std::process::Abort;
 
 /// A pipe with this bandwidth (bit/s), delay (ms) and number of slots, and with the tail dropped.
-fn plain(rt: &impl Abort, bw: u64, delay: u16, slots: u16) -> PipeConfig {
+fn plain_config(rt: &impl Abort, bw: u64, delay: u16, slots: u16) -> PipeConfig {
     let slots = SlotLimit::new(slots).expect(rt, "a limit");
     let tail = Discipline::TailDrop;
     pipe(bw, delay, QueueLimit::Slots(slots), tail).expect(rt, "a pipe")
 }
 
 /// A pipe of 1 Mbit/s with this delay (ms) and an instance for each destination.
-fn masked(rt: &impl Abort, delay: u16) -> PipeConfig {
-    let mut config = plain(rt, 1_000_000, delay, 50);
+fn masked_config(rt: &impl Abort, delay: u16) -> PipeConfig {
+    let mut config = plain_config(rt, 1_000_000, delay, 50);
     config.mask.dst = 0xffff_ffff;
     config
 }
@@ -53,7 +53,7 @@ fn one_slot(rt: HostRuntime) {
         (Fate::Finished, 16_000_000, 1),
         (Fate::Left, 16_000_001, 1),
     ];
-    plays(&rt, plain(&rt, 1_000_000, 0, 1), &acts, &wanted);
+    plays(&rt, plain_config(&rt, 1_000_000, 0, 1), &acts, &wanted);
 }
 
 /// Three packets to two destinations, and then a mask that is refused.
@@ -65,7 +65,7 @@ fn masked_instances_with_a_refused_allocation(rt: HostRuntime) {
         thousand(2, FIRST),
         Act::Run { until: 17_000_000 },
         Act::Configure {
-            config: plain(&rt, 1_000_000, 0, 50),
+            config: plain_config(&rt, 1_000_000, 0, 50),
             refusal: Some(Refusal::MaskFixed),
         },
     ];
@@ -77,7 +77,7 @@ fn masked_instances_with_a_refused_allocation(rt: HostRuntime) {
         (Fate::Finished, 16_000_000, 2),
         (Fate::Left, 16_000_001, 2),
     ];
-    plays(&rt, masked(&rt, 0), &acts, &wanted);
+    plays(&rt, masked_config(&rt, 0), &acts, &wanted);
 }
 
 /// A pipe is deleted with a packet on its way in each instance, and in the first one in service and one that waits:
@@ -100,7 +100,7 @@ fn pipe_deleted_with_a_refused_allocation(rt: HostRuntime) {
         (Fate::Gone, 0, 3),
         (Fate::Gone, 0, 1),
     ];
-    plays(&rt, masked(&rt, 100), &acts, &wanted);
+    plays(&rt, masked_config(&rt, 100), &acts, &wanted);
 }
 
 /// A pipe moves while a packet is on its way, one is in service and one waits, and goes on with the
@@ -123,7 +123,7 @@ fn a_pipe_that_moves_goes_on(rt: HostRuntime) {
         (Fate::Left, 26_000_000, 1),
         (Fate::Left, 34_000_000, 2),
     ];
-    plays(&rt, plain(&rt, 1_000_000, 10, 50), &acts, &wanted);
+    plays(&rt, plain_config(&rt, 1_000_000, 10, 50), &acts, &wanted);
 }
 
 /// A delay line without a pipe moves alike.

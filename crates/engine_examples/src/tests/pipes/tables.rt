@@ -71,7 +71,7 @@ fn configures(pipes: &mut PipeTable, number: u16, config: &PipeConfig) -> bool {
     pipes.lines() == lines && pipes.configure(number, config).is_ok()
 }
 
-fn slow(rt: &impl Abort) -> PipeConfig {
+fn slow_config(rt: &impl Abort) -> PipeConfig {
     config(1_000_000, 10).expect(rt, "a pipe")
 }
 
@@ -83,7 +83,7 @@ fn number(rt: &impl Abort, value: u16) -> PipeNumber {
 #[test]
 fn pipes_stand_by_number(rt: HostRuntime) {
     let mut pipes = PipeTable::new(rt.alloc(), 0);
-    let slow = slow(&rt);
+    let slow = slow_config(&rt);
     assert!(rt; configures(&mut pipes, 7, &slow));
     assert!(rt; configures(&mut pipes, 1, &slow));
     assert!(rt; configures(&mut pipes, 3, &slow));
@@ -97,7 +97,7 @@ fn pipes_stand_by_number(rt: HostRuntime) {
 #[test]
 fn a_refused_pipe_is_not_made(rt: HostRuntime) {
     let mut pipes = PipeTable::new(rt.alloc(), 0);
-    let wanted = match pipes.configure(number(&rt, 1), &slow(&rt)) {
+    let wanted = match pipes.configure(number(&rt, 1), &slow_config(&rt)) {
         Ok(()) => 1,
         Err(ConfigureError::NoMemory) => 0,
         Err(ConfigureError::Refused(_)) => 99,
@@ -145,7 +145,7 @@ fn sixty_four_are_there(rt: &impl Abort, pipes: &mut PipeTable, slow: &PipeConfi
 #[test]
 fn pipes_are_counted(rt: HostRuntime) {
     let mut pipes = PipeTable::new(rt.alloc(), 0);
-    let slow = slow(&rt);
+    let slow = slow_config(&rt);
     sixty_four_are_there(&rt, &mut pipes, &slow);
     let refused = pipes.configure(number(&rt, 65), &slow);
     assert!(rt; matches!(refused, Err(ConfigureError::Refused(Refusal::TooManyPipes))));

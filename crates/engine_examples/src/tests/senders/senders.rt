@@ -10,7 +10,7 @@ fn segment_size(bytes: u16) -> Result<SegmentSize, Fail> {
     Ok(SegmentSize::new(bytes).ok_or("no segment size")?)
 }
 
-fn fixed(milliseconds: u16) -> Result<Timing, Fail> {
+fn fixed_timing(milliseconds: u16) -> Result<Timing, Fail> {
     Ok(Timing::Fixed(Timeout::new(milliseconds).ok_or("no time")?))
 }
 
@@ -41,7 +41,7 @@ fn sends(rt: &impl Abort, sender: &mut Sender, now: u64, firsts: &[u64])
 }
 
 /// What an acknowledgement leaves as cwnd and ssthresh.
-fn acked(rt: &impl Abort, sender: &mut Sender, now: u64, upto: u64, wanted: (u64, u64))
+fn check_ack(rt: &impl Abort, sender: &mut Sender, now: u64, upto: u64, wanted: (u64, u64))
     requires early { IsMoment now }
 {
     sender.ack(now, upto);
@@ -49,7 +49,7 @@ fn acked(rt: &impl Abort, sender: &mut Sender, now: u64, upto: u64, wanted: (u64
 }
 
 /// What an expiry leaves as cwnd and ssthresh.
-fn expired(rt: &impl Abort, sender: &mut Sender, now: u64, wanted: (u64, u64))
+fn check_expiry(rt: &impl Abort, sender: &mut Sender, now: u64, wanted: (u64, u64))
     requires early { IsMoment now }
 {
     sender.expire(now);
@@ -65,12 +65,12 @@ fn adaptive_times_follow_samples(rt: HostRuntime) -> Result<(), Fail> {
     let mut adaptive = sender(1000, 100, 65535, Timing::Adaptive)?;
     sends(&rt, &mut adaptive, 0, &[0, 1000, 2000, 3000]);
     due_at(&rt, &adaptive, Some(1_000_000_000));
-    acked(&rt, &mut adaptive, 800_000_000, 1000, (5000, 65535));
+    check_ack(&rt, &mut adaptive, 800_000_000, 1000, (5000, 65535));
     due_at(&rt, &adaptive, Some(3_200_000_000));
     sends(&rt, &mut adaptive, 1_000_000_000, &[4000, 5000]);
-    acked(&rt, &mut adaptive, 1_400_000_000, 5000, (6000, 65535));
+    check_ack(&rt, &mut adaptive, 1_400_000_000, 5000, (6000, 65535));
     due_at(&rt, &adaptive, Some(3_750_000_000));
-    expired(&rt, &mut adaptive, 3_750_000_000, (1000, 2000));
+    check_expiry(&rt, &mut adaptive, 3_750_000_000, (1000, 2000));
     due_at(&rt, &adaptive, Some(8_450_000_000));
     Ok(())
 }
@@ -79,22 +79,22 @@ fn adaptive_times_follow_samples(rt: HostRuntime) -> Result<(), Fail> {
 fn adaptive_times_are_one_second_at_least(rt: HostRuntime) -> Result<(), Fail> {
     let mut quick = sender(1000, 100, 65535, Timing::Adaptive)?;
     sends(&rt, &mut quick, 0, &[0, 1000, 2000, 3000]);
-    acked(&rt, &mut quick, 1, 1000, (5000, 65535));
+    check_ack(&rt, &mut quick, 1, 1000, (5000, 65535));
     due_at(&rt, &quick, Some(1_000_000_001));
     Ok(())
 }
 
 #[test]
 fn slow_start_adds_a_segment(rt: HostRuntime) -> Result<(), Fail> {
-    let mut slow = sender(1460, 4, 65535, fixed(1000)?)?;
+    let mut slow = sender(1460, 4, 65535, fixed_timing(1000)?)?;
     assert_eq!(rt; slow.cwnd(), 4380);
     sends(&rt, &mut slow, 0, &[0, 1460, 2920]);
     due_at(&rt, &slow, Some(1_000_000_000));
-    acked(&rt, &mut slow, 10, 1460, (5840, 65535));
+    check_ack(&rt, &mut slow, 10, 1460, (5840, 65535));
     due_at(&rt, &slow, Some(1_000_000_010));
     sends(&rt, &mut slow, 20, &[4380]);
     for (upto, cwnd) in [(2920, 7300), (4380, 8760), (5840, 10220), (5840, 10220)] {
-        acked(&rt, &mut slow, 30, upto, (cwnd, 65535));
+        check_ack(&rt, &mut slow, 30, upto, (cwnd, 65535));
     }
     due_at(&rt, &slow, None);
     Ok(())
@@ -102,7 +102,7 @@ fn slow_start_adds_a_segment(rt: HostRuntime) -> Result<(), Fail> {
 
 #[test]
 fn third_duplicate_sends_again(rt: HostRuntime) -> Result<(), Fail> {
-    let mut fast = sender(1000, 8, 4000, fixed(1000)?)?;
+    let mut fast = sender(1000, 8, 4000, fixed_timing(1000)?)?;
     sends(&rt, &mut fast, 0, &[0, 1000, 2000, 3000]);
     for (upto, cwnd, next) in [
         (1000, 4250, 4000),
@@ -110,14 +110,14 @@ fn third_duplicate_sends_again(rt: HostRuntime) -> Result<(), Fail> {
         (3000, 4707, 6000),
         (4000, 4919, 7000),
     ] {
-        acked(&rt, &mut fast, 10, upto, (cwnd, 4000));
+        check_ack(&rt, &mut fast, 10, upto, (cwnd, 4000));
         sends(&rt, &mut fast, 10, &[next]);
     }
     for wanted in [(4919, 4000), (4919, 4000), (5000, 2000)] {
-        acked(&rt, &mut fast, 20, 4000, wanted);
+        check_ack(&rt, &mut fast, 20, 4000, wanted);
     }
     sends(&rt, &mut fast, 20, &[4000]);
-    acked(&rt, &mut fast, 30, 8000, (2000, 2000));
+    check_ack(&rt, &mut fast, 30, 8000, (2000, 2000));
     Ok(())
 }
 
@@ -125,28 +125,28 @@ fn third_duplicate_sends_again(rt: HostRuntime) -> Result<(), Fail> {
 // second: half of them would be 5000.
 #[test]
 fn second_expiry_holds_the_threshold(rt: HostRuntime) -> Result<(), Fail> {
-    let mut late = sender(1000, 20, 65535, fixed(1000)?)?;
+    let mut late = sender(1000, 20, 65535, fixed_timing(1000)?)?;
     sends(&rt, &mut late, 0, &[0, 1000, 2000, 3000]);
     for (upto, cwnd) in [(1000, 5000), (2000, 6000), (3000, 7000), (4000, 8000)] {
-        acked(&rt, &mut late, 20_000_000, upto, (cwnd, 65535));
+        check_ack(&rt, &mut late, 20_000_000, upto, (cwnd, 65535));
     }
     let eight = [4000, 5000, 6000, 7000, 8000, 9000, 10000, 11000];
     sends(&rt, &mut late, 20_000_000, &eight);
-    expired(&rt, &mut late, 1_020_000_000, (1000, 4000));
+    check_expiry(&rt, &mut late, 1_020_000_000, (1000, 4000));
     due_at(&rt, &late, Some(3_020_000_000));
     sends(&rt, &mut late, 1_020_000_000, &[4000]);
     for cwnd in [1000, 1000, 7000] {
-        acked(&rt, &mut late, 1_030_000_000, 4000, (cwnd, 4000));
+        check_ack(&rt, &mut late, 1_030_000_000, 4000, (cwnd, 4000));
     }
     let again = [4000, 5000, 6000, 7000, 8000, 9000, 10000];
     sends(&rt, &mut late, 1_030_000_000, &again);
     for cwnd in [8000, 9000, 10000] {
-        acked(&rt, &mut late, 1_040_000_000, 4000, (cwnd, 4000));
+        check_ack(&rt, &mut late, 1_040_000_000, 4000, (cwnd, 4000));
     }
     sends(&rt, &mut late, 1_040_000_000, &[11000, 12000, 13000]);
-    expired(&rt, &mut late, 3_020_000_000, (1000, 4000));
+    check_expiry(&rt, &mut late, 3_020_000_000, (1000, 4000));
     due_at(&rt, &late, Some(7_020_000_000));
-    acked(&rt, &mut late, 7_000_000_000, 14000, (2000, 4000));
+    check_ack(&rt, &mut late, 7_000_000_000, 14000, (2000, 4000));
     sends(&rt, &mut late, 7_000_000_000, &[14000, 15000]);
     due_at(&rt, &late, Some(8_000_000_000));
     Ok(())

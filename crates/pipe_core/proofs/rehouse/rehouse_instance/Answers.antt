@@ -8,7 +8,7 @@ pub loop-place-init : goal.loop-place-init
 loop-place-init g c = record {
   half = half_none (g.S.Shelf.pocket c.args.from.now c.args.owner) (g.T.Shelf.pocket c.args.to.now c.args.other) (keys_in c.args.instance.now);
   blank = refl;
-  end = c.held-place-end.ensures;
+  end = c.key_count-place-end.ensures;
   room = omega arith;
   others_from = λ o differs. refl;
   others_to = λ o differs. refl;

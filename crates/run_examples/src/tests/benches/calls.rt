@@ -321,7 +321,7 @@ impl Kit for Real {
 }
 
 /// An answer without the parcel.
-pub fn moved<P>(answer: &Answer<P>) -> Move {
+pub fn move_of<P>(answer: &Answer<P>) -> Move {
     match answer {
         Answer::Done => return Move::Done,
         Answer::Nobody => return Move::Nobody,
@@ -332,19 +332,19 @@ pub fn moved<P>(answer: &Answer<P>) -> Move {
 
 /// Whether a parcel was taken in.
 pub fn admit<K: Kit>(bench: &mut K::Bench, parcel: K::Parcel) -> bool {
-    moved(&K::admit(bench, parcel)) == Move::Done
+    move_of(&K::admit(bench, parcel)) == Move::Done
 }
 
 pub fn offer<K: Kit>(bench: &mut K::Bench, slot: usize) -> Move {
-    moved(&K::offer(bench, slot))
+    move_of(&K::offer(bench, slot))
 }
 
 pub fn retake<K: Kit>(bench: &mut K::Bench) -> Move {
-    moved(&K::retake(bench))
+    move_of(&K::retake(bench))
 }
 
 pub fn adopt<K: Kit>(bench: &mut K::Bench, peer: &mut K::Peer) -> Move {
-    moved(&K::adopt(bench, peer))
+    move_of(&K::adopt(bench, peer))
 }
 
 pub fn turn<K: Kit>(bench: &mut K::Bench) -> Advance {

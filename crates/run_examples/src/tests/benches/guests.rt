@@ -63,7 +63,11 @@ pub fn invite<K: Kit>(
 }
 
 /// The guest of a name, once.
-pub fn taken<T: Drop>(rt: &impl Abort, guests: &mut [Option<Guest<T>>], name: u32) -> Guest<T> {
+pub fn take_guest<T: Drop>(
+    rt: &impl Abort,
+    guests: &mut [Option<Guest<T>>],
+    name: u32,
+) -> Guest<T> {
     let index = name as usize;
     assert!(rt; index < guests.len());
     guests[index].take().expect(rt, "a second dossier")
@@ -119,7 +123,7 @@ pub fn text_of<K: Kit>(
 
 impl<O> Settled<O> {
     /// The report that is wanted of it.
-    pub fn wanted(&self) -> &[u8] {
+    pub fn wanted_report(&self) -> &[u8] {
         self.report.as_bytes()
     }
 }

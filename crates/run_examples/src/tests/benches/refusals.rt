@@ -1,8 +1,10 @@
 //! Any one allocation may be refused: what is refused comes back as it was and is asked for again,
 //! nothing is lost, and what goes on has its report.
 
-use super::calls::{Answer, Kit, Move, Real, Shape, admit, adopt, last_turn, moved, offer, retake};
-use super::guests::{Guest, Settled, invite, settle, taken, text_of};
+use super::calls::{
+    Answer, Kit, Move, Real, Shape, admit, adopt, last_turn, move_of, offer, retake,
+};
+use super::guests::{Guest, Settled, invite, settle, take_guest, text_of};
 use bench::{PostError, Registry, audit};
 use emu_model::{Ending, Record, Timed};
 use shard::Polled;
@@ -37,7 +39,7 @@ fn back<P: Drop>(rt: &impl Abort, answer: Answer<P>) -> Option<P> {
 fn admits<K: Kit>(rt: &impl Abort, bench: &mut K::Bench, parcel: K::Parcel) {
     let shape = K::shape(&parcel);
     let answer = K::admit(bench, parcel);
-    if moved(&answer) == Move::Done {
+    if move_of(&answer) == Move::Done {
         return;
     }
     let parcel = back(rt, answer).expect(rt, "a parcel");
@@ -52,7 +54,7 @@ fn bench_and_peer<K: Kit>(rt: &(impl Abort + AllocGlobal)) -> (K::Bench, K::Peer
     K::with_peer_again(rt.alloc()).expect(rt, "memory")
 }
 
-fn invited<K: Kit>(
+fn guest_of<K: Kit>(
     rt: &(impl Abort + AllocGlobal),
     registry: &mut Registry,
     text: &str,
@@ -148,7 +150,7 @@ fn offers<K: Kit>(rt: &impl Abort, bench: &mut K::Bench, name: u32) {
         return;
     };
     let answer = K::offer(bench, slot);
-    if moved(&answer) == Move::Done {
+    if move_of(&answer) == Move::Done {
         return;
     }
     offers_again::<K>(rt, bench, name, slot, answer);
@@ -156,7 +158,7 @@ fn offers<K: Kit>(rt: &impl Abort, bench: &mut K::Bench, name: u32) {
 
 fn retakes<K: Kit>(rt: &impl Abort, bench: &mut K::Bench) {
     let answer = K::retake(bench);
-    if moved(&answer) == Move::Done {
+    if move_of(&answer) == Move::Done {
         return;
     }
     if let Some(parcel) = back(rt, answer) {
@@ -168,7 +170,7 @@ fn retakes<K: Kit>(rt: &impl Abort, bench: &mut K::Bench) {
 
 fn adopts<K: Kit>(rt: &impl Abort, bench: &mut K::Bench, peer: &mut K::Peer) {
     let answer = K::adopt(bench, peer);
-    if moved(&answer) == Move::Done {
+    if move_of(&answer) == Move::Done {
         return;
     }
     if let Some(parcel) = back(rt, answer) {
@@ -192,7 +194,7 @@ fn begins_like(text: &[u8], whole: &[u8]) -> bool {
     text[..end] == whole[..end]
 }
 
-fn written<K: Kit>(rt: &(impl Abort + AllocGlobal), settled: &Settled<K::Outcome>) -> Vec<u8> {
+fn settled_text<K: Kit>(rt: &(impl Abort + AllocGlobal), settled: &Settled<K::Outcome>) -> Vec<u8> {
     if let Ok(written) = text_of::<K>(rt.alloc(), settled) {
         return written;
     }
@@ -206,12 +208,12 @@ fn has_report<K: Kit>(
     dossier: K::Dossier,
 ) {
     let settled = settle::<K>(rt, guest, dossier);
-    let written = written::<K>(rt, &settled);
+    let written = settled_text::<K>(rt, &settled);
     if matches!(K::last(&settled.outcome).ending, Ending::Halted) {
-        assert!(rt; begins_like(written.as_slice(), settled.wanted()));
+        assert!(rt; begins_like(written.as_slice(), settled.wanted_report()));
         return;
     }
-    assert!(rt; written.as_slice() == settled.wanted());
+    assert!(rt; written.as_slice() == settled.wanted_report());
 }
 
 // Makes an event, and settles with who has ended by it.
@@ -221,7 +223,7 @@ fn turns<K: Kit>(
     guests: &mut [Option<Guest<K::Tenant>>],
 ) {
     if let Some(dossier) = last_turn::<K>(bench) {
-        let guest = taken(rt, guests, K::ended_name(&dossier));
+        let guest = take_guest(rt, guests, K::ended_name(&dossier));
         has_report::<K>(rt, guest, dossier);
     }
 }
@@ -236,14 +238,14 @@ fn example(name: u32) -> (&'static str, &'static str) {
 }
 
 // A guest whose experiment is on a bench, and whose commands are posted.
-fn seated<K: Kit>(
+fn seat_guest<K: Kit>(
     rt: &(impl Abort + AllocGlobal),
     registry: &mut Registry,
     bench: &mut K::Bench,
     name: u32,
 ) -> Guest<K::Tenant> {
     let (text, report) = example(name);
-    let (mut guest, parcel) = invited::<K>(rt, registry, text, report);
+    let (mut guest, parcel) = guest_of::<K>(rt, registry, text, report);
     assert!(rt; K::shape(&parcel).name == name);
     admits::<K>(rt, bench, parcel);
     posts_all::<K>(rt, &mut guest);
@@ -260,7 +262,7 @@ fn seat_all<K: Kit>(
         guests.reserve(GUESTS as usize)?;
     }
     for name in 0..GUESTS {
-        guests.push(Some(seated::<K>(rt, registry, bench, name)))?;
+        guests.push(Some(seat_guest::<K>(rt, registry, bench, name)))?;
     }
     Ok(guests)
 }
@@ -326,6 +328,6 @@ fn refused_of<K: Kit>(rt: &(impl Abort + AllocGlobal)) {
 
 // Passes with ample memory, and where any one allocation of it is refused.
 #[test]
-fn refused(rt: HostRuntime) {
+fn memory_refusal(rt: HostRuntime) {
     refused_of::<Real>(&rt);
 }

@@ -1,7 +1,7 @@
 //! Two threads hand 64 experiments to each other while each turns.
 
 use super::calls::{Kit, Move, Real, admit, adopt, last_turn, offer, retake};
-use super::guests::{Guest, invite, post_all, settle, taken, text_of};
+use super::guests::{Guest, invite, post_all, settle, take_guest, text_of};
 use bench::{Closing, Registry, audit};
 use std::process::Abort;
 use std::sync::atomic::{AtomicU64, Ordering};
@@ -126,7 +126,7 @@ fn example(k: usize) -> (&'static str, &'static str) {
 }
 
 // A guest whose commands are posted, and whose experiment is on a bench.
-fn seated<K: Kit>(
+fn seat_guest<K: Kit>(
     rt: &(impl Abort + AllocGlobal),
     registry: &mut Registry,
     bench: &mut K::Bench,
@@ -148,9 +148,9 @@ fn seat_all<K: Kit>(
     let mut registry = Registry::new();
     let mut guests = Vec::new(rt.alloc());
     for k in 0..GUESTS / 2 {
-        let guest = seated::<K>(rt, &mut registry, here, k);
+        let guest = seat_guest::<K>(rt, &mut registry, here, k);
         assert!(rt; guests.push(Some(guest)).is_ok());
-        let guest = seated::<K>(rt, &mut registry, there, k);
+        let guest = seat_guest::<K>(rt, &mut registry, there, k);
         assert!(rt; guests.push(Some(guest)).is_ok());
     }
     guests
@@ -162,10 +162,10 @@ fn has_report<K: Kit>(
     guests: &mut [Option<Guest<K::Tenant>>],
     dossier: K::Dossier,
 ) {
-    let guest = taken(rt, guests, K::ended_name(&dossier));
+    let guest = take_guest(rt, guests, K::ended_name(&dossier));
     let settled = settle::<K>(rt, guest, dossier);
     let written = text_of::<K>(rt.alloc(), &settled).expect(rt, "memory");
-    assert!(rt; written.as_slice() == settled.wanted());
+    assert!(rt; written.as_slice() == settled.wanted_report());
 }
 
 // Wants the report of each dossier's guest, and answers how many there are.

@@ -72,7 +72,7 @@ pub fn seen_back(answer: &Arrival) -> Option<Sight> {
 }
 
 /// How many records and commands the resident of a slot has; None where nobody is.
-pub fn counted<A: Agenda>(shard: &Host<A>, slot: usize) -> Option<(usize, usize)> {
+pub fn counts_of<A: Agenda>(shard: &Host<A>, slot: usize) -> Option<(usize, usize)> {
     let records = shard.records(slot).ok()?.len();
     let commands = shard.consumed(slot).ok()?.len();
     Some((records, commands))

@@ -1,6 +1,6 @@
 //! A full shard, whose residents have numbers chosen by hand: each call is about the slot that it names, to the last one.
 
-use super::turns::{Lists, Was, consumed, parcel, put, turned};
+use super::turns::{Lists, Was, consumed_count, parcel, put, turn_once};
 use shard::{MOST_RESIDENTS, PackError, Polled};
 use std::alloc::Global;
 use std::process::Abort;
@@ -27,7 +27,7 @@ fn fill(rt: &impl Abort, alloc: Global, shard: &mut Lists) -> Option<()> {
 fn posts_to_each(rt: &impl Abort, shard: &mut Lists) {
     for slot in 0..MOST_RESIDENTS {
         assert_eq!(rt; shard.slot_of(name_at(slot)), Some(slot));
-        assert_eq!(rt; consumed(shard, slot), Some(0));
+        assert_eq!(rt; consumed_count(shard, slot), Some(0));
         assert_eq!(rt; shard.poll(slot), Polled::Empty(name_at(slot)));
         let moment = u16::try_from(MOST_RESIDENTS - slot).unwrap_or(0);
         assert!(rt; put(shard, slot, moment).is_ok());
@@ -35,12 +35,12 @@ fn posts_to_each(rt: &impl Abort, shard: &mut Lists) {
     for slot in 0..MOST_RESIDENTS {
         assert_eq!(rt; shard.poll(slot), Polled::Took(name_at(slot)));
         assert_eq!(rt; shard.poll(slot), Polled::Held(name_at(slot)));
-        assert_eq!(rt; consumed(shard, slot), Some(1));
+        assert_eq!(rt; consumed_count(shard, slot), Some(1));
     }
 }
 
 // How many records the resident of a slot has.
-fn recorded(shard: &Lists, slot: usize) -> usize {
+fn record_count(shard: &Lists, slot: usize) -> usize {
     shard.records(slot).map_or(0, |records| records.len())
 }
 
@@ -48,13 +48,13 @@ fn recorded(shard: &Lists, slot: usize) -> usize {
 fn turns_each(rt: &impl Abort, shard: &mut Lists) {
     for before in 0..MOST_RESIDENTS {
         let slot = MOST_RESIDENTS - 1 - before;
-        assert_eq!(rt; recorded(shard, slot), 0);
-        assert_eq!(rt; turned(shard), Was::Ran(name_at(slot)));
-        assert_eq!(rt; recorded(shard, slot), 1);
+        assert_eq!(rt; record_count(shard, slot), 0);
+        assert_eq!(rt; turn_once(shard), Was::Ran(name_at(slot)));
+        assert_eq!(rt; record_count(shard, slot), 1);
         assert!(rt; matches!(shard.read(slot), Ok(Some(_))));
         assert!(rt; matches!(shard.read(slot), Ok(None)));
     }
-    assert_eq!(rt; turned(shard), Was::Idle);
+    assert_eq!(rt; turn_once(shard), Was::Idle);
 }
 
 // Each resident is packed by its own slot, and comes back to it: it alone is vacant.
@@ -69,7 +69,7 @@ fn moves_each(rt: &impl Abort, shard: &mut Lists) {
         assert_eq!(rt; shard.slot_of(name_at(slot)), None);
         assert_eq!(rt; shard.take_in(parcel).ok(), Some(slot));
         assert_eq!(rt; shard.slot_of(name_at(slot)), Some(slot));
-        assert_eq!(rt; recorded(shard, slot), 1);
+        assert_eq!(rt; record_count(shard, slot), 1);
     }
 }
 

@@ -1,7 +1,7 @@
 //! Three guests on their way between two shards, of whom one allocation may be refused.
 
 use super::calls::{
-    Desk, advance, arrive, counted, is_crowded, pack, poll, rebase, seen_back, seen_in, slot_of,
+    Desk, advance, arrive, counts_of, is_crowded, pack, poll, rebase, seen_back, seen_in, slot_of,
     take_in_again,
 };
 use super::desk::{
@@ -50,14 +50,14 @@ fn packs(
     slot: usize,
     road: &mut Road,
 ) -> Option<Parcel<ListMail>> {
-    let before = counted(shard, slot);
+    let before = counts_of(shard, slot);
     let packed = pack(shard, slot);
     if packed.is_ok() {
         return packed.ok();
     }
     road.refuses();
     assert_eq!(rt; packed.unwrap_err(), PackError::NoMemory);
-    assert!(rt; slot_of(shard, 0) == Some(slot) && counted(shard, slot) == before);
+    assert!(rt; slot_of(shard, 0) == Some(slot) && counts_of(shard, slot) == before);
     pack(shard, slot).ok()
 }
 
@@ -82,12 +82,12 @@ fn attends(rt: &impl Abort, shard: &mut Desk, guests: &mut [Guest], road: &mut R
             continue;
         };
         post(shard, slot, guest);
-        let before = counted(shard, slot);
+        let before = counts_of(shard, slot);
         match poll(shard, slot) {
             Polled::Resumed(_) => road.refuses(),
             Polled::NoMemory(_) => {
                 road.refuses();
-                assert!(rt; counted(shard, slot) == before);
+                assert!(rt; counts_of(shard, slot) == before);
                 assert!(rt;
                     !matches!(poll(shard, slot), Polled::NoMemory(_)),
                     "refused again"
@@ -219,7 +219,7 @@ fn three_to_their_ends(rt: &(impl Abort + AllocGlobal)) -> Result<u64, AllocErro
 // One allocation is refused at most. So where memory was refused, be it for what the test itself holds, all is done
 // again, and nothing is refused then.
 #[test]
-fn refused(rt: HostRuntime) -> Result<(), Fail> {
+fn memory_refusal(rt: HostRuntime) -> Result<(), Fail> {
     let met = match three_to_their_ends(&rt) {
         Ok(met) => met,
         Err(AllocError) => 1,

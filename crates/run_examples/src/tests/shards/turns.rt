@@ -49,7 +49,7 @@ pub enum Was {
 
 /// Makes a turn. A shard, a parcel and what a turn gives are dropped by calls: where they stand, each of their parts
 /// would be proved.
-pub fn turned(shard: &mut Lists) -> Was {
+pub fn turn_once(shard: &mut Lists) -> Was {
     let turned = shard.turn();
     let was = match &turned {
         Turned::Ran(name) => Was::Ran(*name),
@@ -61,7 +61,7 @@ pub fn turned(shard: &mut Lists) -> Was {
 }
 
 /// How many commands the resident of a slot consumed.
-pub fn consumed(shard: &Lists, slot: usize) -> Option<usize> {
+pub fn consumed_count(shard: &Lists, slot: usize) -> Option<usize> {
     let commands = shard.consumed(slot).ok()?;
     Some(commands.len())
 }
@@ -74,7 +74,7 @@ fn has_nobody(rt: &impl Abort, shard: &mut Lists) {
         assert!(rt; matches!(put(shard, slot, 5), Err(PostError::Vacant(t)) if t.moment == 5));
         assert!(rt; shard.read(slot).is_err());
     }
-    shard.known();
+    shard.reveal_invariant();
 }
 
 #[test]
@@ -96,13 +96,13 @@ fn fills_a_mail(rt: &impl Abort, shard: &mut Lists) {
 
     // A place is free again once the first command is taken.
     assert_eq!(rt; shard.poll(1), Polled::Took(20));
-    assert_eq!(rt; consumed(shard, 1), Some(1));
+    assert_eq!(rt; consumed_count(shard, 1), Some(1));
     assert!(rt; put(shard, 1, 64).is_ok());
 }
 
 fn reads_a_letter(rt: &impl Abort, shard: &mut Lists) {
     assert!(rt; matches!(shard.read(1), Ok(None)));
-    assert_eq!(rt; turned(shard), Was::Ran(20));
+    assert_eq!(rt; turn_once(shard), Was::Ran(20));
     assert!(rt; matches!(shard.records(1), Ok([_])));
     assert!(rt;
         matches!(
@@ -133,11 +133,11 @@ fn goes_on_after_rebases(rt: &impl Abort, shard: &mut Lists) {
     assert_eq!(rt; shard.poll(1), Polled::Took(20));
     shard.rebase();
     assert_eq!(rt; shard.slot_of(20), Some(1));
-    assert_eq!(rt; turned(shard), Was::Ran(20));
+    assert_eq!(rt; turn_once(shard), Was::Ran(20));
     shard.rebase();
-    assert_eq!(rt; turned(shard), Was::Ran(10));
-    assert_eq!(rt; turned(shard), Was::Idle);
-    assert_eq!(rt; consumed(shard, 0), Some(1));
+    assert_eq!(rt; turn_once(shard), Was::Ran(10));
+    assert_eq!(rt; turn_once(shard), Was::Idle);
+    assert_eq!(rt; consumed_count(shard, 0), Some(1));
 }
 
 #[test]

@@ -24,7 +24,7 @@ pub struct Written {
 /// A world. The examples are written over any, and run with that of the crate world: so their
 /// proofs needn't take it apart wherever it is dropped.
 pub trait Stage: Drop {
-    fn built(alloc: Global, shards: usize) -> Result<Self, AllocError>;
+    fn build(alloc: Global, shards: usize) -> Result<Self, AllocError>;
 
     fn makes(&mut self, step: Step) -> Did;
 
@@ -36,7 +36,7 @@ pub trait Stage: Drop {
     fn sight(&self, name: u32) -> Sight;
 
     /// Of a name that has ended, under a title.
-    fn written(
+    fn report_of(
         &self,
         alloc: Global,
         name: u32,
@@ -48,7 +48,7 @@ pub trait Stage: Drop {
 }
 
 impl<A: Agenda> Stage for World<A> {
-    fn built(alloc: Global, shards: usize) -> Result<World<A>, AllocError> {
+    fn build(alloc: Global, shards: usize) -> Result<World<A>, AllocError> {
         World::new(alloc, shards)
     }
 
@@ -72,13 +72,13 @@ impl<A: Agenda> Stage for World<A> {
         }
     }
 
-    fn written(
+    fn report_of(
         &self,
         alloc: Global,
         name: u32,
         title: &[u8],
     ) -> Result<Option<Written>, AllocError> {
-        let Some(left) = self.ended(name) else {
+        let Some(left) = self.dossier_of(name) else {
             return Ok(None);
         };
         let text = report_text(alloc, title, left.records(), &left.counters())?;
@@ -87,7 +87,7 @@ impl<A: Agenda> Stage for World<A> {
     }
 
     fn is_halted(&self, name: u32) -> bool {
-        match self.ended(name) {
+        match self.dossier_of(name) {
             Some(left) => matches!(left.ending(), Ending::Halted),
             None => false,
         }
@@ -112,7 +112,7 @@ pub fn run<W: Stage>(world: &mut W, steps: &[Step]) -> Result<(), AllocError> {
 }
 
 /// How many records a name has, and how many commands came to it.
-pub fn counted<W: Stage>(world: &W, name: u32) -> (usize, usize) {
+pub fn counts_of<W: Stage>(world: &W, name: u32) -> (usize, usize) {
     let sight = world.sight(name);
     (sight.records, sight.commands)
 }

@@ -151,7 +151,7 @@ fn has_report<W: Stage>(
     name: u32,
 ) -> Result<Option<bool>, AllocError> {
     let title = guest.plan.name.as_bytes();
-    let Some(written) = world.written(rt.alloc(), name, title)? else {
+    let Some(written) = world.report_of(rt.alloc(), name, title)? else {
         return Ok(None);
     };
     let text = written.text.as_slice();
@@ -185,7 +185,7 @@ pub struct Reports {
 }
 
 /// Wants the reports of all names that have ended.
-pub fn reported<W: Stage>(
+pub fn reports_of_ended<W: Stage>(
     rt: &(impl Abort + AllocGlobal),
     world: &W,
     guests: &[Guest],

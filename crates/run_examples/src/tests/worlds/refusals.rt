@@ -1,7 +1,7 @@
 //! Four guests on their way, of whom one allocation may be refused.
 
 use super::calls::{Sight, Stage, counted_run};
-use super::desk::{Guest, MOST_ROUNDS, invite_all, name_of, next_post, reported};
+use super::desk::{Guest, MOST_ROUNDS, invite_all, name_of, next_post, reports_of_ended};
 use std::alloc::AllocError;
 use std::process::Abort;
 use std::test::Fail;
@@ -15,7 +15,7 @@ const GUESTS: u32 = 4;
 const MOST_POSTS: u32 = 64;
 
 // Four guests.
-fn four(rt: &(impl Abort + AllocGlobal)) -> Result<Vec<Guest>, AllocError> {
+fn four_guests(rt: &(impl Abort + AllocGlobal)) -> Result<Vec<Guest>, AllocError> {
     let texts = [
         (text_examples::ONE_PACKET, text_examples::ONE_PACKET_REPORT),
         (text_examples::LISTINGS, text_examples::LISTINGS_REPORT),
@@ -148,7 +148,7 @@ fn have_reports<W: Stage>(
     guests: &[Guest],
     met: u64,
 ) -> Result<u64, AllocError> {
-    let reports = reported(rt, world, guests)?;
+    let reports = reports_of_ended(rt, world, guests)?;
     assert_eq!(rt; reports.whole.saturating_add(reports.cut), 4, "not ended");
     assert!(rt; reports.cut as u64 <= met, "cut: {}", reports.cut);
     Ok(met)
@@ -156,8 +156,8 @@ fn have_reports<W: Stage>(
 
 // Four guests to their ends, on two shards between which they go. Answers how many steps were refused memory.
 fn four_to_their_ends<W: Stage>(rt: &(impl Abort + AllocGlobal)) -> Result<u64, AllocError> {
-    let mut guests = four(rt)?;
-    let mut world = W::built(rt.alloc(), 2)?;
+    let mut guests = four_guests(rt)?;
+    let mut world = W::build(rt.alloc(), 2)?;
     let met = settle(rt, &mut world, guests.as_mut_slice());
     let met = met.saturating_add(rounds(rt, &mut world));
     have_reports(rt, &world, guests.as_slice(), met)
@@ -166,7 +166,7 @@ fn four_to_their_ends<W: Stage>(rt: &(impl Abort + AllocGlobal)) -> Result<u64, 
 // One allocation is refused at most. So where memory was refused, be it for what the test itself holds, all is done
 // again, and nothing is refused then.
 #[test]
-fn refused(rt: HostRuntime) -> Result<(), Fail> {
+fn memory_refusal(rt: HostRuntime) -> Result<(), Fail> {
     let met = match four_to_their_ends::<World<Wheel>>(&rt) {
         Ok(met) => met,
         Err(AllocError) => 1,

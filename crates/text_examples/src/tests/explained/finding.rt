@@ -111,11 +111,11 @@ fn account(
     Ok(account)
 }
 
-fn done(command: u64) -> Record {
+fn done_record(command: u64) -> Record {
     Record::CommandDone { moment: 0, command }
 }
 
-fn refused(command: u64, refusal: Refusal) -> Record {
+fn refusal_record(command: u64, refusal: Refusal) -> Record {
     Record::CommandRefused {
         moment: 0,
         command,
@@ -126,8 +126,12 @@ fn refused(command: u64, refusal: Refusal) -> Record {
 /// The records of two experiments, of each of which a command is refused.
 fn refused_records() -> ([Record; 3], [Record; 1]) {
     (
-        [done(0), refused(1, Refusal::NoRule), done(2)],
-        [refused(0, Refusal::BadNumber)],
+        [
+            done_record(0),
+            refusal_record(1, Refusal::NoRule),
+            done_record(2),
+        ],
+        [refusal_record(0, Refusal::BadNumber)],
     )
 }
 
@@ -213,7 +217,7 @@ fn drop_of_flow(
     drop_of(moment, load_of(rt, number, is_segment), cause)
 }
 
-fn spent(moment: u64) -> Record {
+fn spent_record(moment: u64) -> Record {
     Record::StepsSpent { moment }
 }
 
@@ -227,12 +231,12 @@ fn notes(rt: HostRuntime) {
         drop_of_flow(&rt, 8, 7, false, DropCause::Denied),
         drop_of(9, Load::Plain, DropCause::Budget),
         drop_of_flow(&rt, 9, 9, false, DropCause::Budget),
-        spent(10),
+        spent_record(10),
     ];
     let second = [
         drop_of(3, Load::Plain, DropCause::Denied),
         drop_of(4, Load::Plain, DropCause::Lost),
-        done(0),
+        done_record(0),
     ];
     let account = account(&rt, &[&first, &second]).expect(&rt, "memory");
     let wanted = [

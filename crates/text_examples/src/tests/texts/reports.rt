@@ -15,7 +15,7 @@ use std::str;
 
 const NO_DROPS: [u64; 8] = [0; 8];
 
-fn done(moment: u64, command: u64) -> Record {
+fn done_record(moment: u64, command: u64) -> Record {
     Record::CommandDone { moment, command }
 }
 
@@ -54,7 +54,7 @@ fn acknowledgement(rt: &impl Abort, moment: u64, packet: u64, upto: u64) -> Reco
     deliver(moment, packet, Load::Ack { flow, upto })
 }
 
-fn taken(rt: &impl Abort, moment: u64, cwnd: u64) -> Record {
+fn ack_record(rt: &impl Abort, moment: u64, cwnd: u64) -> Record {
     Record::AckTaken {
         moment,
         flow: flow_number(rt, 1),
@@ -142,12 +142,12 @@ fn writes(rt: &(impl Abort + AllocGlobal), records: &[Record], wanted: &str) {
 #[test]
 fn one_packet(rt: HostRuntime) {
     let records = [
-        done(0, 0),
-        done(0, 1),
-        done(0, 2),
+        done_record(0, 0),
+        done_record(0, 1),
+        done_record(0, 2),
         finish(&rt, 8000000, 0, 1),
         deliver(18000000, 0, Load::Plain),
-        done(20000000, 3),
+        done_record(20000000, 3),
     ];
     let counters = Counters {
         made: 1,
@@ -174,13 +174,13 @@ fn listings(rt: HostRuntime) {
         bytes: 0,
     };
     let records = [
-        done(0, 6),
+        done_record(0, 6),
         counted(Action::Count, 100),
         counted(Action::SkipTo(second), 100),
         idle(200),
         counted(Action::Pipe(pipe_number(&rt, 1)), 300),
         idle(65535),
-        done(0, 7),
+        done_record(0, 7),
         plain_pipe(&rt, 50),
         instance(&rt, 0, 1),
         finish(&rt, 8000000, 0, 1),
@@ -198,21 +198,21 @@ fn listings(rt: HostRuntime) {
 #[test]
 fn one_slot(rt: HostRuntime) {
     let records = [
-        done(0, 4),
+        done_record(0, 4),
         Record::PacketDropped {
             moment: 0,
             packet: 2,
             load: Load::Plain,
             cause: DropCause::Full,
         },
-        done(0, 5),
+        done_record(0, 5),
         plain_pipe(&rt, 1),
         instance(&rt, 1, 3),
         finish(&rt, 8000000, 0, 1),
         deliver(8000001, 0, Load::Plain),
         finish(&rt, 16000000, 1, 1),
         deliver(16000001, 1, Load::Plain),
-        done(20000000, 6),
+        done_record(20000000, 6),
     ];
     let counters = Counters {
         made: 3,
@@ -228,7 +228,7 @@ fn one_slot(rt: HostRuntime) {
 #[test]
 fn reno_four_segments(rt: HostRuntime) {
     let records = [
-        done(0, 4),
+        done_record(0, 4),
         finish(&rt, 1200000, 0, 1),
         finish(&rt, 2400000, 1, 1),
         finish(&rt, 3600000, 2, 1),
@@ -239,13 +239,13 @@ fn reno_four_segments(rt: HostRuntime) {
         segment(&rt, 13600000, 2, 2920),
         finish(&rt, 13600000, 5, 2),
         acknowledgement(&rt, 21200000, 3, 1460),
-        taken(&rt, 21200000, 5840),
+        ack_record(&rt, 21200000, 5840),
         acknowledgement(&rt, 22400000, 4, 2920),
-        taken(&rt, 22400000, 7300),
+        ack_record(&rt, 22400000, 7300),
         finish(&rt, 22400000, 6, 1),
         acknowledgement(&rt, 42400000, 7, 5840),
-        taken(&rt, 42400000, 10220),
-        done(100000000, 5),
+        ack_record(&rt, 42400000, 10220),
+        done_record(100000000, 5),
     ];
     let counters = Counters {
         made: 8,
@@ -273,7 +273,7 @@ const REFUSALS: [Refusal; 10] = [
     Refusal::TooManyFlows,
 ];
 
-fn refused(command: u64, refusal: Refusal) -> Record {
+fn refusal_record(command: u64, refusal: Refusal) -> Record {
     let moment = 5;
     Record::CommandRefused {
         moment,
@@ -287,7 +287,7 @@ fn each_refusal(rt: HostRuntime) {
     let mut text = Vec::new(rt.alloc());
     let mut moments = Moments::new();
     for (command, refusal) in REFUSALS.iter().enumerate() {
-        let record = refused(command as u64, *refusal);
+        let record = refusal_record(command as u64, *refusal);
         assert!(rt; write_record(&mut text, &mut moments, &record).is_ok());
     }
     same_text(
@@ -308,7 +308,7 @@ const CAUSES: [DropCause; 8] = [
     DropCause::Budget,
 ];
 
-fn dropped(cause: DropCause) -> Record {
+fn drop_record(cause: DropCause) -> Record {
     let (moment, packet, load) = (6, 7, Load::Plain);
     Record::PacketDropped {
         moment,
@@ -323,7 +323,7 @@ fn each_cause_of_a_drop(rt: HostRuntime) {
     let mut text = Vec::new(rt.alloc());
     let mut moments = Moments::new();
     for cause in &CAUSES {
-        let written = write_record(&mut text, &mut moments, &dropped(*cause));
+        let written = write_record(&mut text, &mut moments, &drop_record(*cause));
         assert!(rt; written.is_ok());
     }
     same_text(
@@ -534,7 +534,7 @@ fn digits_of_moments(rt: HostRuntime) {
     let mut text = Vec::new(rt.alloc());
     let mut moments = Moments::new();
     for moment in &MOMENTS {
-        let written = write_record(&mut text, &mut moments, &done(*moment, 10));
+        let written = write_record(&mut text, &mut moments, &done_record(*moment, 10));
         assert!(rt; written.is_ok());
     }
     let load = Load::Seg {
@@ -579,7 +579,7 @@ fn add_many(rt: &(impl Abort + AllocGlobal), records: &mut Vec<Record>, wanted: 
             number.wrapping_mul(10).wrapping_add(turn % 10)
         };
         let line = format!(in rt.alloc(); "{turn} ok {number}\n");
-        add(rt, records, wanted, done(turn, number), line);
+        add(rt, records, wanted, done_record(turn, number), line);
         if turn == 50 || turn == 99 {
             let line = format!(in rt.alloc(); "{turn} spent\n");
             add(
@@ -615,7 +615,7 @@ fn keep_what_was_written(rt: &impl Abort, text: &mut Vec<u8>, moments: &mut Mome
     let length = text.len();
     is_kept(rt, write_heading(text, b"again").is_err(), text, length);
     let length = text.len();
-    let refused = write_record(text, moments, &done(0, command)).is_err();
+    let refused = write_record(text, moments, &done_record(0, command)).is_err();
     is_kept(rt, refused, text, length);
     let length = text.len();
     let counters = Counters {
@@ -627,9 +627,9 @@ fn keep_what_was_written(rt: &impl Abort, text: &mut Vec<u8>, moments: &mut Mome
     is_kept(rt, write_counters(text, &counters).is_err(), text, length);
     let length = text.len();
     let lines = [
-        done(0, command),
+        done_record(0, command),
         Record::StepsSpent { moment: 1 },
-        done(2, command),
+        done_record(2, command),
     ];
     let refused = write_records(text, moments, &lines).is_err();
     is_kept(rt, refused, text, length);

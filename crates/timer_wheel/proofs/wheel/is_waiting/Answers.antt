@@ -13,7 +13,7 @@ use Rattle.timer_wheel.proofs.TieMoves.{not_waiting, nothing_waits}
 use Rattle.timer_wheel.proofs.wheel.is_waiting.Goals as goal
 
 pub returns-in_default-clause-no : goal.returns-in_default-clause-no
-returns-in_default-clause-no c h = nothing_waits c.args.stock.now c.known.ensures c.args.tie c.in_default.ensures.none
+returns-in_default-clause-no c h = nothing_waits c.args.stock.now c.reveal_invariant.ensures c.args.tie c.in_default.ensures.none
 
 pub list-requires : goal.list-requires
 list-requires c =
@@ -29,4 +29,4 @@ returns-clause-yes c h =
 pub returns-clause-no : goal.returns-clause-no
 returns-clause-no c h =
     let f : (e : Entry) × (p : ℕ) × Holds c.args.stock.now.entries c.args.stock.now.slots c.in-Some.key e p × (e.owner ≡ c.args.tie.owner) × (e.source ≡ c.args.tie.source) = c.in-Some.ensures.held in
-    not_waiting c.args.stock.now c.known.ensures c.args.tie c.in-Some.key c.list.result f.0 f.1 f.2 f.3 f.4 c.list.ensures (eqb-false c.list.result 2048 h)
+    not_waiting c.args.stock.now c.reveal_invariant.ensures c.args.tie c.in-Some.key c.list.result f.0 f.1 f.2 f.3 f.4 c.list.ensures (eqb-false c.list.result 2048 h)

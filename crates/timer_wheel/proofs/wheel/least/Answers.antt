@@ -11,7 +11,7 @@ use Rattle.timer_wheel.proofs.WheelFacts.{passed_wheel}
 use Rattle.timer_wheel.proofs.wheel.least.Goals as goal
 
 pub turn-requires-clause-wheel : goal.turn-requires-clause-wheel
-turn-requires-clause-wheel c = passed_wheel c.args.clock c.args.stock.now c.args.ties.now c.waiting.new.ties c.in_default.ensures.items c.in_default.ensures.kept c.requires
+turn-requires-clause-wheel c = passed_wheel c.args.clock c.args.stock.now c.args.ties.now c.next_tie.new.ties c.in_default.ensures.items c.in_default.ensures.kept c.requires
 
 pub meet-requires-clause-wheel : goal.meet-requires-clause-wheel
-meet-requires-clause-wheel c = passed_wheel c.args.clock c.args.stock.now c.args.ties.now c.waiting.new.ties c.in-Some.ensures.items c.in-Some.ensures.kept c.requires
+meet-requires-clause-wheel c = passed_wheel c.args.clock c.args.stock.now c.args.ties.now c.next_tie.new.ties c.in-Some.ensures.items c.in-Some.ensures.kept c.requires

@@ -19,6 +19,6 @@ returns c =
     let first = rw p at c.gather-arrival.ensures.least in
     let none = rw p at c.gather-arrival.ensures.none in
     let slots = rw p at c.gather-arrival.ensures.slots in
-    met c.args.clock c.args.stock.now c.args.ties.now c.known.ensures c.requires.wheel c.args.tie h.0 h.1 h.2 h.3 c.requires.top c.gather-arrival.result c.lesser.result there first none
-    (record { either = c.lesser.ensures.either; entry = c.lesser.ensures.entry; least_too = c.lesser.ensures.least })
+    met c.args.clock c.args.stock.now c.args.ties.now c.reveal_invariant.ensures c.requires.wheel c.args.tie h.0 h.1 h.2 h.3 c.requires.top c.gather-arrival.result c.lesser_of.result there first none
+    (record { either = c.lesser_of.ensures.either; entry = c.lesser_of.ensures.entry; least_too = c.lesser_of.ensures.least })
     c.gather-arrival.new.stock c.spread.new.stock slots c.spread.ensures (c.spread.ensures.room ∙ c.gather-arrival.ensures.room)

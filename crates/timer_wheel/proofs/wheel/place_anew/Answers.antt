@@ -16,7 +16,7 @@ loop-key-preserved-then-list-eq-FREE c =
 pub put-requires-clause-holds : goal.put-requires-clause-holds
 put-requires-clause-holds c =
     let f : (e : Entry) × Holds c.loop-key.stock.entries c.loop-key.stock.slots c.loop-key.key e c.list.result =
-    held_at c.loop-key.stock c.known.ensures c.loop-key.key c.list.result c.list.ensures c.if-list-eq-FREE.false in
+    held_at c.loop-key.stock c.reveal_invariant.ensures c.loop-key.key c.list.result c.list.ensures c.if-list-eq-FREE.false in
     (f.0, c.list.result, f.1)
 
 pub loop-key-preserved : goal.loop-key-preserved

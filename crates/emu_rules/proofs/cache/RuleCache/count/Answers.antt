@@ -34,5 +34,5 @@ returns-clause-counted c = λ alone cs start h at.
     let p = c.args.packet.now in
     let f = c.in-Some.path in
     let there = read-path m.held.items place c.index.result.now f (held-within m place start p at) c.index.ensures c.in-Some.is in
-    ap (λ (f : CachedSearch). settled_in (set m.held.items place (Some f)) cs) c.counting.ensures
+    ap (λ (f : CachedSearch). settled_in (set m.held.items place (Some f)) cs) c.with_packet.ensures
     ∙ settled-more m.held.items place f m.age start p cs there (held-true (the_rules cs) m place f h there).idle (held-path m place f start p at there)

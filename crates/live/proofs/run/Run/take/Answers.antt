@@ -56,7 +56,7 @@ returns-clause-marked c =
     let command : Command = c.args.command.now.command in
     let housed : IsHousedIn (own_pocket before.shelf) before.experiment =
     subst (λ (r : KeptRun). IsHousedIn (own_pocket r.shelf) r.experiment) (sym c.self.view_is) c.requires.at.2.housed in
-    let made : c.made-number.result ≡ made_of before = c.made-number.ensures (own_pocket before.shelf) housed in
+    let made : c.made_count-number.result ≡ made_of before = c.made_count-number.ensures (own_pocket before.shelf) housed in
     subst (λ (r : KeptRun). MarkedBy command (made_of r) r.mine c.mark_injected.new.mine) c.self.view_is
     (subst (λ n. MarkedBy command n before.mine c.mark_injected.new.mine) made c.in_ok-mark_injected.ensures)
 
@@ -66,7 +66,7 @@ returns-clause-taken c =
     let command : Command = c.args.command.now.command in
     let housed : IsHousedIn (own_pocket before.shelf) before.experiment =
     subst (λ (r : KeptRun). IsHousedIn (own_pocket r.shelf) r.experiment) (sym c.self.view_is) c.requires.at.2.housed in
-    let made : c.made-number.result ≡ made_of c.args.self.now = c.made-number.ensures (own_pocket before.shelf) housed ∙ ap made_of c.self.view_is in
+    let made : c.made_count-number.result ≡ made_of c.args.self.now = c.made_count-number.ensures (own_pocket before.shelf) housed ∙ ap made_of c.self.view_is in
     let records : List Record = c.obey.new.experiment.net.log.records in
     let seen : length c.records-seen.result.now ≡ length c.args.self.now.experiment.net.log.records =
     ap length (c.records-seen.ensures ∙ ap (λ (r : KeptRun). r.experiment.net.log.records) c.self.view_is) in

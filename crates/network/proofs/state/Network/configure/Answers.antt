@@ -11,7 +11,7 @@ use Rattle.network.proofs.state.Network.configure.Goals as goal
 pub returns-in-Ok-clause-ok : goal.returns-in-Ok-clause-ok
 returns-in-Ok-clause-ok c =
     obeys_view c.args.at c.args.number (Config c.args.pipe c.args.config.now) (the_view c.self.inside) _ _ c.self.view_is
-    (config-done c.args.at c.args.number (the_view c.self.inside) _ c.args.pipe c.args.config.now c.configure.new.self c.in-Ok.ensures.ok c.in-Ok.ensures.refusal c.configure.ensures.keys c.configure.ensures.seed c.done.ensures)
+    (config-done c.args.at c.args.number (the_view c.self.inside) _ c.args.pipe c.args.config.now c.configure.new.self c.in-Ok.ensures.ok c.in-Ok.ensures.refusal c.configure.ensures.keys c.configure.ensures.seed c.note_done.ensures)
 
 pub returns-in-Err-Refused-clause-ok : goal.returns-in-Err-Refused-clause-ok
 returns-in-Err-Refused-clause-ok c =

@@ -34,8 +34,8 @@ pub returns-in-Ok-Some-clause-ok : goal.returns-in-Ok-Some-clause-ok
 returns-in-Ok-Some-clause-ok g c =
     let r = readied c.requires.stands.housed c.reserve_besides.ensures.still refl c.self-2.view_is in
     from_readied r (obey c.args.at c.args.number (PipeDelete c.args.pipe)) 1 _ _
-    (deleted c.args.at c.args.number c.args.pipe _ _ _ c.delete.new.self r.housed c.delete.ensures.keys c.delete.ensures.seed c.in-Ok-Some.packets.items c.done.new.self _ (rw c.in-Ok-Some.field-0-is at c.in-Ok-Some.ensures.ok) (rw c.in-Ok-Some.field-0-is at c.in-Ok-Some.ensures.there) c.done.ensures
-    (subst (λ (xs : List Packet). Notes (map (drop_record c.args.at.now) (map (λ x. record { packet = x; cause = Deleted }) xs)) c.done.new.self c.drop_all.new.self) c.deref.ensures.value c.drop_all.ensures))
+    (deleted c.args.at c.args.number c.args.pipe _ _ _ c.delete.new.self r.housed c.delete.ensures.keys c.delete.ensures.seed c.in-Ok-Some.packets.items c.note_done.new.self _ (rw c.in-Ok-Some.field-0-is at c.in-Ok-Some.ensures.ok) (rw c.in-Ok-Some.field-0-is at c.in-Ok-Some.ensures.there) c.note_done.ensures
+    (subst (λ (xs : List Packet). Notes (map (drop_record c.args.at.now) (map (λ x. record { packet = x; cause = Deleted }) xs)) c.note_done.new.self c.drop_all.new.self) c.deref.ensures.value c.drop_all.ensures))
 
 pub returns-then-not-has-clause-ok : goal.returns-then-not-has-clause-ok
 returns-then-not-has-clause-ok g c =

@@ -15,7 +15,7 @@ returns-in-Some-clause-ok c =
 pub returns-clause-ok : goal.returns-clause-ok
 returns-clause-ok c =
     obeys_view c.args.at c.args.number (Flow c.args.source c.args.flow.now) (the_view c.self.inside) _ _ c.self.view_is
-    (traffic-done c.args.at c.args.number (the_view c.self.inside) _ (Flow c.args.source c.args.flow.now) c.start_flow.new.self (λ p. sym (c.in_default.ensures.refusal (net_of p (the_view c.self.inside)))) c.in_ok-start_flow.ensures.ok c.done.ensures)
+    (traffic-done c.args.at c.args.number (the_view c.self.inside) _ (Flow c.args.source c.args.flow.now) c.start_flow.new.self (λ p. sym (c.in_default.ensures.refusal (net_of p (the_view c.self.inside)))) c.in_ok-start_flow.ensures.ok c.note_done.ensures)
 
 pub returns-in_err-start_flow-clause-succeeds : goal.returns-in_err-start_flow-clause-succeeds
 returns-in_err-start_flow-clause-succeeds c = λ p some.

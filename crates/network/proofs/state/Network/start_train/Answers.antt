@@ -15,7 +15,7 @@ returns-in-Some-clause-ok c =
 pub returns-clause-ok : goal.returns-clause-ok
 returns-clause-ok c =
     obeys_view c.args.at c.args.number (Train c.args.source c.args.train.now) (the_view c.self.inside) _ _ c.self.view_is
-    (traffic-done c.args.at c.args.number (the_view c.self.inside) _ (Train c.args.source c.args.train.now) c.start_train.new.self (λ p. sym (c.in_default.ensures.refusal (net_of p (the_view c.self.inside)))) c.in_ok-start_train.ensures.ok c.done.ensures)
+    (traffic-done c.args.at c.args.number (the_view c.self.inside) _ (Train c.args.source c.args.train.now) c.start_train.new.self (λ p. sym (c.in_default.ensures.refusal (net_of p (the_view c.self.inside)))) c.in_ok-start_train.ensures.ok c.note_done.ensures)
 
 pub returns-in_err-start_train-clause-succeeds : goal.returns-in_err-start_train-clause-succeeds
 returns-in_err-start_train-clause-succeeds c = λ p some.

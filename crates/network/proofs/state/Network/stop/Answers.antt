@@ -21,4 +21,4 @@ pub returns-clause-ok : goal.returns-clause-ok
 returns-clause-ok c =
     let e : c.has_flow.result ≡ true = grind arith in
     obeys_view c.args.at c.args.number (Stop c.args.flow) (the_view c.self.inside) _ _ c.self.view_is
-    (traffic-done c.args.at c.args.number (the_view c.self.inside) _ (Stop c.args.flow) c.stop.new.self (λ p. ap (λ (b : Bool). cond b None (Some NoFlow)) (sym (c.has_flow.ensures (net_of p (the_view c.self.inside))) ∙ e)) (λ m. c.stop.ensures m) c.done.ensures)
+    (traffic-done c.args.at c.args.number (the_view c.self.inside) _ (Stop c.args.flow) c.stop.new.self (λ p. ap (λ (b : Bool). cond b None (Some NoFlow)) (sym (c.has_flow.ensures (net_of p (the_view c.self.inside))) ∙ e)) (λ m. c.stop.ensures m) c.note_done.ensures)

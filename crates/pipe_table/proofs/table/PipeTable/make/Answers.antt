@@ -70,6 +70,6 @@ lead_all-requires-clause-sorted c = (
 
 pub lead_all-requires-clause-entries : goal.lead_all-requires-clause-entries
 lead_all-requires-clause-entries c = λ i q e.
-    entries-insert c.args.number c.new-pipe.result c.self.inside.pipes.items c.self.inside.places c.ready.new.self c.self.invariant.2
-    c.ready.ensures.grows (omega (arith, c.in-Ok-ready.ensures.ready, c.get.ensures.value)) (ap (λ (p : KeyedPipe). p.number) c.new-pipe.ensures) i q
+    entries-insert c.args.number c.new-pipe.result c.self.inside.pipes.items c.self.inside.places c.make_room.new.self c.self.invariant.2
+    c.make_room.ensures.grows (omega (arith, c.in-Ok-make_room.ensures.ready, c.get.ensures.value)) (ap (λ (p : KeyedPipe). p.number) c.new-pipe.ensures) i q
     (ap (λ l. slice_get l i) (sym (c.deref-2.ensures.value ∙ (c.in-Ok-insert.ensures.items ∙ (λ z. insert (c.reserve.ensures.items z) ((c.place_behind-place.ensures ∙ ap (position_or_len (is_above c.args.number)) c.reserve.ensures.items) z) c.new-pipe.result)))) ∙ e)

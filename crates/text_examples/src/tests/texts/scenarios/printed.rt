@@ -40,7 +40,7 @@ fn words_of_causes(rt: HostRuntime) {
 }
 
 /// What is printed of these bytes.
-fn printed(alloc: Global, bytes: &[u8]) -> Result<String, AllocError> {
+fn printed_text(alloc: Global, bytes: &[u8]) -> Result<String, AllocError> {
     match parse_scenario(alloc, bytes) {
         Err(ParseError::Fault(fault)) => format!(in alloc; "{fault}"),
         Err(ParseError::NoMemory) => format!(in alloc; "memory"),
@@ -50,7 +50,7 @@ fn printed(alloc: Global, bytes: &[u8]) -> Result<String, AllocError> {
 
 /// Wants this to be printed of a text.
 fn prints(rt: &(impl Abort + AllocGlobal), text: &str, line: &str) {
-    is_text(rt, printed(rt.alloc(), text.as_bytes()), "", line);
+    is_text(rt, printed_text(rt.alloc(), text.as_bytes()), "", line);
 }
 
 /// Two whole experiments of one name.

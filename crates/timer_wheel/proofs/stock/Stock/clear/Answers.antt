@@ -45,4 +45,4 @@ returns-clause-holds c k e p h =
     h.full (some_same p 2050 (slice_get c.loop-key.self.slots k) h.slot (c.loop-key.invariant.done k (omega (arith, c.loop-key.invariant.long, c.len-key-end.ensures))))
 
 pub returns-clause-rows : goal.returns-clause-rows
-returns-clause-rows c o = no_due c.loop-key.self c.known.ensures o (λ k e p h is. returns-clause-holds c k e p h)
+returns-clause-rows c o = no_due c.loop-key.self c.reveal_invariant.ensures o (λ k e p h is. returns-clause-holds c k e p h)

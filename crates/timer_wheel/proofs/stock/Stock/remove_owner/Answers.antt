@@ -30,45 +30,45 @@ loop-key-preserved c = thin_laid c.args.owner c.args.self.now c.loop-key.self c.
 pub loop-key-2-init : goal.loop-key-2-init
 loop-key-2-init c = record {
   thin = c.loop-key.invariant;
-  away = away_first c.args.owner c.loop-key.self c.known.ensures c.in_default.ensures.none;
+  away = away_first c.args.owner c.loop-key.self c.reveal_invariant.ensures c.in_default.ensures.none;
 }
 
 pub entry-entry-requires : goal.entry-entry-requires
 entry-entry-requires c =
-    let h : (e : Entry) × (p : ℕ) × Holds c.loop-key-2.self.entries c.loop-key-2.self.slots c.in-Some-owned.key e p = c.in-Some-owned.ensures.holds in
-    let l : c.in-Some-owned.key < length c.loop-key-2.self.slots = slice_get_within c.loop-key-2.self.slots c.in-Some-owned.key h.1 h.2.slot in
+    let h : (e : Entry) × (p : ℕ) × Holds c.loop-key-2.self.entries c.loop-key-2.self.slots c.in-Some-owned_key.key e p = c.in-Some-owned_key.ensures.holds in
+    let l : c.in-Some-owned_key.key < length c.loop-key-2.self.slots = slice_get_within c.loop-key-2.self.slots c.in-Some-owned_key.key h.1 h.2.slot in
     l
 
 pub loop-key-2-smaller-then-entry-owner-2 : goal.loop-key-2-smaller-then-entry-owner-2
 loop-key-2-smaller-then-entry-owner-2 c =
-    let h : (e : Entry) × (p : ℕ) × Holds c.loop-key-2.self.entries c.loop-key-2.self.slots c.in-Some-owned.key e p = c.in-Some-owned.ensures.holds in
-    let l : c.in-Some-owned.key < length c.loop-key-2.self.slots = slice_get_within c.loop-key-2.self.slots c.in-Some-owned.key h.1 h.2.slot in
-    fewer_removed c.loop-key-2.self c.remove-then-entry-owner-2.new.self c.in-Some-owned.key c.remove-then-entry-owner-2.result (record { entry = c.remove-then-entry-owner-2.ensures.entry; entries = c.remove-then-entry-owner-2.ensures.entries; slots = c.remove-then-entry-owner-2.ensures.slots; owners = c.remove-then-entry-owner-2.ensures.owners; rows = c.remove-then-entry-owner-2.ensures.rows; room = c.remove-then-entry-owner-2.ensures.room }) l 2049 (omega arith) c.in-Some-owned.ensures.some
+    let h : (e : Entry) × (p : ℕ) × Holds c.loop-key-2.self.entries c.loop-key-2.self.slots c.in-Some-owned_key.key e p = c.in-Some-owned_key.ensures.holds in
+    let l : c.in-Some-owned_key.key < length c.loop-key-2.self.slots = slice_get_within c.loop-key-2.self.slots c.in-Some-owned_key.key h.1 h.2.slot in
+    fewer_removed c.loop-key-2.self c.remove-then-entry-owner-2.new.self c.in-Some-owned_key.key c.remove-then-entry-owner-2.result (record { entry = c.remove-then-entry-owner-2.ensures.entry; entries = c.remove-then-entry-owner-2.ensures.entries; slots = c.remove-then-entry-owner-2.ensures.slots; owners = c.remove-then-entry-owner-2.ensures.owners; rows = c.remove-then-entry-owner-2.ensures.rows; room = c.remove-then-entry-owner-2.ensures.room }) l 2049 (omega arith) c.in-Some-owned_key.ensures.some
 
 pub loop-key-2-preserved-then-entry-owner-2 : goal.loop-key-2-preserved-then-entry-owner-2
 loop-key-2-preserved-then-entry-owner-2 c =
-    let h : (e : Entry) × (p : ℕ) × Holds c.loop-key-2.self.entries c.loop-key-2.self.slots c.in-Some-owned.key e p = c.in-Some-owned.ensures.holds in
-    let l : c.in-Some-owned.key < length c.loop-key-2.self.slots = slice_get_within c.loop-key-2.self.slots c.in-Some-owned.key h.1 h.2.slot in
+    let h : (e : Entry) × (p : ℕ) × Holds c.loop-key-2.self.entries c.loop-key-2.self.slots c.in-Some-owned_key.key e p = c.in-Some-owned_key.ensures.holds in
+    let l : c.in-Some-owned_key.key < length c.loop-key-2.self.slots = slice_get_within c.loop-key-2.self.slots c.in-Some-owned_key.key h.1 h.2.slot in
     let is : c.remove-then-entry-owner-2.result.owner ≡ c.args.owner =
-    ap (λ (e : Entry). e.owner) (some_same c.remove-then-entry-owner-2.result c.entry-entry.result (slice_get c.loop-key-2.self.entries c.in-Some-owned.key) c.remove-then-entry-owner-2.ensures.entry c.entry-entry.ensures) ∙ c.if-entry-owner-2.true in
+    ap (λ (e : Entry). e.owner) (some_same c.remove-then-entry-owner-2.result c.entry-entry.result (slice_get c.loop-key-2.self.entries c.in-Some-owned_key.key) c.remove-then-entry-owner-2.ensures.entry c.entry-entry.ensures) ∙ c.if-entry-owner-2.true in
     record {
       thin = subst (λ o. IsThinned o c.args.self.now c.remove-then-entry-owner-2.new.self) is
-          (thin_removed c.loop-key-2.self c.remove-then-entry-owner-2.new.self c.in-Some-owned.key c.remove-then-entry-owner-2.result (record { entry = c.remove-then-entry-owner-2.ensures.entry; entries = c.remove-then-entry-owner-2.ensures.entries; slots = c.remove-then-entry-owner-2.ensures.slots; owners = c.remove-then-entry-owner-2.ensures.owners; rows = c.remove-then-entry-owner-2.ensures.rows; room = c.remove-then-entry-owner-2.ensures.room }) l c.args.self.now (subst (λ o. IsThinned o c.args.self.now c.loop-key-2.self) (sym is) c.loop-key-2.invariant.thin));
-      away = away_removed c.loop-key-2.self c.remove-then-entry-owner-2.new.self c.in-Some-owned.key c.remove-then-entry-owner-2.result (record { entry = c.remove-then-entry-owner-2.ensures.entry; entries = c.remove-then-entry-owner-2.ensures.entries; slots = c.remove-then-entry-owner-2.ensures.slots; owners = c.remove-then-entry-owner-2.ensures.owners; rows = c.remove-then-entry-owner-2.ensures.rows; room = c.remove-then-entry-owner-2.ensures.room }) l c.args.owner c.loop-key-2.invariant.away;
+          (thin_removed c.loop-key-2.self c.remove-then-entry-owner-2.new.self c.in-Some-owned_key.key c.remove-then-entry-owner-2.result (record { entry = c.remove-then-entry-owner-2.ensures.entry; entries = c.remove-then-entry-owner-2.ensures.entries; slots = c.remove-then-entry-owner-2.ensures.slots; owners = c.remove-then-entry-owner-2.ensures.owners; rows = c.remove-then-entry-owner-2.ensures.rows; room = c.remove-then-entry-owner-2.ensures.room }) l c.args.self.now (subst (λ o. IsThinned o c.args.self.now c.loop-key-2.self) (sym is) c.loop-key-2.invariant.thin));
+      away = away_removed c.loop-key-2.self c.remove-then-entry-owner-2.new.self c.in-Some-owned_key.key c.remove-then-entry-owner-2.result (record { entry = c.remove-then-entry-owner-2.ensures.entry; entries = c.remove-then-entry-owner-2.ensures.entries; slots = c.remove-then-entry-owner-2.ensures.slots; owners = c.remove-then-entry-owner-2.ensures.owners; rows = c.remove-then-entry-owner-2.ensures.rows; room = c.remove-then-entry-owner-2.ensures.room }) l c.args.owner c.loop-key-2.invariant.away;
     }
 
 pub loop-key-2-smaller : goal.loop-key-2-smaller
 loop-key-2-smaller c =
-    fewer_laid c.loop-key-2.self c.lay-else-entry-owner-2.new.self c.in-Some-owned.key 2049 (c.entry-entry.result.owner % 2048) c.lay-else-entry-owner-2.ensures (λ e. omega arith) c.in-Some-owned.ensures.some
+    fewer_laid c.loop-key-2.self c.lay-else-entry-owner-2.new.self c.in-Some-owned_key.key 2049 (c.entry-entry.result.owner % 2048) c.lay-else-entry-owner-2.ensures (λ e. omega arith) c.in-Some-owned_key.ensures.some
 
 pub loop-key-2-preserved : goal.loop-key-2-preserved
 loop-key-2-preserved c = record {
-  thin = thin_laid c.args.owner c.args.self.now c.loop-key-2.self c.lay-else-entry-owner-2.new.self c.in-Some-owned.key (c.entry-entry.result.owner % 2048) c.lay-else-entry-owner-2.ensures c.loop-key-2.invariant.thin;
-  away = away_laid c.args.owner c.loop-key-2.self c.lay-else-entry-owner-2.new.self c.in-Some-owned.key (c.entry-entry.result.owner % 2048) c.entry-entry.result c.lay-else-entry-owner-2.ensures c.entry-entry.ensures
+  thin = thin_laid c.args.owner c.args.self.now c.loop-key-2.self c.lay-else-entry-owner-2.new.self c.in-Some-owned_key.key (c.entry-entry.result.owner % 2048) c.lay-else-entry-owner-2.ensures c.loop-key-2.invariant.thin;
+  away = away_laid c.args.owner c.loop-key-2.self c.lay-else-entry-owner-2.new.self c.in-Some-owned_key.key (c.entry-entry.result.owner % 2048) c.entry-entry.result c.lay-else-entry-owner-2.ensures c.entry-entry.ensures
       c.if-entry-owner-2.false c.loop-key-2.invariant.away;
 }
 
 pub returns-clause-none : goal.returns-clause-none
 returns-clause-none c =
-    no_due c.loop-key-2.self c.known-2.ensures c.args.owner
-    (λ k e p h is. c.in_default-owned.ensures.none k (c.loop-key-2.invariant.away k e p h is))
+    no_due c.loop-key-2.self c.reveal_invariant-2.ensures c.args.owner
+    (λ k e p h is. c.in_default-owned_key.ensures.none k (c.loop-key-2.invariant.away k e p h is))

@@ -28,13 +28,13 @@ returns-in-Some-clause-others c =
     reset_due c.self.inside.stock c.reset.new.self c.args.owner c.args.source c.args.due h.0 h.3 h.4 (c.reset.ensures.rows h.0 h.2.entry) in
     rw (← c.self.view_is) (row_other (due_of c.self.inside.stock) (due_of c.reset.new.self) c.args.owner c.args.source (Some c.args.due) rows)
 
-pub invariant_of-self-in_err-ready : goal.invariant_of-self-in_err-ready
-invariant_of-self-in_err-ready c = fewer_wheel c.self.inside.clock c.self.inside.stock c.ready.new.self c.ready.ensures.holds (λ o s d h. sym (c.ready.ensures.rows o s) ∙ h) c.self.inside.ties c.self.invariant
+pub invariant_of-self-in_err-make_room : goal.invariant_of-self-in_err-make_room
+invariant_of-self-in_err-make_room c = fewer_wheel c.self.inside.clock c.self.inside.stock c.make_room.new.self c.make_room.ensures.holds (λ o s d h. sym (c.make_room.ensures.rows o s) ∙ h) c.self.inside.ties c.self.invariant
 
 pub invariant_of-self-2 : goal.invariant_of-self-2
 invariant_of-self-2 c =
     let low : c.self.inside.clock ≤ c.args.due = subst (λ (b : WheelBook). b.clock ≤ c.args.due) (sym c.self.view_is) c.requires in
-    rw c.ready-2.ensures
-    (set_wheel c.self.inside.clock c.ready.new.self c.insert.new.self c.args.owner c.args.source c.args.due c.place-list.result low (omega arith) c.place-list.ensures.place c.insert.ensures.rows
+    rw c.make_room-2.ensures
+    (set_wheel c.self.inside.clock c.make_room.new.self c.insert.new.self c.args.owner c.args.source c.args.due c.place-list.result low (omega arith) c.place-list.ensures.place c.insert.ensures.rows
     (λ k e p h. elim (c.insert.ensures.holds k e p h) [ inl old ↦ inl old | inr new ↦ inr (ap (λ (x : Entry). x.due) new.0, new.1) ])
-    c.self.inside.ties (fewer_wheel c.self.inside.clock c.self.inside.stock c.ready.new.self c.ready.ensures.holds (λ o s d h. sym (c.ready.ensures.rows o s) ∙ h) c.self.inside.ties c.self.invariant))
+    c.self.inside.ties (fewer_wheel c.self.inside.clock c.self.inside.stock c.make_room.new.self c.make_room.ensures.holds (λ o s d h. sym (c.make_room.ensures.rows o s) ∙ h) c.self.inside.ties c.self.invariant))

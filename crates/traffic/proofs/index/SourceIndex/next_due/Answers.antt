@@ -5,8 +5,8 @@ use Rattle.traffic.proofs.index.SourceIndex.next_due.Goals as goal
 
 pub returns-then-not-is_expiry-clause-least : goal.returns-then-not-is_expiry-clause-least
 returns-then-not-is_expiry-clause-least c = λ ts h.
-    bound_exact c.args.clock c.args.flows.now ts c.args.self.now c.args.best c.bound-bound.result h
-    (c.bound-bound.ensures c.args.flows.now ts h) (sym c.is_expiry.ensures ∙ c.if-not-is_expiry.true)
+    bound_exact c.args.clock c.args.flows.now ts c.args.self.now c.args.best c.lower_bound-bound.result h
+    (c.lower_bound-bound.ensures c.args.flows.now ts h) (sym c.is_expiry.ensures ∙ c.if-not-is_expiry.true)
 
 pub returns-clause-least : goal.returns-clause-least
 returns-clause-least c = λ ts h.
@@ -19,4 +19,4 @@ returns-clause-least c = λ ts h.
       entries = h.entries;
       packets = h.packets;
     }) in
-    bound_right c.args.clock fs ts x c.args.best c.bound.result c.settle.ensures.right (c.bound.ensures fs ts new)
+    bound_right c.args.clock fs ts x c.args.best c.lower_bound.result c.settle.ensures.right (c.lower_bound.ensures fs ts new)

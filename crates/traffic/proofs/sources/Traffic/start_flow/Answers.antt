@@ -20,17 +20,17 @@ invariant_of-self-2 c =
     let low : 1 ≤ c.args.number = omega (arith, c.get.ensures.value, c.get.ensures.low) in
     let high : c.args.number ≤ 65535 = omega (arith, c.get.ensures.value, c.get.ensures.high) in
     let named = ap (λ (s : FlowState). s.number) c.new-flow.ensures in
-    let table : LeadsTo number fs c.ready.new.self = λ k. c.ready.ensures.same k ∙ c.self.invariant.2 k in
+    let table : LeadsTo number fs c.make_room.new.self = λ k. c.make_room.ensures.same k ∙ c.self.invariant.2 k in
     let none = subst (λ k. position (λ f. number f == k) fs ≡ None) (sym c.get-3.ensures.value)
     (no_flow_there c.args.number c.args.self.now fs ts c.self.view_is c.requires) in
-    let entry : c.get-3.result < length c.ready.new.self =
-    omega (arith, c.in_ok-ready.ensures.ready, c.get.ensures.value, c.get-3.ensures.value) in
+    let entry : c.get-3.result < length c.make_room.new.self =
+    omega (arith, c.in_ok-make_room.ensures.ready, c.get.ensures.value, c.get-3.ensures.value) in
     let last : c.len.result ≡ length fs = omega (arith, c.len.ensures, c.self.inside.flows.ok.0, c.in_ok-reserve.ensures.len) in (
       subst (λ fs. IsSound fs ts) (sym is)
           (sound_with_flow c.args.number c.args.self.now _ _ c.new-flow.result c.self.view_is c.requires c.self.invariant.0 (low, high) named),
       subst (λ fs. AreIndexed fs ts c.add_flow.new.self) (sym is)
           (c.add_flow.ensures fs ts (c.flow_ready.ensures.same fs ts c.self.invariant.1)),
-      leads_on number fs c.push_reserved.new.self.items c.ready.new.self c.set.new.self c.get-3.result c.len.result c.new-flow.result
+      leads_on number fs c.push_reserved.new.self.items c.make_room.new.self c.set.new.self c.get-3.result c.len.result c.new-flow.result
           is c.set.ensures table none entry last (named ∙ sym c.get-3.ensures.value),
       c.self.invariant.3,
     )
@@ -42,6 +42,6 @@ invariant_of-self-in_err-flow_ready c =
     let items = sym c.in_ok-reserve.ensures.items in (
       subst (λ fs. IsSound fs ts) items c.self.invariant.0,
       subst (λ fs. AreIndexed fs ts c.flow_ready.new.self) items (c.flow_ready.ensures.same fs ts c.self.invariant.1),
-      λ k. c.ready.ensures.same k ∙ c.self.invariant.2 k ∙ ap (λ (fs : List KeptFlow). position (λ f. f.state.number == k) fs) items,
+      λ k. c.make_room.ensures.same k ∙ c.self.invariant.2 k ∙ ap (λ (fs : List KeptFlow). position (λ f. f.state.number == k) fs) items,
       c.self.invariant.3,
     )

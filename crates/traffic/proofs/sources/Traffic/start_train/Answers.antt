@@ -20,18 +20,18 @@ invariant_of-self-2 c =
     let low : 1 ≤ c.args.number = omega (arith, c.get.ensures.value, c.get.ensures.low) in
     let high : c.args.number ≤ 65535 = omega (arith, c.get.ensures.value, c.get.ensures.high) in
     let named = ap (λ (u : TrainState). u.number) c.new-train.ensures in
-    let table : LeadsTo number ts c.ready.new.self = λ k. c.ready.ensures.same k ∙ c.self.invariant.3 k in
+    let table : LeadsTo number ts c.make_room.new.self = λ k. c.make_room.ensures.same k ∙ c.self.invariant.3 k in
     let none = subst (λ k. position (λ u. number u == k) ts ≡ None) (sym c.get-2.ensures.value)
     (no_train_there c.args.number c.args.self.now fs ts c.self.view_is c.requires.free) in
-    let entry : c.get-2.result < length c.ready.new.self =
-    omega (arith, c.in_ok-ready.ensures.ready, c.get.ensures.value, c.get-2.ensures.value) in
+    let entry : c.get-2.result < length c.make_room.new.self =
+    omega (arith, c.in_ok-make_room.ensures.ready, c.get.ensures.value, c.get-2.ensures.value) in
     let last : c.len.result ≡ length ts = omega (arith, c.len.ensures, c.self.inside.trains.ok.0, c.in_ok-reserve.ensures.len) in (
       subst (λ ts. IsSound fs ts) (sym is)
           (sound_with_train c.args.number c.args.self.now _ _ c.new-train.result c.self.view_is c.requires.free c.self.invariant.0 (low, high) named),
       subst (λ ts. AreIndexed fs ts c.add_train.new.self) (sym is)
           (c.add_train.ensures fs ts (c.train_ready.ensures.same fs ts c.self.invariant.1)),
       c.self.invariant.2,
-      leads_on number ts c.push_reserved.new.self.items c.ready.new.self c.set.new.self c.get-2.result c.len.result c.new-train.result
+      leads_on number ts c.push_reserved.new.self.items c.make_room.new.self c.set.new.self c.get-2.result c.len.result c.new-train.result
           is c.set.ensures table none entry last (named ∙ sym c.get-2.ensures.value),
     )
 
@@ -43,5 +43,5 @@ invariant_of-self-in_err-train_ready c =
       subst (λ ts. IsSound fs ts) items c.self.invariant.0,
       subst (λ ts. AreIndexed fs ts c.train_ready.new.self) items (c.train_ready.ensures.same fs ts c.self.invariant.1),
       c.self.invariant.2,
-      λ k. c.ready.ensures.same k ∙ c.self.invariant.3 k ∙ ap (λ (ts : List TrainState). position (λ u. u.number == k) ts) items,
+      λ k. c.make_room.ensures.same k ∙ c.self.invariant.3 k ∙ ap (λ (ts : List TrainState). position (λ u. u.number == k) ts) items,
     )

@@ -58,5 +58,5 @@ returns g c =
     let h = c.in-Some-leave_queue.ensures.some in
     let did = c.house-housed.result.did in
     let read = shard_read s.shards.items within c.index_mut-2.ensures.value in
-    let f = brought_in w c.args.i c.args.from n c.pop.new.self _ c.leave_queue.new.self (Seated c.args.i 0) c.house-housed.result.home h.0 c.in-Some-leave_queue.parcel did c.brought.result _ c.house-housed.new.shard c.self.invariant within deep k found h.1 h.2 read c.house-housed.ensures c.brought.ensures in
-    rw (← c.self.view_is) (subst (λ (e : Desk). IsBringing c.args.i c.args.from c.brought.result w (moved_world w n e c.args.i c.house-housed.new.shard (set w.deques c.args.from c.pop.new.self))) (sym c.go.ensures) f.bringing)
+    let f = brought_in w c.args.i c.args.from n c.pop.new.self _ c.leave_queue.new.self (Seated c.args.i 0) c.house-housed.result.home h.0 c.in-Some-leave_queue.parcel did c.bring_outcome.result _ c.house-housed.new.shard c.self.invariant within deep k found h.1 h.2 read c.house-housed.ensures c.bring_outcome.ensures in
+    rw (← c.self.view_is) (subst (λ (e : Desk). IsBringing c.args.i c.args.from c.bring_outcome.result w (moved_world w n e c.args.i c.house-housed.new.shard (set w.deques c.args.from c.pop.new.self))) (sym c.go.ensures) f.bringing)

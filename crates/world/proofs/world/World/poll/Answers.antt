@@ -16,7 +16,7 @@ invariant_of-self g c =
     let sh : Seating MailBook = c.poll-answer.new.self in
     let read : c.index_mut-shard.result.now ≡ shard_at s.shards.items c.args.i = get_or_read s.shards.items c.args.i c.index_mut-shard.result.now within c.index_mut-shard.ensures.value (record { seats = []; clock = 0 }) in
     let h : IsPoll mail_seen c.poll-answer.result (shard_at s.shards.items c.args.i) sh c.args.slot = subst (λ x. IsPoll mail_seen c.poll-answer.result x sh c.args.slot) read c.poll-answer.ensures in
-    let f = poll_in w c.args.i c.args.slot c.poll-answer.result sh c.self.invariant within h c.known.ensures in
+    let f = poll_in w c.args.i c.args.slot c.poll-answer.result sh c.self.invariant within h c.reveal_invariant.ensures in
     f.world
 
 pub returns : goal.returns
@@ -27,5 +27,5 @@ returns g c =
     let sh : Seating MailBook = c.poll-answer.new.self in
     let read : c.index_mut-shard.result.now ≡ shard_at s.shards.items c.args.i = get_or_read s.shards.items c.args.i c.index_mut-shard.result.now within c.index_mut-shard.ensures.value (record { seats = []; clock = 0 }) in
     let h : IsPoll mail_seen c.poll-answer.result (shard_at s.shards.items c.args.i) sh c.args.slot = subst (λ x. IsPoll mail_seen c.poll-answer.result x sh c.args.slot) read c.poll-answer.ensures in
-    let f = poll_in w c.args.i c.args.slot c.poll-answer.result sh c.self.invariant within h c.known.ensures in
-    rw (← c.self.view_is) (subst (λ d. IsWorldPoll c.args.i c.args.slot d w (with_shard w c.args.i sh)) (sym c.polled.ensures) f.poll)
+    let f = poll_in w c.args.i c.args.slot c.poll-answer.result sh c.self.invariant within h c.reveal_invariant.ensures in
+    rw (← c.self.view_is) (subst (λ d. IsWorldPoll c.args.i c.args.slot d w (with_shard w c.args.i sh)) (sym c.poll_outcome.ensures) f.poll)

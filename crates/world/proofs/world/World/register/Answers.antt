@@ -11,5 +11,5 @@ invariant_of-self-2 g c =
     let s = c.self.inside in
     let w : Places = record { desks = s.desks.items; shards = s.shards.items; deques = s.deques.items } in
     let is = c.in-Ok-open.ensures ∙ ap (λ n. opened_stand n c.args.spec c.in-Ok-new.mail) (c.len-name.ensures ∙ s.desks.ok.0) in
-    let h = registered w c.in-Ok-open.parcel c.args.spec c.in-Ok-new.mail c.self.invariant is c.in-Ok-new.ensures c.known.ensures in
+    let h = registered w c.in-Ok-open.parcel c.args.spec c.in-Ok-new.mail c.self.invariant is c.in-Ok-new.ensures c.reveal_invariant.ensures in
     subst (λ l. IsWorld (record w { desks = l })) (sym (c.push_reserved.ensures.items ∙ ap (λ l. l ++ record { home = Handed c.in-Ok-open.parcel; closed = false; last = 0 } ∷ []) c.reserve.ensures.items)) h

@@ -18,7 +18,7 @@ invariant_of-self g c =
     let within : c.args.i < length s.shards.items = omega (arith, s.shards.ok.0) in
     let sh = c.turn-turned.new.self in
     let read = shard_read s.shards.items within c.index_mut-shard.ensures.value in
-    (ran_in w c.args.i c.in-Ran.field-0 _ sh c.self.invariant within read c.in-Ran.ensures c.known.ensures).world
+    (ran_in w c.args.i c.in-Ran.field-0 _ sh c.self.invariant within read c.in-Ran.ensures c.reveal_invariant.ensures).world
 
 pub returns-in-Ran : goal.returns-in-Ran
 returns-in-Ran g c =
@@ -27,7 +27,7 @@ returns-in-Ran g c =
     let within : c.args.i < length s.shards.items = omega (arith, s.shards.ok.0) in
     let sh = c.turn-turned.new.self in
     let read = shard_read s.shards.items within c.index_mut-shard.ensures.value in
-    rw (← c.self.view_is) (ran_in w c.args.i c.in-Ran.field-0 _ sh c.self.invariant within read c.in-Ran.ensures c.known.ensures).turn
+    rw (← c.self.view_is) (ran_in w c.args.i c.in-Ran.field-0 _ sh c.self.invariant within read c.in-Ran.ensures c.reveal_invariant.ensures).turn
 
 pub index_mut-desk-requires : goal.index_mut-desk-requires
 index_mut-desk-requires g c =
@@ -50,7 +50,7 @@ invariant_of-self-in-Ended g c =
     let x : Final MailBook = c.in-Ended.dossier in
     let near : x.name < length s.desks.items = near_end w c.args.i x _ sh c.self.invariant read c.in-Ended.ensures in
     let n = c.name.result in
-    let k = c.known-in-Ended.ensures in
+    let k = c.reveal_invariant-in-Ended.ensures in
     let over : IsOver x = record { records = k.records; counters = k.counters; made = k.made; heard = k.heard; told = k.told } in
     let found = desk_read s.desks.items (omega (arith, near, c.name.ensures)) c.index_mut-desk.ensures.value in
     let f = over_in w c.args.i n x _ sh _ (did_end x.ending) c.self.invariant within read c.in-Ended.ensures over (sym c.name.ensures) found refl in
@@ -66,11 +66,11 @@ returns-in-Ended g c =
     let x : Final MailBook = c.in-Ended.dossier in
     let near : x.name < length s.desks.items = near_end w c.args.i x _ sh c.self.invariant read c.in-Ended.ensures in
     let n = c.name.result in
-    let k = c.known-in-Ended.ensures in
+    let k = c.reveal_invariant-in-Ended.ensures in
     let over : IsOver x = record { records = k.records; counters = k.counters; made = k.made; heard = k.heard; told = k.told } in
     let found = desk_read s.desks.items (omega (arith, near, c.name.ensures)) c.index_mut-desk.ensures.value in
-    let f = over_in w c.args.i n x _ sh _ c.ended.result c.self.invariant within read c.in-Ended.ensures over (sym c.name.ensures) found (c.ended.ensures ∙ ap did_end c.ending-ending.ensures) in
-    rw (← c.self.view_is) (subst (λ (e : Desk). IsWorldTurn c.args.i c.ended.result w (with_left w c.args.i sh n e)) (sym c.go.ensures) f.turn)
+    let f = over_in w c.args.i n x _ sh _ c.end_outcome.result c.self.invariant within read c.in-Ended.ensures over (sym c.name.ensures) found (c.end_outcome.ensures ∙ ap did_end c.ending-ending.ensures) in
+    rw (← c.self.view_is) (subst (λ (e : Desk). IsWorldTurn c.args.i c.end_outcome.result w (with_left w c.args.i sh n e)) (sym c.go.ensures) f.turn)
 
 pub invariant_of-self-in-Idle : goal.invariant_of-self-in-Idle
 invariant_of-self-in-Idle g c =
