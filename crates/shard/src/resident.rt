@@ -64,7 +64,7 @@ fn offset_from(clock: u64, own: u64, moment: u64, offset: u64) -> u64
 }
 
 impl<M: Mail> Resident<M> {
-    ghost use Rattle.std.specs.Prelude.{◌≡◌, ◌≢◌, ◌≤◌, ◌<◌, ◌+◌, ◌-◌, ◌*◌, ◌^◌, ℕ, IsSome, IfSome, Some, None, is_some, length};
+    ghost use Rattle.std.specs.Prelude.{◌≡◌, ◌≢◌, ◌≤◌, ◌<◌, ◌+◌, ◌-◌, ◌*◌, ◌^◌, ℕ, IsSome, IfSome, IfOk, IfErr, OnErr, Some, None, is_some, length};
     ghost use Rattle.timer_wheel.specs.Rows.{no_dues};
     ghost use Rattle.packet_store.specs.Books.{pocket_of};
     ghost use Rattle.packet_store.specs.Pocket.{empty_pocket};
@@ -304,32 +304,30 @@ impl<M: Mail> Resident<M> {
         }
     }
 
-    // Makes a resident of a parcel, whose owner is admitted. It has no entry yet.
-    pub(crate) fn settle(parcel: Parcel<M>, store: &mut Store, owner: Owner) -> Resident<M>
-        requires admitted { pocket_of store.old owner ≡ empty_pocket parcel.spec.budget.packets }
-        ensures going { IsGoing M.seen
-            (pocket_of store.new owner) result.experiment result.published result.mail }
-        ensures owner { result.owner ≡ owner }
-        ensures same { standing (pocket_of store.new owner) result ≡ parcel }
-        ensures others { (o : ℕ) → o ≢ owner → pocket_of store.new o ≡ pocket_of store.old o }
+    // Makes a resident of a parcel, whose packets keep their keys or get new ones. It has no entry yet. Refused for want
+    // of memory, the parcel comes back as it was.
+    pub(crate) fn settle(
+        parcel: Parcel<M>,
+        store: &mut Store,
+        keeps_keys: bool,
+    ) -> Result<Resident<M>, Parcel<M>>
+        ensures going { IfOk result (λ r. IsGoing M.seen
+            (pocket_of store.new r.owner) r.experiment r.published r.mail) }
+        ensures stranger { IfOk result (λ r. pocket_of store.old r.owner ≡ empty_pocket 0) }
+        ensures same { IfOk result (λ r. standing (pocket_of store.new r.owner) r ≡ parcel) }
+        ensures others { IfOk result
+            (λ r. (o : ℕ) → o ≢ r.owner → pocket_of store.new o ≡ pocket_of store.old o) }
+        ensures err { OnErr result (store.new ≡ store.old) }
+        ensures back { IfErr result (λ back. back ≡ parcel) }
     {
-        let Parcel {
-            mut body,
-            mut shelf,
-        } = parcel;
-        // What it holds is within its budget.
-        let _held = shelf.count(0);
-        body.rehouse(&mut shelf, 0, store, owner);
-        Resident {
-            owner,
-            body,
-            offset: None,
+        if keeps_keys {
+            return Resident::come_back(parcel, store);
         }
+        Resident::move_in(parcel, store)
     }
 
-    // Makes a resident of a parcel whose packets stay at their keys. It has no entry yet. Refused for want of memory, the
-    // parcel comes back.
-    pub(crate) fn come_back(parcel: Parcel<M>, store: &mut Store) -> Result<Resident<M>, Parcel<M>>
+    // The same, where its shelf comes into the store as it is.
+    fn come_back(parcel: Parcel<M>, store: &mut Store) -> Result<Resident<M>, Parcel<M>>
         ensures going { IfOk result (λ r. IsGoing M.seen
             (pocket_of store.new r.owner) r.experiment r.published r.mail) }
         ensures stranger { IfOk result (λ r. pocket_of store.old r.owner ≡ empty_pocket 0) }
@@ -348,6 +346,34 @@ impl<M: Mail> Resident<M> {
             }),
             Err(shelf) => Err(Parcel { body, shelf }),
         }
+    }
+
+    // The same, where each packet gets a new key.
+    fn move_in(parcel: Parcel<M>, store: &mut Store) -> Result<Resident<M>, Parcel<M>>
+        ensures going { IfOk result (λ r. IsGoing M.seen
+            (pocket_of store.new r.owner) r.experiment r.published r.mail) }
+        ensures stranger { IfOk result (λ r. pocket_of store.old r.owner ≡ empty_pocket 0) }
+        ensures same { IfOk result (λ r. standing (pocket_of store.new r.owner) r ≡ parcel) }
+        ensures others { IfOk result
+            (λ r. (o : ℕ) → o ≢ r.owner → pocket_of store.new o ≡ pocket_of store.old o) }
+        ensures err { OnErr result (store.new ≡ store.old) }
+        ensures back { IfErr result (λ back. back ≡ parcel) }
+    {
+        let Ok(owner) = store.admit(parcel.spec().budget.packets) else {
+            return Err(parcel);
+        };
+        let Parcel {
+            mut body,
+            mut shelf,
+        } = parcel;
+        // What it holds is within its budget.
+        let _held = shelf.count(0);
+        body.rehouse(&mut shelf, 0, store, owner);
+        Ok(Resident {
+            owner,
+            body,
+            offset: None,
+        })
     }
 
     // Makes a parcel of a resident, whose packets stay at their keys.

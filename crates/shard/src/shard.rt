@@ -94,7 +94,7 @@ impl<A: Agenda, M: Mail> Model for Shard<A, M> {
 }
 
 impl<A: Agenda, M: Mail> Shard<A, M> {
-    ghost use Rattle.std.specs.Prelude.{◌≡◌, ◌≢◌, ℕ, ◌≤◌, ◌<◌, ◌^◌, None, Some, IfOk, IfErr, IfSome, IfNone, OnErr, IsSome, length, IsTrue, IsFalse};
+    ghost use Rattle.std.specs.Prelude.{◌≡◌, ◌≢◌, ℕ, ◌≤◌, ◌<◌, ◌^◌, None, Some, IsOk, IfOk, IfErr, IfSome, IfNone, OnErr, IsSome, length, IsTrue, IsFalse};
     ghost use Rattle.shard.specs.Stand.{seat_at, Seat, IsTold};
     ghost use Rattle.shard.specs.Turns.{TurnsSettled, ManyTurns, ManyTurnsSettled, HeardOf, NamesIt, TakenIn, ComesBack, HasVacancy, PackedAt, IsPoll, IsRebased};
 
@@ -186,7 +186,7 @@ impl<A: Agenda, M: Mail> Shard<A, M> {
         resident.poll(&mut self.agenda, slot)
     }
 
-    /// Takes a parcel in, at the least vacant slot; its packets come into the store, and its entry onto the
+    /// Takes a parcel in, at the least vacant slot; its packets come into the store at new keys, and its entry onto the
     /// agenda, or it is parked where memory is refused for it. Refused itself, it comes back as it was, and the
     /// shard is as before: `Crowded` before `NoMemory`.
     pub fn take_in(&mut self, parcel: Parcel<M>) -> Result<usize, TakeInError<M>>
@@ -195,21 +195,21 @@ impl<A: Agenda, M: Mail> Shard<A, M> {
         ensures err { OnErr result (self.new ≡ self.old) }
         ensures memory { IfErr result (HasVacancy self.old) }
     {
-        let Some(slot) = first_vacant(self.slots.as_slice()) else {
-            return Err(TakeInError::Crowded(parcel));
-        };
-        let Ok(owner) = self.store.admit(parcel.spec().budget.packets) else {
-            return Err(TakeInError::NoMemory(parcel));
-        };
-        let mut resident = Resident::settle(parcel, &mut self.store, owner);
-        resident.enter(&mut self.agenda, slot);
-        self.slots[slot] = Some(resident);
-        Ok(slot)
+        self.admit(parcel, false)
     }
 
-    /// Takes a parcel back that was packed here, as `take_in` does, but for its packets: these stay at their keys, so that
-    /// the time doesn't grow with them.
+    /// `take_in` of a parcel that was packed here: its packets stay at their keys, so the time doesn't grow with them.
     pub fn take_back(&mut self, parcel: Parcel<M>) -> Result<usize, TakeInError<M>>
+        ensures ok { IfOk result (λ slot. (s : Seat M) × TakenIn parcel self.old self.new slot s) }
+        ensures back { IfErr result (ComesBack parcel self.old) }
+        ensures err { OnErr result (self.new ≡ self.old) }
+        ensures memory { IfErr result (HasVacancy self.old) }
+    {
+        self.admit(parcel, true)
+    }
+
+    // Takes a parcel in, whose packets keep their keys or get new ones.
+    fn admit(&mut self, parcel: Parcel<M>, keeps_keys: bool) -> Result<usize, TakeInError<M>>
         ensures ok { IfOk result (λ slot. (s : Seat M) × TakenIn parcel self.old self.new slot s) }
         ensures back { IfErr result (ComesBack parcel self.old) }
         ensures err { OnErr result (self.new ≡ self.old) }
@@ -218,7 +218,7 @@ impl<A: Agenda, M: Mail> Shard<A, M> {
         let Some(slot) = first_vacant(self.slots.as_slice()) else {
             return Err(TakeInError::Crowded(parcel));
         };
-        let mut resident = match Resident::come_back(parcel, &mut self.store) {
+        let mut resident = match Resident::settle(parcel, &mut self.store, keeps_keys) {
             Ok(resident) => resident,
             Err(parcel) => return Err(TakeInError::NoMemory(parcel)),
         };
@@ -234,13 +234,17 @@ impl<A: Agenda, M: Mail> Shard<A, M> {
             (λ parcel. (s : Seat M) × PackedAt parcel self.old self.new slot s) }
         ensures vacant { result ≡ Err PackError.Vacant → seat_at self.old.seats slot ≡ None }
         ensures there { result ≡ Err PackError.NoMemory → IsSome (seat_at self.old.seats slot) }
+        ensures succeeds { IsSome (seat_at self.old.seats slot) → IsOk result }
         ensures err { OnErr result (self.new ≡ self.old) }
     {
         if slot >= self.slots.len() {
             return Err(PackError::Vacant);
         }
-        let Some(gone) = mem::replace(&mut self.slots[slot], None) else {
+        let Some(_resident) = &self.slots[slot] else {
             return Err(PackError::Vacant);
+        };
+        let Some(gone) = mem::replace(&mut self.slots[slot], None) else {
+            unreachable!();
         };
         self.agenda.clear_owner(slot);
         Ok(gone.leave(&mut self.store))

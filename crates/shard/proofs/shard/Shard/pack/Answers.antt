@@ -1,10 +1,6 @@
-use Rattle.std.proofs.Common.{◌≡◌, ℕ, ◌<◌, ◌≤◌, length, set, Option, Some, None, sym, ap, ◌∙◌, arith, subst, inl, inr}
-use Rattle.std.specs.Prelude.{is_some, unwrap_or}
-use Rattle.emu_model.specs.declared.commands.Spec.{Spec}
+use Rattle.std.proofs.Common.{◌≡◌, ℕ, ◌<◌, ◌≤◌, length, set, Option, Some, None, IsSome, sym, ap, ◌∙◌, arith, subst}
 use Rattle.std.proofs.lemmas.List.{get_or_read, get_or_past}
 use Rattle.packet_store.specs.Books.{pocket_of}
-use Rattle.packet_store.specs.Pocket.{Pocket}
-use Rattle.packet_store.specs.Own.{own_pocket}
 use Rattle.shard.specs.Bodies.{Residence as Resident}
 use Rattle.shard.specs.Stand.{Seating}
 use Rattle.shard.specs.Seats.{resident_at, seat, seats_of, IsShard}
@@ -17,6 +13,12 @@ returns-then-slot-len-clause-vacant g c = λ e.
     let past : length s.slots.items ≤ c.args.slot = omega (arith, s.slots.ok.0) in
     vacant_seat (pocket_of s.store) s.slots.items c.args.self.now.seats c.args.slot (ap (λ (x : Seating _). x.seats) c.self.view_is) (get_or_past s.slots.items c.args.slot None past)
 
+pub returns-then-slot-len-clause-succeeds : goal.returns-then-slot-len-clause-succeeds
+returns-then-slot-len-clause-succeeds g c = λ there.
+    let s = c.self.inside in
+    let past : length s.slots.items ≤ c.args.slot = omega (arith, s.slots.ok.0) in
+    subst IsSome (vacant_seat (pocket_of s.store) s.slots.items c.args.self.now.seats c.args.slot (ap (λ (x : Seating _). x.seats) c.self.view_is) (get_or_past s.slots.items c.args.slot None past)) there
+
 pub returns-in_default-clause-vacant : goal.returns-in_default-clause-vacant
 returns-in_default-clause-vacant g c = λ e.
     let s = c.self.inside in
@@ -24,13 +26,12 @@ returns-in_default-clause-vacant g c = λ e.
     let none : resident_at s.slots.items c.args.slot ≡ None = sym (sym c.in_default.is ∙ get_or_read s.slots.items c.args.slot c.index.result.now within c.index.ensures None) in
     vacant_seat (pocket_of s.store) s.slots.items c.args.self.now.seats c.args.slot (ap (λ (x : Seating _). x.seats) c.self.view_is) none
 
-pub returns-in_default-reserve-clause-there : goal.returns-in_default-reserve-clause-there
-returns-in_default-reserve-clause-there g c = λ e.
+pub returns-in_default-clause-succeeds : goal.returns-in_default-clause-succeeds
+returns-in_default-clause-succeeds g c = λ there.
     let s = c.self.inside in
-    let r = c.in-Some.resident in
     let within : c.args.slot < length s.slots.items = omega (arith, s.slots.ok.0) in
-    let is : resident_at s.slots.items c.args.slot ≡ Some r = read_at s.slots.items c.args.slot c.index.result.now r within c.index.ensures (sym c.in-Some.is) in
-    ap is_some (seat_is (pocket_of s.store) s.slots.items c.args.self.now.seats c.args.slot r (ap (λ (x : Seating _). x.seats) c.self.view_is) is)
+    let none : resident_at s.slots.items c.args.slot ≡ None = sym (sym c.in_default.is ∙ get_or_read s.slots.items c.args.slot c.index.result.now within c.index.ensures None) in
+    subst IsSome (vacant_seat (pocket_of s.store) s.slots.items c.args.self.now.seats c.args.slot (ap (λ (x : Seating _). x.seats) c.self.view_is) none) there
 
 pub leave-requires-clause-going : goal.leave-requires-clause-going
 leave-requires-clause-going g c =
@@ -39,41 +40,6 @@ leave-requires-clause-going g c =
     let within : c.args.slot < length s.slots.items = omega (arith, s.slots.ok.0) in
     let is : resident_at s.slots.items c.args.slot ≡ Some r = read_at s.slots.items c.args.slot c.index_mut.result.now r within c.index_mut.ensures.value c.in-Some-replace.ensures.value in
     (seated_at g.M.Mail.seen (pocket_of s.store) (g.A.Agenda.entries s.agenda) (g.A.Agenda.time s.agenda) s.slots.items c.args.slot r c.self.invariant is).going
-
-pub leave-requires-clause-room : goal.leave-requires-clause-room
-leave-requires-clause-room g c =
-    let s = c.self.inside in
-    let r = c.in-Some-replace.gone in
-    let first = c.in-Some.resident in
-    let k : ℕ = c.args.slot in
-    let within : k < length s.slots.items = omega (arith, s.slots.ok.0) in
-    let is : resident_at s.slots.items k ≡ Some r = read_at s.slots.items k c.index_mut.result.now r within c.index_mut.ensures.value c.in-Some-replace.ensures.value in
-    let was : resident_at s.slots.items k ≡ Some first = read_at s.slots.items k c.index.result.now first within c.index.ensures (sym c.in-Some.is) in
-    let same : first ≡ r = ap (λ (o : Option (Resident _)). unwrap_or o r) (sym was ∙ is) in
-    let kept = (seated_at g.M.Mail.seen (pocket_of s.store) (g.A.Agenda.entries s.agenda) (g.A.Agenda.time s.agenda) s.slots.items k r c.self.invariant is).going.kept in
-    let count : c.count.result ≡ (pocket_of s.store r.owner).count = c.count.ensures.value ∙ ap (λ (o : ℕ). (pocket_of s.store o).count) c.owner.ensures ∙ ap (λ (x : Resident _). (pocket_of s.store x.owner).count) same in
-    let few : c.count.result ≤ (pocket_of s.store r.owner).budget = subst (λ (x : Resident _). c.count.result ≤ (pocket_of s.store x.owner).budget) same (subst (λ (o : ℕ). c.count.result ≤ (pocket_of s.store o).budget) c.owner.ensures c.count.ensures.within) in
-    let own : (own_pocket c.empty_shelf-shelf.result).budget ≡ r.experiment.spec.budget.packets = ap (λ (x : Pocket). x.budget) c.empty_shelf-shelf.ensures ∙ ap (λ (x : Spec). x.budget.packets) c.spec.ensures ∙ ap (λ (x : Resident _). x.experiment.spec.budget.packets) same in
-    let none : (own_pocket c.empty_shelf-shelf.result).count ≡ 0 = ap (λ (x : Pocket). x.count) c.empty_shelf-shelf.ensures in
-    elim c.in-Ok.ensures.ok [
-      | inl enough ↦ omega (arith, enough, count, kept.housed.housed.count)
-      | inr all ↦ omega (arith, all, own, none, few, count, kept.budget, kept.housed.housed.count)
-    ]
-
-pub leave-requires-clause-fits : goal.leave-requires-clause-fits
-leave-requires-clause-fits g c =
-    let s = c.self.inside in
-    let r = c.in-Some-replace.gone in
-    let first = c.in-Some.resident in
-    let k : ℕ = c.args.slot in
-    let within : k < length s.slots.items = omega (arith, s.slots.ok.0) in
-    let is : resident_at s.slots.items k ≡ Some r = read_at s.slots.items k c.index_mut.result.now r within c.index_mut.ensures.value c.in-Some-replace.ensures.value in
-    let was : resident_at s.slots.items k ≡ Some first = read_at s.slots.items k c.index.result.now first within c.index.ensures (sym c.in-Some.is) in
-    let same : first ≡ r = ap (λ (o : Option (Resident _)). unwrap_or o r) (sym was ∙ is) in
-    let kept = (seated_at g.M.Mail.seen (pocket_of s.store) (g.A.Agenda.entries s.agenda) (g.A.Agenda.time s.agenda) s.slots.items k r c.self.invariant is).going.kept in
-    let count : c.count.result ≡ (pocket_of s.store r.owner).count = c.count.ensures.value ∙ ap (λ (o : ℕ). (pocket_of s.store o).count) c.owner.ensures ∙ ap (λ (x : Resident _). (pocket_of s.store x.owner).count) same in
-    let few : c.count.result ≤ (pocket_of s.store r.owner).budget = subst (λ (x : Resident _). c.count.result ≤ (pocket_of s.store x.owner).budget) same (subst (λ (o : ℕ). c.count.result ≤ (pocket_of s.store o).budget) c.owner.ensures c.count.ensures.within) in
-    omega (arith, few, count, kept.budget, kept.housed.housed.count)
 
 pub invariant_of-self : goal.invariant_of-self
 invariant_of-self g c =

@@ -6,7 +6,7 @@ use Rattle.shard.specs.Bodies.{Residence as Resident}
 use Rattle.shard.specs.Stand.{Seating}
 use Rattle.shard.specs.Seats.{resident_at, standing, seat, seat_of, seats_of, IsShard}
 use Rattle.shard.proofs.SlotChanges.{seat_is, vacant_seat, filled_seat, comes}
-use Rattle.shard.proofs.shard.Shard.take_in.Goals as goal
+use Rattle.shard.proofs.shard.Shard.admit.Goals as goal
 
 pub returns-in_default-clause-back : goal.returns-in_default-clause-back
 returns-in_default-clause-back g c =
