@@ -10,14 +10,14 @@ invariant_of-self-in-Ok-clause-kept c =
 
 pub invariant_of-self-in-Ok-clause-sits : goal.invariant_of-self-in-Ok-clause-sits
 invariant_of-self-in-Ok-clause-sits c =
-    comes_in c.make_room.new.self.resident.items c.push_reserved.new.self.items c.name-name.result c.in-Some.parcel c.make_room.new.self.shard c.take_in.new.self c.in-Ok._slot c.in-Ok.ensures.ok.0
+    comes_in c.make_room.new.self.resident.items c.push_reserved.new.self.items c.name-name.result c.in-Some.parcel c.make_room.new.self.shard c.take_back.new.self c.in-Ok._slot c.in-Ok.ensures.ok.0
     c.make_room.new.self.sits c.in-Ok.ensures.ok.1 c.name-name.ensures c.push_reserved.ensures.items
 
 pub returns-in-Ok-clause-ok : goal.returns-in-Ok-clause-ok
 returns-in-Ok-clause-ok c =
     let same = c.make_room.ensures.same.0 in (
       c.in-Some.parcel,
-      sits_from c.in-Some.parcel c.make_room.new.self c.args.self.now c.take_in.new.self c.in-Ok._slot c.in-Ok.ensures.ok.0 same c.in-Ok.ensures.ok.1,
+      sits_from c.in-Some.parcel c.make_room.new.self c.args.self.now c.take_back.new.self c.in-Ok._slot c.in-Ok.ensures.ok.0 same c.in-Ok.ensures.ok.1,
       takes_from c.in-Some.parcel c.make_room.new.self c.args.self.now (deque_view c.pop.new.self) same c.in-Some.ensures.taken.0,
       same.2,
     )
@@ -27,7 +27,7 @@ invariant_of-self-in-Err-clause-kept c =
     returned_kept c.make_room.new.self c.name-name.result c.in-Some.parcel c.name-name.ensures (deque_view c.pop.new.self) _ c.in-Some.ensures.taken.0 c.push_reserved-in-Err.ensures.items
 
 pub invariant_of-self-in-Err-clause-sits : goal.invariant_of-self-in-Err-clause-sits
-invariant_of-self-in-Err-clause-sits c = stays c.make_room.new.self.resident.items c.make_room.new.self.shard c.take_in.new.self c.make_room.new.self.sits c.in-Err.ensures.err
+invariant_of-self-in-Err-clause-sits c = stays c.make_room.new.self.resident.items c.make_room.new.self.shard c.take_back.new.self c.make_room.new.self.sits c.in-Err.ensures.err
 
 pub returns-in-Err-clause-err : goal.returns-in-Err-clause-err
 returns-in-Err-clause-err c =

@@ -13,4 +13,4 @@ loop-slot-preserved c =
     let x : Slot = c.slot-item.result in
     let within : i < length slots = omega arith in
     let more = keys-more slots i x within c.slot-item.is in
-    omega (arith, c.loop-slot.invariant, c.in_ok-packet_count.ensures, c.in_ok-packet_count-2.ensures, more)
+    omega (arith, c.loop-slot.invariant, c.in_ok-packet_count.ensures, c.in_ok-held.ensures, more)
