@@ -420,7 +420,7 @@ fn take_turns(list: &mut RuleList) -> bool {
     for sport in 1..3001 {
         let sent = packet(Protocol::Udp, 0x0a00_0001, sport, 0x0a00_0002, 2000);
         let want = if sport <= 300 { "allow" } else { "deny" };
-        if word(list.classify(&sent)) != want || word(list.verdict(&sent)) != want {
+        if word(list.classify_rule(&sent).verdict) != want || word(list.verdict(&sent)) != want {
             return false;
         }
     }

@@ -24,17 +24,17 @@ delete-requires g c =
     let r = readied c.requires.stands.housed c.reserve_besides.ensures.still refl c.self-2.view_is in
     pipes-named _ _ r.housed
 
-pub returns-in-Ok-None-clause-ok : goal.returns-in-Ok-None-clause-ok
-returns-in-Ok-None-clause-ok g c =
+pub returns-in-None-clause-ok : goal.returns-in-None-clause-ok
+returns-in-None-clause-ok g c =
     let r = readied c.requires.stands.housed c.reserve_besides.ensures.still refl c.self-2.view_is in
     from_readied r (obey c.args.at c.args.number (PipeDelete c.args.pipe)) 1 _ _
-    (not-deleted c.args.at c.args.number c.args.pipe _ _ _ c.delete.new.self r.housed c.delete.ensures.keys c.delete.ensures.seed _ (rw c.in-Ok-None.field-0-is at c.in-Ok-None.ensures.ok) (rw c.in-Ok-None.field-0-is at c.in-Ok-None.ensures.there) c.refuse-in-Ok-None.ensures)
+    (not-deleted c.args.at c.args.number c.args.pipe _ _ _ c.delete.new.self r.housed c.delete.ensures.keys c.delete.ensures.seed _ (rw c.in-None.is at c.in_ok-delete.ensures.ok) (rw c.in-None.is at c.in_ok-delete.ensures.there) c.refuse-in-None.ensures)
 
-pub returns-in-Ok-Some-clause-ok : goal.returns-in-Ok-Some-clause-ok
-returns-in-Ok-Some-clause-ok g c =
+pub returns-in-Some-clause-ok : goal.returns-in-Some-clause-ok
+returns-in-Some-clause-ok g c =
     let r = readied c.requires.stands.housed c.reserve_besides.ensures.still refl c.self-2.view_is in
     from_readied r (obey c.args.at c.args.number (PipeDelete c.args.pipe)) 1 _ _
-    (deleted c.args.at c.args.number c.args.pipe _ _ _ c.delete.new.self r.housed c.delete.ensures.keys c.delete.ensures.seed c.in-Ok-Some.packets.items c.note_done.new.self _ (rw c.in-Ok-Some.field-0-is at c.in-Ok-Some.ensures.ok) (rw c.in-Ok-Some.field-0-is at c.in-Ok-Some.ensures.there) c.note_done.ensures
+    (deleted c.args.at c.args.number c.args.pipe _ _ _ c.delete.new.self r.housed c.delete.ensures.keys c.delete.ensures.seed c.in-Some.packets.items c.note_done.new.self _ (rw c.in-Some.is at c.in_ok-delete.ensures.ok) (rw c.in-Some.is at c.in_ok-delete.ensures.there) c.note_done.ensures
     (subst (λ (xs : List Packet). Notes (map (drop_record c.args.at.now) (map (λ x. record { packet = x; cause = Deleted }) xs)) c.note_done.new.self c.drop_all.new.self) c.deref.ensures.value c.drop_all.ensures))
 
 pub returns-then-not-has-clause-ok : goal.returns-then-not-has-clause-ok
@@ -51,8 +51,8 @@ returns-in_err-reserve_besides-clause-succeeds g c = λ some.
     ap (λ (v : KeptNet). is_some (find_pipe c.args.pipe (net_of p v))) (sym c.self.view_is) ∙ sym (c.has.ensures p (net_of p (the_view c.self.inside))) ∙ c.if-not-has.false in
     absurd (none-there (refused-where (is_some (find_pipe c.args.pipe (net_of p c.args.self.now)))) (ap refused-where there) some)
 
-pub returns-in-Err-clause-succeeds : goal.returns-in-Err-clause-succeeds
-returns-in-Err-clause-succeeds g c = λ some.
+pub returns-in_err-delete-clause-succeeds : goal.returns-in_err-delete-clause-succeeds
+returns-in_err-delete-clause-succeeds g c = λ some.
     let p = g.S.Shelf.pocket c.args.shelf.now c.args.owner in
     let there : is_some (find_pipe c.args.pipe (net_of p c.args.self.now)) ≡ true =
     ap (λ (v : KeptNet). is_some (find_pipe c.args.pipe (net_of p v))) (sym c.self.view_is) ∙ sym (c.has.ensures p (net_of p (the_view c.self.inside))) ∙ c.if-not-has.false in

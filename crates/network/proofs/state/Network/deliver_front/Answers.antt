@@ -43,6 +43,14 @@ unreachable-requires g c =
     (at_view (λ (m : KeptNet). IsLeaving k c.args.instance c.args.at.now m.table.pipes) n c.args.self.now c.self.view_is c.requires.due))
     p (net_of p n) (sym (c.front.ensures k at_first (net_of p n)) ∙ c.in_default.is)
 
+pub exit-gone-requires-clause-inside : goal.exit-gone-requires-clause-inside
+exit-gone-requires-clause-inside g c =
+    let ps = c.args.self.now.table.pipes in
+    at_view (λ (m : KeptNet). IsInside c.args.place c.from-index.result m.table.pipes) (the_view c.self-2.inside) c.deliver_ready.new.self c.self-2.view_is
+    (c.in_ok-lookup.ensures.places.inside c.args.place c.from-index.result
+    (subst (λ (j : ℕ). IsInside c.args.place j ps) (sym c.from-index.ensures)
+    (leaving-inside c.args.pipe c.args.place c.args.instance c.args.at.now ps c.requires.place c.requires.due)))
+
 pub exit-gone-requires-clause-named : goal.exit-gone-requires-clause-named
 exit-gone-requires-clause-named g c =
     let r = readied c.requires.stands.housed c.deliver_ready.ensures.still (c.deliver_ready.ensures.pockets c.args.owner) c.self-2.view_is in

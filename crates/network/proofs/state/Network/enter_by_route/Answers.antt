@@ -24,8 +24,8 @@ returns-in-Some-clause-becomes g c =
     stands.housed c.arrive_at-answer.ensures.keys c.arrive_at-answer.ensures.seed c.in-Some.cause _
     (c.in-Some.ensures.arrived k (at_view (λ m. StandsAt k c.args.route.now.pipe m.table.pipes) n _ c.self.view_is c.requires.routed.stands) c.args.at (net_of p n) stands.seed refl) c.drop_packet.ensures)
 
-pub returns-in-None-clause-becomes : goal.returns-in-None-clause-becomes
-returns-in-None-clause-becomes g c =
+pub returns-in_default-clause-becomes : goal.returns-in_default-clause-becomes
+returns-in_default-clause-becomes g c =
     let p = g.S.Shelf.pocket c.args.shelf.now c.args.owner in
     let n = the_view c.self.inside in
     let stands : Stands c.args.at p n = at_view (Stands c.args.at p) _ _ c.self.view_is c.requires.stands in
@@ -33,4 +33,4 @@ returns-in-None-clause-becomes g c =
     from_view 0 (λ m. enters_pipe c.args.at k c.args.packet.now (net_of p m)) p _ _ _ _ c.self.view_is
     (taken-in c.args.at p _ n c.arrive_at-answer.new.self k c.args.at.now c.args.packet.now
     stands.housed c.arrive_at-answer.ensures.keys c.arrive_at-answer.ensures.seed
-    (c.in-None.ensures.arrived k (at_view (λ m. StandsAt k c.args.route.now.pipe m.table.pipes) n _ c.self.view_is c.requires.routed.stands) c.args.at (net_of p n) stands.seed refl))
+    (c.in_default.ensures.arrived k (at_view (λ m. StandsAt k c.args.route.now.pipe m.table.pipes) n _ c.self.view_is c.requires.routed.stands) c.args.at (net_of p n) stands.seed refl))

@@ -42,12 +42,12 @@ returns-in-Some-answer-clause-becomes g c =
     stands.housed c.arrive-answer.ensures.keys c.arrive-answer.ensures.seed c.in-Some-answer.cause _
     (c.in-Some-answer.ensures.arrived c.args.number c.in-Some.ensures c.args.at (net_of p n) stands.seed refl) c.drop_packet-in-Some-answer.ensures)
 
-pub returns-in-None-clause-becomes : goal.returns-in-None-clause-becomes
-returns-in-None-clause-becomes g c =
+pub returns-in_default-answer-clause-becomes : goal.returns-in_default-answer-clause-becomes
+returns-in_default-answer-clause-becomes g c =
     let p = g.S.Shelf.pocket c.args.shelf.now c.args.owner in
     let n = the_view c.self.inside in
     let stands : Stands c.args.at p n = at_view (Stands c.args.at p) _ _ c.self.view_is c.requires.stands in
     from_view 0 (λ m. enters_pipe c.args.at c.args.number c.args.packet.now (net_of p m)) p _ _ _ _ c.self.view_is
     (taken-in c.args.at p _ n c.arrive-answer.new.self c.args.number c.args.at.now c.args.packet.now
     stands.housed c.arrive-answer.ensures.keys c.arrive-answer.ensures.seed
-    (c.in-None.ensures.arrived c.args.number c.in-Some.ensures c.args.at (net_of p n) stands.seed refl))
+    (c.in_default-answer.ensures.arrived c.args.number c.in-Some.ensures c.args.at (net_of p n) stands.seed refl))

@@ -20,8 +20,8 @@ returns-in_default-clause-ok g c =
     (λ i. event_of c.args.at (sym c.in-Exit.is i) (sym none i) m) c.requires.stands.housed c.reserve.ensures.still
     c.direct_exit.ensures.ok
 
-pub returns-in-Exit-clause-ok : goal.returns-in-Exit-clause-ok
-returns-in-Exit-clause-ok g c =
+pub returns-in-Some-clause-ok : goal.returns-in-Some-clause-ok
+returns-in-Some-clause-ok g c =
     let p : Pocket = g.S.Shelf.pocket c.args.shelf.now c.args.owner in
     let k : ℕ = c.args.due.source.number in
     let m : Net = net_of p c.args.self.now in
@@ -32,8 +32,8 @@ returns-in-Exit-clause-ok g c =
     ∙ ap (λ (cl : Class). event_of c.args.at cl k m) (sym c.in-Exit.is)) c.requires.stands.housed c.reserve.ensures.still
     c.pipe_exit.ensures.ok
 
-pub returns-in-Finish-clause-ok : goal.returns-in-Finish-clause-ok
-returns-in-Finish-clause-ok g c =
+pub returns-in-Some-pipe-clause-ok : goal.returns-in-Some-pipe-clause-ok
+returns-in-Some-pipe-clause-ok g c =
     let p : Pocket = g.S.Shelf.pocket c.args.shelf.now c.args.owner in
     let k : ℕ = c.args.due.source.number in
     let m : Net = net_of p c.args.self.now in
@@ -48,8 +48,8 @@ emission-requires-clause-may g c =
     subst (λ (t : KeptTraffic). IsEmitting c.in-Some-flow-2.number t) (sym (ap (λ (x : KeptNet). x.traffic) c.reserve.ensures.rest))
     (subst (λ (j : ℕ). IsEmitting j c.args.self.now.traffic) (sym c.in-Some-flow-2.ensures.1) (c.requires.due.allowed c.in-Emission.is))
 
-pub returns-in-Emission-clause-ok : goal.returns-in-Emission-clause-ok
-returns-in-Emission-clause-ok g c =
+pub returns-in-Some-flow-2-clause-ok : goal.returns-in-Some-flow-2-clause-ok
+returns-in-Some-flow-2-clause-ok g c =
     let p : Pocket = g.S.Shelf.pocket c.args.shelf.now c.args.owner in
     let k : ℕ = c.args.due.source.number in
     let m : Net = net_of p c.args.self.now in

@@ -16,5 +16,5 @@ returns-clause-becomes g c =
     let p = g.S.Shelf.pocket c.args.shelf.now c.args.owner in
     let n = the_view c.self.inside in
     from_view 0 (λ n. record (net_of p n) { direct = leave (net_of p n).direct }) p _ n _ _ c.self.view_is
-    (direct-left c.keys_say_all.ensures.agree p _ n c.in_ok-key.key c.in-Some.packet c.leave-key.new.self (at_view (IsHoused p) n _ c.self.view_is c.requires)
-    c.in_ok-key.ensures.item c.in-Some.ensures.value c.in-Some.ensures.some c.leave-key.ensures.line)
+    (direct-left c.keys_say_all.ensures.agree p _ n c.in_ok-key.key c.in-Some.packet c.leave.new.self (at_view (IsHoused p) n _ c.self.view_is c.requires)
+    c.in_ok-key.ensures.item c.in-Some.ensures.value c.in-Some.ensures.some c.leave.ensures.line)

@@ -34,7 +34,7 @@ returns-in-Cached-clause-becomes g c =
     from_view 1 (λ m. made_of c.args.at c.args.sending.now.load c.args.sending.now.send (net_of p m)) p _ _ _ _ c.self.view_is
     (made-passes c.keys_say_all.ensures.packets c.args.at p n c.args.sending.now.load c.args.sending.now.send c.packet_of-packet.result
     stands.housed c.packet_of-packet.ensures _ _ _ c.note_made.ensures
-    (omega (arith, c.if-count-get.true, c.count.ensures.value, c.get.ensures.value)) c.pass_on_line.ensures.becomes)
+    (omega (arith, c.if-count-get.false, c.count.ensures.value, c.get.ensures.value)) c.pass_on_line.ensures.becomes)
 
 pub returns-in-Searched-clause-becomes : goal.returns-in-Searched-clause-becomes
 returns-in-Searched-clause-becomes g c =
@@ -44,14 +44,14 @@ returns-in-Searched-clause-becomes g c =
     from_view 1 (λ m. made_of c.args.at c.args.sending.now.load c.args.sending.now.send (net_of p m)) p _ _ _ _ c.self.view_is
     (made-passes c.keys_say_all.ensures.packets c.args.at p n c.args.sending.now.load c.args.sending.now.send c.packet_of-packet.result
     stands.housed c.packet_of-packet.ensures _ _ _ c.note_made.ensures
-    (omega (arith, c.if-count-get.true, c.count.ensures.value, c.get.ensures.value)) c.pass_rules.ensures.becomes)
+    (omega (arith, c.if-count-get.false, c.count.ensures.value, c.get.ensures.value)) c.pass_rules.ensures.becomes)
 
-pub returns-clause-becomes : goal.returns-clause-becomes
-returns-clause-becomes g c =
+pub returns-then-count-get-clause-becomes : goal.returns-then-count-get-clause-becomes
+returns-then-count-get-clause-becomes g c =
     let p = g.S.Shelf.pocket c.args.shelf.now c.args.owner in
     let n = the_view c.self.inside in
     let stands : Stands c.args.at p n = at_view (Stands c.args.at p) _ _ c.self.view_is c.requires.stands in
     from_view 1 (λ m. made_of c.args.at c.args.sending.now.load c.args.sending.now.send (net_of p m)) p _ _ _ _ c.self.view_is
     (made-dropped c.keys_say_all.ensures.packets c.args.at p n c.args.sending.now.load c.args.sending.now.send c.packet_of-packet.result
     stands.housed c.packet_of-packet.ensures _ _ c.note_made.ensures
-    (omega (arith, c.if-count-get.false, c.count.ensures.value, c.get.ensures.value)) c.drop_packet.ensures)
+    (omega (arith, c.if-count-get.true, c.count.ensures.value, c.get.ensures.value)) c.drop_packet.ensures)

@@ -13,7 +13,7 @@ returns-in-Some-clause-turns c =
     (traffic-noted (λ n. option_map_or (take_ack c.args.now c.args.upto n) (find_flow c.args.flow n) n) (the_view c.self.inside) c.note.new.self c.take_ack-answer.new.self
     (AckTaken c.args.now c.args.flow c.in-Some.window.cwnd c.in-Some.window.ssthresh ∷ []) (λ m. c.in-Some.ensures.taken m) c.note.ensures)
 
-pub returns-in-None-clause-turns : goal.returns-in-None-clause-turns
-returns-in-None-clause-turns c =
+pub returns-in_default-clause-turns : goal.returns-in_default-clause-turns
+returns-in_default-clause-turns c =
     turns_view (λ n. option_map_or (take_ack c.args.now c.args.upto n) (find_flow c.args.flow n) n) _ _ _ c.self.view_is
-    (traffic-turned (λ n. option_map_or (take_ack c.args.now c.args.upto n) (find_flow c.args.flow n) n) (the_view c.self.inside) c.take_ack-answer.new.self (λ m. c.in-None.ensures.taken m))
+    (traffic-turned (λ n. option_map_or (take_ack c.args.now c.args.upto n) (find_flow c.args.flow n) n) (the_view c.self.inside) c.take_ack-answer.new.self (λ m. c.in_default.ensures.taken m))

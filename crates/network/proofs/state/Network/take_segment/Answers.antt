@@ -23,9 +23,9 @@ returns-in-Some-clause-becomes g c =
     from_view 1 (λ m. take_load c.args.at (Seg c.args.flow c.args.first) (net_of p m)) p _ n _ _ c.self.view_is
     (sent-one (λ m. take_load c.args.at (Seg c.args.flow c.args.first) m) p n c.take-answer.new.self _ c.make.new.self _ (c.in-Some.ensures.taken c.args.at (net_of p n)) c.make.ensures.becomes)
 
-pub returns-in-None-clause-becomes : goal.returns-in-None-clause-becomes
-returns-in-None-clause-becomes g c =
+pub returns-in_default-clause-becomes : goal.returns-in_default-clause-becomes
+returns-in_default-clause-becomes g c =
     let p = g.S.Shelf.pocket c.args.shelf.now c.args.owner in
     let n = the_view c.self.inside in
     from_view 1 (λ m. take_load c.args.at (Seg c.args.flow c.args.first) (net_of p m)) p _ n _ _ c.self.view_is
-    (sent-none (λ m. take_load c.args.at (Seg c.args.flow c.args.first) m) p n c.take-answer.new.self (at_view (Stands c.args.at p) n _ c.self.view_is c.requires.stands).housed (λ m. c.in-None.ensures.taken c.args.at m))
+    (sent-none (λ m. take_load c.args.at (Seg c.args.flow c.args.first) m) p n c.take-answer.new.self (at_view (Stands c.args.at p) n _ c.self.view_is c.requires.stands).housed (λ m. c.in_default.ensures.taken c.args.at m))
