@@ -16,8 +16,8 @@ returns-in_default-clause-back g c =
           (subst (λ (l : List (Option (Resident _))). IsSome (resident_at l k)) c.as_slice.ensures.value (c.in_default.ensures.none k (omega (arith, within, c.self.invariant.long, ap length c.as_slice.ensures.value)))),
     )
 
-pub returns-in_default-admit-clause-memory : goal.returns-in_default-admit-clause-memory
-returns-in_default-admit-clause-memory g c =
+pub returns-in-Err-clause-memory : goal.returns-in-Err-clause-memory
+returns-in-Err-clause-memory g c =
     let s = c.self.inside in
     let k : ℕ = c.in-Some.slot in
     let found = subst (λ (l : List (Option (Resident _))). (k < length l) × (resident_at l k ≡ None) × ((j : ℕ) → j < k → IsSome (resident_at l j))) c.as_slice.ensures.value c.in-Some.ensures.some in
@@ -28,40 +28,38 @@ pub invariant_of-self-2 : goal.invariant_of-self-2
 invariant_of-self-2 g c =
     let s = c.self.inside in
     let k : ℕ = c.in-Some.slot in
-    let owner : ℕ = c.in-Ok.owner in
-    let first = c.settle-resident.result in
+    let owner : ℕ = c.in-Ok.resident.owner in
     let t = c.enter.new.self in
     let clock : ℕ = g.A.Agenda.time s.agenda in
     let rows = g.A.Agenda.entries s.agenda in
     let later = g.A.Agenda.entries c.enter.new.agenda in
-    let after = pocket_of c.settle-resident.new.store in
+    let after = pocket_of c.settle.new.store in
     let found = subst (λ (l : List (Option (Resident _))). (k < length l) × (resident_at l k ≡ None) × ((j : ℕ) → j < k → IsSome (resident_at l j))) c.as_slice.ensures.value c.in-Some.ensures.some in
     let inside : k < 256 = omega (arith, found.0, c.self.invariant.long) in
-    let seated = c.enter.ensures.seated (after owner) c.settle-resident.ensures.going in
-    let is : t.owner ≡ owner = ap (λ (x : Resident _). x.owner) c.enter.ensures.same ∙ c.settle-resident.ensures.owner in
+    let seated = c.enter.ensures.seated (after owner) c.in-Ok.ensures.going in
+    let is : t.owner ≡ owner = ap (λ (x : Resident _). x.owner) c.enter.ensures.same in
     let fresh : (pocket_of s.store owner).budget ≡ 0 = ap (λ (x : Pocket). x.budget) c.in-Ok.ensures.stranger in
-    let h = comes g.M.Mail.seen (pocket_of s.store) after rows later clock s.slots.items k owner t c.self.invariant inside fresh (λ q n. c.settle-resident.ensures.others q n ∙ c.in-Ok.ensures.others q n) c.enter.ensures.others seated is in
+    let h = comes g.M.Mail.seen (pocket_of s.store) after rows later clock s.slots.items k owner t c.self.invariant inside fresh c.in-Ok.ensures.others c.enter.ensures.others seated is in
     subst (λ x. IsShard g.M.Mail.seen after later x (set s.slots.items k (Some t))) (sym c.enter.ensures.time) h.shard
 
 pub returns-clause-ok : goal.returns-clause-ok
 returns-clause-ok g c =
     let s = c.self.inside in
     let k : ℕ = c.in-Some.slot in
-    let owner : ℕ = c.in-Ok.owner in
-    let first = c.settle-resident.result in
+    let owner : ℕ = c.in-Ok.resident.owner in
     let t = c.enter.new.self in
     let clock : ℕ = g.A.Agenda.time s.agenda in
     let rows = g.A.Agenda.entries s.agenda in
     let later = g.A.Agenda.entries c.enter.new.agenda in
-    let after = pocket_of c.settle-resident.new.store in
+    let after = pocket_of c.settle.new.store in
     let found = subst (λ (l : List (Option (Resident _))). (k < length l) × (resident_at l k ≡ None) × ((j : ℕ) → j < k → IsSome (resident_at l j))) c.as_slice.ensures.value c.in-Some.ensures.some in
     let inside : k < 256 = omega (arith, found.0, c.self.invariant.long) in
-    let seated = c.enter.ensures.seated (after owner) c.settle-resident.ensures.going in
-    let is : t.owner ≡ owner = ap (λ (x : Resident _). x.owner) c.enter.ensures.same ∙ c.settle-resident.ensures.owner in
+    let seated = c.enter.ensures.seated (after owner) c.in-Ok.ensures.going in
+    let is : t.owner ≡ owner = ap (λ (x : Resident _). x.owner) c.enter.ensures.same in
     let fresh : (pocket_of s.store owner).budget ≡ 0 = ap (λ (x : Pocket). x.budget) c.in-Ok.ensures.stranger in
-    let h = comes g.M.Mail.seen (pocket_of s.store) after rows later clock s.slots.items k owner t c.self.invariant inside fresh (λ q n. c.settle-resident.ensures.others q n ∙ c.in-Ok.ensures.others q n) c.enter.ensures.others seated is in
+    let h = comes g.M.Mail.seen (pocket_of s.store) after rows later clock s.slots.items k owner t c.self.invariant inside fresh c.in-Ok.ensures.others c.enter.ensures.others seated is in
     let seats = ap (λ (x : Seating _). x.seats) c.self.view_is in
-    let stands : standing (after owner) t ≡ c.args.parcel = ap (λ (x : Resident _). standing (after owner) x) c.enter.ensures.same ∙ c.settle-resident.ensures.same in (
+    let stands : standing (after owner) t ≡ c.args.parcel = ap (λ (x : Resident _). standing (after owner) x) c.enter.ensures.same ∙ c.in-Ok.ensures.same in (
       seat (after t.owner) t,
       record {
         vacant = vacant_seat (pocket_of s.store) s.slots.items c.args.self.now.seats k seats found.1;

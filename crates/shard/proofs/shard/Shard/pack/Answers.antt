@@ -33,13 +33,13 @@ returns-in_default-clause-succeeds g c = λ there.
     let none : resident_at s.slots.items c.args.slot ≡ None = sym (sym c.in_default.is ∙ get_or_read s.slots.items c.args.slot c.index.result.now within c.index.ensures None) in
     subst IsSome (vacant_seat (pocket_of s.store) s.slots.items c.args.self.now.seats c.args.slot (ap (λ (x : Seating _). x.seats) c.self.view_is) none) there
 
-pub leave-requires-clause-going : goal.leave-requires-clause-going
-leave-requires-clause-going g c =
+pub leave-requires : goal.leave-requires
+leave-requires g c =
     let s = c.self.inside in
     let r = c.in-Some-replace.gone in
     let within : c.args.slot < length s.slots.items = omega (arith, s.slots.ok.0) in
     let is : resident_at s.slots.items c.args.slot ≡ Some r = read_at s.slots.items c.args.slot c.index_mut.result.now r within c.index_mut.ensures.value c.in-Some-replace.ensures.value in
-    (seated_at g.M.Mail.seen (pocket_of s.store) (g.A.Agenda.entries s.agenda) (g.A.Agenda.time s.agenda) s.slots.items c.args.slot r c.self.invariant is).going
+    record { going = (seated_at g.M.Mail.seen (pocket_of s.store) (g.A.Agenda.entries s.agenda) (g.A.Agenda.time s.agenda) s.slots.items c.args.slot r c.self.invariant is).going }
 
 pub invariant_of-self : goal.invariant_of-self
 invariant_of-self g c =
