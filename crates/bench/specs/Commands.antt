@@ -1,5 +1,5 @@
 -- Lists of commands, and which of them an experiment takes.
-use Rattle.std.specs.Prelude.{◌≡◌, Bool, List, length, take}
+use Rattle.std.specs.Prelude.{◌≡◌, List, length, take}
 use Rattle.emu_model.specs.declared.commands.Timed.{Timed}
 use Rattle.emu_model.specs.declared.records.Ending.{Ending}
 use Rattle.emu_model.specs.declared.records.Ending.TheVariants.{Ended, Spent, Halted}

@@ -1,6 +1,6 @@
 -- What moves as one shows the experiment with all its records, wherever these are.
 use Rattle.std.proofs.Common.{◌≡◌, ℕ, ◌+◌, ◌≤◌, List, [], ◌∷◌, ◌++◌, length, take, None, IsSome, refl, sym, ap, ◌∙◌, subst, arith, append-nil, ⊎_elim}
-use Rattle.std.specs.Prelude.{◌⊎◌, Option, Some, IfSome, Result, Ok, Err, OnOk, OnErr, option_to_list}
+use Rattle.std.specs.Prelude.{Option, Some, IfSome, Result, Ok, Err, OnOk, OnErr, option_to_list}
 use Rattle.std.proofs.lemmas.List.{take-append-le, length-append}
 use Rattle.emu_model.specs.declared.records.Record.{Record}
 use Rattle.emu_model.specs.declared.commands.Timed.{Timed}

@@ -1,6 +1,5 @@
 use Rattle.std.proofs.Common.{◌≡◌, length, take, sym, ap, ◌∙◌, refl, arith}
 use Rattle.std.proofs.Math.Seq.{take-length}
-use Rattle.std.proofs.lemmas.List.{take_all}
 use Rattle.bench.proofs.Beginnings.{there, not_there, begins_more, begins_there}
 use Rattle.report.proofs.Equalities.{news_decides}
 use Rattle.bench.proofs.tenant.begins.Goals as goal

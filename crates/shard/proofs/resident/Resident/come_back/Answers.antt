@@ -1,4 +1,4 @@
-use Rattle.std.proofs.Common.{◌≡◌, sym, ap, ◌∙◌, subst}
+use Rattle.std.proofs.Common.{sym, ap, ◌∙◌, subst}
 use Rattle.packet_store.specs.Pocket.{Pocket}
 use Rattle.shard.specs.Kept.{stand_of, IsGoing}
 use Rattle.shard.proofs.resident.Resident.come_back.Goals as goal

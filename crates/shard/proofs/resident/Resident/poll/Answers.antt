@@ -1,4 +1,4 @@
-use Rattle.std.proofs.Common.{◌≡◌, ◌≤◌, ◌<◌, ◌++◌, ◌∷◌, [], ℕ, Option, sym, ap, ◌∙◌, subst, length, take, Err, Some, arith}
+use Rattle.std.proofs.Common.{◌≡◌, ◌≤◌, ◌<◌, ◌++◌, ◌∷◌, [], ℕ, Option, sym, ap, ◌∙◌, subst, length, take, Err, Some}
 use Rattle.emu_model.specs.declared.commands.Timed.{Timed}
 use Rattle.experiment.specs.Kept.{KeptExperiment, IsAlone, IsHousedIn, last_moment}
 use Rattle.shard.specs.Bodies.{Moved, Residence as Resident}
