@@ -344,6 +344,7 @@ fn codel_is_replaced(rt: &impl Abort, queue: &mut Codel<u32>) {
     }
     assert!(rt; queue.waiting() == 3);
     queue.replace(0, 10);
+    assert!(rt; queue.waiting() == 3);
     queue.replace(1, 11);
     let items = [queue.at(0), queue.at(1), queue.at(3)];
     assert!(rt; items == [Some(10), Some(11), None]);
