@@ -1,6 +1,7 @@
 """Trials of the words `--progress` and `--moves` of a dnlab program, by what a user sees of them."""
 import os
 import re
+import shutil
 import subprocess
 import time
 from collections.abc import Iterator
@@ -11,7 +12,7 @@ Trial = tuple[str, bool]
 TOLD, PAUSE = 65536, 0.2
 STEPPED = re.compile(r"dnlab: 1 experiments have ended, (\d+) steps of at most 3500000 of the next")
 TRAIN = "@0 train {} udp 10.0.0.1 1 10.0.0.2 2 100 count {} gap 1000\n"
-# 4,000 packets are under way in the end: each time the experiment is offered, it is packed with all of them.
+# It is offered every so many steps, with 4,000 packets under way in the end.
 HELD = b"""experiment held seed 0 budget 4096 steps 100000
 @0 pipe 1 config delay 10000
 @0 add 100 pipe 1 udp from any to any
@@ -74,13 +75,29 @@ def processor_time(program: str, words: list[str]) -> float:
     return min(once() for _ in range(3))
 
 
+def instructions(program: str, words: list[str]) -> int | None:
+    """How many instructions one worker takes, as valgrind counts them; None where it can't run the program."""
+    if not shutil.which("valgrind"):
+        return None
+    counting = ["valgrind", "--tool=callgrind", "--callgrind-out-file=/dev/null"]
+    done = subprocess.run([*counting, program, "run", "--workers", "1", *words], input=HELD, capture_output=True, timeout=300)
+    counted = re.search(rb"Collected : (\d+)", done.stderr)
+    return int(counted[1]) if counted and done.returncode == 0 else None
+
+
 def moves(program: str) -> Iterator[Trial]:
-    """An offer packs the experiment, so ten times fewer offers take far less processor time."""
-    usual = processor_time(program, [])
-    many, few = processor_time(program, ["--moves", "64"]), processor_time(program, ["--moves", "640"])
-    said = f"{usual:.3f} s of processor time, {many:.3f} s with 64, {few:.3f} s with 640"
-    yield f"fewer moves take less time: {said}", few < many / 2
-    yield f"--moves is 64 where it isn't given: {said}", many / 1.6 < usual < many * 1.6
+    """An offer packs the experiment. So an offer at each step takes far more time, and twice or half as many take more or
+    fewer instructions."""
+    usual, each = processor_time(program, []), processor_time(program, ["--moves", "1"])
+    yield f"an offer at each step takes more time: {each:.3f} s of processor time, {usual:.3f} s by default", each > 2 * usual
+    default = instructions(program, [])
+    if default is None:
+        # A checked build doesn't run under valgrind; the proved program does.
+        return
+    half, same, twice = (instructions(program, ["--moves", str(number)]) or 0 for number in (32, 64, 128))
+    said = f"{default} instructions, {half} with 32, {same} with 64, {twice} with 128"
+    near = abs(default - same)
+    yield f"--moves is 64 where it isn't given: {said}", near < abs(half - same) / 4 and near < abs(twice - same) / 4
 
 
 def trials(program: str) -> Iterator[Trial]:
