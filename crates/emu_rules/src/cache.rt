@@ -10,7 +10,7 @@ ghost use Rattle.emu_rules.specs.RuleCache.{AreTrueOf, IsHeldAt, IsSearchOf, emp
 
 use crate::counted::{Amount, CountedRule};
 use crate::search::{Found, NO_RULE, walk_and_count};
-use emu_model::{Load, Packet, Place, Protocol, RuleNumber, Size};
+use emu_model::{Load, Packet, Place, Protocol, RuleNumber, Size, unreachable_unchecked};
 use std::alloc::{AllocError, Global};
 
 /// What a search from a place on found for the packets of one flow, and what it counted that the rules don't have yet.
@@ -208,7 +208,7 @@ impl RuleCache {
     {
         self.latest = place;
         let Some(path) = self.held[place] else {
-            unreachable!()
+            unreachable_unchecked!()
         };
         path.found
     }
@@ -226,7 +226,7 @@ impl RuleCache {
         ensures kept { (rules : List Rule) → AreTrueOf rules self.old → AreTrueOf rules self.new }
     {
         let Some(path) = self.held[place] else {
-            unreachable!()
+            unreachable_unchecked!()
         };
         if path.found.rule != NO_RULE {
             return path.found;
@@ -267,8 +267,7 @@ impl RuleCache {
             found,
             counted: Amount::none(),
         };
-        let gone = self.held[place];
-        let _emptied = settle_path(gone, rules, jumps);
+        let _emptied = settle_path(&self.held[place], rules, jumps);
         self.held[place] = Some(path);
         self.latest = place;
     }
@@ -286,8 +285,8 @@ impl RuleCache {
             return;
         }
         for place in 0..self.held.len() {
-            let path = self.held[place];
-            self.held[place] = settle_path(path, rules, jumps);
+            let path = settle_path(&self.held[place], rules, jumps);
+            self.held[place] = path;
         }
         self.is_pending = false;
     }
@@ -296,23 +295,23 @@ impl RuleCache {
 /// The rules get what a cached search has counted, and it begins anew.
 #[inline(always)]
 fn settle_path(
-    held: Option<CachedSearch>,
+    held: &Option<CachedSearch>,
     rules: &mut [CountedRule],
     jumps: &[usize],
 ) -> Option<CachedSearch>
     requires { AreJumps (the_rules rules.old) jumps.now }
-    ensures rules { rules.new ≡ settled_by held rules.old }
-    ensures path { result ≡ emptied held }
+    ensures rules { rules.new ≡ settled_by held.now rules.old }
+    ensures path { result ≡ emptied held.now }
 {
     let Some(path) = held else {
         return None;
     };
     if path.counted.is_some() {
-        walk_path(rules, jumps, &path);
+        walk_path(rules, jumps, path);
     }
     Some(CachedSearch {
         counted: Amount::none(),
-        ..path
+        ..*path
     })
 }
 

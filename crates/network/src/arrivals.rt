@@ -17,7 +17,7 @@ use crate::flow_cache::{Lookup, Route};
 use crate::state::Network;
 use emu_model::{
     Delay, DropCause, EventContext, Load, Packet, PipeNumber, Place, Record, RuleNumber, SendSpec,
-    Verdict,
+    Verdict, unreachable_unchecked,
 };
 use emu_rules::{Match, NO_RULE};
 use packet_store::{Owner, Shelf};
@@ -287,10 +287,10 @@ impl Network {
     {
         keys_say_all();
         let Ok(key) = shelf.put(owner, *packet) else {
-            unreachable!();
+            unreachable_unchecked!();
         };
         let Ok(()) = self.direct.enter(key, now, no_delay()) else {
-            unreachable!();
+            unreachable_unchecked!();
         };
     }
 
@@ -469,7 +469,7 @@ impl Network {
             self.old self.new }
     {
         let Some(held) = self.flow_cache.at(line) else {
-            unreachable!();
+            unreachable_unchecked!();
         };
         let route = held.route;
         self.pass_by_route(shelf, owner, at, &route, packet);

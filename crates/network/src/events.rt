@@ -20,7 +20,10 @@ ghost use Rattle.traffic.specs.Sends.{IsEmitting};
 
 use crate::flow_cache::{Lookup, Route, line_of};
 use crate::state::Network;
-use emu_model::{Class, DropCause, Due, EventContext, FlowNumber, Packet, PipeNumber, Record};
+use emu_model::{
+    Class, DropCause, Due, EventContext, FlowNumber, Packet, PipeNumber, Record,
+    unreachable_unchecked,
+};
 use packet_store::{Owner, Shelf};
 use pipe_core::keys_say_all;
 use pipe_table::RecordLog;
@@ -82,20 +85,20 @@ impl Network {
             }
             Class::Finish => {
                 let Some(pipe) = source.pipe() else {
-                    unreachable!();
+                    unreachable_unchecked!();
                 };
                 self.pipe_finish(shelf, owner, at, pipe, source.instance())
             }
             Class::Expiry => {
                 let Some(flow) = source.flow() else {
-                    unreachable!();
+                    unreachable_unchecked!();
                 };
                 self.expire(at, flow);
                 Ok(())
             }
             Class::Emission => {
                 let Some(number) = source.flow() else {
-                    unreachable!();
+                    unreachable_unchecked!();
                 };
                 self.emission(shelf, owner, at, number)
             }
@@ -155,7 +158,7 @@ impl Network {
         keys_say_all();
         let key = self.direct.leave()?;
         let Some(packet) = shelf.take(owner, key) else {
-            unreachable!();
+            unreachable_unchecked!();
         };
         Some(packet)
     }
@@ -211,7 +214,7 @@ impl Network {
             self.old self.new }
     {
         let Some(place) = self.table.place_of(pipe) else {
-            unreachable!();
+            unreachable_unchecked!();
         };
         if self.one_pass {
             return self.deliver_front(shelf, owner, at, pipe, place, instance);
@@ -250,7 +253,7 @@ impl Network {
     {
         let index = usize::from(instance);
         let Some(packet) = self.table.front(place, index, shelf, owner) else {
-            unreachable!();
+            unreachable_unchecked!();
         };
         let lookup = self.deliver_ready(shelf, owner, at.now, packet.load)?;
         let _gone = self.table.exit(place, index, shelf, owner);
@@ -306,7 +309,7 @@ impl Network {
     {
         let index = usize::from(instance);
         let Some(packet) = self.table.front(place, index, shelf, owner) else {
-            unreachable!();
+            unreachable_unchecked!();
         };
         let known = self.pass_ready(shelf, owner, at.now, &packet)?;
         let _gone = self.table.exit(place, index, shelf, owner);
@@ -342,7 +345,7 @@ impl Network {
             self.old self.new }
     {
         let Some(place) = self.table.place_of(pipe) else {
-            unreachable!();
+            unreachable_unchecked!();
         };
         let index = usize::from(instance);
         if !self.table.drops_none(place, index, at.now) {

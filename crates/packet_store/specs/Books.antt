@@ -1,5 +1,5 @@
 -- What a contract sees of a `Store`.
-use Rattle.std.specs.Prelude.{ℕ, ◌-◌, ◌≤◌, List, Option, Some, None, IfSome, slice_index_or}
+use Rattle.std.specs.Prelude.{ℕ, ◌-◌, ◌≤◌, List, Option, Some, None, IfSome, IsSome, slice_index_or}
 use Rattle.packet_store.specs.Own.{Own, own_pocket}
 use Rattle.packet_store.specs.Pocket.{Pocket, empty_pocket}
 
@@ -14,6 +14,10 @@ pocket_on (Some s) = own_pocket s
 
 unfoldable pub pocket_of : Books → ℕ → Pocket
 pocket_of b o = pocket_on (slice_index_or b.shelves o None)
+
+-- an owner has a shelf there
+abbrev pub IsAdmitted : ℕ → Books → Type 0
+IsAdmitted o b = IsSome (slice_index_or b.shelves o None)
 
 -- a shelf has a place for each packet of its budget
 abbrev pub HasAll : Own → Type 0

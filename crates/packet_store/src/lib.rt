@@ -3,6 +3,7 @@
 #![tactic(auto)]
 
 mod own;
+mod reserved;
 mod shared;
 
 ghost use Rattle.std.specs.Prelude.{◌≡◌, ◌≢◌, ℕ, ◌+◌, ◌<◌, ◌≤◌, ◌↔◌, Option, Some, None, IsOk, IfOk, OnOk, OnErr, OnSome, IfNone};
@@ -10,6 +11,7 @@ ghost use Rattle.packet_store.specs.Pocket.{Pocket, with_packet, without};
 
 use emu_model::Packet;
 pub use own::OwnShelf;
+pub use reserved::ReservedShelf;
 pub use shared::Store;
 use std::alloc::AllocError;
 use std::marker::Model;
@@ -28,7 +30,7 @@ impl Model for Key {
     ghost inverse = { λ n. record { place = n } };
 }
 
-/// Whose packet it is: 0 on an `OwnShelf`, what `Store::admit` answered on a `Store`.
+/// Whose packet it is: 0 on an `OwnShelf` and on a `ReservedShelf`, what `Store::admit` answered on a `Store`.
 pub type Owner = usize;
 
 /// Why a packet was not put.

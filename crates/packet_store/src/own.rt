@@ -46,6 +46,17 @@ impl OwnShelf {
         }
     }
 
+    // A shelf on which nothing may stand.
+    pub(crate) fn none(alloc: Global) -> Self
+        ensures own { own_pocket result ≡ empty_pocket 0 }
+    {
+        OwnShelf {
+            places: Vec::new(alloc),
+            free: Vec::new(alloc),
+            budget: 0,
+        }
+    }
+
     /// Makes room for so many packets more, or for as many as the budget has left.
     pub fn reserve(&mut self, additional: usize) -> Result<(), AllocError>
         ensures ok { OnOk result

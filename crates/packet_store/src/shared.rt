@@ -1,14 +1,15 @@
 //! One slab for the packets of many owners, each on a shelf of its own.
-ghost use Rattle.std.specs.Prelude.{◌≡◌, ◌≢◌, ℕ, ◌+◌, ◌-◌, ◌<◌, ◌≤◌, ◌↔◌, IsTrue, IfOk, IfErr, IfSome, IfNone, OnErr};
+ghost use Rattle.std.specs.Prelude.{◌≡◌, ◌≢◌, ℕ, ◌+◌, ◌-◌, ◌<◌, ◌≤◌, ◌↔◌, IsTrue, IfOk, IfErr, IfSome, IfNone, OnErr, OnSome};
 ghost use Rattle.packet_store.specs.Pocket.{empty_pocket};
-ghost use Rattle.packet_store.specs.Books.{Books, pocket_of};
+ghost use Rattle.packet_store.specs.Books.{Books, IsAdmitted, pocket_of};
 ghost use Rattle.packet_store.specs.Own.{own_pocket};
 
-use crate::{Key, OwnShelf, Owner, PutError, Shelf};
+use crate::{Key, OwnShelf, Owner, PutError, ReservedShelf, Shelf};
 use emu_model::{Packet, PacketBudget};
 use slab::Slab;
 use std::alloc::{AllocError, Global};
 use std::marker::Model;
+use std::mem;
 
 /// The packets of many owners. Each has a shelf with a place for every packet of its budget, so that no other owner can
 /// take it.
@@ -95,6 +96,35 @@ impl Store {
         ensures others { (o : ℕ) → o ≢ owner → pocket_of self.new o ≡ pocket_of self.old o }
     {
         let _gone = self.lift(owner);
+    }
+
+    /// Lends the shelf of an owner; `None` where the owner was not admitted. No clause says what the owner has there until
+    /// `give_back`.
+    #[tactic(auto, unfolding(crate::specs::Books::pocket_of))]
+    #[inline(always)]
+    pub fn lend(&mut self, owner: Owner) -> Option<ReservedShelf>
+        ensures some { IfSome result (λ shelf. own_pocket shelf ≡ pocket_of self.old owner) }
+        ensures none { IfNone result (pocket_of self.old owner ≡ empty_pocket 0) }
+        ensures lent { OnSome result (IsAdmitted owner self.new) }
+        ensures others { (o : ℕ) → o ≢ owner → pocket_of self.new o ≡ pocket_of self.old o }
+    {
+        let none = OwnShelf::none(self.alloc);
+        let shelf = self.shelves.get_mut(owner)?;
+        Some(ReservedShelf::of(mem::replace(shelf, none)))
+    }
+
+    /// Takes a shelf back that was lent, with what stands there now.
+    #[tactic(auto, unfolding(crate::specs::Books::pocket_of))]
+    #[inline(always)]
+    pub fn give_back(&mut self, owner: Owner, shelf: ReservedShelf)
+        requires { IsAdmitted owner self.old }
+        ensures back { pocket_of self.new owner ≡ own_pocket shelf }
+        ensures others { (o : ℕ) → o ≢ owner → pocket_of self.new o ≡ pocket_of self.old o }
+    {
+        let Some(place) = self.shelves.get_mut(owner) else {
+            unreachable!();
+        };
+        *place = shelf.into_own();
     }
 }
 

@@ -17,7 +17,7 @@ ghost use Rattle.pipe_core.specs.Turns.{configured, IsAccept, IsFinish};
 
 use crate::leftovers::Leftovers;
 use crate::service::Service;
-use emu_model::{Delay, LossRate, PipeConfig, PipeNumber, Size};
+use emu_model::{Delay, LossRate, PipeConfig, PipeNumber, Size, unreachable_unchecked};
 use link_core::DelayLine;
 use loss_stream::LossStream;
 use packet_store::Key;
@@ -178,12 +178,12 @@ impl Instance {
         ensures none { IsTrue plain → IfOk result (λ r. r.dropped.items ≡ []) }
     {
         let Some(key) = self.service.key() else {
-            unreachable!();
+            unreachable_unchecked!();
         };
         self.line.enter_ready(now, delay)?;
         let dequeued = self.queue.dequeue_knowing(now, plain)?;
         let Ok(()) = self.line.enter(key, now, delay) else {
-            unreachable!();
+            unreachable_unchecked!();
         };
         self.service.follow(dequeued.given);
         Ok(Finished {

@@ -13,7 +13,7 @@ ghost use Rattle.pipe_core.specs.Moves.{packet_at, AreNamed};
 use crate::Instance;
 use crate::takes::{clear_for, take_dropped};
 use due_index::DueNumber;
-use emu_model::{DropCause, Packet, PipeConfig, PipeNumber, Source};
+use emu_model::{DropCause, Packet, PipeConfig, PipeNumber, Source, unreachable_unchecked};
 use flow_mask::FlowId;
 use packet_store::{Owner, Shelf};
 use std::alloc::AllocError;
@@ -62,7 +62,7 @@ impl Slot {
         let room = self.instance.accepts(packet.size);
         if room {
             let Ok(key) = shelf.put(owner, *packet) else {
-                unreachable!();
+                unreachable_unchecked!();
             };
             self.instance.accept(key, packet.size, now);
             return None;
@@ -108,7 +108,7 @@ impl Slot {
         clear_for(most, drops)?;
         let done = self.instance.finish(now, config.delay, plain)?;
         let Some(packet) = shelf.look(owner, done.key) else {
-            unreachable!();
+            unreachable_unchecked!();
         };
         take_dropped(done.dropped.as_slice(), shelf, owner, drops);
         Ok(packet)
@@ -141,7 +141,7 @@ impl Slot {
     {
         let key = self.instance.front()?;
         let Some(packet) = shelf.look(owner, key) else {
-            unreachable!();
+            unreachable_unchecked!();
         };
         Some(packet)
     }
@@ -160,7 +160,7 @@ impl Slot {
     {
         let key = self.instance.exit()?;
         let Some(packet) = shelf.take(owner, key) else {
-            unreachable!();
+            unreachable_unchecked!();
         };
         Some(packet)
     }

@@ -7,7 +7,7 @@ ghost use Rattle.pipe_core.specs.Keyed.{keys_of};
 
 use crate::Leftovers;
 use crate::slot::Slot;
-use emu_model::Packet;
+use emu_model::{Packet, unreachable_unchecked};
 use packet_store::{Key, Owner, Shelf};
 use queue_disc::Queued;
 use std::alloc::AllocError;
@@ -66,7 +66,7 @@ fn take_each<S: Shelf>(
 {
     for waiting in dropped {
         let Some(packet) = shelf.take(owner, waiting.item) else {
-            unreachable!();
+            unreachable_unchecked!();
         };
         drops.push_reserved(packet);
     }
@@ -89,7 +89,7 @@ pub(crate) fn take_leftovers<S: Shelf>(
 {
     while let Some(key) = leftovers.next() {
         let Some(packet) = shelf.take(owner, key) else {
-            unreachable!();
+            unreachable_unchecked!();
         };
         gone.push_reserved(packet);
     }

@@ -82,6 +82,21 @@ impl RecordLog {
         ensures records { self.new.records ≡ self.old.records }
         ensures room { self.old.spare ≤ self.new.spare }
     {
+        if additional <= self.records.capacity() - self.records.len() {
+            return Ok(());
+        }
+        self.grow(additional)
+    }
+
+    // The same, where there is no room yet.
+    #[cold]
+    #[inline(never)]
+    fn grow(&mut self, additional: usize) -> Result<(), AllocError>
+        ensures ready { OnOk result (additional ≤ self.new.spare) }
+        ensures succeeds { additional ≤ self.old.spare → IsOk result }
+        ensures records { self.new.records ≡ self.old.records }
+        ensures room { self.old.spare ≤ self.new.spare }
+    {
         if self.records.capacity() == 0 {
             // Want of so much room is no want of the room that is asked for.
             let _ = self.records.reserve(FIRST_ROOM);
@@ -139,7 +154,11 @@ impl RecordLog {
     pub fn into_vec(self) -> Vec<Record>
         ensures { result.items ≡ self.records }
     {
-        let RecordLog { records, .. } = self;
+        let RecordLog { mut records, .. } = self;
+        if records.is_empty() {
+            // A run has many experiments that have ended: none keeps room for records that it forgot.
+            records.shrink_to_fit();
+        }
         records
     }
 }

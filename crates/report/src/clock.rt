@@ -6,6 +6,7 @@ ghost use Rattle.report.specs.Alike.{AreAlike};
 
 use crate::digits::{EIGHT_DIGITS, put_eight};
 use crate::forward::put_bytes;
+use emu_model::unreachable_unchecked;
 use itoa::write_digits;
 use std::marker::Model;
 
@@ -80,7 +81,7 @@ fn eight_from(bytes: &[u8], from: usize) -> [u8; 8]
     ensures { result ≡ take 8 (drop from bytes.now) }
 {
     let Some(eight) = bytes[from..].first_chunk::<8>() else {
-        unreachable!()
+        unreachable_unchecked!()
     };
     *eight
 }

@@ -9,7 +9,7 @@ use crate::clock::Clock;
 use crate::digits::{put_number, put_small};
 use crate::forward::{put_byte, put_cause, put_instance, put_load, put_next, put_word};
 use crate::packed::{Kind, Parts, cause_at, flow_of, pipe_of};
-use emu_model::{DropCause, Load, PipeNumber, Record};
+use emu_model::{DropCause, Load, PipeNumber, Record, unreachable_unchecked};
 
 /// Puts a moment, what happened then, and to which number; returns where the number ends.
 #[inline(always)]
@@ -281,7 +281,7 @@ pub(crate) fn put_parts(clock: &mut Clock, text: &mut [u8], at: usize, parts: Pa
         number,
     } = parts;
     match kind {
-        Kind::Whole => unreachable!(),
+        Kind::Whole => unreachable_unchecked!(),
         Kind::Finished => {
             let (pipe, instance) = (pipe_of(tag), number as u8);
             put_at_instance(

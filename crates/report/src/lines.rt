@@ -18,7 +18,9 @@ use crate::words::{
     append_action, append_discipline, append_end, append_header, append_instance, append_mask,
     append_protocol, append_queue, refusal_code,
 };
-use emu_model::{Counters, Load, Mask, PipeConfig, PipeNumber, Record, Rule, SendSpec};
+use emu_model::{
+    Counters, Load, Mask, PipeConfig, PipeNumber, Record, Rule, SendSpec, unreachable_unchecked,
+};
 use std::alloc::AllocError;
 
 // No line is longer, nor a heading without its name.
@@ -170,7 +172,7 @@ fn append_other(out: &mut Vec<u8>, moments: &mut Moments, line: &Record)
             append_labelled(out, b" drawn ", drawn);
             append(out, b"\n");
         }
-        _ => unreachable!(),
+        _ => unreachable_unchecked!(),
     }
 }
 

@@ -5,7 +5,7 @@ ghost use Rattle.emu_model.specs.declared.records.Record.TheVariants.{PacketDeli
 ghost use Rattle.report.specs.Archive.{Names, cause_at, kind_at, parts_in, rank, record_of};
 ghost use Rattle.report.specs.declared.packed.Kind.TheVariants.{Whole};
 
-use emu_model::{DropCause, FlowNumber, Load, PipeNumber, Record};
+use emu_model::{DropCause, FlowNumber, Load, PipeNumber, Record, unreachable_unchecked};
 
 /// What a record is, so far as sixteen bytes hold it; `Whole` stands by itself elsewhere.
 #[derive(Clone, Copy)]
@@ -263,7 +263,7 @@ pub(crate) fn record_of(parts: Parts) -> Record
         number,
     } = parts;
     match kind {
-        Kind::Whole => unreachable!(),
+        Kind::Whole => unreachable_unchecked!(),
         Kind::Done => Record::CommandDone {
             moment,
             command: number,
@@ -334,7 +334,7 @@ pub(crate) fn flow_of(tag: u16) -> FlowNumber
     ensures { result ≡ tag }
 {
     let Some(flow) = FlowNumber::new(tag) else {
-        unreachable!()
+        unreachable_unchecked!()
     };
     flow
 }
@@ -345,7 +345,7 @@ pub(crate) fn pipe_of(tag: u16) -> PipeNumber
     ensures { result ≡ tag }
 {
     let Some(pipe) = PipeNumber::new(tag) else {
-        unreachable!()
+        unreachable_unchecked!()
     };
     pipe
 }

@@ -4,6 +4,7 @@ ghost use Rattle.std.specs.Prelude.{◌≡◌, ◌+◌, ◌≤◌, ◌++◌, len
 ghost use Rattle.report.specs.Room.{spare, Appends};
 ghost use Rattle.report.specs.Words.{places};
 
+use emu_model::unreachable_unchecked;
 use itoa::Buffer;
 
 /// These bytes.
@@ -14,7 +15,7 @@ pub fn append(out: &mut Vec<u8>, bytes: &[u8])
     ensures { Appends bytes.now (length bytes.now) out.old out.new }
 {
     let Ok(()) = out.extend_from_slice(bytes) else {
-        unreachable!()
+        unreachable_unchecked!()
     };
 }
 

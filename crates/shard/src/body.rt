@@ -12,10 +12,10 @@ use crate::list_mail::ListMail;
 use crate::mail::Mail;
 use emu_model::{
     Counters, Due, Ending, Record, Spec, Timed, dues_stay_ahead, packets_add_up,
-    records_are_not_read, records_grow,
+    records_are_not_read, records_grow, unreachable_unchecked,
 };
 use experiment::{ApplyError, BATCH, Event, Experiment, RecordCounts};
-use packet_store::{Owner, Shelf, Store};
+use packet_store::{Owner, ReservedShelf, Shelf};
 use std::alloc::AllocError;
 use std::marker::Model;
 
@@ -56,7 +56,7 @@ fn record_at<M: Mail>(mail: &M, fresh: &[Record], place: u128) -> Record
     let kept = mail.kept_len() as u128;
     if place < kept {
         let Some(record) = mail.kept_record(place as usize) else {
-            unreachable!()
+            unreachable_unchecked!()
         };
         return record;
     }
@@ -139,7 +139,7 @@ fn keep<M: Mail>(experiment: &mut Experiment, mail: &mut M, counts: &mut RecordC
 impl<M: Mail> Body<M> {
     ghost use Rattle.std.specs.Prelude.{◌≡◌, ◌≢◌, ◌≤◌, ◌<◌, ◌^◌, ◌++◌, ◌∷◌, [], ℕ, List, Some, None, Err, true, IsSome, IfSome, IfNone, OnOk, OnErr, is_some, length, take};
     ghost use Rattle.emu_model.specs.Net.{counters_of};
-    ghost use Rattle.packet_store.specs.Books.{pocket_of};
+    ghost use Rattle.packet_store.specs.Own.{own_pocket};
     ghost use Rattle.packet_store.specs.Pocket.{Pocket, empty_pocket, OthersStay};
     ghost use Rattle.network.specs.Kept.{net_keys};
     ghost use Rattle.experiment.specs.Dues.{next_due_in};
@@ -253,24 +253,23 @@ impl<M: Mail> Body<M> {
     /// Makes the next event, and publishes records while the mail takes them: with a look at its other end where `look` says
     /// so. The mail keeps what it records, a batch at a time, and all of it in the end.
     #[inline(always)]
-    pub(crate) fn event(&mut self, store: &mut Store, owner: Owner, look: bool) -> Event
-        requires going { IsGoing M.seen (pocket_of store.old owner) self.old.experiment
+    pub(crate) fn event(&mut self, shelf: &mut ReservedShelf, look: bool) -> Event
+        requires going { IsGoing M.seen (own_pocket shelf.old) self.old.experiment
             self.old.published self.old.mail }
         requires next { IsSome self.old.experiment.next }
-        ensures kept { IsKept M.seen (pocket_of store.new owner) self.new.experiment
+        ensures kept { IsKept M.seen (own_pocket shelf.new) self.new.experiment
             self.new.published self.new.mail }
-        ensures makes { Makes result (pocket_of store.old owner) self.old.experiment
-            (pocket_of store.new owner) self.new.experiment }
+        ensures makes { Makes result (own_pocket shelf.old) self.old.experiment
+            (own_pocket shelf.new) self.new.experiment }
         ensures name { self.new.name ≡ self.old.name }
         ensures spec { self.new.experiment.spec ≡ self.old.experiment.spec }
         ensures consumed { self.new.experiment.consumed ≡ self.old.experiment.consumed }
         ensures mail { IsToldMore M.seen self.old.mail self.new.mail }
         ensures published { IsPublished M.seen self.new.experiment.net.log.records self.new.mail }
-        ensures others { OthersStay owner (pocket_of store.old) (pocket_of store.new) }
     {
         records_grow();
         records_are_not_read();
-        let event = self.experiment.event(store, owner);
+        let event = self.experiment.event(shelf, 0);
         let look = looks(look, event);
         self.published = publish(
             &mut self.mail,

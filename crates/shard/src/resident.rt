@@ -9,9 +9,9 @@ use crate::mail::Mail;
 use crate::parcel::Parcel;
 use crate::shard::Polled;
 use crate::watch::Watch;
-use emu_model::{Class, Due, Source, Spec, Timed};
+use emu_model::{Class, Due, Source, Spec, Timed, unreachable_unchecked};
 use experiment::{ApplyError, Event};
-use packet_store::{OwnShelf, Owner, Shelf, Store};
+use packet_store::{OwnShelf, Owner, ReservedShelf, Shelf, Store};
 use std::marker::Model;
 use timer_wheel::Agenda;
 
@@ -190,24 +190,43 @@ impl<M: Mail> Resident<M> {
 
     // Makes one step, and leaves its entry as it was. The mail's other end is looked at where `look` says so.
     #[inline(always)]
-    fn advance(&mut self, store: &mut Store, look: bool) -> Event
+    fn advance(&mut self, shelf: &mut ReservedShelf, look: bool) -> Event
         requires going { IsGoing M.seen
-            (pocket_of store.old self.old.owner) self.old.experiment self.old.published
-            self.old.mail }
+            (own_pocket shelf.old) self.old.experiment self.old.published self.old.mail }
         requires next { IsSome self.old.experiment.next }
-        ensures advances { Advances M.seen result (pocket_of store.old self.old.owner) self.old
-            (pocket_of store.new self.old.owner) self.new }
+        ensures advances { Advances M.seen result (own_pocket shelf.old) self.old
+            (own_pocket shelf.new) self.new }
         ensures owner { self.new.owner ≡ self.old.owner }
         ensures offset { self.new.offset ≡ self.old.offset }
-        ensures others { (o : ℕ) → o ≢ self.old.owner →
-            pocket_of store.new o ≡ pocket_of store.old o }
     {
-        let owner = self.owner;
-        self.body.event(store, owner, look)
+        self.body.event(shelf, look)
     }
 
-    // Makes one step and at most `more` others, and leaves its entry as it was. The mail's other end is looked at in the
-    // first step, and in one that ends: it costs more than all else that a step does about its mail.
+    // Makes one step and at most `more` others, with its packets on a shelf of its own.
+    fn advance_on<W: Watch>(&mut self, shelf: &mut ReservedShelf, more: u32, watch: &mut W) -> Event
+        requires going { IsGoing M.seen
+            (own_pocket shelf.old) self.old.experiment self.old.published self.old.mail }
+        requires next { IsSome self.old.experiment.next }
+        ensures runs { (n : ℕ) × HeardAt W.hears result self.old.name n watch.old watch.new
+            × RunsOn M.seen W.may_refuse more n result
+            (own_pocket shelf.old) self.old (own_pocket shelf.new) self.new }
+        ensures owner { self.new.owner ≡ self.old.owner }
+        ensures offset { self.new.offset ≡ self.old.offset }
+    {
+        for made in 0..u64::from(more) + 1 {
+            let event = self.advance(shelf, made == 0);
+            if event != Event::Ran {
+                return event;
+            }
+            if !watch.ran(self.name()) || !self.has_next() {
+                return Event::Ran;
+            }
+        }
+        Event::Ran
+    }
+
+    // The same, and leaves its entry as it was. The mail's other end is looked at in the first step, and in one that ends:
+    // it costs more than all else that a step does about its mail. All steps find the shelf at once.
     fn run_on<W: Watch>(&mut self, store: &mut Store, more: u32, watch: &mut W) -> Event
         requires going { IsGoing M.seen
             (pocket_of store.old self.old.owner) self.old.experiment self.old.published
@@ -222,16 +241,13 @@ impl<M: Mail> Resident<M> {
         ensures others { (o : ℕ) → o ≢ self.old.owner →
             pocket_of store.new o ≡ pocket_of store.old o }
     {
-        for made in 0..u64::from(more) + 1 {
-            let event = self.advance(store, made == 0);
-            if event != Event::Ran {
-                return event;
-            }
-            if !watch.ran(self.name()) || !self.has_next() {
-                return Event::Ran;
-            }
-        }
-        Event::Ran
+        let owner = self.owner;
+        let Some(mut shelf) = store.lend(owner) else {
+            unreachable!();
+        };
+        let event = self.advance_on(&mut shelf, more, watch);
+        store.give_back(owner, shelf);
+        event
     }
 
     // Makes one step and at most `more` others while it has a next command, it doesn't end and `watch` says yes. Its
@@ -300,7 +316,7 @@ impl<M: Mail> Resident<M> {
                 return Polled::Took(name);
             }
             Err(ApplyError::Backward) => return Polled::Empty(name),
-            Err(_) => unreachable!(),
+            Err(_) => unreachable_unchecked!(),
         }
     }
 
@@ -390,7 +406,7 @@ impl<M: Mail> Resident<M> {
             offset: _,
         } = self;
         let Some(shelf) = store.lift(owner) else {
-            unreachable!();
+            unreachable_unchecked!();
         };
         Parcel { body, shelf }
     }
@@ -411,7 +427,7 @@ impl<M: Mail> Resident<M> {
         } = self;
         let body = Box::into_inner(body);
         let Some(ending) = body.ending() else {
-            unreachable!();
+            unreachable_unchecked!();
         };
         let spec = body.spec();
         let counters = body.counters();
@@ -444,7 +460,7 @@ impl<M: Mail> Resident<M> {
         ensures time { A.time agenda.new ≡ A.time agenda.old }
     {
         let Some(offset) = self.offset() else {
-            unreachable!();
+            unreachable_unchecked!();
         };
         let own = self.clock();
         let Some(due) = self.next_due() else {
@@ -455,7 +471,7 @@ impl<M: Mail> Resident<M> {
         let later = offset_from(agenda.clock(), own, due.moment, offset);
         self.offset = Some(later);
         let Ok(()) = agenda.set(slot, TURN, due.moment + later) else {
-            unreachable!();
+            unreachable_unchecked!();
         };
     }
 }

@@ -14,7 +14,7 @@ use crate::parcel::Parcel;
 use crate::posts::Vacant;
 use crate::resident::Resident;
 use crate::watch::{Unwatched, Watch};
-use emu_model::{PacketBudget, Timed};
+use emu_model::{PacketBudget, Timed, unreachable_unchecked};
 use experiment::Event;
 use packet_store::{OwnShelf, Shelf, Store};
 use std::alloc::{AllocError, Global};
@@ -159,7 +159,7 @@ impl<A: Agenda, M: Mail> Shard<A, M> {
         };
         let slot = entry.owner;
         let Some(resident) = &mut self.slots[slot] else {
-            unreachable!();
+            unreachable_unchecked!();
         };
         self.turned = slot;
         let name = resident.name();
@@ -244,7 +244,7 @@ impl<A: Agenda, M: Mail> Shard<A, M> {
             return Err(PackError::Vacant);
         };
         let Some(gone) = mem::replace(&mut self.slots[slot], None) else {
-            unreachable!();
+            unreachable_unchecked!();
         };
         self.agenda.clear_owner(slot);
         Ok(gone.leave(&mut self.store))
@@ -343,7 +343,7 @@ fn take_ended<M: Mail>(place: &mut Option<Resident<M>>, store: &mut Store) -> Do
         (λ r. (o : ℕ) → o ≢ r.owner → pocket_of store.new o ≡ pocket_of store.old o) }
 {
     let Some(gone) = mem::replace(place, None) else {
-        unreachable!();
+        unreachable_unchecked!();
     };
     gone.end(store)
 }

@@ -8,7 +8,7 @@ ghost use Rattle.emu_model.specs.RunLaws.{same_source};
 ghost use Rattle.timer_wheel.specs.Index.{key_in, whose_of};
 
 use crate::Owner;
-use emu_model::Source;
+use emu_model::{Source, unreachable_unchecked};
 use indexmap::IndexMap;
 use std::alloc::{AllocError, Global};
 use std::hash::{Hash, Hasher};
@@ -102,7 +102,7 @@ impl Index {
         ensures room { self.old.room ≤ self.new.room + 1 }
     {
         let Ok(_) = self.map.insert(Whose::of(owner, source), key) else {
-            unreachable!()
+            unreachable_unchecked!()
         };
     }
 

@@ -10,7 +10,7 @@ use crate::index::Index;
 use crate::ring::Ring;
 use crate::slots::{FREE, LOOSE, SLOTS, Slots};
 use crate::{Entry, Owner};
-use emu_model::Source;
+use emu_model::{Source, unreachable_unchecked};
 use std::alloc::{AllocError, Global};
 use std::marker::Model;
 
@@ -241,7 +241,7 @@ impl Stock {
         ensures room { room_of self.old ≤ room_of self.new + 1 }
     {
         let Some(key) = self.slots.first_of(FREE) else {
-            unreachable!()
+            unreachable_unchecked!()
         };
         self.entries[key] = entry;
         self.owners.put(key, entry.owner % SLOTS);

@@ -14,7 +14,7 @@ use crate::slots::{FREE, LOOSE, TIES};
 use crate::stock::Stock;
 use crate::ties::{Tie, Ties};
 use crate::{Agenda, Entry, Owner};
-use emu_model::Source;
+use emu_model::{Source, unreachable_unchecked};
 use std::alloc::{AllocError, Global};
 use std::marker::Model;
 
@@ -178,7 +178,7 @@ fn lift(stock: &mut Stock, from: usize) -> Entry
 {
     stock.reveal_invariant();
     let Some(key) = stock.first_of(from) else {
-        unreachable!()
+        unreachable_unchecked!()
     };
     let entry = stock.entry(key);
     stock.put(key, place(entry.due, entry.due));
@@ -199,7 +199,7 @@ fn turn(stock: &mut Stock, ties: &mut Ties, clock: u64) -> Option<Entry>
         return Some(lift(stock, first));
     }
     let Some(entry) = gather(stock, first) else {
-        unreachable!()
+        unreachable_unchecked!()
     };
     ties.clear();
     spread_ties(stock, ties, entry.due);

@@ -13,7 +13,9 @@ ghost use Rattle.traffic.specs.Sends.{may_send};
 
 use crate::sends::{Sending, Window};
 use due_index::DueNumber;
-use emu_model::{FlowNumber, FlowSpec, Load, Protocol, SendSpec, Size, Source};
+use emu_model::{
+    FlowNumber, FlowSpec, Load, Protocol, SendSpec, Size, Source, unreachable_unchecked,
+};
 use reno_core::{Receiver, Sender};
 use std::alloc::{AllocError, Global};
 use std::marker::Model;
@@ -91,7 +93,7 @@ impl Flow {
     {
         let flow = self.sender.flow_ref();
         let Some(size) = Size::new(flow.smss.get() + HEADER) else {
-            unreachable!()
+            unreachable_unchecked!()
         };
         SendSpec {
             proto: Protocol::Tcp,
@@ -110,7 +112,7 @@ impl Flow {
     {
         let flow = self.sender.flow_ref();
         let Some(size) = Size::new(HEADER) else {
-            unreachable!()
+            unreachable_unchecked!()
         };
         SendSpec {
             proto: Protocol::Tcp,
@@ -171,7 +173,7 @@ impl Flow {
     {
         let send = self.reply();
         let Ok(upto) = self.receiver.take(first) else {
-            unreachable!()
+            unreachable_unchecked!()
         };
         Sending {
             load: Load::Ack {

@@ -12,8 +12,8 @@ loop-key-init g c = (
   λ o differs. refl,
 )
 
-pub unreachable-requires : goal.unreachable-requires
-unreachable-requires g c =
+pub unreachable_unchecked-unreachable-requires : goal.unreachable_unchecked-unreachable-requires
+unreachable_unchecked-unreachable-requires g c =
     let p : Pocket = g.S.Shelf.pocket c.args.shelf.now c.args.owner in
     let q : Pocket = g.S.Shelf.pocket c.loop-key.shelf c.args.owner in
     let all : List ℕ = c.args.leftovers in

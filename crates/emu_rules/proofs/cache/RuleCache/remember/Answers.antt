@@ -12,9 +12,9 @@ pub returns-clause-same : goal.returns-clause-same
 returns-clause-same c =
     let os = c.args.self.now.held.items in
     let k = c.args.place in
-    let o = c.index-gone.result.now in
+    let o = c.index.result.now in
     let within : k < length os = omega (arith, c.args.self.now.held.ok.0) in
-    let there = read-slot os k o within c.index-gone.ensures in
+    let there = read-slot os k o within c.index.ensures in
     let f : CachedSearch = record {
       age = c.args.self.now.age;
       from = c.args.from;
@@ -31,7 +31,7 @@ returns-clause-same c =
 
 pub returns-clause-rules : goal.returns-clause-rules
 returns-clause-rules c =
-    subst (IsRecounted c.args.rules.now) (sym c.settle_path-emptied.ensures.rules) (IsRecounted-settled_by c.index-gone.result.now c.args.rules.now)
+    subst (IsRecounted c.args.rules.now) (sym c.settle_path-emptied.ensures.rules) (IsRecounted-settled_by c.index.result.now c.args.rules.now)
 
 pub returns-clause-cache : goal.returns-clause-cache
 returns-clause-cache c =

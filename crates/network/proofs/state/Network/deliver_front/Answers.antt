@@ -31,8 +31,8 @@ front-requires-clause-inside g c =
     (at_view (λ (m : KeptNet). StandsAt k c.args.place m.table.pipes) n c.args.self.now c.self.view_is c.requires.place)
     (at_view (λ (m : KeptNet). IsLeaving k c.args.instance c.args.at.now m.table.pipes) n c.args.self.now c.self.view_is c.requires.due))
 
-pub unreachable-requires : goal.unreachable-requires
-unreachable-requires g c =
+pub unreachable_unchecked-unreachable-requires : goal.unreachable_unchecked-unreachable-requires
+unreachable_unchecked-unreachable-requires g c =
     let p = g.S.Shelf.pocket c.args.shelf.now c.args.owner in
     let n = the_view c.self.inside in
     let k = c.args.pipe in

@@ -5,8 +5,8 @@ use Rattle.network.proofs.InFlight.{front-missing, direct-left}
 use Rattle.emu_model.specs.Delay.{leave}
 use Rattle.network.proofs.state.Network.leave_direct.Goals as goal
 
-pub unreachable-requires : goal.unreachable-requires
-unreachable-requires g c =
+pub unreachable_unchecked-unreachable-requires : goal.unreachable_unchecked-unreachable-requires
+unreachable_unchecked-unreachable-requires g c =
     let p = g.S.Shelf.pocket c.args.shelf.now c.args.owner in
     let n = the_view c.self.inside in
     front-missing p n c.in_ok-key.key (at_view (IsHoused p) n _ c.self.view_is c.requires) c.in_ok-key.ensures.item c.in_default.ensures.value

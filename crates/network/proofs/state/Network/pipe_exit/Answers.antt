@@ -4,8 +4,8 @@ use Rattle.network.specs.contracts.state.Network.{the_view}
 use Rattle.network.proofs.Steps.{at_view}
 use Rattle.network.proofs.state.Network.pipe_exit.Goals as goal
 
-pub unreachable-requires : goal.unreachable-requires
-unreachable-requires g c =
+pub unreachable_unchecked-unreachable-requires : goal.unreachable_unchecked-unreachable-requires
+unreachable_unchecked-unreachable-requires g c =
     let n = the_view c.self.inside in
     not-leaving c.args.pipe c.args.instance c.args.at.now n.table.pipes
     (position-none (has_number c.args.pipe) n.table.pipes c.in_default.ensures)

@@ -7,8 +7,8 @@ use Rattle.pipe_core.specs.Steps.{most_of}
 use Rattle.pipe_core.proofs.Finishings.{served_found, dropped_named, dropped_within, room_known, finish-is}
 use Rattle.pipe_core.proofs.slot.Slot.finish.Goals as goal
 
-pub unreachable-requires : goal.unreachable-requires
-unreachable-requires g c =
+pub unreachable_unchecked-unreachable-requires : goal.unreachable_unchecked-unreachable-requires
+unreachable_unchecked-unreachable-requires g c =
     served_found (g.S.Shelf.pocket c.args.shelf.now c.args.owner) c.args.self.now.instance c.in_ok-done.done.key
     c.requires.named c.in_ok-done.ensures.ok.served (sym c.in_default.ensures)
 

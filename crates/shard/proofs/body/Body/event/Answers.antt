@@ -1,5 +1,5 @@
 use Rattle.std.proofs.Common.{◌≡◌, ◌≤◌, ◌++◌, IsSome, length, take, sym, ap, ◌∙◌, subst}
-use Rattle.packet_store.specs.Books.{pocket_of}
+use Rattle.packet_store.specs.Own.{own_pocket}
 use Rattle.experiment.specs.Kept.{KeptExperiment}
 use Rattle.experiment.specs.Moves.{Makes}
 use Rattle.shard.specs.Bodies.{Moved, behind}
@@ -11,8 +11,8 @@ pub publish-self-inside-requires-clause-told : goal.publish-self-inside-requires
 publish-self-inside-requires-clause-told g c =
     let b = c.self.inside in
     let rs = g.M.Mail.kept b.mail in
-    let p = pocket_of c.args.store.now c.args.owner in
-    let q = pocket_of c.event-event.new.shelf c.args.owner in
+    let p = own_pocket c.args.shelf.now in
+    let q = own_pocket c.event-event.new.shelf in
     let e : KeptExperiment = c.event-event.new.self in
     let was = c.event-event.ensures in
     let going : IsGoing g.M.Mail.seen p (behind rs b.experiment) b.published b.mail =
@@ -28,8 +28,8 @@ pub publish-self-inside-requires-clause-short : goal.publish-self-inside-require
 publish-self-inside-requires-clause-short g c =
     let b = c.self.inside in
     let rs = g.M.Mail.kept b.mail in
-    let p = pocket_of c.args.store.now c.args.owner in
-    let q = pocket_of c.event-event.new.shelf c.args.owner in
+    let p = own_pocket c.args.shelf.now in
+    let q = own_pocket c.event-event.new.shelf in
     let e : KeptExperiment = c.event-event.new.self in
     let was = c.event-event.ensures in
     let going : IsGoing g.M.Mail.seen p (behind rs b.experiment) b.published b.mail =
@@ -45,8 +45,8 @@ pub returns-then-ne-clause-makes : goal.returns-then-ne-clause-makes
 returns-then-ne-clause-makes g c =
     let b = c.self.inside in
     let rs = g.M.Mail.kept b.mail in
-    let p = pocket_of c.args.store.now c.args.owner in
-    let q = pocket_of c.event-event.new.shelf c.args.owner in
+    let p = own_pocket c.args.shelf.now in
+    let q = own_pocket c.event-event.new.shelf in
     let e : KeptExperiment = c.event-event.new.self in
     let was = c.event-event.ensures in
     let going : IsGoing g.M.Mail.seen p (behind rs b.experiment) b.published b.mail =
@@ -67,8 +67,8 @@ pub returns-else-records-ge-BATCH-clause-makes : goal.returns-else-records-ge-BA
 returns-else-records-ge-BATCH-clause-makes g c =
     let b = c.self.inside in
     let rs = g.M.Mail.kept b.mail in
-    let p = pocket_of c.args.store.now c.args.owner in
-    let q = pocket_of c.event-event.new.shelf c.args.owner in
+    let p = own_pocket c.args.shelf.now in
+    let q = own_pocket c.event-event.new.shelf in
     let e : KeptExperiment = c.event-event.new.self in
     let was = c.event-event.ensures in
     let going : IsGoing g.M.Mail.seen p (behind rs b.experiment) b.published b.mail =

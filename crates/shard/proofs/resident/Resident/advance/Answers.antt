@@ -1,5 +1,5 @@
 use Rattle.std.proofs.Common.{IsSome, sym, ap, ◌∙◌, subst, refl}
-use Rattle.packet_store.specs.Books.{pocket_of}
+use Rattle.packet_store.specs.Own.{own_pocket}
 use Rattle.experiment.specs.Moves.{Makes}
 use Rattle.shard.specs.Seen.{IsToldMore}
 use Rattle.shard.specs.Bodies.{Moved, Residence as Resident}
@@ -14,15 +14,15 @@ returns-clause-advances g c =
     let v = s.body.value in
     let n = c.event.new.self in
     let a = c.event.result in
-    let p = pocket_of c.args.store.now s.owner in
-    let q = pocket_of c.event.new.store s.owner in
+    let p = own_pocket c.args.shelf.now in
+    let q = own_pocket c.event.new.shelf in
     let is = c.event.ensures in
     let was = c.deref_mut.ensures.value in
     let old : Resident _ = record { name = v.name; owner = s.owner; experiment = v.experiment; mail = v.mail; published = v.published; offset = s.offset } in
     let new : Resident _ = record { name = n.name; owner = s.owner; experiment = n.experiment; mail = n.mail; published = n.published; offset = s.offset } in
-    subst (λ (r : Resident _). Advances g.M.Mail.seen a (pocket_of c.args.store.now r.owner) r (pocket_of c.event.new.store r.owner) new) c.self.view_is
+    subst (λ (r : Resident _). Advances g.M.Mail.seen a (own_pocket c.args.shelf.now) r (own_pocket c.event.new.shelf) new) c.self.view_is
     (advanced g.M.Mail.seen a p q old new
-    (subst (λ (r : Resident _). IsGoing g.M.Mail.seen (pocket_of c.args.store.now r.owner) r.experiment r.published r.mail) (sym c.self.view_is) c.requires.going)
+    (subst (λ (r : Resident _). IsGoing g.M.Mail.seen (own_pocket c.args.shelf.now) r.experiment r.published r.mail) (sym c.self.view_is) c.requires.going)
     (subst (λ (r : Resident _). IsSome r.experiment.next) (sym c.self.view_is) c.requires.next)
     is.kept
     (subst (λ (b : Moved _). Makes a p b.experiment q n.experiment) was is.makes)

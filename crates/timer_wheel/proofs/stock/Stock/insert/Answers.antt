@@ -4,8 +4,8 @@ use Rattle.timer_wheel.specs.Index.{key_in}
 use Rattle.timer_wheel.proofs.StockFacts.{more_stock, more_rows, more_holds, free_less, none_free, is_free, no_key_of}
 use Rattle.timer_wheel.proofs.stock.Stock.insert.Goals as goal
 
-pub unreachable-requires : goal.unreachable-requires
-unreachable-requires c =
+pub unreachable_unchecked-unreachable-requires : goal.unreachable_unchecked-unreachable-requires
+unreachable_unchecked-unreachable-requires c =
     let r : 0 < min (count_by is_free c.self.inside.slots) c.self.inside.index.room = subst (λ (b : StockBook). 0 < room_of b) (sym c.self.view_is) c.requires.room in
     omega (arith, none_free c.self.inside.slots c.in_default.ensures.none)
 
