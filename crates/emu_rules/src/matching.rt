@@ -37,8 +37,9 @@ fn matches_port(ports: Option<PortRange>, port: u16) -> bool
 pub(crate) fn matches(rule: &Rule, packet: &Packet) -> bool
     ensures { result ≡ rule_matches packet.now rule.now }
 {
-    matches_protocol(rule.proto, packet.proto)
-        && matches_address(rule.src, packet.src)
+    // The address comes first, since most rules that don't match differ there.
+    matches_address(rule.src, packet.src)
+        && matches_protocol(rule.proto, packet.proto)
         && matches_port(rule.sports, packet.sport)
         && matches_address(rule.dst, packet.dst)
         && matches_port(rule.dports, packet.dport)

@@ -98,14 +98,14 @@ impl Store {
         let _gone = self.lift(owner);
     }
 
-    /// Lends the shelf of an owner; `None` where the owner was not admitted. No clause says what the owner has there until
-    /// `give_back`.
+    /// Lends the shelf of an owner, whose budget is 0 until `give_back`; `None` where the owner was not admitted.
     #[tactic(auto, unfolding(crate::specs::Books::pocket_of))]
     #[inline(always)]
     pub fn lend(&mut self, owner: Owner) -> Option<ReservedShelf>
         ensures some { IfSome result (λ shelf. own_pocket shelf ≡ pocket_of self.old owner) }
         ensures none { IfNone result (pocket_of self.old owner ≡ empty_pocket 0) }
         ensures lent { OnSome result (IsAdmitted owner self.new) }
+        ensures gone { pocket_of self.new owner ≡ empty_pocket 0 }
         ensures others { (o : ℕ) → o ≢ owner → pocket_of self.new o ≡ pocket_of self.old o }
     {
         let none = OwnShelf::none(self.alloc);

@@ -150,9 +150,10 @@ impl RecordLog {
         self.drops
     }
 
-    /// The records as a `Vec`. Takes no memory.
+    /// The records as a `Vec`, which keeps no room if it has none. Takes no memory.
     pub fn into_vec(self) -> Vec<Record>
-        ensures { result.items ≡ self.records }
+        ensures records { result.items ≡ self.records }
+        ensures room { vec_len result ≡ 0 → vec_capacity result ≡ 0 }
     {
         let RecordLog { mut records, .. } = self;
         if records.is_empty() {

@@ -34,7 +34,8 @@ kind_at (suc (suc (suc (suc (suc (suc zero)))))) = Acknowledged
 kind_at (suc (suc (suc (suc (suc (suc (suc zero))))))) = Passed
 kind_at (suc (suc (suc (suc (suc (suc (suc (suc zero)))))))) = Dropped
 kind_at (suc (suc (suc (suc (suc (suc (suc (suc (suc zero))))))))) = Window
-kind_at (suc (suc (suc (suc (suc (suc (suc (suc (suc (suc n)))))))))) = Expired
+kind_at (suc (suc (suc (suc (suc (suc (suc (suc (suc (suc zero)))))))))) = Expired
+kind_at (suc (suc (suc (suc (suc (suc (suc (suc (suc (suc (suc n))))))))))) = Whole
 
 abbrev pub cause_at : ℕ → DropCause
 cause_at zero = Denied

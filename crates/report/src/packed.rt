@@ -77,7 +77,6 @@ fn kind_at(rank: u64) -> Kind
     ensures { result ≡ kind_at rank }
 {
     match rank {
-        0 => Kind::Whole,
         1 => Kind::Done,
         2 => Kind::Arrived,
         3 => Kind::Finished,
@@ -87,7 +86,9 @@ fn kind_at(rank: u64) -> Kind
         7 => Kind::Passed,
         8 => Kind::Dropped,
         9 => Kind::Window,
-        _ => Kind::Expired,
+        10 => Kind::Expired,
+        // All others, so that one comparison finds what stands whole.
+        _ => Kind::Whole,
     }
 }
 

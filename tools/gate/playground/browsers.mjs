@@ -8,7 +8,7 @@ const sleep = (ms) => new Promise((done) => setTimeout(done, ms));
 async function begun(words, profile, found) {
   fs.mkdirSync(profile, {recursive: true});
   const child = spawn(words[0], words.slice(1), {stdio: "ignore"});
-  process.on("exit", () => child.kill());
+  process.on("exit", () => child.kill("SIGKILL"));
   for (let k = 0; k < 300; k++, await sleep(200)) {
     try { return await opened(await found()); } catch { /* it isn't there yet */ }
   }
@@ -16,18 +16,27 @@ async function begun(words, profile, found) {
 }
 async function opened(address) {
   const socket = new WebSocket(address);
-  await new Promise((done, failed) => { socket.onopen = done; socket.onerror = failed; });
+  await new Promise((done, failed) => { socket.onopen = done; socket.onerror = failed; setTimeout(failed, 10000); });
   return socket;
 }
-// Calls by number; what comes without one is told to `heard`.
+// How long a call may take (ms). A browser may lose one, if its page goes while it is asked: none is waited for without end.
+const PATIENCE = 60000;
+// Calls by number; what comes without one is told to `heard`. A call fails if the browser goes, or is silent for too long.
 function callsOf(socket, heard) {
   const waiting = new Map();
-  let next = 0;
+  let next = 0, isGone = false;
   socket.onmessage = ({data}) => {
     const told = JSON.parse(data);
-    if (told.id) { waiting.get(told.id)?.(told); waiting.delete(told.id); } else heard(told);
+    if (told.id) waiting.get(told.id)?.done(told); else heard(told);
   };
-  return (method, params = {}) => new Promise((done) => { waiting.set(++next, done); socket.send(JSON.stringify({id: next, method, params})); });
+  socket.onclose = () => { isGone = true; for (const {failed} of waiting.values()) failed("the browser has gone"); };
+  return (method, params = {}, patience = PATIENCE) => new Promise((done, failed) => {
+    const id = ++next, ended = (how) => (it) => { clearTimeout(timer); waiting.delete(id); how(it); };
+    const call = {done: ended(done), failed: ended((why) => failed(new Error(`${why}, asked for ${method}`)))};
+    const timer = setTimeout(() => call.failed(`no answer for ${patience} ms`), patience);
+    waiting.set(id, call);
+    if (isGone) call.failed("the browser has gone"); else socket.send(JSON.stringify({id, method, params}));
+  });
 }
 const isOutside = (url) => !/^(file|blob|data|about|chrome|resource|moz-extension):/.test(url);
 
@@ -44,8 +53,8 @@ async function chromium(program, profile, faults) {
   for (const it of ["Runtime", "Page", "Network"]) await send(`${it}.enable`);
   return {
     go: (url) => send("Page.navigate", {url}),
-    async value(expression) {
-      const {result: found} = await send("Runtime.evaluate", {expression, awaitPromise: true, returnByValue: true});
+    async value(expression, patience) {
+      const {result: found} = await send("Runtime.evaluate", {expression, awaitPromise: true, returnByValue: true}, patience);
       if (found.exceptionDetails) faults.push(found.exceptionDetails.exception?.description || found.exceptionDetails.text);
       return found.result?.value;
     },
@@ -72,9 +81,9 @@ async function firefox(program, profile, faults) {
   const key = (type) => ({type, value: "\uE00C"});
   return {
     go: (url) => send("browsingContext.navigate", {context, url, wait: "none"}),
-    async value(expression) {
+    async value(expression, patience) {
       // Its own form of values says each of their types: a text in JSON has them as they are.
-      const found = await send("script.evaluate", {expression: `(async () => JSON.stringify(await (${expression})))()`, target: {context}, awaitPromise: true});
+      const found = await send("script.evaluate", {expression: `(async () => JSON.stringify(await (${expression})))()`, target: {context}, awaitPromise: true}, patience);
       if (found.error || found.result.type === "exception") {
         // Between two pages there is none to ask.
         if (found.error !== "no such frame") faults.push(found.message || found.result.exceptionDetails.text);
