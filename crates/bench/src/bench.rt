@@ -68,7 +68,7 @@ pub enum AdoptError {
 }
 
 impl Bench {
-    ghost use Rattle.std.specs.Prelude.{◌≡◌, ◌≢◌, ◌+◌, ◌≤◌, ℕ, None, Some, true, false, [], length, IfOk, OnOk, IfErr, OnErr, IfSome, IfNone, MatchOption};
+    ghost use Rattle.std.specs.Prelude.{◌≡◌, ◌≢◌, ◌+◌, ◌≤◌, ℕ, None, Some, true, false, [], length, IfOk, OnOk, IfErr, OnErr, IfSome, IfNone};
     ghost use Rattle.shard.specs.Stand.{Seat, seat_at, IsTold};
     ghost use Rattle.shard.specs.Turns.{TurnsSettled, ManyTurnsSettled, HeardOf, NamesIt, IsPoll};
     ghost use Rattle.bench.specs.Rings.{ring_seen};

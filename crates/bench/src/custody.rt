@@ -45,7 +45,7 @@ impl Outcome<Parcel<RingMail>, Hand> for Taken {
 pub struct Retaken;
 
 impl Outcome<Parcel<RingMail>, Hand> for Retaken {
-    ghost use Rattle.std.specs.Prelude.{◌≡◌, ◌++◌, ◌≤◌, ℕ};
+    ghost use Rattle.std.specs.Prelude.{◌≡◌, ◌++◌};
     ghost use Rattle.bench.specs.Custody.{hand, stamps, TookLess};
 
     ghost then = { λ v xs w. (w ≡ hand v.pushed (v.taken ++ stamps xs)) × TookLess w };

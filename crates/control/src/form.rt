@@ -1,6 +1,6 @@
 //! The forms of words, and their ranges.
 
-ghost use Rattle.std.specs.Prelude.{◌≡◌, ◌&&◌, nat_le};
+ghost use Rattle.std.specs.Prelude.{◌≡◌, ◌&&◌};
 ghost use Rattle.std.specs.Option.{is_some};
 ghost use Rattle.control_words.specs.Addresses.{address_of, prefix_of, ports_of};
 ghost use Rattle.control_words.specs.Numbers.{queue_of, timing_of};

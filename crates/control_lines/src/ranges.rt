@@ -1,7 +1,6 @@
 //! The numbers of a line within their ranges.
 
 ghost use Rattle.std.specs.Prelude.{◌≡◌};
-ghost use Rattle.control_lines.specs.Grammar.{Header};
 ghost use Rattle.control_lines.specs.Shape.{view_header};
 ghost use Rattle.control_lines.specs.Ranges.{
   within,

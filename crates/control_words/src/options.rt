@@ -3,27 +3,7 @@
 ghost use Rattle.std.specs.Prelude.{◌≡◌, option_map};
 ghost use Rattle.control_words.specs.Text.{words as words_of};
 ghost use Rattle.control_words.specs.Phrases.{next_phrase};
-ghost use Rattle.control_words.specs.Options.{
-  once as once_of,
-  is_time,
-  time_at,
-  put_time,
-  times_of,
-  is_field,
-  field_at,
-  put_field,
-  no_fields,
-  fields_of,
-  mask_of,
-  any_word,
-  bare_of,
-  setting_at,
-  put_setting,
-  options_of,
-  flow_setting_at,
-  put_flow_setting,
-  flow_options_of,
-};
+ghost use Rattle.control_words.specs.Options.{once as once_of, is_time, time_at, put_time, times_of, is_field, field_at, put_field, fields_of, mask_of, any_word, bare_of, setting_at, put_setting, options_of, flow_setting_at, put_flow_setting, flow_options_of};
 
 use crate::numbers;
 use crate::raw_options::{

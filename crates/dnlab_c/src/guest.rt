@@ -1,6 +1,6 @@
 //! A session of a caller that is not Rattle, and what it has said that isn't handed over yet.
 
-ghost use Rattle.std.specs.Prelude.{◌≡◌, ◌++◌, [], ℕ, List, false, OnOk};
+ghost use Rattle.std.specs.Prelude.{◌≡◌, ◌++◌, ℕ, List, false, OnOk};
 ghost use Rattle.dnlab_c.specs.Guests.{IsSaidTo, HandsOver, Hears, Ends, fresh, next_line};
 
 use crate::answer::{Answer, DONE, all_well, no_end, no_memory, put};

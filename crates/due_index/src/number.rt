@@ -4,7 +4,7 @@ ghost use Rattle.std.specs.Prelude.{◌≡◌, ◌<◌, ◌≤◌, ◌==◌, ◌
 ghost use Rattle.std.specs.Option.{option_map_or};
 ghost use Rattle.emu_model.specs.Dues.{due as due_of, rank};
 ghost use Rattle.due_index.specs.Least.{lesser};
-ghost use Rattle.due_index.specs.Numbers.{class_at, due_at, due_in, none_bits};
+ghost use Rattle.due_index.specs.Numbers.{class_at, due_at, due_in};
 
 use emu_model::{Class, Due, FlowNumber, Source};
 use std::marker::Model;
@@ -27,7 +27,6 @@ pub struct DueNumber {
 
 impl Model for DueNumber {
     ghost use Rattle.std.specs.Prelude.{◌≡◌, Option};
-    ghost use Rattle.std.proofs.Common.{ap};
     ghost use Rattle.emu_model.specs.declared.sources.Due.{Due};
     ghost use Rattle.due_index.specs.Numbers.{due_in, bits_of};
 

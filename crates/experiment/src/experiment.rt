@@ -1,6 +1,6 @@
 //! An experiment: commands are applied one at a time, and events are made one at a time.
 
-ghost use Rattle.std.specs.Prelude.{◌≡◌, ◌≢◌, ℕ, ◌+◌, ◌^◌, ◌≤◌, ◌<◌, ◌++◌, ◌==◌, if◌then◌else◌, true, false, [], ◌∷◌, Option, Some, None, IsSome, IfSome, IsOk, IfOk, OnOk, OnErr, List, is_some};
+ghost use Rattle.std.specs.Prelude.{◌≡◌, ◌≢◌, ℕ, ◌+◌, ◌^◌, ◌≤◌, ◌<◌, ◌++◌, ◌==◌, if◌then◌else◌, [], ◌∷◌, Option, Some, None, IsSome, IsOk, IfOk, OnOk, OnErr, List, is_some};
 ghost use Rattle.emu_model.specs.declared.sources.Class.TheVariants.{NextCommand, Expiry};
 ghost use Rattle.emu_model.specs.declared.records.Ending.TheVariants.{Ended};
 ghost use Rattle.emu_model.specs.declared.records.Record.{Record};
@@ -8,7 +8,7 @@ ghost use Rattle.emu_model.specs.declared.commands.Timed.{Timed};
 ghost use Rattle.emu_model.specs.Step.{initial_state, next_event};
 ghost use Rattle.emu_model.specs.Commands.{is_end};
 ghost use Rattle.packet_store.specs.Pocket.{Pocket, empty_pocket, OthersStay};
-ghost use Rattle.network.specs.Kept.{net_of, IsHoused};
+ghost use Rattle.network.specs.Kept.{net_of};
 ghost use Rattle.network.specs.Due.{IsDue};
 ghost use Rattle.network.specs.Ready.{TakesNoMemory};
 ghost use Rattle.experiment.specs.Kept.{view, IsAlone, IsAloneAfter, IsHousedIn, IsWaiting, last_moment};

@@ -2,7 +2,7 @@
 
 ghost use Rattle.std.specs.Prelude.{◌≡◌, ◌++◌, [], flat_map, OnOk};
 ghost use Rattle.report.specs.Words.{code_of};
-ghost use Rattle.explain.specs.Notes.{notes_of, noted_by};
+ghost use Rattle.explain.specs.Notes.{notes_of};
 ghost use Rattle.explain.specs.Account.{refusals_by};
 
 use crate::notes::{Note, count_record};

@@ -1,7 +1,7 @@
 //! What is printed of a warning.
 
 ghost use Rattle.std.specs.Prelude.{◌≡◌, ◌++◌, decimal, OnOk, IfOk};
-ghost use Rattle.explain_text.specs.Shown.{with_address, protocol_word, with_ends, sent_word, with_spent, with_dropped, with_denied, with_count, with_way, with_meaning, with_advice, with_hint, kind_word, with_heading, warning_text};
+ghost use Rattle.explain_text.specs.Shown.{with_address, protocol_word, with_ends, sent_word, with_spent, with_dropped, with_denied, with_way, with_meaning, with_advice, with_hint, kind_word, with_heading, warning_text};
 
 use crate::ends::Ends;
 use crate::warning::{Concern, Sent};

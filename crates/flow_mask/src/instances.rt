@@ -1,5 +1,5 @@
 //! The instances of one pipe, by their flow identifiers.
-ghost use Rattle.std.specs.Prelude.{◌≡◌, ◌+◌, ◌<◌, ◌≤◌, ◌↔◌, [], ◌∷◌, length, position, Some, None, true, false, is_some, IsOk, IfOk, IfErr, OnOk, OnErr, IsSome};
+ghost use Rattle.std.specs.Prelude.{◌≡◌, ◌+◌, ◌<◌, ◌≤◌, ◌↔◌, [], ◌∷◌, length, position, Some, None, true, false, is_some, IsOk, IfOk, OnOk, OnErr, IsSome};
 ghost use Rattle.std.specs.List.{list_any};
 ghost use Rattle.emu_model.specs.FlowIds.{same_flow, different, instance_of};
 

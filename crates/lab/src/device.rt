@@ -1,6 +1,6 @@
 //! Readers and writers of std as ends of ours. Here alone std's errors are seen.
 
-ghost use Rattle.std.specs.Prelude.{◌≡◌, ◌<◌, ◌+◌, ◌≢◌, ◌↔◌, true, false};
+ghost use Rattle.std.specs.Prelude.{◌≡◌, ◌<◌, ◌+◌, ◌↔◌, true, false};
 ghost use Rattle.std.specs.IoError.{error_kind};
 
 use crate::ends::{Inlet, Outlet, Trouble};

@@ -1,7 +1,6 @@
 //! Limits for all experiments of a scenario together.
 
-ghost use Rattle.std.specs.Prelude.{◌≡◌, ◌+◌, ◌≤◌, ◌<◌, List, None, length, take, flat_map, IfOk, IfErr, IfSome, IfNone, OnOk};
-ghost use Rattle.control.specs.declared.scenario.Experiment.{Experiment as Script};
+ghost use Rattle.std.specs.Prelude.{◌≡◌, ◌+◌, ◌≤◌, ◌<◌, None, length, take, flat_map, IfErr, IfSome, IfNone, OnOk};
 ghost use Rattle.lab.specs.Within.{steps_of, IsWithin, IsStepsStop, IsOutputStop};
 
 use crate::fault::RunFault;

@@ -1,6 +1,6 @@
 //! How a scenario is run by many workers, and who watches it.
 
-ghost use Rattle.std.specs.Prelude.{◌≡◌, ◌≤◌, IfSome, IfNone, IsFalse, Bool, true, false};
+ghost use Rattle.std.specs.Prelude.{◌≡◌, IfSome, IfNone, IsFalse, Bool, true, false};
 ghost use Rattle.lab.specs.Plans.{IsPlan};
 
 /// How many workers there are, 1 to 16, and after how many turns each of them offers an experiment to the others, at

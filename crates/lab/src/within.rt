@@ -1,8 +1,7 @@
 //! `run_alone` and `run` within limits: all is read before any step, all steps are made before anything is written, and
 //! what goes past a limit stops it before either.
 
-ghost use Rattle.std.specs.Prelude.{◌≡◌, ◌≢◌, ◌≤◌, List, None, flat_map, length, map, sum, IfOk, IfErr, OnOk, Err, true};
-ghost use Rattle.control.specs.declared.scenario.Experiment.{Experiment as Script};
+ghost use Rattle.std.specs.Prelude.{◌≡◌, ◌≢◌, ◌≤◌, None, flat_map, length, map, sum, IfOk, IfErr, OnOk, Err, true};
 ghost use Rattle.lab.specs.declared.limits.Stop.TheVariants as stops;
 ghost use Rattle.lab.specs.Bytes.{IsRead, TakesFew};
 ghost use Rattle.lab.specs.Gathers.{Follows};

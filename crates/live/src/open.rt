@@ -1,6 +1,6 @@
 //! One experiment of a session: how far its time has come, and how it stands.
 
-ghost use Rattle.std.specs.Prelude.{◌≡◌, ◌^◌, ◌≤◌, ◌<◌, ◌⊎◌, ◌++◌, ◌∷◌, [], ℕ, List, true, false, None, Ok, OnOk, IfOk, IfNone, IfSome, MatchOption};
+ghost use Rattle.std.specs.Prelude.{◌≡◌, ◌^◌, ◌≤◌, ◌<◌, ◌++◌, ◌∷◌, [], ℕ, List, true, false, None, Ok, OnOk, IfOk, IfNone, IfSome, MatchOption};
 ghost use Rattle.emu_model.specs.Commands.{is_end};
 ghost use Rattle.live.specs.Effects.{Commanded, ObeysIn, IsPassed, PassesIn, NextIn, answer_of};
 ghost use Rattle.live.specs.declared.fates.Stop.TheVariants.{Moment};

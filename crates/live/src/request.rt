@@ -1,8 +1,7 @@
 //! What a session is asked besides what a scenario says. To a scenario these lines are comments.
 
-ghost use Rattle.std.specs.Prelude.{◌≡◌, ◌≤◌, ◌^◌, ◌∷◌, ◌++◌, [], IfOk, IfSome, MatchResult, codes, option_map};
+ghost use Rattle.std.specs.Prelude.{◌≡◌, ◌≤◌, ◌^◌, ◌++◌, IfOk, IfSome, MatchResult, codes, option_map};
 ghost use Rattle.control_words.specs.Text.{words as words_of};
-ghost use Rattle.control_words.specs.Numbers.{moment_of};
 ghost use Rattle.live.specs.Requests.{IsInRange, asked_of, hold_of, first_of, until_of, used_of, shown_of, ended_of, shape_of, asked_within, time_within, request_of, view_request, view_raw};
 
 use control::Cause;

@@ -1,6 +1,6 @@
 //! An experiment whose commands come one by one: time passes as far as it is asked to, and what happens is written.
 
-ghost use Rattle.std.specs.Prelude.{◌≡◌, ℕ, ◌+◌, ◌*◌, ◌^◌, ◌≤◌, ◌<◌, ◌++◌, ◌∷◌, [], List, None, IsSome, IfOk, IfSome, OnOk, OnErr, Bool, true, false, length, flat_map, slice_get, drop};
+ghost use Rattle.std.specs.Prelude.{◌≡◌, ℕ, ◌+◌, ◌*◌, ◌^◌, ◌≤◌, ◌<◌, ◌++◌, ◌∷◌, [], List, None, IsSome, IfOk, IfSome, OnOk, OnErr, true, false, length, flat_map, slice_get, drop};
 ghost use Rattle.std.specs.List.{filter};
 ghost use Rattle.live.specs.Fates.{concerns, first_hold, refusal_in, taken_by, MarkedBy};
 ghost use Rattle.emu_model.specs.declared.records.Record.{Record};

@@ -1,6 +1,6 @@
 //! What is said to each line.
 
-ghost use Rattle.std.specs.Prelude.{◌≡◌, ◌≤◌, ◌<◌, ◌^◌, length, ◌++◌, ◌∷◌, [], ℕ, List, flat_map, None, Ok, IfOk, IsSome, ⊤, IsTrue, All, true, false};
+ghost use Rattle.std.specs.Prelude.{◌≡◌, ◌≤◌, ◌<◌, ◌^◌, ◌++◌, ◌∷◌, [], ℕ, List, flat_map, None, Ok, IfOk, IsSome, ⊤, IsTrue, All, true, false};
 ghost use Rattle.std.specs.List.{AllByRecursion};
 ghost use Rattle.control.specs.Scenario.{begun, with_last};
 ghost use Rattle.live.specs.Lines.{fault_of, said_of};

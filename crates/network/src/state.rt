@@ -1,6 +1,6 @@
 //! What an experiment holds.
 
-ghost use Rattle.std.specs.Prelude.{◌≡◌, ℕ, ◌+◌, ◌^◌, ◌<◌, ◌≤◌, ◌∷◌, [], IfOk, IsOk, OnOk};
+ghost use Rattle.std.specs.Prelude.{◌≡◌, ◌+◌, ◌^◌, ◌<◌, ◌≤◌, ◌∷◌, [], IfOk, IsOk, OnOk};
 ghost use Rattle.emu_model.specs.Net.{initial_net};
 ghost use Rattle.packet_store.specs.Pocket.{Pocket};
 ghost use Rattle.network.specs.Kept.{net_of, net_keys};

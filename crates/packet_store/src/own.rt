@@ -1,5 +1,5 @@
 //! A shelf of one owner.
-ghost use Rattle.std.specs.Prelude.{◌≡◌, ℕ, ◌+◌, ◌-◌, ◌≤◌, ◌⊎◌, ◌↔◌, OnOk, IsOk, IsTrue};
+ghost use Rattle.std.specs.Prelude.{◌≡◌, ◌+◌, ◌-◌, ◌≤◌, ◌⊎◌, ◌↔◌, OnOk, IsOk, IsTrue};
 ghost use Rattle.packet_store.specs.Pocket.{empty_pocket};
 ghost use Rattle.packet_store.specs.Own.{own_pocket, pocket_of_own, own_room, vacancies};
 

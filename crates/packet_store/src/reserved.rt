@@ -1,6 +1,6 @@
 //! A shelf of one owner that has a place for every packet of its budget.
-ghost use Rattle.std.specs.Prelude.{◌≡◌, ℕ, ◌+◌, ◌-◌, ◌<◌, ◌≤◌, ◌↔◌, IfOk, IfErr};
-ghost use Rattle.packet_store.specs.Own.{own_pocket, pocket_of_own};
+ghost use Rattle.std.specs.Prelude.{◌≡◌, ◌+◌, ◌-◌, ◌<◌};
+ghost use Rattle.packet_store.specs.Own.{pocket_of_own};
 ghost use Rattle.packet_store.specs.Books.{HasAll};
 
 use crate::{Key, OwnShelf, Owner, PutError, Shelf};

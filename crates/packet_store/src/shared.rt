@@ -1,5 +1,5 @@
 //! One slab for the packets of many owners, each on a shelf of its own.
-ghost use Rattle.std.specs.Prelude.{◌≡◌, ◌≢◌, ℕ, ◌+◌, ◌-◌, ◌<◌, ◌≤◌, ◌↔◌, IsTrue, IfOk, IfErr, IfSome, IfNone, OnErr, OnSome};
+ghost use Rattle.std.specs.Prelude.{◌≡◌, ◌≢◌, ℕ, ◌+◌, ◌-◌, ◌<◌, IfOk, IfErr, IfSome, IfNone, OnErr, OnSome};
 ghost use Rattle.packet_store.specs.Pocket.{empty_pocket};
 ghost use Rattle.packet_store.specs.Books.{Books, IsAdmitted, pocket_of};
 ghost use Rattle.packet_store.specs.Own.{own_pocket};

@@ -1,6 +1,6 @@
 //! A pipe: its configuration, and its instances by flow identifier.
 
-ghost use Rattle.std.specs.Prelude.{◌≡◌, ◌≢◌, ℕ, ◌+◌, ◌-◌, ◌*◌, ◌^◌, ◌<◌, ◌≤◌, ◌↔◌, true, false, [], map, length, position, slice_get, slice_set, Some, None, is_some, unwrap_or, option_map, option_and_then, IfSome, OnSome, IfNone, IfOk, OnOk, OnErr, IsOk, IsTrue, vec_capacity};
+ghost use Rattle.std.specs.Prelude.{◌≡◌, ◌≢◌, ℕ, ◌+◌, ◌-◌, ◌*◌, ◌<◌, ◌≤◌, ◌↔◌, true, false, [], map, length, position, slice_get, slice_set, Some, None, is_some, unwrap_or, option_map, option_and_then, IfSome, OnSome, IfNone, IfOk, OnOk, OnErr, IsOk, IsTrue, vec_capacity};
 ghost use Rattle.std.specs.List.{list_any, All};
 ghost use Rattle.emu_model.specs.declared.packets.Packet.{Packet};
 ghost use Rattle.emu_model.specs.Moments.{IsMoment};

@@ -1,6 +1,6 @@
 //! What an instance serves: a key, in a busy period.
 
-ghost use Rattle.std.specs.Prelude.{◌≡◌, ℕ, ◌*◌, ◌^◌, ◌<◌, Some, None, option_map, is_some, IsSome};
+ghost use Rattle.std.specs.Prelude.{◌≡◌, ◌*◌, ◌<◌, Some, None, option_map, is_some, IsSome};
 ghost use Rattle.std.specs.Option.{ForSome};
 ghost use Rattle.emu_model.specs.Moments.{IsMoment};
 ghost use Rattle.emu_model.specs.Rate.{begin};

@@ -1,6 +1,6 @@
 //! One instance of a pipe beside its flow identifier, and what a packet does there.
 
-ghost use Rattle.std.specs.Prelude.{◌≡◌, ◌+◌, ◌-◌, ◌*◌, ◌^◌, ◌<◌, ◌≤◌, false, [], Some, None, length, option_map, IfSome, OnSome, IfOk, OnOk, OnErr, IsOk, IsTrue, vec_capacity};
+ghost use Rattle.std.specs.Prelude.{◌≡◌, ◌+◌, ◌-◌, ◌*◌, ◌<◌, ◌≤◌, false, [], Some, None, length, option_map, IfSome, OnSome, IfOk, OnOk, OnErr, IsOk, IsTrue, vec_capacity};
 ghost use Rattle.emu_model.specs.Moments.{IsMoment};
 ghost use Rattle.pipe_core.specs.KeyedInstance.{IsTuned, keys_in};
 ghost use Rattle.pipe_core.specs.Steps.{Arrives, Exits, Finishes, HasRoom, IsFree, IsPlain, most_dropped};

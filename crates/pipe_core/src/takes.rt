@@ -1,6 +1,6 @@
 //! Packets that are taken from a shelf by their keys.
 
-ghost use Rattle.std.specs.Prelude.{◌≡◌, ◌+◌, ◌≤◌, ◌++◌, [], map, length, OnOk, IsOk, vec_len, vec_capacity};
+ghost use Rattle.std.specs.Prelude.{◌≡◌, ◌+◌, ◌≤◌, [], map, length, OnOk, IsOk, vec_len, vec_capacity};
 ghost use Rattle.packet_store.specs.Pocket.{OthersStay};
 ghost use Rattle.pipe_core.specs.Moves.{AreNamed, Taking};
 ghost use Rattle.pipe_core.specs.Keyed.{keys_of};

@@ -1,6 +1,6 @@
 //! The table: pipes by number, and what a packet, a finish, an exit or a command does there.
 
-ghost use Rattle.std.specs.Prelude.{◌≡◌, ◌≢◌, ℕ, ◌+◌, ◌*◌, ◌^◌, ◌<◌, ◌≤◌, ◌↔◌, [], Some, None, option_map, option_and_then, unwrap_or, position, is_some, IsSome, IsTrue, OnSome, OnOk, OnErr, IsOk, IfOk, MatchResult, Err, length, slice_get, vec_capacity};
+ghost use Rattle.std.specs.Prelude.{◌≡◌, ◌≢◌, ℕ, ◌+◌, ◌*◌, ◌<◌, ◌≤◌, ◌↔◌, [], Some, None, option_map, option_and_then, unwrap_or, position, is_some, IsSome, IsTrue, OnSome, OnOk, OnErr, IsOk, IfOk, MatchResult, Err, length, slice_get, vec_capacity};
 ghost use Rattle.std.specs.List.{position_or_len};
 ghost use Rattle.std.specs.Option.{option_map_or};
 ghost use Rattle.emu_model.specs.FlowIds.{flow_id, same_flow};

@@ -1,7 +1,7 @@
 //! CoDel's state, one small function for each step of RFC 8289's `dequeue` (section 5.5) and of its
 //! helpers (5.6).
 
-ghost use Rattle.std.specs.Prelude.{◌≡◌, ◌+◌, ◌-◌, ◌*◌, ◌^◌, ◌<◌, ◌≤◌, ◌==◌, ◌&&◌, ◌||◌, not, nat_lt, nat_le, if◌then◌else◌};
+ghost use Rattle.std.specs.Prelude.{◌≡◌, ◌+◌, ◌-◌, ◌*◌, ◌^◌, ◌<◌, ◌≤◌, ◌==◌, ◌&&◌, ◌||◌, not, nat_lt, nat_le};
 ghost use Rattle.emu_model.specs.Moments.{IsMoment};
 ghost use Rattle.emu_model.specs.Codel.{initial_control, count_up, enter_drop_state};
 ghost use Rattle.emu_model.proofs.CodelParts.{found_by, look_empty, stop_dropping, set_next};

@@ -1,6 +1,6 @@
 //! A receiver (our choice): it acknowledges each segment at once, with the least byte that did not come.
 
-ghost use Rattle.std.specs.Prelude.{◌≡◌, ℕ, ◌+◌, ◌<◌, ◌≤◌, ◌↔◌, [], length, IfOk, IsOk, IsTrue, OnOk, OnErr};
+ghost use Rattle.std.specs.Prelude.{◌≡◌, ◌+◌, ◌<◌, ◌≤◌, ◌↔◌, [], length, IfOk, IsOk, IsTrue, OnOk, OnErr};
 ghost use Rattle.std.specs.VecDeque.{deque_capacity};
 ghost use Rattle.emu_model.specs.Reno.{with_segment, missing};
 ghost use Rattle.reno_core.specs.Kept.{filled, contains, Rises, IsApart, IsKept, most_segments};

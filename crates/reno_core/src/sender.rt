@@ -1,6 +1,6 @@
 //! A Reno sender.
 
-ghost use Rattle.std.specs.Prelude.{◌≡◌, ◌+◌, ◌*◌, ◌%◌, ◌^◌, ◌<◌, ◌≤◌, true};
+ghost use Rattle.std.specs.Prelude.{◌≡◌, ◌+◌, ◌%◌, ◌<◌, true};
 ghost use Rattle.emu_model.specs.Moments.{IsMoment};
 ghost use Rattle.emu_model.specs.Reno.{total_bytes, initial_sender, ack, expire, emit, emitted, may_emit};
 ghost use Rattle.reno_core.specs.Sound.{IsSound};

@@ -1,9 +1,9 @@
 //! What a sender knows, and how each event changes it: one function for each rule.
 
-ghost use Rattle.std.specs.Prelude.{◌≡◌, ℕ, ◌+◌, ◌-◌, ◌*◌, ◌^◌, ◌<◌, ◌≤◌, true, false, Some, None, option_map, min, max, if◌then◌else◌};
+ghost use Rattle.std.specs.Prelude.{◌≡◌, ◌+◌, ◌-◌, ◌*◌, ◌<◌, ◌≤◌, true, false, Some, None, option_map, min, max};
 ghost use Rattle.emu_model.specs.Moments.{IsMoment};
-ghost use Rattle.emu_model.specs.Reno.{initial_sender, most_rto, greatest_word, initial_rto, total_bytes, has_room, started_timer, started_sample, halved_ssthresh, bounded, window_after, round_trip, timeout_after, sample_after, estimate_after, ack_new, ack_duplicate, enter_recovery, is_new, is_duplicate, ack, expire, emit, emitted, may_emit};
-ghost use Rattle.reno_core.specs.States.{sender_of, sample_of, estimate_of};
+ghost use Rattle.emu_model.specs.Reno.{initial_sender, total_bytes, has_room, halved_ssthresh, window_after, round_trip, timeout_after, sample_after, estimate_after, ack_new, ack_duplicate, enter_recovery, is_new, is_duplicate, ack, expire, emit, emitted};
+ghost use Rattle.reno_core.specs.States.{sender_of, sample_of};
 ghost use Rattle.reno_core.specs.Sound.{IsSound, IsFlow, IsEstimate};
 
 use crate::times::{Estimate, FIRST_RTO, MOST_RTO, Sample, nanoseconds};

@@ -2,7 +2,7 @@
 
 ghost use Rattle.std.specs.Prelude.{◌≡◌, ◌*◌, ◌^◌, ◌<◌, ◌≤◌, option_map};
 ghost use Rattle.emu_model.specs.Moments.{IsMoment};
-ghost use Rattle.emu_model.specs.Reno.{most_rto, new_estimate, estimated_timeout, initial_rto, timeout_at};
+ghost use Rattle.emu_model.specs.Reno.{most_rto, new_estimate, estimated_timeout};
 ghost use Rattle.reno_core.specs.States.{estimate_of};
 ghost use Rattle.reno_core.specs.Sound.{IsEstimate};
 

@@ -1,10 +1,9 @@
 //! The records of an experiment in sixteen bytes each, for as long as a report isn't written (our choice).
 
-ghost use Rattle.std.specs.Prelude.{◌≡◌, ◌+◌, ◌<◌, ◌≤◌, ◌∷◌, ◌++◌, [], length, map, slice_index_or, take, vec_len, vec_capacity, ℕ, IfSome, OnOk, OnErr};
+ghost use Rattle.std.specs.Prelude.{◌≡◌, ◌+◌, ◌<◌, ◌≤◌, ◌∷◌, ◌++◌, [], length, map, take, vec_len, vec_capacity, ℕ, IfSome, OnOk, OnErr};
 ghost use Rattle.std.specs.List.{All};
 ghost use Rattle.report.specs.Archive.{entry_of, IsEntry};
 ghost use Rattle.report.specs.Room.{spare};
-ghost use Rattle.emu_model.specs.declared.records.Record.TheVariants.{StepsSpent};
 
 use crate::clock::Clock;
 use crate::events::put_parts;

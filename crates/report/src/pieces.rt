@@ -1,6 +1,6 @@
 //! What every line is made of. Each call finds the room that it needs.
 
-ghost use Rattle.std.specs.Prelude.{◌≡◌, ◌+◌, ◌≤◌, ◌++◌, length, decimal, vec_capacity};
+ghost use Rattle.std.specs.Prelude.{◌+◌, ◌≤◌, ◌++◌, length, decimal};
 ghost use Rattle.report.specs.Room.{spare, Appends};
 ghost use Rattle.report.specs.Words.{places};
 

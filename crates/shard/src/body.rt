@@ -1,6 +1,6 @@
 //! What moves as one: an experiment, and its mail, which may keep the records that the experiment has forgotten.
 
-ghost use Rattle.std.specs.Prelude.{◌≡◌, ◌≤◌, ◌<◌, ◌++◌, ◌↔◌, IsFalse, length, take, slice_index_or, option_copied, slice_get};
+ghost use Rattle.std.specs.Prelude.{◌≡◌, ◌≤◌, ◌<◌, ◌++◌, ◌↔◌, IsFalse, length, take, slice_index_or};
 ghost use Rattle.emu_model.specs.declared.records.Record.TheVariants.{StepsSpent};
 ghost use Rattle.packet_store.specs.Pocket.{Pocket};
 ghost use Rattle.experiment.specs.declared.experiment.Event.TheVariants.{Ran};
@@ -137,7 +137,7 @@ fn keep<M: Mail>(experiment: &mut Experiment, mail: &mut M, counts: &mut RecordC
 }
 
 impl<M: Mail> Body<M> {
-    ghost use Rattle.std.specs.Prelude.{◌≡◌, ◌≢◌, ◌≤◌, ◌<◌, ◌^◌, ◌++◌, ◌∷◌, [], ℕ, List, Some, None, Err, true, IsSome, IfSome, IfNone, OnOk, OnErr, is_some, length, take};
+    ghost use Rattle.std.specs.Prelude.{◌≡◌, ◌≤◌, ◌<◌, ◌^◌, ◌++◌, ◌∷◌, [], Some, None, Err, true, IsSome, IfSome, IfNone, OnOk, OnErr, is_some, length, take};
     ghost use Rattle.emu_model.specs.Net.{counters_of};
     ghost use Rattle.packet_store.specs.Own.{own_pocket};
     ghost use Rattle.packet_store.specs.Pocket.{Pocket, empty_pocket, OthersStay};

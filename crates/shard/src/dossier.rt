@@ -1,6 +1,6 @@
 //! What ended experiments leave.
 
-ghost use Rattle.std.specs.Prelude.{◌≡◌, ◌≤◌, ◌++◌, ℕ, List, [], slice_get, take, Some};
+ghost use Rattle.std.specs.Prelude.{◌≡◌, ◌≤◌, ◌++◌, ℕ, [], slice_get, take, Some};
 ghost use Rattle.emu_model.specs.Net.{counters_of};
 ghost use Rattle.emu_model.specs.Alone.{alone};
 ghost use Rattle.experiment.specs.Kept.{shown_ending};

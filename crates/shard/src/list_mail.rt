@@ -1,7 +1,7 @@
 //! A mail of two lists, whose other ends are beside it.
 
 ghost use Rattle.std.specs.Prelude.{◌≡◌, ◌≤◌, ◌<◌, ◌^◌, [], ◌∷◌, ◌++◌, length, IfOk, IfErr, OnOk, OnErr, IfSome, IfNone, IsOk};
-ghost use Rattle.rtrb.specs.Ring.{sent, received, known_items, known_free, producer_capacity, IsPair};
+ghost use Rattle.rtrb.specs.Ring.{sent, received, known_items, producer_capacity, IsPair};
 ghost use Rattle.shard.specs.Mails.{mail_seen};
 
 use crate::mail::Mail;

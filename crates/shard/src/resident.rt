@@ -64,12 +64,10 @@ fn offset_from(clock: u64, own: u64, moment: u64, offset: u64) -> u64
 }
 
 impl<M: Mail> Resident<M> {
-    ghost use Rattle.std.specs.Prelude.{◌≡◌, ◌≢◌, ◌≤◌, ◌<◌, ◌+◌, ◌-◌, ◌*◌, ◌^◌, ℕ, IsSome, IfSome, IfOk, IfErr, OnErr, Some, None, is_some, length};
-    ghost use Rattle.timer_wheel.specs.Rows.{no_dues};
+    ghost use Rattle.std.specs.Prelude.{◌≡◌, ◌≢◌, ◌≤◌, ◌<◌, ◌+◌, ◌-◌, ◌^◌, ℕ, IsSome, IfSome, IfOk, IfErr, OnErr, Some, None, is_some};
     ghost use Rattle.packet_store.specs.Books.{pocket_of};
     ghost use Rattle.packet_store.specs.Pocket.{empty_pocket};
-    ghost use Rattle.packet_store.specs.Own.{own_pocket, own_room};
-    ghost use Rattle.network.specs.Kept.{net_keys};
+    ghost use Rattle.packet_store.specs.Own.{own_pocket};
     ghost use Rattle.packet_store.specs.Pocket.{Pocket};
     ghost use Rattle.experiment.specs.Dues.{next_due_in};
     ghost use Rattle.experiment.specs.Kept.{view, IsAlone};

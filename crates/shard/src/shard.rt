@@ -3,8 +3,7 @@
 ghost use Rattle.std.specs.Prelude.{◌≡◌, ◌<◌, ℕ, None, Some, IsSome, IfSome, IfNone, length, slice_index_or};
 ghost use Rattle.std.specs.Prelude.{◌≢◌};
 ghost use Rattle.packet_store.specs.Books.{pocket_of};
-ghost use Rattle.packet_store.specs.Pocket.{Pocket, empty_pocket};
-ghost use Rattle.packet_store.specs.Own.{own_pocket};
+ghost use Rattle.packet_store.specs.Pocket.{Pocket};
 ghost use Rattle.shard.specs.Kept.{IsKept};
 ghost use Rattle.shard.specs.Seats.{IsDossierOf, IsShard, HasBegun};
 

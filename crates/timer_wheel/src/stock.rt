@@ -1,9 +1,8 @@
 //! Entries under keys: by source, by owner, and in slots.
-ghost use Rattle.std.specs.Prelude.{◌≡◌, ◌≢◌, ℕ, ◌<◌, ◌≤◌, ◌+◌, ◌==◌, ◌&&◌, ◌%◌, ◌⊎◌, cond, length, count_by, slice_get, slice_set, Option, Some, None, IfOk, OnOk, OnErr, IfSome, IfNone, IsTrue, IsOk, IsSome};
+ghost use Rattle.std.specs.Prelude.{◌≡◌, ◌≢◌, ℕ, ◌<◌, ◌≤◌, ◌+◌, ◌==◌, ◌&&◌, ◌%◌, ◌⊎◌, cond, length, count_by, slice_get, slice_set, Option, Some, None, IfOk, OnOk, IfSome, IfNone, IsTrue, IsOk, IsSome};
 ghost use Rattle.emu_model.specs.declared.sources.Source.{Source};
 ghost use Rattle.emu_model.specs.RunLaws.{same_source};
 ghost use Rattle.timer_wheel.specs.declared.Entry.{Entry};
-ghost use Rattle.timer_wheel.specs.Index.{key_in};
 ghost use Rattle.timer_wheel.specs.Stocks.{StockBook, Holds, IsStock, IsMore, IsGrown, due_of, room_of};
 
 use crate::index::Index;

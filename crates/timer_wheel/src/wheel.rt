@@ -1,7 +1,6 @@
 //! A hierarchical timing wheel, after Varghese and Lauck, "Hashed and hierarchical timing wheels" (1987).
-ghost use Rattle.std.specs.Prelude.{◌≡◌, ◌≢◌, ℕ, ◌<◌, ◌≤◌, ◌==◌, ◌&&◌, ◌⊎◌, cond, map, false, Some, None, length, slice_get, slice_set, IfSome, IfNone, MatchOption, IsTrue, IsFalse};
+ghost use Rattle.std.specs.Prelude.{◌≡◌, ◌≢◌, ℕ, ◌<◌, ◌≤◌, ◌==◌, ◌&&◌, ◌⊎◌, map, false, Some, None, length, slice_get, slice_set, IfSome, IfNone, MatchOption, IsTrue, IsFalse};
 ghost use Rattle.emu_model.specs.declared.sources.Source.{Source};
-ghost use Rattle.emu_model.specs.RunLaws.{same_source};
 ghost use Rattle.timer_wheel.specs.declared.Entry.{Entry};
 ghost use Rattle.timer_wheel.specs.Places.{place_of};
 ghost use Rattle.timer_wheel.specs.Rows.{is_before};

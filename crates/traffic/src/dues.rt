@@ -1,6 +1,6 @@
 //! Dues of sources.
 
-ghost use Rattle.std.specs.Prelude.{◌≡◌, ◌+◌, ◌≤◌, ◌++◌, option_map, option_to_list, vec_len, vec_capacity};
+ghost use Rattle.std.specs.Prelude.{◌≡◌, ◌+◌, ◌≤◌, ◌++◌, option_to_list, vec_len, vec_capacity};
 
 use due_index::DueNumber;
 use emu_model::Due;

@@ -1,9 +1,8 @@
 //! A flow: its sender and its receiver.
 
-ghost use Rattle.std.specs.Prelude.{◌≡◌, ℕ, ◌+◌, ◌*◌, ◌^◌, ◌<◌, ◌≤◌, ◌++◌, option_to_list, true, OnOk, IfSome, IfNone, OnErr};
+ghost use Rattle.std.specs.Prelude.{◌≡◌, ◌+◌, ◌*◌, ◌<◌, ◌≤◌, ◌++◌, option_to_list, true, OnOk, IfSome, IfNone, OnErr};
 ghost use Rattle.emu_model.specs.Moments.{IsMoment};
 ghost use Rattle.emu_model.specs.Dues.{flow_dues};
-ghost use Rattle.emu_model.specs.declared.commands.EventContext.{EventContext};
 ghost use Rattle.emu_model.specs.Net.{Net, put_flow, note, data_send, ack_send, take_ack};
 ghost use Rattle.emu_model.specs.Reno.{emit, emitted, expire, with_segment, missing};
 ghost use Rattle.emu_model.specs.declared.records.Record.TheVariants.{AckTaken};

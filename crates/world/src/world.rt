@@ -41,7 +41,7 @@ impl<A: Agenda> Model for World<A> {
 }
 
 impl<A: Agenda> World<A> {
-    ghost use Rattle.world.specs.Places.{Places, tenant_at, shard_at, stand_at, deque_at, AreAtOnePlace};
+    ghost use Rattle.world.specs.Places.{Places, tenant_at, stand_at, deque_at, AreAtOnePlace};
     ghost use Rattle.world.specs.Kept.{IsAlone, IsAloneState, IsPosted, AreLetters};
     ghost use Rattle.world.specs.Runs.{place_at, life_at, records_at, consumed_at, stand_records, stand_commands};
 

@@ -1,6 +1,6 @@
 //! Worked examples: what a net records of a few commands, also where memory is refused once.
 
-ghost use Rattle.std.specs.Prelude.{IsTrue, IfSome, [], ◌≡◌, ◌+◌, ◌*◌, ◌^◌, ◌<◌, ◌≤◌, length};
+ghost use Rattle.std.specs.Prelude.{IsTrue, IfSome, [], ◌≡◌, ◌+◌, ◌^◌, ◌<◌, ◌≤◌, length};
 ghost use Rattle.emu_model.specs.Moments.{IsMoment};
 ghost use Rattle.emu_model.specs.Dues.{due};
 ghost use Rattle.network.specs.Kept.{net_keys, IsHoused, Stands};

@@ -1,4 +1,4 @@
-ghost use Rattle.std.specs.Prelude.{◌*◌, ◌^◌, ◌<◌};
+ghost use Rattle.std.specs.Prelude.{◌*◌, ◌<◌};
 ghost use Rattle.emu_model.specs.Moments.{IsMoment};
 
 use emu_model::{Amount, FlowSpec, SegmentSize, Threshold, Timeout, Timing, Window};
