@@ -1,5 +1,5 @@
 -- The packets of a net that move from one shelf to another.
-use Rattle.std.proofs.Common.{◌≡◌, ℕ, ◌+◌, ap, sym, subst, ◌∙◌, ◌++◌, None, arith}
+use Rattle.std.proofs.Common.{◌≡◌, ℕ, ap, sym, subst, ◌∙◌, ◌++◌, None, arith}
 use Rattle.emu_model.specs.Net.{Net}
 use Rattle.link_core.specs.Lane.{Lane}
 use Rattle.packet_store.specs.Pocket.{Pocket, empty_pocket}

@@ -28,6 +28,7 @@ use packet_store::{Owner, Shelf};
 use pipe_core::keys_say_all;
 use pipe_table::RecordLog;
 use std::alloc::AllocError;
+use traffic::Sending;
 
 /// How many records an event makes at most, besides a line for each thing that is listed or dropped
 /// with others, and one that tells of the last step.
@@ -456,8 +457,8 @@ impl Network {
         };
         let send = self.traffic.header_at(&found);
         let lookup = self.make_ready(shelf, owner, at.now, line_of(source), &send)?;
-        let sending = self.traffic.emit_at(at.now, &found);
-        self.make(shelf, owner, at, &sending, &lookup);
+        let load = self.traffic.emit_at(at.now, &found);
+        self.make(shelf, owner, at, &Sending { load, send }, &lookup);
         Ok(())
     }
 }

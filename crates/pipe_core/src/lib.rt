@@ -14,5 +14,5 @@ mod takes;
 pub use instance::{Finished, Instance, InstanceDues, Shown};
 pub use keys_law::keys_say_all;
 pub use leftovers::Leftovers;
-pub use pipe::{NO_INSTANCE, Pipe};
+pub use pipe::{Arrival, NO_INSTANCE, Pipe};
 pub use rehouse::rehouse_line;

@@ -1,6 +1,6 @@
 //! A pipe: its configuration, and its instances by flow identifier.
 
-ghost use Rattle.std.specs.Prelude.{◌≡◌, ◌≢◌, ℕ, ◌+◌, ◌-◌, ◌*◌, ◌<◌, ◌≤◌, ◌↔◌, true, false, [], map, length, position, slice_get, slice_set, Some, None, is_some, unwrap_or, option_map, option_and_then, IfSome, OnSome, IfNone, IfOk, OnOk, OnErr, IsOk, IsTrue, vec_capacity};
+ghost use Rattle.std.specs.Prelude.{◌≡◌, ◌≢◌, ℕ, ◌+◌, ◌-◌, ◌*◌, ◌<◌, ◌≤◌, ◌↔◌, true, false, [], map, length, position, slice_get, slice_set, Some, None, unwrap_or, option_map, option_and_then, IfSome, OnSome, IfNone, IfOk, OnOk, OnErr, IsOk, IsTrue, vec_capacity};
 ghost use Rattle.std.specs.List.{list_any, All};
 ghost use Rattle.emu_model.specs.declared.packets.Packet.{Packet};
 ghost use Rattle.emu_model.specs.Moments.{IsMoment};
@@ -29,6 +29,15 @@ use packet_store::{Owner, Shelf};
 use std::alloc::{AllocError, Global};
 use std::marker::Model;
 use std::mem;
+
+/// What became of a packet that came.
+#[derive(Clone, Copy)]
+pub struct Arrival {
+    /// Why it is dropped; `None` where it is taken in.
+    pub cause: Option<DropCause>,
+    /// Whether its instance had a packet in service before. What is due first is the same then.
+    pub was_busy: bool,
+}
 
 /// A pipe with its instances. Its packets stand on a shelf, and it holds their keys.
 #[derive(Drop)]
@@ -326,13 +335,13 @@ impl Pipe {
         owner: Owner,
         now: u64,
         packet: &Packet,
-    ) -> Option<DropCause>
+    ) -> Arrival
         requires inside { instance < length self.old.slots }
         requires early { IsMoment now }
         requires budget { (S.pocket shelf.old owner).count < (S.pocket shelf.old owner).budget }
         requires room { 0 < S.room shelf.old owner }
         requires ready { HasRoomAtSlot packet.now.size instance self.old }
-        ensures came { ArrivesAt instance now packet.now result (S.pocket shelf.old owner)
+        ensures came { ArrivesAt instance now packet.now result.cause (S.pocket shelf.old owner)
             (S.pocket shelf.new owner) self.old self.new }
         ensures arrived { instance_of (ids_of self.old.slots)
             (flow_id self.old.config.mask packet.now) ≡ Some instance →
@@ -340,14 +349,13 @@ impl Pipe {
             pipe_arrive self.old.seed now packet.now (view (S.pocket shelf.old owner) self.old)
             ≡ record {
               state = view (S.pocket shelf.new owner) self.new;
-              dropped = drops_of packet.now result;
+              dropped = drops_of packet.now result.cause;
             } }
         ensures keys { Keeps (S.pocket shelf.old owner) (S.pocket shelf.new owner)
             (keys_of self.old.slots) (keys_of self.new.slots) }
         ensures same { self.new ≡ record self.old { slots = self.new.slots } }
         ensures ids { ids_of self.new.slots ≡ ids_of self.old.slots }
-        ensures busy { (f : ℕ → Packet) →
-            is_some (served_in instance (seen_pipe f self.old)) ≡ true →
+        ensures busy { IsTrue result.was_busy → (f : ℕ → Packet) →
             pipe_due f self.new ≡ pipe_due f self.old }
         ensures others { OthersStay owner (S.pocket shelf.old) (S.pocket shelf.new) }
     {
@@ -355,7 +363,10 @@ impl Pipe {
         let was_busy = slot.instance.is_busy();
         let answer = slot.arrive(shelf, owner, now, packet, &self.config);
         set_unless(was_busy, &mut self.dues, instance, slot, self.number);
-        answer
+        Arrival {
+            cause: answer,
+            was_busy,
+        }
     }
 
     /// A packet comes at the moment `now` (ns): its instance is found or made, its loss word is drawn,
@@ -390,7 +401,7 @@ impl Pipe {
         let Some(instance) = self.find_or_make(id) else {
             return Some(DropCause::NoInstance);
         };
-        self.arrive_at(instance, shelf, owner, now, packet)
+        self.arrive_at(instance, shelf, owner, now, packet).cause
     }
 
     /// The packet in service in an instance finishes at the moment `now` (ns), at which it is due, and is
@@ -443,17 +454,6 @@ impl Pipe {
         self.dues
             .set(instance, slot.due(self.number, instance as u8));
         finished
-    }
-
-    /// Whether a packet is in service in an instance.
-    #[inline(always)]
-    pub fn is_busy(&self, instance: usize) -> bool
-        requires { instance < length self.now.slots }
-        ensures { (f : ℕ → Packet) →
-            result ≡ is_some (served_in instance (seen_pipe f self.now)) }
-    {
-        let slot = &self.slots[instance];
-        slot.instance.is_busy()
     }
 
     /// A finish of an instance at this moment (ns) drops nothing for sure.

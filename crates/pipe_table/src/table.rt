@@ -174,10 +174,9 @@ impl PipeTable {
     {
         keys_say_all();
         let pipe = &mut self.pipes[place];
-        let was_busy = pipe.is_busy(instance);
         let answer = pipe.arrive_at(instance, shelf, owner, now, packet);
-        set_unless(was_busy, &mut self.dues, place, pipe);
-        answer
+        set_unless(answer.was_busy, &mut self.dues, place, pipe);
+        answer.cause
     }
 
     /// A finish of an instance at this moment (ns) drops nothing for sure, by the places of pipe and instance.

@@ -3,15 +3,15 @@ use Rattle.std.proofs.Common.{◌≡◌, ℕ, zero, suc, ◌+◌, ◌<◌, true,
 use Rattle.std.specs.Prelude.{Option, Some, None, option_map, slice_get}
 use Rattle.std.specs.Option.{option_map_or}
 use Rattle.std.proofs.Math.ListN.{get_or-map}
-use Rattle.std.proofs.lemmas.Option.{slice_get-map, slice_get-get_or}
+use Rattle.std.proofs.lemmas.Option.{same_Some, slice_get-map, slice_get-get_or}
 use Rattle.std.proofs.lemmas.List.{map-set, set-get_or}
+use Rattle.emu_model.specs.declared.packets.Load.{Load}
 use Rattle.emu_model.specs.declared.packets.Load.TheVariants.{Plain, Seg}
 use Rattle.emu_model.specs.declared.commands.EventContext.{EventContext}
 use Rattle.emu_model.specs.declared.sources.SendSpec.{SendSpec}
 use Rattle.emu_model.specs.Reno.{emit as emitted_by, emitted}
 use Rattle.emu_model.specs.Net.{Net, FlowState, TrainState, initial_net, find_train, put_flow, put_train, make, data_send}
 use Rattle.emu_model.specs.Events.{emission}
-use Rattle.traffic.specs.declared.sends.Sending.{Sending}
 use Rattle.traffic.specs.declared.sources.SourcePlace.{SourcePlace}
 use Rattle.traffic.specs.declared.sources.SourcePlace.TheVariants.{Flow, Train}
 use Rattle.traffic.specs.Kept.{KeptFlow, KeptTraffic, with_traffic, IsSound}
@@ -80,29 +80,24 @@ module _ (t : KeptTraffic) (fs : List KeptFlow) (ts : List TrainState) (i : ℕ)
       sym (emitting_by_flow m.number (with_traffic t n) f.state (no_train_here m.number place n) ((here m.number place).found n))
       ∙ m.may n
 
-  pub flow_emits : (g : KeptFlow) (now : ℕ) (r : Sending) →
+  pub flow_emits : (g : KeptFlow) (now : ℕ) (r : Load) →
       (g ≡ record f { state = record f.state { sender = emitted_by f.state.flow now f.state.sender } }) →
-      (r ≡ record { load = Seg f.state.number (emitted f.state.sender); send = data_send f.state.flow }) →
-      (s : EventContext) (k : ℕ) (n : Net) → s.now ≡ now → source_place k t ≡ Some (Flow i) →
-      emission s k (with_traffic t n) ≡ make s r.load r.send (with_traffic (kept (set fs i g) ts) n)
-  flow_emits g now r e er s k n moment source =
+      r ≡ Seg f.state.number (emitted f.state.sender) →
+      (s : EventContext) (k : ℕ) (n : Net) (send : SendSpec) → s.now ≡ now → source_place k t ≡ Some (Flow i) →
+      next_send k (with_traffic t n) ≡ Some send →
+      emission s k (with_traffic t n) ≡ make s r send (with_traffic (kept (set fs i g) ts) n)
+  flow_emits g now r e er s k n send moment source sends =
       let place = flow_there k i t source in
       let h = here k place in
       let m = with_traffic t n in
       let new = with_traffic (kept (set fs i g) ts) n in
       let put = λ (x : ℕ). let y : FlowState = record f.state { sender = emitted_by f.state.flow x f.state.sender } in put_flow y m in
       let made = make s (Seg f.state.number (emitted f.state.sender)) (data_send f.state.flow) in
+      let same : data_send f.state.flow ≡ send = same_Some _ _ (sym (flow_send_is k n source) ∙ sends) in
       emission_by_flow s k m f.state (no_train_here k place n) (h.found n)
       ∙ ap (λ x. made (put x)) moment
       ∙ ap made (ap (λ (y : KeptFlow). put_flow y.state m) (sym e) ∙ h.put g n (ap (λ (y : KeptFlow). y.state.number) e ∙ h.number))
-      ∙ ap (λ (x : Sending). make s x.load x.send new) (sym er)
-
-  pub flow_header : (r : Sending) → (r ≡ record { load = Seg f.state.number (emitted f.state.sender); send = data_send f.state.flow }) →
-      (k : ℕ) (n : Net) → source_place k t ≡ Some (Flow i) → next_send k (with_traffic t n) ≡ Some r.send
-  flow_header r er k n source =
-      let place = flow_there k i t source in
-      send_by_flow k (with_traffic t n) f.state (no_train_here k place n) ((here k place).found n)
-      ∙ ap (λ (x : Sending). Some x.send) (sym er)
+      ∙ (λ j. make s (sym er j) (same j) new)
 
 -- ---- a train at its place
 
@@ -120,23 +115,19 @@ module _ (t : KeptTraffic) (fs : List KeptFlow) (ts : List TrainState) (i : ℕ)
       let n = initial_net in
       sym (emitting_by_train m.number (with_traffic t n) u ((standing m.number m.place).found n)) ∙ m.may n
 
-  pub train_emits : (v : TrainState) (r : Sending) → (v ≡ record u { sent = u.sent + 1 }) →
-      (r ≡ record { load = Plain; send = u.train.packet }) →
-      (s : EventContext) (k : ℕ) (n : Net) → source_place k t ≡ Some (Train i) →
-      emission s k (with_traffic t n) ≡ make s r.load r.send (with_traffic (kept fs (set ts i v)) n)
-  train_emits v r e er s k n source =
+  pub train_emits : (v : TrainState) → (v ≡ record u { sent = u.sent + 1 }) →
+      (s : EventContext) (k : ℕ) (n : Net) (send : SendSpec) → source_place k t ≡ Some (Train i) →
+      next_send k (with_traffic t n) ≡ Some send →
+      emission s k (with_traffic t n) ≡ make s Plain send (with_traffic (kept fs (set ts i v)) n)
+  train_emits v e s k n send source sends =
       let h = standing k source in
       let m = with_traffic t n in
       let new = with_traffic (kept fs (set ts i v)) n in
+      let same : u.train.packet ≡ send = same_Some _ _ (sym (train_send_is k n source) ∙ sends) in
       emission_by_train s k m u (h.found n)
       ∙ ap (make s Plain u.train.packet)
       (ap (λ v. put_train v m) (sym e) ∙ h.put v n (ap (λ (u : TrainState). u.number) e ∙ h.number))
-      ∙ ap (λ (x : Sending). make s x.load x.send new) (sym er)
-
-  pub train_header : (r : Sending) → (r ≡ record { load = Plain; send = u.train.packet }) →
-      (k : ℕ) (n : Net) → source_place k t ≡ Some (Train i) → next_send k (with_traffic t n) ≡ Some r.send
-  train_header r er k n source =
-      send_by_train k (with_traffic t n) u ((standing k source).found n) ∙ ap (λ (x : Sending). Some x.send) (sym er)
+      ∙ ap (λ x. make s Plain x new) same
 
 -- ---- what never changes
 

@@ -123,27 +123,20 @@ impl Flow {
         }
     }
 
-    /// Sends one segment at the moment `now`.
+    /// Sends one segment at the moment `now`, and says which.
     #[inline(always)]
-    pub(crate) fn emit(&mut self, now: u64) -> Sending
+    pub(crate) fn emit(&mut self, now: u64) -> Load
         requires early { IsMoment now }
         requires may { may_send self.old.state ≡ true }
         ensures flow { let f = self.old.state in
             self.new ≡ record self.old { state = record f { sender = emit f.flow now f.sender } } }
         ensures result { let f = self.old.state in
-            result ≡ record {
-              load = Load.Seg f.number (emitted f.sender);
-              send = data_send f.flow;
-            } }
+            result ≡ Load.Seg f.number (emitted f.sender) }
     {
-        let send = self.send();
         let first = self.sender.emit(now);
-        Sending {
-            load: Load::Seg {
-                flow: self.number,
-                first,
-            },
-            send,
+        Load::Seg {
+            flow: self.number,
+            first,
         }
     }
 

@@ -21,7 +21,7 @@ use crate::index::SourceIndex;
 use crate::sends::{Sending, Window};
 use crate::train::Train;
 use due_index::{DueNumber, NumberTable};
-use emu_model::{Due, FlowNumber, FlowSpec, Refusal, SendSpec, TrainSpec};
+use emu_model::{Due, FlowNumber, FlowSpec, Load, Refusal, SendSpec, TrainSpec};
 use std::alloc::{AllocError, Global};
 use std::marker::Model;
 
@@ -334,31 +334,29 @@ impl Traffic {
         }
     }
 
-    /// What is sent from there, which may send.
+    /// What is sent from there, which may send, under the header that `header_at` gives.
     #[inline(always)]
-    pub fn emit_at(&mut self, now: u64, source: &SourcePlace) -> Sending
+    pub fn emit_at(&mut self, now: u64, source: &SourcePlace) -> Load
         requires early { IsMoment now }
         requires may { MaySendAt source.now self.old }
-        ensures emission { (at : EventContext) (k : ℕ) (n : Net) → at.now ≡ now →
+        ensures emission { (at : EventContext) (k : ℕ) (n : Net) (send : SendSpec) → at.now ≡ now →
             source_place k self.old ≡ Some source.now →
-            emission at k (with_traffic self.old n)
-            ≡ make at result.load result.send (with_traffic self.new n) }
-        ensures header { (k : ℕ) (n : Net) → source_place k self.old ≡ Some source.now →
-            next_send k (with_traffic self.old n) ≡ Some result.send }
+            next_send k (with_traffic self.old n) ≡ Some send →
+            emission at k (with_traffic self.old n) ≡ make at result send (with_traffic self.new n) }
         ensures heads { heads_of self.new ≡ heads_of self.old }
     {
         match source {
             SourcePlace::Flow(place) => {
                 let flow = &mut self.flows[*place];
-                let sending = flow.emit(now);
+                let load = flow.emit(now);
                 self.index.set_flow(*place, flow);
-                sending
+                load
             }
             SourcePlace::Train(place) => {
                 let train = &mut self.trains[*place];
-                let sending = train.emit();
+                train.emit();
                 self.index.set_train(*place, train);
-                sending
+                Load::Plain
             }
         }
     }

@@ -6,9 +6,8 @@ ghost use Rattle.emu_model.specs.Dues.{train_dues};
 ghost use Rattle.traffic.specs.Leaves.{packet_due};
 ghost use Rattle.traffic.specs.Sends.{has_left};
 
-use crate::sends::Sending;
 use due_index::DueNumber;
-use emu_model::{FlowNumber, Load, SendSpec, Source, TrainSpec};
+use emu_model::{FlowNumber, SendSpec, Source, TrainSpec};
 use std::marker::Model;
 
 /// A train that sent so many of its packets; it began at a moment (ns).
@@ -59,17 +58,12 @@ impl Train {
 
     /// Sends one packet.
     #[inline(always)]
-    pub(crate) fn emit(&mut self) -> Sending
+    pub(crate) fn emit(&mut self)
         requires { has_left self.old ≡ true }
-        ensures train { self.new ≡ record self.old { sent = self.old.sent + 1 } }
-        ensures result { result ≡ record { load = Load.Plain; send = self.old.train.packet } }
+        ensures { self.new ≡ record self.old { sent = self.old.sent + 1 } }
     {
         let _most = self.train.count.get();
         self.sent += 1;
-        Sending {
-            load: Load::Plain,
-            send: self.train.packet,
-        }
     }
 
     /// When its next packet is due, if any is left.

@@ -114,7 +114,9 @@ fn sends(traffic: &mut Traffic, now: u64, end: u64) -> Option<Sending>
     };
     let number = FlowNumber::new(due.source.number as u16)?;
     let found = traffic.find(number)?;
-    Some(traffic.emit_at(now, &found))
+    let send = traffic.header_at(&found);
+    let load = traffic.emit_at(now, &found);
+    Some(Sending { load, send })
 }
 
 /// Just the segments that begin at these bytes are sent.

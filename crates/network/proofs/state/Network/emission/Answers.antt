@@ -1,7 +1,5 @@
 use Rattle.std.proofs.Common.{◌≡◌, refl, sym, ap, ◌∙◌, subst, arith, Some}
-use Rattle.std.proofs.lemmas.Option.{same_Some}
 use Rattle.emu_model.specs.declared.sources.SendSpec.{SendSpec}
-use Rattle.emu_model.specs.Net.{initial_net, make}
 use Rattle.emu_model.specs.Events.{emission}
 use Rattle.traffic.specs.Kept.{KeptTraffic, with_traffic}
 use Rattle.traffic.specs.Sends.{IsEmitting, next_send}
@@ -25,8 +23,8 @@ returns-in_default-clause-ok g c =
     (sent-none (emission c.args.at c.args.source) p old old.traffic r.housed
     (λ m. subst (λ (t : KeptTraffic). emission c.args.at c.args.source (with_traffic t m) ≡ with_traffic t m) same (c.in_default.ensures.still c.args.at m)))
 
-pub emit_at-sending-requires-clause-may : goal.emit_at-sending-requires-clause-may
-emit_at-sending-requires-clause-may g c =
+pub emit_at-load-requires-clause-may : goal.emit_at-load-requires-clause-may
+emit_at-load-requires-clause-may g c =
     let first : c.self.inside.traffic ≡ c.args.self.now.traffic = ap (λ (m : KeptNet). m.traffic) c.self.view_is in
     let tr : c.self-2.inside.traffic ≡ c.args.self.now.traffic = ap (λ (m : KeptNet). m.traffic) c.self-2.view_is ∙ ap (λ (m : KeptNet). m.traffic) c.make_ready.ensures.rest in
     record {
@@ -38,19 +36,9 @@ emit_at-sending-requires-clause-may g c =
 pub make-requires-clause-ready : goal.make-requires-clause-ready
 make-requires-clause-ready g c =
     let n = the_view c.self-2.inside in
-    let first : c.self.inside.traffic ≡ c.args.self.now.traffic = ap (λ (m : KeptNet). m.traffic) c.self.view_is in
-    let tr : c.self-2.inside.traffic ≡ c.args.self.now.traffic = ap (λ (m : KeptNet). m.traffic) c.self-2.view_is ∙ ap (λ (m : KeptNet). m.traffic) c.make_ready.ensures.rest in
-    let before : source_place c.args.source c.self.inside.traffic ≡ Some c.in-Some.found = sym c.find.ensures.place ∙ c.in-Some.is in
-    let there : source_place c.args.source c.self-2.inside.traffic ≡ Some c.in-Some.found = ap (source_place c.args.source) (tr ∙ sym first) ∙ before in
     let send : SendSpec = c.header_at-send.result in
-    let sent : SendSpec = c.emit_at-sending.result.send in
-    let same : send ≡ sent = same_Some send sent
-    (sym (c.header_at-send.ensures c.args.source initial_net before)
-    ∙ ap (λ (t : KeptTraffic). next_send c.args.source (with_traffic t initial_net)) (first ∙ sym tr)
-    ∙ c.emit_at-sending.ensures.header c.args.source initial_net there) in
-    as-make n (record n { traffic = c.emit_at-sending.new.self }) (roomy-same n _ refl (omega arith) refl refl) sent c.in_ok-lookup.lookup
-    (subst (λ (s : SendSpec). CanMake s c.in_ok-lookup.lookup n) same
-    (subst (λ (m : KeptNet). CanMake send c.in_ok-lookup.lookup m) (sym c.self-2.view_is) c.in_ok-lookup.ensures.ready))
+    as-make n (record n { traffic = c.emit_at-load.new.self }) (roomy-same n _ refl (omega arith) refl refl) send c.in_ok-lookup.lookup
+    (subst (λ (m : KeptNet). CanMake send c.in_ok-lookup.lookup m) (sym c.self-2.view_is) c.in_ok-lookup.ensures.ready)
 
 pub returns-clause-ok : goal.returns-clause-ok
 returns-clause-ok g c =
@@ -58,9 +46,11 @@ returns-clause-ok g c =
     let n = the_view c.self-2.inside in
     let first : c.self.inside.traffic ≡ c.args.self.now.traffic = ap (λ (m : KeptNet). m.traffic) c.self.view_is in
     let tr : c.self-2.inside.traffic ≡ c.args.self.now.traffic = ap (λ (m : KeptNet). m.traffic) c.self-2.view_is ∙ ap (λ (m : KeptNet). m.traffic) c.make_ready.ensures.rest in
-    let there : source_place c.args.source c.self-2.inside.traffic ≡ Some c.in-Some.found =
-    ap (source_place c.args.source) (tr ∙ sym first) ∙ sym c.find.ensures.place ∙ c.in-Some.is in
+    let before : source_place c.args.source c.self.inside.traffic ≡ Some c.in-Some.found = sym c.find.ensures.place ∙ c.in-Some.is in
+    let there : source_place c.args.source c.self-2.inside.traffic ≡ Some c.in-Some.found = ap (source_place c.args.source) (tr ∙ sym first) ∙ before in
+    let sends : next_send c.args.source (with_traffic c.self-2.inside.traffic (net_of p n)) ≡ Some c.header_at-send.result =
+    ap (λ (t : KeptTraffic). next_send c.args.source (with_traffic t (net_of p n))) (tr ∙ sym first) ∙ c.header_at-send.ensures c.args.source (net_of p n) before in
     let r = readied c.requires.stands.housed c.make_ready.ensures.still (c.make_ready.ensures.pockets c.args.owner ∙ c.put_ready.ensures.pockets c.args.owner) c.self-2.view_is in
     from_readied r (emission c.args.at c.args.source) 1 _ _
-    (sent-one (emission c.args.at c.args.source) p n c.emit_at-sending.new.self _ c.make.new.self _
-    (c.emit_at-sending.ensures.emission c.args.at c.args.source (net_of p n) refl there) c.make.ensures.becomes)
+    (sent-one (emission c.args.at c.args.source) p n c.emit_at-load.new.self _ c.make.new.self _
+    (c.emit_at-load.ensures.emission c.args.at c.args.source (net_of p n) c.header_at-send.result refl there sends) c.make.ensures.becomes)

@@ -22,7 +22,7 @@ returns-clause-arrived g c =
     let old : KeyedPipe = c.args.self.now in
     let id : c.apply-id.result ≡ flow_id old.config.mask c.args.packet.now =
     c.apply-id.ensures ∙ ap (λ (z : KeyedPipe). flow_id z.config.mask c.args.packet.now) c.self.view_is in
-    arrive_some c.args.now c.in-Some.instance c.args.packet.now c.arrive_at.result p q old c.find_or_make.new.self c.arrive_at.new.self
+    arrive_some c.args.now c.in-Some.instance c.args.packet.now c.arrive_at.result.cause p q old c.find_or_make.new.self c.arrive_at.new.self
     c.apply-id.result c.find_or_make.ensures.same c.arrive_at.ensures.came
     c.requires.named id c.in-Some.ensures.number c.in-Some.ensures.made
 
@@ -30,7 +30,7 @@ pub returns-clause-keys : goal.returns-clause-keys
 returns-clause-keys g c =
     let p : Pocket = g.S.Shelf.pocket c.args.shelf.now c.args.owner in
     let q : Pocket = g.S.Shelf.pocket c.arrive_at.new.shelf c.args.owner in
-    arrive_keys c.args.now c.in-Some.instance c.args.packet.now c.arrive_at.result p q c.args.self.now c.find_or_make.new.self c.arrive_at.new.self
+    arrive_keys c.args.now c.in-Some.instance c.args.packet.now c.arrive_at.result.cause p q c.args.self.now c.find_or_make.new.self c.arrive_at.new.self
     c.apply-id.result c.find_or_make.ensures.same c.arrive_at.ensures.came c.find_or_make.ensures.keys
 
 pub find_or_make-requires-clause-its : goal.find_or_make-requires-clause-its

@@ -1,17 +1,16 @@
 use Rattle.std.proofs.Common.{◌≡◌, ℕ, ◌-◌, ◌<◌, List, length, true, Some, set, refl, sym, subst, ap, ◌∙◌, vec_len, vec_capacity, arith}
 use Rattle.std.specs.Prelude.{min, is_some}
 use Rattle.emu_model.specs.declared.pipes.PipeConfig.{PipeConfig}
-use Rattle.emu_model.specs.Events.{served_in}
 use Rattle.emu_model.specs.FlowIds.{flow_id, instance_of}
 use Rattle.packet_store.specs.Pocket.{Pocket}
 use Rattle.pipe_core.specs.declared.slot.Slot.{Slot}
 use Rattle.pipe_core.specs.Leaves.{slot_due, pipe_due}
-use Rattle.pipe_core.specs.Keyed.{KeyedPipe, seen_pipe, ids_of}
+use Rattle.pipe_core.specs.Keyed.{KeyedPipe, ids_of}
 use Rattle.pipe_core.specs.Steps.{HasRoomAtSlot, ArrivesAt}
 use Rattle.pipe_core.proofs.InstancePlaces.{place_inside, named_inside, slot_at, pipe_at, get_at, keeps_at, ids_same}
 use Rattle.pipe_core.proofs.Arrivals.{comes_at, arrive_some}
 use Rattle.pipe_core.proofs.Makings.{with_known}
-use Rattle.pipe_core.proofs.Busy.{due-busy, busy-at, pipe-same, leaf_there}
+use Rattle.pipe_core.proofs.Busy.{due-busy, pipe-same, leaf_there}
 use Rattle.pipe_core.proofs.DueLeaves.{leaves_set, leaves_within, number_at}
 use Rattle.due_index.specs.Places.{Places}
 use Rattle.pipe_core.proofs.pipe.Pipe.arrive_at.Goals as goal
@@ -118,7 +117,7 @@ returns-clause-same g c =
     rw (← c.self.view_is) (λ t. inside_of s.config s.seed s.number (set s.slots.items c.args.instance c.arrive-answer.new.self) (min n (ap (λ (p : Places). p.spare) c.set_unless.ensures t)))
 
 pub returns-clause-busy : goal.returns-clause-busy
-returns-clause-busy g c = λ f busy.
+returns-clause-busy g c = λ busy f.
     let s = c.self.inside in
     let x : Slot = c.index_mut-slot.result.now in
     let y : Slot = c.arrive-answer.new.self in
@@ -126,8 +125,7 @@ returns-clause-busy g c = λ f busy.
     let q : Pocket = g.S.Shelf.pocket c.arrive-answer.new.shelf c.args.owner in
     let at = place_inside c.self.view_is c.requires.inside c.index_mut-slot.ensures.value in
     let old : KeyedPipe = inside_of s.config s.seed s.number s.slots.items 0 in
-    let served : is_some x.instance.service.busy ≡ true =
-    sym (busy-at c.args.instance s.slots.items x at f) ∙ ap (λ (z : KeyedPipe). is_some (served_in c.args.instance (seen_pipe f z))) c.self.view_is ∙ busy in
+    let served : is_some x.instance.service.busy ≡ true = sym c.is_busy-was_busy.ensures ∙ busy in
     pipe-same f old (inside_of s.config s.seed s.number (set s.slots.items c.args.instance y) 0) c.args.instance x y refl c.index_mut-slot.ensures.value
     c.self.invariant.0.slots_are (pipe_at _ _ _ at s.config s.seed s.number s.ids.ids y c.arrive-answer.ensures.came.place c.self.invariant.0).slots_are
     (due-busy s.config c.args.now c.args.packet.now c.arrive-answer.result p q x y served c.arrive-answer.ensures.came)

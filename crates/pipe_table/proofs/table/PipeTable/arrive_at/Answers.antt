@@ -11,19 +11,6 @@ use Rattle.pipe_table.proofs.Indexes.{indexed-put, indexed-there, indexed-within
 use Rattle.pipe_table.proofs.PlaceFacts.{get-there, standing-place, led-set, kept-set, inside-within, inside-of, route-inside, route-its}
 use Rattle.pipe_table.proofs.table.PipeTable.arrive_at.Goals as goal
 
-pub is_busy-was_busy-requires : goal.is_busy-was_busy-requires
-is_busy-was_busy-requires g c =
-    let s = c.self.inside in
-    let ps : List KeyedPipe = s.pipes.items in
-    let i : ℕ = c.args.place in
-    let x : KeyedPipe = c.index_mut-pipe.result.now in
-    let read = c.index_mut-pipe.ensures.value in
-    let route : IsRouted c.requires.route.0 c.args.packet.now i c.args.instance ps =
-    subst (λ (t : Table). IsRouted c.requires.route.0 c.args.packet.now i c.args.instance t.pipes) (sym c.self.view_is) c.requires.route.1 in
-    let inside : IsInside i c.args.instance ps = route-inside c.requires.route.0 c.args.packet.now i c.args.instance ps route in
-    let within : i < length ps = inside-within i c.args.instance ps inside in
-    inside-of i c.args.instance ps x inside read
-
 pub arrive_at-answer-requires-clause-inside : goal.arrive_at-answer-requires-clause-inside
 arrive_at-answer-requires-clause-inside g c =
     let s = c.self.inside in
@@ -77,7 +64,7 @@ set_unless-requires-clause-same g c = λ busy.
     let inside : IsInside i c.args.instance ps = route-inside c.requires.route.0 c.args.packet.now i c.args.instance ps route in
     let within : i < length ps = inside-within i c.args.instance ps inside in
     indexed-there ps i x c.arrive_at-answer.new.self s.dues c.self.invariant.1 (get-there ps i x within read)
-    (λ f. c.arrive_at-answer.ensures.busy f (sym (c.is_busy-was_busy.ensures f) ∙ busy))
+    (c.arrive_at-answer.ensures.busy busy)
 
 pub invariant_of-self : goal.invariant_of-self
 invariant_of-self g c =
