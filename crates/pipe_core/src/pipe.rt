@@ -1,6 +1,6 @@
 //! A pipe: its configuration, and its instances by flow identifier.
 
-ghost use Rattle.std.specs.Prelude.{◌≡◌, ◌≢◌, ℕ, ◌+◌, ◌-◌, ◌*◌, ◌<◌, ◌≤◌, ◌↔◌, true, false, [], map, length, position, slice_get, slice_set, Some, None, unwrap_or, option_map, option_and_then, IfSome, OnSome, IfNone, IfOk, OnOk, OnErr, IsOk, IsTrue, vec_capacity};
+ghost use Rattle.std.specs.Prelude.{◌≡◌, ◌≢◌, ℕ, ◌+◌, ◌-◌, ◌*◌, ◌<◌, ◌≤◌, ◌↔◌, true, false, [], map, length, position, slice_get, slice_set, Some, None, is_some, unwrap_or, option_map, option_and_then, IfSome, OnSome, IfNone, IfOk, OnOk, OnErr, IsOk, IsTrue, vec_capacity};
 ghost use Rattle.std.specs.List.{list_any, All};
 ghost use Rattle.emu_model.specs.declared.packets.Packet.{Packet};
 ghost use Rattle.emu_model.specs.Moments.{IsMoment};
@@ -355,6 +355,8 @@ impl Pipe {
             (keys_of self.old.slots) (keys_of self.new.slots) }
         ensures same { self.new ≡ record self.old { slots = self.new.slots } }
         ensures ids { ids_of self.new.slots ≡ ids_of self.old.slots }
+        ensures found { (f : ℕ → Packet) →
+            result.was_busy ≡ is_some (served_in instance (seen_pipe f self.old)) }
         ensures busy { IsTrue result.was_busy → (f : ℕ → Packet) →
             pipe_due f self.new ≡ pipe_due f self.old }
         ensures others { OthersStay owner (S.pocket shelf.old) (S.pocket shelf.new) }

@@ -56,16 +56,6 @@ impl Model for Archive {
     ghost invariant = { λ a. All (IsEntry a.others.items) a.words.items };
 }
 
-// One thing more at the end of a list that has room for it.
-#[tactic(auto, unfolding(crate::specs::Room::spare))]
-fn put<T: Copy>(list: &mut Vec<T>, value: &T)
-    requires { vec_len list.old < vec_capacity list.old }
-    ensures items { list.new.items ≡ list.old.items ++ value.now ∷ [] }
-    ensures room { spare list.old ≤ spare list.new + 1 }
-{
-    list.push_reserved(*value);
-}
-
 // Whether it is a line of a listing.
 fn is_listed(entry: &Record) -> bool {
     match entry {
@@ -144,7 +134,7 @@ fn note_whole(
     }
     others.reserve(1)?;
     words.push_reserved(place_mark(others.len()));
-    put(others, entry);
+    others.push_reserved(*entry);
     Ok(())
 }
 

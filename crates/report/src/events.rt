@@ -1,7 +1,6 @@
 //! The lines of events, each put behind what stands before a place.
 
 ghost use Rattle.std.specs.Prelude.{◌≡◌, ◌+◌, ◌≤◌, ◌++◌, codes, decimal, false, length, take, IfSome, None};
-ghost use Rattle.emu_model.specs.declared.packets.Load.TheVariants.{Plain};
 ghost use Rattle.report.specs.Archive.{Names, record_of};
 ghost use Rattle.report.specs.Words.{instance_name, load_of, cause_of};
 ghost use Rattle.report.specs.Lines.{line_of, is_event};
@@ -120,28 +119,6 @@ fn put_drop(
     let at = put_load(text, at, load);
     let at = put_cause(text, at, cause);
     put_byte(text, at, b'\n')
-}
-
-// The same of a plain packet, whose load so needs no room where all lines are made.
-#[inline(never)]
-fn put_plain_drop(
-    clock: &mut Clock,
-    text: &mut [u8],
-    at: usize,
-    moment: u64,
-    packet: u64,
-    cause: DropCause,
-) -> usize
-    requires { at + 256 ≤ length text.old }
-    ensures end { (at ≤ result) × (result ≤ at + 128) }
-    ensures items { take result text.new
-        ≡ take at text.old
-        ++ (decimal moment
-        ++ (codes " drop "
-        ++ (decimal packet
-        ++ (codes " " ++ (load_of Plain ++ (codes " " ++ (cause_of cause ++ codes "\n"))))))) }
-{
-    put_drop(clock, text, at, moment, packet, Load::Plain, cause)
 }
 
 // Puts what a sender's window is after an acknowledgement or a timeout.
@@ -358,7 +335,7 @@ pub(crate) fn put_parts(clock: &mut Clock, text: &mut [u8], at: usize, parts: Pa
         ),
         Kind::Dropped => {
             let cause = cause_at(tag);
-            put_plain_drop(clock, text, at, moment, packet, cause)
+            put_drop(clock, text, at, moment, packet, Load::Plain, cause)
         }
         Kind::Arrived => {
             let (pipe, instance) = (pipe_of(tag), number as u8);

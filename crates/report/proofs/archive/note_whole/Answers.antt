@@ -10,7 +10,7 @@ pub returns-clause-ok : goal.returns-clause-ok
 returns-clause-ok c =
     let os : List Record = c.args.others.now.items in
     let ws : List Packed = c.args.words.now.items in
-    let grown = c.put.ensures.items ∙ ap (λ (l : List Record). l ++ c.args.entry.now ∷ []) c.reserve.ensures.items in
+    let grown = c.push_reserved-3.ensures.items ∙ ap (λ (l : List Record). l ++ c.args.entry.now ∷ []) c.reserve.ensures.items in
     (λ i. map (entry_of (grown i)) (c.push_reserved-2.ensures.items i))
     ∙ whole_is_last os c.args.entry.now c.place_mark.result c.place_mark.ensures.kind
     (omega (arith, c.place_mark.ensures.place, c.len-2.ensures, c.reserve.new.self.ok.0, ap length c.reserve.ensures.items)) ws c.requires.sound
@@ -19,8 +19,8 @@ pub returns-clause-sound : goal.returns-clause-sound
 returns-clause-sound c =
     let os : List Record = c.args.others.now.items in
     let ws : List Packed = c.args.words.now.items in
-    let grown = c.put.ensures.items ∙ ap (λ (l : List Record). l ++ c.args.entry.now ∷ []) c.reserve.ensures.items in
-    subst (λ (l : List Packed). All (IsEntry c.put.new.list.items) l) (sym c.push_reserved-2.ensures.items)
+    let grown = c.push_reserved-3.ensures.items ∙ ap (λ (l : List Record). l ++ c.args.entry.now ∷ []) c.reserve.ensures.items in
+    subst (λ (l : List Packed). All (IsEntry c.push_reserved-3.new.self.items) l) (sym c.push_reserved-2.ensures.items)
     (subst (λ (l : List Record). All (IsEntry l) (ws ++ c.place_mark.result ∷ [])) (sym grown)
     (all_are_entries os c.args.entry.now c.place_mark.result c.place_mark.ensures.kind
     (omega (arith, c.place_mark.ensures.place, c.len-2.ensures, c.reserve.new.self.ok.0, ap length c.reserve.ensures.items)) ws c.requires.sound))

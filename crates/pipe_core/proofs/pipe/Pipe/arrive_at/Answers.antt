@@ -10,7 +10,7 @@ use Rattle.pipe_core.specs.Steps.{HasRoomAtSlot, ArrivesAt}
 use Rattle.pipe_core.proofs.InstancePlaces.{place_inside, named_inside, slot_at, pipe_at, get_at, keeps_at, ids_same}
 use Rattle.pipe_core.proofs.Arrivals.{comes_at, arrive_some}
 use Rattle.pipe_core.proofs.Makings.{with_known}
-use Rattle.pipe_core.proofs.Busy.{due-busy, pipe-same, leaf_there}
+use Rattle.pipe_core.proofs.Busy.{due-busy, busy-at, pipe-same, leaf_there}
 use Rattle.pipe_core.proofs.DueLeaves.{leaves_set, leaves_within, number_at}
 use Rattle.due_index.specs.Places.{Places}
 use Rattle.pipe_core.proofs.pipe.Pipe.arrive_at.Goals as goal
@@ -115,6 +115,13 @@ returns-clause-same g c =
     let s = c.self.inside in
     let n = min (vec_capacity s.slots - vec_len s.slots) s.ids.spare in
     rw (← c.self.view_is) (λ t. inside_of s.config s.seed s.number (set s.slots.items c.args.instance c.arrive-answer.new.self) (min n (ap (λ (p : Places). p.spare) c.set_unless.ensures t)))
+
+pub returns-clause-found : goal.returns-clause-found
+returns-clause-found g c =
+    let s = c.self.inside in
+    let x : Slot = c.index_mut-slot.result.now in
+    let at = place_inside c.self.view_is c.requires.inside c.index_mut-slot.ensures.value in
+    rw (← c.self.view_is) (λ f. c.is_busy-was_busy.ensures ∙ sym (busy-at c.args.instance s.slots.items x at f))
 
 pub returns-clause-busy : goal.returns-clause-busy
 returns-clause-busy g c = λ busy f.
