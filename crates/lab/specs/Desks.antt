@@ -1,5 +1,6 @@
 -- What a worker's calls keep of the names on its bench.
-use Rattle.std.specs.Prelude.{◌≡◌, ◌+◌, ◌==◌, ℕ, cond}
+use Rattle.std.specs.Prelude.{◌≡◌, ◌+◌, ◌==◌, ℕ, List, cond}
+use Rattle.std.specs.List.{sum_by}
 use Rattle.shard.specs.declared.shard.TakeInError.{TakeInError}
 use Rattle.shard.specs.declared.shard.TakeInError.TheVariants.{Crowded, NoMemory}
 use Rattle.shard.specs.Stand.{Stand}
@@ -15,21 +16,28 @@ abbrev pub parcel_of : TakeInError RingMail → Stand RingMail
 parcel_of (Crowded p) = p
 parcel_of (NoMemory p) = p
 
+-- how many of the parcels have the name
+abbrev pub parcels_named : ℕ → List (Stand RingMail) → ℕ
+parcels_named x ps = sum_by (λ (p : Stand RingMail). cond (p.name == x) 1 0) ps
+
 -- there is a dossier more for each name more that ended
 abbrev pub KeepsDossiers : Desk → Desk → Type 0
 KeepsDossiers a b = (x : ℕ) → times x b.bench.ended.items + dossiers_named x a.dossiers.items ≡ times x a.bench.ended.items + dossiers_named x b.dossiers.items
 
--- no parcel was let go, since what was handed out was admitted again; and no dossier
+-- no parcel was let go, since what was handed out was admitted again, and what waits no more was admitted; and no dossier
 pub record LosesNone (a b : Desk) : Type 0 where
-  pub parcels : (x : ℕ) → times x b.bench.handed_out.items + times x a.bench.admitted.items ≡ times x a.bench.handed_out.items + times x b.bench.admitted.items
+  pub parcels : (x : ℕ) → (times x b.bench.handed_out.items + parcels_named x b.waiting.items) + times x a.bench.admitted.items
+      ≡ (times x a.bench.handed_out.items + parcels_named x a.waiting.items) + times x b.bench.admitted.items
   pub dossiers : KeepsDossiers a b
 
--- a parcel that was handed out was admitted again
+-- a parcel that was handed out, or waited, was admitted
 pub record Readmits (p : Stand RingMail) (a b : Desk) : Type 0 where
-  pub parcels : (x : ℕ) → times x b.bench.handed_out.items + (times x a.bench.admitted.items + cond (p.name == x) 1 0) ≡ times x a.bench.handed_out.items + times x b.bench.admitted.items
+  pub parcels : (x : ℕ) → (times x b.bench.handed_out.items + parcels_named x b.waiting.items) + (times x a.bench.admitted.items + cond (p.name == x) 1 0)
+      ≡ (times x a.bench.handed_out.items + parcels_named x a.waiting.items) + times x b.bench.admitted.items
   pub dossiers : KeepsDossiers a b
 
--- of a bench that was worked on until all had ended no parcel was let go, and no dossier
-pub record HandsOver (b : Bench) (g : Given) : Type 0 where
-  pub parcels : (x : ℕ) → times x g.closing.handed_out.items + times x b.admitted.items ≡ times x b.handed_out.items + times x g.closing.admitted.items
+-- of a bench that was worked on until all had ended, and of the parcels that waited for it, no parcel was let go, and no dossier
+pub record HandsOver (b : Bench) (waiting : List (Stand RingMail)) (g : Given) : Type 0 where
+  pub parcels : (x : ℕ) → (times x g.closing.handed_out.items + parcels_named x g.waiting.items) + times x b.admitted.items
+      ≡ (times x b.handed_out.items + parcels_named x waiting) + times x g.closing.admitted.items
   pub dossiers : (x : ℕ) → times x g.closing.ended.items ≡ times x b.ended.items + dossiers_named x g.dossiers.items

@@ -149,6 +149,7 @@ impl Joined {
         let Given {
             closing,
             dossiers,
+            waiting: _,
             fault,
         } = given;
         self.note_worker(fault);

@@ -12,10 +12,10 @@ ghost use Rattle.lab.specs.Serving.{Serves, ServesAll, IsServed};
 use crate::fault::RunFault;
 use crate::outcome::Outcome;
 use crate::worker::Board;
-use bench::{Bench, PostError, Registry, RingMail, Tenant};
+use bench::{PostError, Registry, RingMail, Tenant};
 use control::Experiment;
 use emu_model::{Timed, later_commands_wait};
-use shard::{Dossier, SLOTS};
+use shard::{Dossier, Parcel, SLOTS};
 use std::alloc::Global;
 use std::sync::Wait;
 use std::thread;
@@ -125,13 +125,13 @@ pub(crate) fn serve<R: Wait>(
     Ok(tenants)
 }
 
-/// Opens a tenant for each experiment, and admits its parcel on a bench, each bench in its turn.
+/// Opens a tenant for each experiment, and puts its parcel behind those that wait for a worker, each worker in its turn.
 pub(crate) fn open_all(
     alloc: Global,
     scenario: &[Experiment],
-    benches: &mut [Bench],
+    waiting: &mut [Vec<Parcel<RingMail>>],
 ) -> Result<Vec<Tenant>, RunFault>
-    requires { 0 < length benches.old }
+    requires { 0 < length waiting.old }
     ensures ok { IfOk result (λ ts. IsServed ts scenario.now) }
     ensures err { IfErr result IsMemory }
 {
@@ -144,9 +144,9 @@ pub(crate) fn open_all(
         let Ok((tenant, parcel)) = registry.open(alloc, scenario[k].spec) else {
             return Err(RunFault::Memory);
         };
-        let place = k % benches.len();
-        let admitted = benches[place].admit(parcel).ok();
-        if admitted.is_none() {
+        let place = k % waiting.len();
+        let pushed = waiting[place].push(parcel).ok();
+        if pushed.is_none() {
             drop(tenant);
             return Err(RunFault::Memory);
         }

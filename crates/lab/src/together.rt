@@ -18,8 +18,9 @@ use crate::plan::{Gate, Plan};
 use crate::progress::Progress;
 use crate::tenants::{open_all, serve, settle_all};
 use crate::worker::{Board, Given, Job, Report, work};
-use bench::{Bench, Peer, Tenant, audit};
+use bench::{Bench, Peer, RingMail, Tenant, audit};
 use control::Experiment;
+use shard::Parcel;
 use std::alloc::Global;
 use std::sync::Wait;
 use std::thread;
@@ -52,11 +53,27 @@ fn benches_and_peers(alloc: Global, count: usize) -> Result<(Vec<Bench>, Vec<Pee
     Ok((benches, peers))
 }
 
-// Gives each bench the peer of the next one, where there is another.
+// So many lists of parcels, none of which waits yet.
+fn empty_lists(alloc: Global, count: usize) -> Result<Vec<Vec<Parcel<RingMail>>>, RunFault>
+    ensures ok { IfOk result (λ lists. vec_len lists ≡ count) }
+    ensures err { IfErr result IsMemory }
+{
+    let mut lists = Vec::new(alloc);
+    for _ in 0..count {
+        if lists.reserve(1).is_err() {
+            return Err(RunFault::Memory);
+        }
+        lists.push_reserved(Vec::new(alloc));
+    }
+    Ok(lists)
+}
+
+// Gives each bench the parcels that wait for it, and the peer of the next one, where there is another.
 fn jobs_of(
     alloc: Global,
     mut benches: Vec<Bench>,
     mut peers: Vec<Peer>,
+    mut lists: Vec<Vec<Parcel<RingMail>>>,
 ) -> Result<Vec<Job>, RunFault>
     requires { vec_len benches ≤ 16 }
     ensures { IfErr result IsMemory }
@@ -71,11 +88,15 @@ fn jobs_of(
     };
     while let Some(bench) = benches.pop() {
         let peer = peers.pop();
+        let mut waiting = lists.pop().unwrap_or(Vec::new(alloc));
+        // The last of a list is taken first.
+        waiting.as_mut_slice().reverse();
         let number = benches.len() as u32;
         let job = Job {
             number,
             bench,
             peer,
+            waiting,
         };
         if jobs.push(job).ok().is_none() {
             return Err(RunFault::Memory);
@@ -117,9 +138,10 @@ pub(crate) fn run_together<G: Gate, R: Threads + Wait + Sync, P: Progress + Sync
     ensures err { IfErr result (IsTogetherFault G.may_refuse) }
     ensures joined { IsConcluded scenario.now plan.workers (fault_of result) }
 {
-    let (mut benches, peers) = benches_and_peers(alloc, plan.workers)?;
-    let tenants = open_all(alloc, scenario, benches.as_mut_slice())?;
-    let jobs = jobs_of(alloc, benches, peers)?;
+    let (benches, peers) = benches_and_peers(alloc, plan.workers)?;
+    let mut waiting = empty_lists(alloc, plan.workers)?;
+    let tenants = open_all(alloc, scenario, waiting.as_mut_slice())?;
+    let jobs = jobs_of(alloc, benches, peers, waiting)?;
     let board = Board::new(scenario.len() as u64);
     let shared = &board;
     let (tenants, given) = thread::scope(

@@ -19,6 +19,9 @@ use std::thread;
 /// How many turns one experiment makes before another's: what it holds is at hand then.
 const AT_ONCE: u32 = 1024;
 
+/// With so many residents a bench admits no other, so that few shelves take memory at a time.
+const AT_HAND: usize = 2;
+
 /// What the workers share: how many experiments have ended, and whether there is a fault. Nothing is claimed of
 /// either.
 #[derive(Drop)]
@@ -54,19 +57,23 @@ impl Board {
     }
 }
 
-/// The work of one worker: its bench with its number, and where it may adopt from.
+/// The work of one worker: its bench with its number, where it may adopt from, and the parcels that wait for it, the
+/// first one last.
 #[derive(Drop)]
 pub(crate) struct Job {
     pub number: u32,
     pub bench: Bench,
     pub peer: Option<Peer>,
+    pub waiting: Vec<Parcel<RingMail>>,
 }
 
-/// What a worker gives: its closed bench, the dossiers of those that ended there, and its fault.
+/// What a worker gives: its closed bench, the dossiers of those that ended there, the parcels that still wait, and its
+/// fault.
 #[derive(Drop)]
 pub(crate) struct Given {
     pub closing: Closing,
     pub dossiers: Vec<Dossier<RingMail>>,
+    pub waiting: Vec<Parcel<RingMail>>,
     pub fault: Option<RunFault>,
 }
 
@@ -110,13 +117,15 @@ struct Desk {
     bench: Bench,
     peer: Option<Peer>,
     dossiers: Vec<Dossier<RingMail>>,
+    // The parcels that wait, the first one last. A shelf takes its memory when its parcel is admitted.
+    waiting: Vec<Parcel<RingMail>>,
     turns: u32,
     // The slot that is polled next for one to begin.
     cursor: usize,
 }
 
 impl Desk {
-    // Admits a parcel that was handed back.
+    // Admits a parcel that was handed back, or waited.
     fn admit_again(&mut self, parcel: Parcel<RingMail>) -> Result<(), RunFault>
         ensures ok { OnOk result (Readmits parcel self.old self.new) }
         ensures err { IfErr result IsMemory }
@@ -229,6 +238,22 @@ impl Desk {
         Ok(false)
     }
 
+    // Admits the parcel that waits first, if few residents wait for their commands. Whether it did.
+    #[tactic(auto, using(crate::proofs::Desking::loses_none, crate::proofs::Desking::loses_none_waiting))]
+    fn admit_next(&mut self) -> Result<bool, RunFault>
+        ensures ok { OnOk result (LosesNone self.old self.new) }
+        ensures err { IfErr result IsMemory }
+    {
+        if self.bench.residents() >= AT_HAND {
+            return Ok(false);
+        }
+        let Some(parcel) = self.waiting.pop() else {
+            return Ok(false);
+        };
+        self.admit_again(parcel)?;
+        Ok(true)
+    }
+
     // Whether the deque has less than it should: one more waits there where another bench may have nothing to do.
     #[tactic(auto, using(crate::proofs::Desking::loses_none))]
     fn runs_low(&mut self) -> bool
@@ -323,7 +348,7 @@ impl Desk {
         if self.turn(moves, board, gate, progress)? {
             return Ok(true);
         }
-        if self.runs_low() && self.start_next()? {
+        if self.runs_low() && (self.start_next()? || self.admit_next()?) {
             return Ok(true);
         }
         let found = self.fetch()?;
@@ -366,18 +391,20 @@ pub(crate) fn work<G: Gate, R: Wait, P: Progress>(
     gate: &G,
     progress: &P,
 ) -> Report<G>
-    ensures { result.given.fault ≡ None → HandsOver job.bench result.given }
+    ensures { result.given.fault ≡ None → HandsOver job.bench job.waiting.items result.given }
 {
     let Job {
         number,
         bench,
         peer,
+        waiting,
     } = job;
     let mut desk = Desk {
         number,
         bench,
         peer,
         dossiers: Vec::new(alloc),
+        waiting,
         turns: 0,
         cursor: 0,
     };
@@ -390,12 +417,14 @@ pub(crate) fn work<G: Gate, R: Wait, P: Progress>(
         bench,
         peer: _,
         dossiers,
+        waiting,
         turns: _,
         cursor: _,
     } = desk;
     let given = Given {
         closing: bench.close(),
         dossiers,
+        waiting,
         fault: done.err(),
     };
     Report {
