@@ -250,6 +250,8 @@ impl Desk {
         let Some(parcel) = self.waiting.pop() else {
             return Ok(false);
         };
+        // It comes to the least vacant slot, so it is found there at once.
+        self.cursor = 0;
         self.admit_again(parcel)?;
         Ok(true)
     }
