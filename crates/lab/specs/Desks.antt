@@ -26,18 +26,18 @@ KeepsDossiers a b = (x : ℕ) → times x b.bench.ended.items + dossiers_named x
 
 -- no parcel was let go, since what was handed out was admitted again, and what waits no more was admitted; and no dossier
 pub record LosesNone (a b : Desk) : Type 0 where
-  pub parcels : (x : ℕ) → (times x b.bench.handed_out.items + parcels_named x b.waiting.items) + times x a.bench.admitted.items
-      ≡ (times x a.bench.handed_out.items + parcels_named x a.waiting.items) + times x b.bench.admitted.items
+  pub parcels : (x : ℕ) → (times x b.bench.handed_out.items + parcels_named x a.waiting.items) + times x a.bench.admitted.items
+      ≡ (times x a.bench.handed_out.items + parcels_named x b.waiting.items) + times x b.bench.admitted.items
   pub dossiers : KeepsDossiers a b
 
 -- a parcel that was handed out, or waited, was admitted
 pub record Readmits (p : Stand RingMail) (a b : Desk) : Type 0 where
-  pub parcels : (x : ℕ) → (times x b.bench.handed_out.items + parcels_named x b.waiting.items) + (times x a.bench.admitted.items + cond (p.name == x) 1 0)
-      ≡ (times x a.bench.handed_out.items + parcels_named x a.waiting.items) + times x b.bench.admitted.items
+  pub parcels : (x : ℕ) → (times x b.bench.handed_out.items + parcels_named x a.waiting.items) + (times x a.bench.admitted.items + cond (p.name == x) 1 0)
+      ≡ (times x a.bench.handed_out.items + parcels_named x b.waiting.items) + times x b.bench.admitted.items
   pub dossiers : KeepsDossiers a b
 
 -- of a bench that was worked on until all had ended, and of the parcels that waited for it, no parcel was let go, and no dossier
 pub record HandsOver (b : Bench) (waiting : List (Stand RingMail)) (g : Given) : Type 0 where
-  pub parcels : (x : ℕ) → (times x g.closing.handed_out.items + parcels_named x g.waiting.items) + times x b.admitted.items
-      ≡ (times x b.handed_out.items + parcels_named x waiting) + times x g.closing.admitted.items
+  pub parcels : (x : ℕ) → (times x g.closing.handed_out.items + parcels_named x waiting) + times x b.admitted.items
+      ≡ (times x b.handed_out.items + parcels_named x g.waiting.items) + times x g.closing.admitted.items
   pub dossiers : (x : ℕ) → times x g.closing.ended.items ≡ times x b.ended.items + dossiers_named x g.dossiers.items

@@ -239,7 +239,7 @@ impl Desk {
     }
 
     // Admits the parcel that waits first, if few residents wait for their commands. Whether it did.
-    #[tactic(auto, using(crate::proofs::Desking::loses_none, crate::proofs::Desking::loses_none_waiting))]
+    #[tactic(auto, using(crate::proofs::Desking::loses_none))]
     fn admit_next(&mut self) -> Result<bool, RunFault>
         ensures ok { OnOk result (LosesNone self.old self.new) }
         ensures err { IfErr result IsMemory }
