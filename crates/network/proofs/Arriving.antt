@@ -116,6 +116,11 @@ arrives at p q n x new k packet h rest records b =
     follow (enter_pipe at k packet) 0 0 0 (note_arrival at.now k packet (net_of p n)) p p q n x new (omega arith)
     (logged-becomes p (if n.trace then option_map_or (arrivals at.now packet) (find_pipe k (net_of p n)) [] else []) n x h rest records) b
 
+-- a rule counted and records came: the packets stay where they are
+pub housed-logged : (p : Pocket) (n m : KeptNet) (book : RuleBook) → IsHoused p n →
+    m ≡ record n { book = book; log = m.log } → IsHoused p m
+housed-logged p n m book h rest = subst (λ k. IsHoused p k) (sym rest) (record { each = h.each; count = h.count })
+
 -- a packet in another place is as ready
 pub ready-placed : (k : ℕ) (packet : Packet) (place : Place) (ps : List KeyedPipe) → HasRoomIn k packet ps → HasRoomIn k (record packet { place = place }) ps
 ready-placed k packet place ps ready p e =

@@ -351,42 +351,8 @@ impl Network {
         self.enter_pipe(shelf, owner, at, number, packet);
     }
 
-    // A packet comes into a pipe by its route.
-    #[tactic(auto, using(crate::proofs::RouteFacts::known_grown))]
-    #[inline(always)]
-    fn enter_by_route<S: Shelf>(
-        &mut self,
-        shelf: &mut S,
-        owner: Owner,
-        at: EventContext,
-        route: &Route,
-        packet: &Packet,
-    )
-        requires stands { Stands at (S.pocket shelf.old owner) self.old }
-        requires budget { (S.pocket shelf.old owner).count < (S.pocket shelf.old owner).budget }
-        requires room { 0 < S.room shelf.old owner }
-        requires log { 0 < self.old.log.spare }
-        requires routed { IsRouted route.now.number packet.now route.now.pipe route.now.instance
-            self.old.table.pipes }
-        requires ready { HasRoomAtPlace packet.now.size route.now.pipe route.now.instance
-            self.old.table.pipes }
-        ensures becomes { Becomes 0
-            (enter_pipe at route.now.number packet.now (net_of (S.pocket shelf.old owner) self.old))
-            (S.pocket shelf.old owner) (S.pocket shelf.new owner) self.old self.new }
-        ensures takes { TakesRoom 1 owner (S.pocket shelf.old) (S.pocket shelf.new)
-            self.old self.new }
-    {
-        let (pipe, instance) = (route.pipe, route.instance);
-        let answer = self
-            .table
-            .arrive_at(pipe, instance, shelf, owner, at.now, packet);
-        if let Some(cause) = answer {
-            self.drop_packet(at.now, packet, cause);
-        }
-    }
-
-    // A packet passes the rules by its route.
-    #[tactic(auto, using(crate::proofs::RouteFacts::known_counted))]
+    // A packet passes the rules by its route, and comes into the pipe to which that leads.
+    #[tactic(auto, using(crate::proofs::RouteFacts::known_counted, crate::proofs::RouteFacts::known_grown))]
     #[inline(always)]
     fn pass_by_route<S: Shelf>(
         &mut self,
@@ -413,7 +379,12 @@ impl Network {
             ..*packet
         };
         self.note_arrival(at.now, route.number, &sent);
-        self.enter_by_route(shelf, owner, at, route, &sent);
+        let answer =
+            self.table
+                .arrive_at(route.pipe, route.instance, shelf, owner, at.now, &sent);
+        if let Some(cause) = answer {
+            self.drop_packet(at.now, &sent, cause);
+        }
     }
 
     // A packet is handed on by a verdict.
@@ -445,34 +416,6 @@ impl Network {
                 self.to_pipe(shelf, owner, at, number, &sent);
             }
         }
-    }
-
-    // A packet whose route is remembered on a line passes the rules from the first on.
-    #[inline(always)]
-    fn pass_on_line<S: Shelf>(
-        &mut self,
-        shelf: &mut S,
-        owner: Owner,
-        at: EventContext,
-        line: usize,
-        packet: &Packet,
-    )
-        requires stands { Stands at (S.pocket shelf.old owner) self.old }
-        requires budget { (S.pocket shelf.old owner).count < (S.pocket shelf.old owner).budget }
-        requires room { 0 < S.room shelf.old owner }
-        requires log { 2 < self.old.log.spare }
-        requires ready { HasRoute packet.now line self.old }
-        ensures becomes { Becomes 0
-            (pass_rules at packet.now (net_of (S.pocket shelf.old owner) self.old))
-            (S.pocket shelf.old owner) (S.pocket shelf.new owner) self.old self.new }
-        ensures takes { TakesRoom 3 owner (S.pocket shelf.old) (S.pocket shelf.new)
-            self.old self.new }
-    {
-        let Some(held) = self.flow_cache.at(line) else {
-            unreachable_unchecked!();
-        };
-        let route = held.route;
-        self.pass_by_route(shelf, owner, at, &route, packet);
     }
 
     // A packet passes the rules from the first on, by a search.
@@ -583,7 +526,13 @@ impl Network {
             return;
         }
         match lookup {
-            Lookup::Cached(line) => self.pass_on_line(shelf, owner, at, *line, &packet),
+            Lookup::Cached(line) => {
+                let Some(held) = self.flow_cache.at(*line) else {
+                    unreachable_unchecked!();
+                };
+                let route = held.route;
+                self.pass_by_route(shelf, owner, at, &route, &packet);
+            }
             Lookup::Searched => self.pass_rules(shelf, owner, at, packet),
         }
     }
