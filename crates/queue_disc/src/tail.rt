@@ -120,10 +120,11 @@ impl<A> DropTail<A> {
             ((accepts self.old.limit self.old.waiting size ≡ true)
             × (self.old.capacity ≤ length self.old.waiting)) }
     {
-        if self.waiting.len() < self.waiting.capacity() || !self.accepts(size) {
-            return Ok(());
+        if self.accepts(size) {
+            self.reserve()
+        } else {
+            Ok(())
         }
-        self.grow()
     }
 
     /// Takes the head. Takes no memory.
