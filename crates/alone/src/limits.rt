@@ -69,7 +69,7 @@ impl Limits {
         }
     }
 
-    /// Stops experiments that may take more steps than the limit.
+    /// Stops experiments that may take more steps than the limit, by `Steps`. There are at most 256 of them, as a scenario has.
     pub fn check_steps(&self, scripts: &[Experiment]) -> Result<(), Stop>
         requires { length scripts.now ≤ 256 }
         ensures ok { OnOk result (IsWithin self.now.steps (steps_of scripts.now)) }
@@ -99,7 +99,8 @@ impl Limits {
         }
     }
 
-    /// Stops reports that have more bytes than the limit. To count them, all lines are made, if there is a limit.
+    /// Stops reports that have more bytes than the limit, by `Output`. To count them, all lines are made, if there is a limit;
+    /// the fault `Memory` where memory was refused for that.
     pub fn check_reports(&self, alloc: Global, reports: &[Report]) -> Result<(), Stop>
         ensures ok { OnOk result
             (IsWithin self.now.output (length (flat_map (λ r. r) reports.now))) }

@@ -88,7 +88,11 @@ fn reports_read<R: Inlet, P: Progress>(
 
 /// Writes reports, one after the other, by way of a buffer that is there before the first byte. The fault `Write` comes where
 /// the writer failed, after some first bytes of them; the fault `Memory` where memory was refused, and nothing was written.
-pub fn write_reports<W: Outlet>(alloc: Global, writer: &mut W, reports: &[Report]) -> Result<(), Stop>
+pub fn write_reports<W: Outlet>(
+    alloc: Global,
+    writer: &mut W,
+    reports: &[Report],
+) -> Result<(), Stop>
     ensures written { WritesOut (W.contents writer.old) (W.contents writer.new)
         (flat_map (λ r. r) reports.now) result }
     ensures failed { W.failed writer.new ≡ writer_failed (W.failed writer.old) (leaves result) }

@@ -13,8 +13,8 @@ ghost use Rattle.alone.specs.Reports.{reports, tally};
 ghost use Rattle.dnlab_c.specs.Answers.{Answers};
 ghost use Rattle.dnlab_c.specs.Guests.{Opens, TakesAt, ClosesAt};
 
-pub use answer::Answer;
 use alone::{Device, RunFault, check, reports_of};
+pub use answer::Answer;
 use answer::{all_well, fault_answer, no_memory, no_session, put, put_all};
 use explain_text::{explanation, faults_text};
 use guest::Guest;

@@ -11,9 +11,7 @@ ghost use Rattle.lab.specs.Gathers.{Follows, IsStopped};
 use crate::plan::{Gate, Plan};
 use crate::reports::reports_in_turn;
 use crate::together::run_together;
-use alone::{
-    Inlet, Limits, Made, Outlet, Progress, RunFault, Stop, read_scenario, write_reports,
-};
+use alone::{Inlet, Limits, Made, Outlet, Progress, RunFault, Stop, read_scenario, write_reports};
 use std::alloc::Global;
 use std::sync::Wait;
 use std::thread::Threads;
