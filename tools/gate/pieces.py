@@ -42,7 +42,7 @@ SEEN = (
     Piece("tools/gate/site", "the site of the pages", ("tools/gate/site",), 4, "command -v mkdocs && [ -d /usr/share/mkdocs/themes/material ]"),
     Piece("tools/gate/lint", "what linters say of Python and of scripts of the shell", ("tools/gate/lint",), 50),
     Piece("tools/gate/texts", "the texts of the crate text_examples are those of examples/", ("tools/gate/texts", "--check"), 1),
-    Piece("tools/definitions/spell", "each theorem of emu_examples spells the scenario of examples/ that it is named after",
+    Piece("tools/definitions/spell", "each example of emu_laws spells the scenario of examples/ that it is named after",
           ("tools/definitions/spell", "--check"), 1),
 )
 # What is made without a proof, once for these sources.

@@ -1,9 +1,9 @@
 -- The exit statuses.
 use Rattle.std.specs.Prelude.{ℕ, Result, Ok, Err}
-use Rattle.lab.specs.declared.fault.RunFault.{RunFault}
-use Rattle.lab.specs.declared.fault.RunFault.TheVariants as faults
-use Rattle.lab.specs.declared.limits.Stop.{Stop}
-use Rattle.lab.specs.declared.limits.Stop.TheVariants as stops
+use Rattle.alone.specs.declared.fault.RunFault.{RunFault}
+use Rattle.alone.specs.declared.fault.RunFault.TheVariants as faults
+use Rattle.alone.specs.declared.limits.Stop.{Stop}
+use Rattle.alone.specs.declared.limits.Stop.TheVariants as stops
 
 -- a fault of the scenario, a device or memory that failed, and workers that did
 abbrev pub status_of_fault : RunFault → ℕ

@@ -9,15 +9,15 @@ mod loose;
 mod place;
 mod version;
 
-ghost use Rattle.lab.specs.Reports.{reports, tally};
+ghost use Rattle.alone.specs.Reports.{reports, tally};
 ghost use Rattle.dnlab_c.specs.Answers.{Answers};
 ghost use Rattle.dnlab_c.specs.Guests.{Opens, TakesAt, ClosesAt};
 
+use alone::{Device, RunFault, check, reports_of};
 pub use answer::Answer;
 use answer::{all_well, fault_answer, no_memory, no_session, put, put_all};
 use explain_text::{explanation, faults_text};
 use guest::Guest;
-use lab::{Device, RunFault, check, reports_of};
 use loose::Loose;
 pub use place::{Hidden, Place};
 use std::alloc::{AllocError, Global};

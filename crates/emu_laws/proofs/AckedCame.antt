@@ -5,7 +5,7 @@ use Rattle.std.specs.Prelude.{if◌then◌else◌, is_some, nat_lt, ◌==◌, �
 use Rattle.std.specs.List.{AllByRecursion, list_any}
 use Rattle.std.proofs.lemmas.Bool.{cases_lt, cases_eq, eqb-true, ne_eqb}
 use Rattle.emu_model.specs.Lists.{replace_first, tail}
-use Rattle.emu_laws.proofs.Words.{Packet, Load, Plain, Seg, Ack, PipeConfig, FlowSpec, Lost, Full}
+use Rattle.emu_laws.proofs.Types.{Packet, Load, Plain, Seg, Ack, PipeConfig, FlowSpec, Lost, Full}
 use Rattle.emu_model.specs.Delay.{InFlight, Line, enter, leave, first_item}
 use Rattle.emu_model.specs.DropTail.{Queued, accepts}
 use Rattle.emu_model.specs.Codel.{Dequeued}

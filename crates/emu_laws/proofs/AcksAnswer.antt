@@ -2,7 +2,7 @@
 use Rattle.std.proofs.Common.{◌≡◌, ℕ, ◌+◌, List, [], ◌∷◌, ◌++◌, refl, sym, subst, Option, Some, None}
 use Rattle.std.specs.Prelude.{if◌then◌else◌, map}
 use Rattle.std.specs.List.{AllByRecursion}
-use Rattle.emu_laws.proofs.Words.{SendSpec, Packet, Load, Plain, Seg, Ack, Record, PacketMade, PacketDelivered, Denied, NoPipe, Budget, Deleted}
+use Rattle.emu_laws.proofs.Types.{SendSpec, Packet, Load, Plain, Seg, Ack, Record, PacketMade, PacketDelivered, Denied, NoPipe, Budget, Deleted}
 use Rattle.emu_model.specs.Pipes.{Drop, PipeState, After, pipe_packets, pipe_arrive, pipe_finish, pipe_exit, pipe_configure}
 use Rattle.emu_model.specs.Net.{Net, note, note_all, note_drops, to_direct, put_pipe, note_traced, make_record, drop_record, packet_of}
 use Rattle.emu_model.specs.Rules.{start_behind}

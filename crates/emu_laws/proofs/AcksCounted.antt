@@ -4,7 +4,7 @@ use Rattle.std.specs.Prelude.{if◌then◌else◌, ◌⊎◌, ◌==◌, map, cou
 use Rattle.std.specs.List.{AllByRecursion}
 use Rattle.std.proofs.lemmas.Bool.{eqb-true}
 use Rattle.std.proofs.lemmas.List.Sums.{sum_by-cons}
-use Rattle.emu_laws.proofs.Words.{SendSpec, Packet, Load, Plain, Seg, Ack, Record, PacketDelivered, PacketDropped, DropCause, Denied, NoPipe, Budget, Deleted}
+use Rattle.emu_laws.proofs.Types.{SendSpec, Packet, Load, Plain, Seg, Ack, Record, PacketDelivered, PacketDropped, DropCause, Denied, NoPipe, Budget, Deleted}
 use Rattle.emu_model.specs.Pipes.{Drop, PipeState, After, pipe_packets, pipe_arrive, pipe_finish, pipe_exit, pipe_configure}
 use Rattle.emu_model.specs.Net.{Net, initial_net, note, note_all, note_drops, to_direct, put_pipe, put_after, find_pipe, note_traced, make_record, drop_record, packet_of}
 use Rattle.emu_model.specs.Rules.{start_behind}

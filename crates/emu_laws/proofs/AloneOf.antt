@@ -4,7 +4,7 @@ use Rattle.std.proofs.Common.{◌≡◌, ℕ, List, [], ◌∷◌, ◌++◌, Boo
 use Rattle.std.specs.Prelude.{if◌then◌else◌, ◌==◌, map, option_and_then, slice_get}
 use Rattle.std.specs.Option.{option_map_or}
 use Rattle.std.proofs.lemmas.Bool.{eqb-true, and_parts}
-use Rattle.emu_laws.proofs.Words.{Packet, PipeConfig, Record, PacketFinished}
+use Rattle.emu_laws.proofs.Types.{Packet, PipeConfig, Record, PacketFinished}
 use Rattle.emu_model.specs.Delay.{first_item}
 use Rattle.emu_model.specs.Pipes.{PipeState, instance_for, instance_finish, pipe_arrive, pipe_finish, pipe_exit, pipe_configure}
 use Rattle.emu_model.specs.Net.{drop_record}

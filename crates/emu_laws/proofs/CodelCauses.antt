@@ -2,7 +2,7 @@
 use Rattle.std.proofs.Common.{◌≡◌, ℕ, ◌+◌, ◌-◌, ◌<◌, ◌≤◌, List, [], ◌∷◌, length, Bool, true, false, refl, sym, ◌∙◌, subst, Some, inl, inr, arith}
 use Rattle.std.specs.Prelude.{if◌then◌else◌, not, ◌⊎◌, ◌==◌, nat_lt, nat_le}
 use Rattle.std.proofs.lemmas.Bool.{ltb-false, leb-true, leb-false, eqb-false, or_parts}
-use Rattle.emu_laws.proofs.Words.{Packet}
+use Rattle.emu_laws.proofs.Types.{Packet}
 use Rattle.emu_model.specs.DropTail.{Queued, bytes_of}
 use Rattle.emu_model.specs.Codel.{Times, CodelState, Dequeued, maxpacket, count_up, enter_drop_state, codel_dequeue}
 use Rattle.emu_model.proofs.CodelParts.{Found, is_short, found_by, ok_to_drop, look, look_empty, stop_dropping, set_next, give_head, give_none, drop_head, drop_on, first_dropped, dequeue_by_parts, by_parts}

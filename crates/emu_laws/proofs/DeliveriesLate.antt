@@ -3,7 +3,7 @@ use Rattle.std.proofs.Common.{◌≡◌, ℕ, zero, suc, ◌+◌, ◌<◌, ◌�
 use Rattle.std.specs.Prelude.{if◌then◌else◌, ◌==◌, nat_lt, max, count_by, map, length, slice_get}
 use Rattle.std.specs.List.{AllByRecursion}
 use Rattle.std.proofs.lemmas.Bool.{eqb-true, eq-eqb, ltb-true}
-use Rattle.emu_laws.proofs.Words.{EventContext, Spec, Timed, Packet, Load, SendSpec, PipeConfig, DropCause, Deleted, Record, PacketArrived, PacketFinished, PacketDelivered, PacketPassed, PacketDropped, Command}
+use Rattle.emu_laws.proofs.Types.{EventContext, Spec, Timed, Packet, Load, SendSpec, PipeConfig, DropCause, Deleted, Record, PacketArrived, PacketFinished, PacketDelivered, PacketPassed, PacketDropped, Command}
 use Rattle.emu_model.specs.Lists.{replace_first}
 use Rattle.emu_model.specs.FlowIds.{flow_id}
 use Rattle.emu_model.specs.Moments.{milliseconds}

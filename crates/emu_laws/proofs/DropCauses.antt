@@ -4,7 +4,7 @@ use Rattle.std.specs.Prelude.{if◌then◌else◌, ◌&&◌, ◌||◌, nat_lt, �
 use Rattle.std.specs.List.{AllByRecursion}
 use Rattle.std.proofs.lemmas.Bool.{lt-ltb, ne_eqb}
 use Rattle.std.proofs.lemmas.List.Sums.{sum_by-cons}
-use Rattle.emu_laws.proofs.Words.{SendSpec, Plain, Seg, Ack, Tcp, Load, Spec, Timed, Packet, QueueLimit, Slots, KBytes, Discipline, TailDrop, PipeConfig, DropCause, Denied, NoPipe, NoInstance, Lost, Full, Codel, Deleted, Budget, Command, Config, PipeDelete, Record, PacketDelivered, PacketDropped}
+use Rattle.emu_laws.proofs.Types.{SendSpec, Plain, Seg, Ack, Tcp, Load, Spec, Timed, Packet, QueueLimit, Slots, KBytes, Discipline, TailDrop, PipeConfig, DropCause, Denied, NoPipe, NoInstance, Lost, Full, Codel, Deleted, Budget, Command, Config, PipeDelete, Record, PacketDelivered, PacketDropped}
 use Rattle.emu_model.specs.FlowIds.{flow_id}
 use Rattle.emu_model.specs.Delay.{first_item, leave}
 use Rattle.emu_model.specs.Loss.{loss_word, is_below_rate}

@@ -3,7 +3,7 @@ use Rattle.std.proofs.Common.{◌≡◌, ℕ, zero, suc, ◌+◌, ◌<◌, ◌�
 use Rattle.std.specs.Prelude.{if◌then◌else◌, ◌⊎◌, ◌==◌, nat_lt, find, map, flat_map, slice_get, option_to_list, option_map, option_and_then, count_by}
 use Rattle.std.specs.List.{AllByRecursion}
 use Rattle.std.proofs.lemmas.Bool.{eqb-true, ltb-false, eq-eqb, cases_lt}
-use Rattle.emu_laws.proofs.Words.{SendSpec, Command, Ack, Packet, Spec, Timed, Load, Record, PacketDelivered, PacketDropped, Denied, NoPipe, Budget, Deleted}
+use Rattle.emu_laws.proofs.Types.{SendSpec, Command, Ack, Packet, Spec, Timed, Load, Record, PacketDelivered, PacketDropped, Denied, NoPipe, Budget, Deleted}
 use Rattle.emu_model.specs.Pipes.{Drop, Instance, PipeState, After, held_in, pipe_packets, pipe_arrive, pipe_finish, pipe_exit, pipe_configure}
 use Rattle.emu_model.specs.Net.{Net, note, note_all, note_drops, to_direct, put_pipe, note_traced, make_record, drop_record, packet_of}
 use Rattle.emu_model.specs.Rules.{start_behind}

@@ -4,7 +4,7 @@ use Rattle.std.proofs.Common.{◌≡◌, ℕ, zero, suc, ◌+◌, ◌/◌, ◌%�
 use Rattle.std.specs.Prelude.{if◌then◌else◌, is_some, nat_lt, map, flat_map, slice_get}
 use Rattle.std.specs.Option.{option_map_or}
 use Rattle.std.specs.List.{AllByRecursion}
-use Rattle.emu_laws.proofs.Words.{EventContext, Timed, Class, NextCommand, Exit, Finish, Expiry, Emission, Place, Packet, Load, Plain, Seg, Ack, Verdict, OverTheLink, Dropped, IntoPipe, SendSpec, PipeConfig, DropCause, Denied, NoPipe, Budget, Command, Add, Delete, Config, PipeDelete, PipeShow, Show, Inject, Train, Flow, Stop, OnePass, Trace, End, Record, CommandDone, CommandRefused, PacketMade, PacketArrived, PacketFinished, PacketDelivered, PacketPassed, PacketDropped, AckTaken, TimerExpired, StepsSpent, RuleLine}
+use Rattle.emu_laws.proofs.Types.{EventContext, Timed, Class, NextCommand, Exit, Finish, Expiry, Emission, Place, Packet, Load, Plain, Seg, Ack, Verdict, OverTheLink, Dropped, IntoPipe, SendSpec, PipeConfig, DropCause, Denied, NoPipe, Budget, Command, Add, Delete, Config, PipeDelete, PipeShow, Show, Inject, Train, Flow, Stop, OnePass, Trace, End, Record, CommandDone, CommandRefused, PacketMade, PacketArrived, PacketFinished, PacketDelivered, PacketPassed, PacketDropped, AckTaken, TimerExpired, StepsSpent, RuleLine}
 use Rattle.emu_model.specs.Rules.{Counted, verdict, start_behind, counted_book}
 use Rattle.emu_model.specs.Delay.{Line, first_item, leave}
 use Rattle.emu_model.specs.Reno.{Sender, ack, with_segment, missing, emitted, emit, expire}

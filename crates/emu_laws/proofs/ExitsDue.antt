@@ -4,7 +4,7 @@ use Rattle.std.proofs.Common.{◌≡◌, ℕ, zero, suc, ◌+◌, ◌*◌, ◌/�
 use Rattle.std.specs.Prelude.{if◌then◌else◌, ◌==◌, count_by, flat_map, slice_get, option_map, option_to_list}
 use Rattle.std.specs.List.{AllByRecursion}
 use Rattle.std.proofs.lemmas.List.Sums.{sum_by-cons}
-use Rattle.emu_laws.proofs.Words.{Timed, Packet, Source, Class, NextCommand, Exit, Finish}
+use Rattle.emu_laws.proofs.Types.{Timed, Packet, Source, Class, NextCommand, Exit, Finish}
 use Rattle.emu_model.specs.Delay.{Line, first_exit}
 use Rattle.emu_model.specs.Pipes.{InService, Instance, PipeState}
 use Rattle.emu_model.specs.Net.{find_pipe}

@@ -1,7 +1,7 @@
 -- What an exit records first.
 use Rattle.std.proofs.Common.{ℕ, [], ◌∷◌, ◌++◌, Bool, true, false, sym, subst, append-nil}
 use Rattle.std.specs.Prelude.{if◌then◌else◌}
-use Rattle.emu_laws.proofs.Words.{Record, PacketDelivered, PacketPassed}
+use Rattle.emu_laws.proofs.Types.{Record, PacketDelivered, PacketPassed}
 use Rattle.emu_model.specs.Pipes.{pipe_exit}
 use Rattle.emu_model.specs.Rules.{start_behind}
 use Rattle.emu_model.specs.Net.{Net, note, put_pipe, deliver, reinject}

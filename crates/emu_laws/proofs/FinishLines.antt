@@ -2,7 +2,7 @@
 use Rattle.std.proofs.Common.{◌≡◌, ℕ, List, [], ◌∷◌, ◌++◌, Bool, true, false, refl, sym, ◌∙◌, ap, Option, Some, None, append_assoc, append-nil}
 use Rattle.std.specs.Prelude.{if◌then◌else◌, ◌&&◌, ◌==◌, map, flat_map}
 use Rattle.std.specs.Option.{option_map_or}
-use Rattle.emu_laws.proofs.Words.{Packet, Deleted, Record, PacketFinished, PacketDropped}
+use Rattle.emu_laws.proofs.Types.{Packet, Deleted, Record, PacketFinished, PacketDropped}
 use Rattle.emu_model.specs.Pipes.{InService, PipeState, Drop, pipe_arrive, pipe_finish, pipe_packets}
 use Rattle.emu_model.specs.Net.{drop_record}
 use Rattle.emu_model.specs.Events.{served_in}

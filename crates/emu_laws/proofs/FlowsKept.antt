@@ -5,7 +5,7 @@ use Rattle.std.specs.Prelude.{if◌then◌else◌, nat_lt, ◌==◌, find, flat_
 use Rattle.std.specs.List.{AllByRecursion, list_any}
 use Rattle.std.proofs.lemmas.Bool.{eqb-true, eqb-false, ne_eqb, or_parts}
 use Rattle.emu_model.specs.Lists.{replace_first}
-use Rattle.emu_laws.proofs.Words.{Spec, Timed, Class, Exit, Finish, Expiry, Emission, Packet, FlowSpec, Command}
+use Rattle.emu_laws.proofs.Types.{Spec, Timed, Class, Exit, Finish, Expiry, Emission, Packet, FlowSpec, Command}
 use Rattle.emu_model.specs.Delay.{Line, first_exit}
 use Rattle.emu_model.specs.Reno.{ack, with_segment, emit, expire, initial_sender, may_emit}
 use Rattle.emu_model.specs.Pipes.{Instance, PipeState}

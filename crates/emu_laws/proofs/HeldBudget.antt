@@ -1,6 +1,6 @@
 -- No more is held than the budget allows: a packet is made only where one more may be held.
 use Rattle.std.proofs.Common.{◌≡◌, ℕ, ◌+◌, ◌≤◌, true, refl, Option, Some, None, arith}
-use Rattle.emu_laws.proofs.Words.{Packet}
+use Rattle.emu_laws.proofs.Types.{Packet}
 use Rattle.emu_model.specs.Delay.{first_item}
 use Rattle.emu_model.specs.Reno.{ack, with_segment, emit, expire}
 use Rattle.emu_model.specs.Net.{Net, initial_net, put_flow}

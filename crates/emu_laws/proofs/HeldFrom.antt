@@ -3,7 +3,7 @@
 use Rattle.std.proofs.Common.{◌≡◌, ℕ, ◌≤◌, List, [], ◌∷◌, ◌++◌, Bool, refl, subst, Option, Some, None, arith}
 use Rattle.std.specs.Prelude.{if◌then◌else◌, is_some, slice_get, option_map, option_to_list, option_and_then}
 use Rattle.std.specs.List.{AllByRecursion}
-use Rattle.emu_laws.proofs.Words.{Packet, PipeConfig, Lost, Full}
+use Rattle.emu_laws.proofs.Types.{Packet, PipeConfig, Lost, Full}
 use Rattle.emu_model.specs.Lists.{tail}
 use Rattle.emu_model.specs.Moments.{milliseconds}
 use Rattle.emu_model.specs.Delay.{InFlight, Line, enter, leave, first_exit, first_item}

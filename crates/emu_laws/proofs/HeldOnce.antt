@@ -5,7 +5,7 @@ use Rattle.std.specs.Prelude.{if◌then◌else◌, ◌==◌, max, count_by, sum_
 use Rattle.std.specs.Option.{option_map_or}
 use Rattle.std.specs.List.{AllByRecursion}
 use Rattle.std.proofs.lemmas.List.Sums.{sum_by-cons, sum_by-append}
-use Rattle.emu_laws.proofs.Words.{Packet, PipeConfig}
+use Rattle.emu_laws.proofs.Types.{Packet, PipeConfig}
 use Rattle.emu_model.specs.Lists.{replace_first, change_at}
 use Rattle.emu_model.specs.Moments.{milliseconds}
 use Rattle.emu_model.specs.Delay.{InFlight, Line}

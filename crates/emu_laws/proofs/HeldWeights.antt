@@ -8,7 +8,7 @@ use Rattle.std.proofs.lemmas.Bool.{ltb-true, ltb-false}
 use Rattle.std.proofs.lemmas.List.{length-map}
 use Rattle.std.proofs.lemmas.List.Sums.{sum_by-cons, sum_by-append}
 use Rattle.emu_model.specs.Lists.{replace_first, remove_first, change_at, tail}
-use Rattle.emu_laws.proofs.Words.{Packet, PipeConfig, NoInstance, Lost, Full, Codel, Deleted}
+use Rattle.emu_laws.proofs.Types.{Packet, PipeConfig, NoInstance, Lost, Full, Codel, Deleted}
 use Rattle.emu_model.specs.FlowIds.{FlowId, flow_id, same_flow, new_instance, instance_of}
 use Rattle.emu_model.specs.Delay.{InFlight, Line, exit_after, leave, first_item}
 use Rattle.emu_model.specs.Moments.{milliseconds}

@@ -3,7 +3,7 @@ use Rattle.std.proofs.Common.{slice_get, Some, ◌≡◌, ℕ, zero, suc, ◌+�
 use Rattle.std.specs.List.{AllByRecursion}
 use Rattle.std.proofs.lemmas.Bool.{ltb-true, ltb-false, leb-false}
 use Rattle.std.proofs.lemmas.List.{length-append}
-use Rattle.emu_laws.proofs.Words.{Packet, QueueLimit, Slots, KBytes, PipeConfig, DropCause, Lost, Full, Codel}
+use Rattle.emu_laws.proofs.Types.{Packet, QueueLimit, Slots, KBytes, PipeConfig, DropCause, Lost, Full, Codel}
 use Rattle.emu_model.specs.FlowIds.{flow_id}
 use Rattle.emu_model.specs.Loss.{loss_word, is_below_rate}
 use Rattle.emu_model.specs.DropTail.{Queued, bytes_of, accepts}

@@ -1,7 +1,7 @@
 -- What a packet takes through an instance.
 use Rattle.std.proofs.Common.{◌≡◌, ℕ, zero, suc, ◌+◌, ◌*◌, ◌^◌, ◌≤◌, [], ◌∷◌, ◌++◌, Bool, true, false, refl, sym, ◌∙◌, ap, subst, Option, Some, None, arith, zero-add}
 use Rattle.std.specs.Prelude.{if◌then◌else◌, is_some, option_map}
-use Rattle.emu_laws.proofs.Words.{Packet, PipeConfig, Discipline, Full}
+use Rattle.emu_laws.proofs.Types.{Packet, PipeConfig, Discipline, Full}
 use Rattle.emu_model.specs.Moments.{milliseconds}
 use Rattle.emu_model.specs.Delay.{Line, exit_after, enter}
 use Rattle.emu_model.specs.DropTail.{Queued, accepts}

@@ -4,7 +4,7 @@ use Rattle.std.specs.Prelude.{if◌then◌else◌, is_some, nat_lt, slice_get}
 use Rattle.std.specs.Option.{option_map_or}
 use Rattle.std.specs.List.{AllByRecursion}
 use Rattle.std.proofs.lemmas.Bool.{ltb-false}
-use Rattle.emu_laws.proofs.Words.{Packet, PipeConfig, NoInstance, Lost, Full}
+use Rattle.emu_laws.proofs.Types.{Packet, PipeConfig, NoInstance, Lost, Full}
 use Rattle.emu_model.specs.FlowIds.{FlowId, flow_id}
 use Rattle.emu_model.specs.DropTail.{accepts}
 use Rattle.emu_model.specs.Pipes.{Instance, PipeState, After, Drop, initial_instance, serve_next, no_drop, drop_one, enqueue, accept, drawn_one, instance_arrive, send_off, instance_finish, put_instance, with_instance, draw, instance_for, arrive_at, pipe_arrive, pipe_finish}

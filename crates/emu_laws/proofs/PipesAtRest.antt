@@ -3,7 +3,7 @@ use Rattle.std.proofs.Common.{◌≡◌, ℕ, zero, suc, ◌*◌, ◌^◌, ◌<�
 use Rattle.std.specs.Prelude.{if◌then◌else◌, ◌==◌, find, map, slice_get}
 use Rattle.std.specs.Option.{option_map_or}
 use Rattle.emu_model.specs.Lists.{replace_first, change_at}
-use Rattle.emu_laws.proofs.Words.{Packet}
+use Rattle.emu_laws.proofs.Types.{Packet}
 use Rattle.emu_model.specs.FlowIds.{flow_id, instance_of}
 use Rattle.emu_model.specs.Delay.{empty_line, leave}
 use Rattle.emu_model.specs.Loss.{loss_word}

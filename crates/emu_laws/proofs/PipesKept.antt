@@ -4,7 +4,7 @@ use Rattle.std.specs.Prelude.{nat_lt, ◌==◌, length, map, slice_get}
 use Rattle.std.specs.List.{AllByRecursion}
 use Rattle.std.proofs.lemmas.Bool.{eqb-true}
 use Rattle.emu_model.specs.Lists.{replace_first}
-use Rattle.emu_laws.proofs.Words.{Spec, Timed, Packet, PipeConfig, NoInstance, Command, Config}
+use Rattle.emu_laws.proofs.Types.{Spec, Timed, Packet, PipeConfig, NoInstance, Command, Config}
 use Rattle.emu_model.specs.FlowIds.{FlowId, flow_id, instance_of}
 use Rattle.emu_model.specs.Delay.{leave}
 use Rattle.emu_model.specs.Pipes.{Instance, PipeState, After, initial_instance, no_drop, drop_one, drawn_one, instance_arrive, instance_finish, instance_configure, put_instance, change_one, with_instance, draw, arrive_at, pipe_arrive, pipe_finish, pipe_exit, pipe_configure}

@@ -5,7 +5,7 @@ use Rattle.std.specs.Option.{option_map_or}
 use Rattle.std.specs.List.{position_or_len}
 use Rattle.std.proofs.lemmas.Bool.{ltb-true, ltb-false}
 use Rattle.std.proofs.lemmas.List.{length-map}
-use Rattle.emu_laws.proofs.Words.{Packet}
+use Rattle.emu_laws.proofs.Types.{Packet}
 use Rattle.emu_model.specs.Lists.{change_at}
 use Rattle.emu_model.specs.FlowIds.{FlowId, same_flow, flow_id, new_instance, instance_of}
 use Rattle.emu_model.specs.Pipes.{PipeState, initial_instance, with_instance, instance_for}

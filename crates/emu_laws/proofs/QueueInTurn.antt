@@ -1,7 +1,7 @@
 -- What waits in a drop-tail queue, served in turn.
 use Rattle.std.proofs.Common.{◌≡◌, ℕ, zero, suc, ◌+◌, List, [], ◌∷◌, length, refl, sym, ◌∙◌, ap, subst, Some}
 use Rattle.std.specs.Prelude.{map}
-use Rattle.emu_laws.proofs.Words.{Packet, PipeConfig, TailDrop}
+use Rattle.emu_laws.proofs.Types.{Packet, PipeConfig, TailDrop}
 use Rattle.emu_model.specs.Moments.{milliseconds}
 use Rattle.emu_model.specs.DropTail.{Queued}
 use Rattle.emu_model.specs.Delay.{enter}

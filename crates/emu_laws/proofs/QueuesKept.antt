@@ -4,7 +4,7 @@ use Rattle.std.specs.Prelude.{if◌then◌else◌, is_some, option_map, option_t
 use Rattle.std.proofs.lemmas.Bool.{ltb-true, leb-true}
 use Rattle.std.proofs.lemmas.List.{length-append}
 use Rattle.std.proofs.lemmas.List.Sums.{sum-map, sum_by-append, sum_by-cons}
-use Rattle.emu_laws.proofs.Words.{Packet, PipeConfig, QueueLimit, Slots, KBytes, Lost, Full}
+use Rattle.emu_laws.proofs.Types.{Packet, PipeConfig, QueueLimit, Slots, KBytes, Lost, Full}
 use Rattle.emu_model.specs.DropTail.{Queued, bytes_of, accepts}
 use Rattle.emu_model.specs.Codel.{Dequeued}
 use Rattle.emu_model.specs.Pipes.{InService, Instance, After, dequeue, period_with, serve_next, no_drop, drop_one, enqueue, accept, drawn_one, instance_arrive, send_off, cut_service}

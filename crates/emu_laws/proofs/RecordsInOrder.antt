@@ -2,7 +2,7 @@
 use Rattle.std.proofs.Common.{◌≡◌, ℕ, zero, suc, ◌+◌, ◌≤◌, List, [], ◌∷◌, ◌++◌, Bool, true, false, refl, sym, ◌∙◌, ap, subst, Option, Some, None, append_assoc, append-nil, arith}
 use Rattle.std.specs.Prelude.{if◌then◌else◌, is_some, nat_lt, map, length}
 use Rattle.std.specs.List.{AllByRecursion}
-use Rattle.emu_laws.proofs.Words.{EventContext, Spec, Timed, Packet, Deleted, Record, PacketArrived, PacketFinished, PacketDelivered, PacketPassed, PacketDropped, Class, NextCommand, Exit, Finish, Expiry, Emission}
+use Rattle.emu_laws.proofs.Types.{EventContext, Spec, Timed, Packet, Deleted, Record, PacketArrived, PacketFinished, PacketDelivered, PacketPassed, PacketDropped, Class, NextCommand, Exit, Finish, Expiry, Emission}
 use Rattle.emu_model.specs.FlowIds.{flow_id}
 use Rattle.emu_model.specs.Delay.{leave}
 use Rattle.emu_model.specs.Pipes.{InService, PipeState, Drop, instance_for, pipe_arrive, pipe_finish, pipe_exit, pipe_configure, pipe_packets}

@@ -4,7 +4,7 @@ use Rattle.std.proofs.Common.{Bool, true, inl, inr, ◌≡◌, ℕ, zero, suc, �
 use Rattle.std.specs.Prelude.{flat_map, option_and_then, option_map, option_to_list, if◌then◌else◌, ◌==◌, nat_lt, is_some, find, map, slice_get}
 use Rattle.std.specs.List.{AllByRecursion}
 use Rattle.std.proofs.lemmas.List.{length-append}
-use Rattle.emu_laws.proofs.Words.{SendSpec, Plain, Seg, PipeDelete, Dropped, IntoPipe, Denied, NoPipe, NoInstance, QueueLimit, Slots, KBytes, Packet, Load, Ack, Record, PacketDelivered, PacketDropped, Discipline, PipeConfig, Lost, Full, Codel, Deleted, Budget}
+use Rattle.emu_laws.proofs.Types.{SendSpec, Plain, Seg, PipeDelete, Dropped, IntoPipe, Denied, NoPipe, NoInstance, QueueLimit, Slots, KBytes, Packet, Load, Ack, Record, PacketDelivered, PacketDropped, Discipline, PipeConfig, Lost, Full, Codel, Deleted, Budget}
 use Rattle.emu_model.specs.declared.pipes.Discipline.TheVariants.{TailDrop, ControlledDelay}
 use Rattle.emu_model.specs.FlowIds.{FlowId, flow_id}
 use Rattle.emu_model.specs.Delay.{InFlight, first_item, leave}

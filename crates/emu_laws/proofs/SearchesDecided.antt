@@ -7,7 +7,7 @@ use Rattle.std.proofs.lemmas.Bool.{cases_Bool, or_parts, and_parts, ltb-true, lt
 use Rattle.std.proofs.Math.Nat.{div-eq_of_lt}
 use Rattle.std.proofs.lemmas.Option.{same_Some, none-some, slice_get-map}
 use Rattle.std.proofs.lemmas.List.{length-map}
-use Rattle.emu_laws.proofs.Words.{Packet, Place, Action, Allow, Deny, Count, SkipTo, Pipe, Rule, Verdict, Dropped, Spec, Timed, BadNumber, BadSkip, RulesFull, NoRule}
+use Rattle.emu_laws.proofs.Types.{Packet, Place, Action, Allow, Deny, Count, SkipTo, Pipe, Rule, Verdict, Dropped, Spec, Timed, BadNumber, BadSkip, RulesFull, NoRule}
 use Rattle.emu_model.specs.Rules.{Counted, default_rule, rule_matches, least_match, place_of_number, goes_on, action_at, next_match, matches_from, is_behind, start_behind, verdict_by, verdict_of_match, the_rules, count_packet, count_at, new_rule, with_rule, is_rule_number, is_bad_skip, is_full}
 use Rattle.emu_model.specs.Alone.{alone}
 use Rattle.emu_laws.proofs.EachOf.{either, of_choice, each_weaker, each_got}

@@ -5,7 +5,7 @@ use Rattle.std.specs.List.{AllByRecursion}
 use Rattle.std.proofs.Math.Nat.{zero-mod, add-mod_right, mul-le-mul_right}
 use Rattle.std.proofs.lemmas.Nat.{div-add-mod'}
 use Rattle.std.proofs.lemmas.Bool.{ltb-true, leb-true, eqb-true, and_parts, cases_lt}
-use Rattle.emu_laws.proofs.Words.{Spec, Timed, Expiry, Emission, FlowSpec}
+use Rattle.emu_laws.proofs.Types.{Spec, Timed, Expiry, Emission, FlowSpec}
 use Rattle.emu_model.specs.Reno.{Sender, total_bytes, has_room, may_emit, is_new, is_duplicate, ack, ack_new, ack_duplicate, enter_recovery, started_timer, started_sample, emit, expire, bounded}
 use Rattle.emu_model.specs.Net.{FlowState}
 use Rattle.emu_model.specs.declared.sources.Due.{Due}

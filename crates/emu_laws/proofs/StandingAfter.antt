@@ -4,7 +4,7 @@ use Rattle.std.proofs.Common.{◌≡◌, ℕ, List, [], ◌∷◌, Bool, true, f
 use Rattle.std.specs.Prelude.{◌&&◌, ◌==◌, option_map, slice_get}
 use Rattle.std.specs.Option.{option_map_or}
 use Rattle.std.proofs.lemmas.Bool.{eqb-true, eqb-false}
-use Rattle.emu_laws.proofs.Words.{Packet, PipeConfig, NoInstance}
+use Rattle.emu_laws.proofs.Types.{Packet, PipeConfig, NoInstance}
 use Rattle.emu_model.specs.Lists.{tail}
 use Rattle.emu_model.specs.Loss.{is_lost}
 use Rattle.emu_model.specs.FlowIds.{FlowId, flow_id}

@@ -3,7 +3,7 @@ use Rattle.std.proofs.Common.{◌≡◌, ℕ, zero, suc, ◌+◌, List, [], ◌�
 use Rattle.std.specs.Prelude.{if◌then◌else◌, is_some, nat_lt, map, flat_map, length, slice_get, ◌==◌}
 use Rattle.std.specs.Option.{option_map_or}
 use Rattle.std.specs.List.{AllByRecursion}
-use Rattle.emu_laws.proofs.Words.{EventContext, Spec, Timed, Packet, PipeConfig, Lost, Full, Deleted, NoInstance, Record, PacketArrived, PacketFinished, PacketDelivered, PacketPassed, PacketDropped, Command, Class, NextCommand, Exit, Finish, Expiry, Emission}
+use Rattle.emu_laws.proofs.Types.{EventContext, Spec, Timed, Packet, PipeConfig, Lost, Full, Deleted, NoInstance, Record, PacketArrived, PacketFinished, PacketDelivered, PacketPassed, PacketDropped, Command, Class, NextCommand, Exit, Finish, Expiry, Emission}
 use Rattle.emu_model.specs.Lists.{replace_first}
 use Rattle.emu_model.specs.FlowIds.{flow_id}
 use Rattle.emu_model.specs.Delay.{Line, leave}

@@ -1,7 +1,7 @@
 -- What a step has recorded so far, of each of which this is so, and where the step stands.
 use Rattle.std.proofs.Common.{◌≡◌, List, [], ◌++◌, sym, ◌∙◌, ap, append_assoc, append-nil}
 use Rattle.std.specs.List.{AllByRecursion}
-use Rattle.emu_laws.proofs.Words.{Record}
+use Rattle.emu_laws.proofs.Types.{Record}
 use Rattle.emu_model.specs.Net.{Net}
 use Rattle.emu_model.specs.Step.{State, step}
 use Rattle.emu_laws.specs.StepPackets.{IsNext}

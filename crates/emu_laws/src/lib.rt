@@ -1,6 +1,11 @@
 //! Laws over the definitions of `emu_model`, each the contract of a function that does nothing, so that
 //! the check proves it. Nothing stands on them: they say of the definitions what a reader expects of
 //! them, and see where a definition would say something else.
+//!
+//! Beside them worked examples and random scenarios, computed by the definitions: no code, theorems alone, in
+//! `proofs/`. Most files of these were written by `tools/definitions/spell` from a scenario and its report; in
+//! `AdaptiveSamples`, `Bounds` and those named `..Steps` stand theorems on single words, worked out
+//! by hand.
 #![tactic(auto)]
 
 mod links;

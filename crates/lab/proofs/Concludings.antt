@@ -9,11 +9,11 @@ use Rattle.bench.specs.declared.mail.RingMail.{RingMail}
 use Rattle.bench.specs.declared.tenant.Tenant.{Tenant}
 use Rattle.bench.specs.Audits.{Accounted}
 use Rattle.bench.specs.Tenants.{Fits}
-use Rattle.lab.specs.declared.fault.RunFault.{RunFault}
-use Rattle.lab.specs.declared.fault.RunFault.TheVariants.{Memory, Gate, Strange, Scenario, Read, Write}
+use Rattle.alone.specs.declared.fault.RunFault.{RunFault}
+use Rattle.alone.specs.declared.fault.RunFault.TheVariants.{Memory, Gate, Strange, Scenario, Read, Write}
 use Rattle.lab.specs.declared.worker.Given.{Given}
 use Rattle.lab.specs.Plans.{IsTogetherFault, IsWorkers, fault_of, is_honest}
-use Rattle.lab.specs.Reports.{Reads, ReadsFault}
+use Rattle.alone.specs.Reports.{Reads, ReadsFault}
 use Rattle.lab.specs.Joins.{HasTooMany, HasTooFew, HasMisfit, IsStrange, AreSeated, Unfit, SettlesNot, Concludes, dossier_at, how_many, faults_of}
 use Rattle.lab.specs.Gathers.{HoldsBy, IsConclusion, IsConcluded, Follows, IsFollowed}
 

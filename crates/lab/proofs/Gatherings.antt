@@ -11,8 +11,8 @@ use Rattle.emu_model.specs.declared.records.Ending.TheVariants.{Halted}
 use Rattle.shard.specs.Stand.{Final}
 use Rattle.bench.specs.declared.closing.Closing.{Closing}
 use Rattle.bench.specs.declared.mail.RingMail.{RingMail}
-use Rattle.lab.specs.declared.fault.RunFault.{RunFault}
-use Rattle.lab.specs.declared.fault.RunFault.TheVariants.{Memory, Gate, Strange, Scenario, Read, Write}
+use Rattle.alone.specs.declared.fault.RunFault.{RunFault}
+use Rattle.alone.specs.declared.fault.RunFault.TheVariants.{Memory, Gate, Strange, Scenario, Read, Write}
 use Rattle.lab.specs.declared.joined.Joined.{Joined}
 use Rattle.lab.specs.declared.worker.Given.{Given}
 use Rattle.lab.specs.Plans.{graver_of, IsWorkers}

@@ -1,17 +1,8 @@
-pub mod Answering
 pub mod Concludings
 pub mod Desking
-pub mod Endings
 pub mod Gatherings
-pub mod JoinedReports
 pub mod Ownings
-pub mod ReadFacts
-pub mod Reporting
 pub mod Servings
-pub mod Settled
 pub mod Settlings
 pub mod ReportTexts
 pub mod Stopping
-pub mod Turns
-pub mod Writing
-pub mod Talking

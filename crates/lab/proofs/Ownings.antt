@@ -17,9 +17,9 @@ use Rattle.bench.specs.declared.tenant.Tenant.{Tenant}
 use Rattle.bench.specs.Commands.{BeginsWith, Took}
 use Rattle.bench.specs.Tenants.{posted, Fits}
 use Rattle.bench.specs.Outcomes.{Settled, settled}
-use Rattle.lab.specs.Reports.{trace_alone}
+use Rattle.alone.specs.Reports.{trace_alone}
 use Rattle.lab.specs.Serving.{Serves}
-use Rattle.lab.proofs.Settled.{ended_alone}
+use Rattle.alone.proofs.Settled.{ended_alone}
 
 begins_again : (all middle first : List Timed) → BeginsWith all middle → BeginsWith middle first → BeginsWith all first
 begins_again all middle first a b =

@@ -9,7 +9,7 @@ use Rattle.control.specs.declared.scenario.Experiment.{Experiment}
 use Rattle.bench.specs.declared.tenant.Tenant.{Tenant}
 use Rattle.bench.specs.Commands.{BeginsWith}
 use Rattle.bench.specs.Tenants.{posted, SameTenant}
-use Rattle.lab.specs.Reports.{trace_alone}
+use Rattle.alone.specs.Reports.{trace_alone}
 use Rattle.lab.specs.Serving.{IsTenantOf, ServesAll}
 
 at_last : (ts : List Tenant) (u t : Tenant) → get_or (ts ++ u ∷ []) (length ts) t ≡ u

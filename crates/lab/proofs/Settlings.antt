@@ -6,8 +6,8 @@ use Rattle.control.specs.declared.scenario.Experiment.{Experiment}
 use Rattle.shard.specs.Stand.{Final}
 use Rattle.bench.specs.declared.mail.RingMail.{RingMail}
 use Rattle.bench.specs.declared.tenant.Tenant.{Tenant}
-use Rattle.lab.specs.declared.fault.RunFault.{RunFault}
-use Rattle.lab.specs.declared.fault.RunFault.TheVariants.{Strange}
+use Rattle.alone.specs.declared.fault.RunFault.{RunFault}
+use Rattle.alone.specs.declared.fault.RunFault.TheVariants.{Strange}
 use Rattle.lab.specs.Joins.{AreEnded, Unfit, SettlesNot, dossier_at}
 use Rattle.lab.specs.Serving.{Serves, ServesAll}
 

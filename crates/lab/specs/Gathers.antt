@@ -1,16 +1,18 @@
 -- What is known while what the workers gave is taken in, one after the other.
-use Rattle.std.specs.Prelude.{◌≡◌, ◌⊎◌, List, length, Contains, Option, None, Some, ℕ}
+use Rattle.std.specs.Prelude.{◌≡◌, ◌⊎◌, List, length, Contains, Option, None, Some, ℕ, Result, Ok, Err}
 use Rattle.shard.specs.Stand.{Final}
 use Rattle.bench.specs.declared.closing.Closing.{Closing}
 use Rattle.bench.specs.declared.mail.RingMail.{RingMail}
-use Rattle.lab.specs.declared.fault.RunFault.{RunFault}
-use Rattle.lab.specs.declared.fault.RunFault.TheVariants.{Memory, Gate, Strange, Scenario, Read, Write}
+use Rattle.alone.specs.declared.fault.RunFault.{RunFault}
+use Rattle.alone.specs.declared.fault.RunFault.TheVariants.{Memory, Gate, Strange, Scenario, Read, Write}
 use Rattle.lab.specs.declared.joined.Joined.{Joined}
 use Rattle.control.specs.declared.scenario.Experiment.{Experiment}
 use Rattle.bench.specs.declared.tenant.Tenant.{Tenant}
 use Rattle.lab.specs.declared.worker.Given.{Given}
+use Rattle.alone.specs.declared.limits.Stop.{Stop}
+use Rattle.alone.specs.declared.limits.Stop.TheVariants as stops
 use Rattle.lab.specs.Serving.{ServesAll}
-use Rattle.lab.specs.Reports.{Reads}
+use Rattle.alone.specs.Reports.{Reads}
 use Rattle.lab.specs.Joins.{HadMemory, HadNoFault, HasTooMany, AreSeated, Concludes, closings_of, dossiers_of, faults_of}
 
 -- what the gravest fault so far says of these closings, dossiers and faults
@@ -52,3 +54,10 @@ IsFollowed read workers (Some Strange) = Follows read workers (Some Strange)
 IsFollowed read workers (Some Memory) = Unit {0}
 IsFollowed read workers (Some (Scenario f)) = Unit {0}
 IsFollowed read workers (Some Read) = Unit {0}
+
+-- what stops a run follows from what its workers gave; where the reports are too long, they gave all
+abbrev pub IsStopped : Option (List ℕ) → ℕ → Result (Unit {0}) Stop → Type 0
+IsStopped read workers (Ok _) = IsFollowed read workers None
+IsStopped read workers (Err (stops.Fault e)) = IsFollowed read workers (Some e)
+IsStopped read workers (Err (stops.Steps number total)) = Unit {0}
+IsStopped read workers (Err (stops.Output bytes)) = Follows read workers None

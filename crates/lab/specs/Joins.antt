@@ -8,8 +8,8 @@ use Rattle.bench.specs.declared.mail.RingMail.{RingMail}
 use Rattle.bench.specs.declared.tenant.Tenant.{Tenant}
 use Rattle.bench.specs.Audits.{Accounted}
 use Rattle.bench.specs.Tenants.{Fits}
-use Rattle.lab.specs.declared.fault.RunFault.{RunFault}
-use Rattle.lab.specs.declared.fault.RunFault.TheVariants.{Memory, Gate, Strange, Scenario, Read, Write}
+use Rattle.alone.specs.declared.fault.RunFault.{RunFault}
+use Rattle.alone.specs.declared.fault.RunFault.TheVariants.{Memory, Gate, Strange, Scenario, Read, Write}
 use Rattle.lab.specs.declared.worker.Given.{Given}
 
 -- all closings, dossiers and faults

@@ -1,12 +1,5 @@
-pub mod Bytes
-pub mod JoiningLaw
-pub mod Troubles
-pub mod Runs
-pub mod Reports
 pub mod Plans
 pub mod Serving
 pub mod Joins
 pub mod Gathers
 pub mod Desks
-pub mod Talks
-pub mod Within

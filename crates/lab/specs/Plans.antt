@@ -1,7 +1,7 @@
 -- How many workers run a scenario, and what may go wrong while they do.
 use Rattle.std.specs.Prelude.{◌≡◌, ℕ, ◌≤◌, ◌^◌, Bool, true, false, cond, nat_le, Option, Some, None, Result, Ok, Err}
-use Rattle.lab.specs.declared.fault.RunFault.{RunFault}
-use Rattle.lab.specs.declared.fault.RunFault.TheVariants.{Memory, Gate, Strange}
+use Rattle.alone.specs.declared.fault.RunFault.{RunFault}
+use Rattle.alone.specs.declared.fault.RunFault.TheVariants.{Memory, Gate, Strange}
 
 -- 1 to 16 workers, and at most 10^6 turns between two moves
 abbrev pub IsPlan : ℕ → ℕ → Type 0
@@ -34,12 +34,6 @@ abbrev pub IsSettleFault : RunFault → Type 0
 IsSettleFault Memory = Unit {0}
 IsSettleFault Strange = Unit {0}
 IsSettleFault _ = ⊥
-
--- a fault that has nothing to do with workers
-abbrev pub IsOwnFault : RunFault → Type 0
-IsOwnFault Strange = ⊥
-IsOwnFault Gate = ⊥
-IsOwnFault _ = Unit {0}
 
 -- memory comes before the gate, and both before what is strange
 abbrev pub gravity : RunFault → ℕ

@@ -6,13 +6,13 @@ ghost use Rattle.emu_model.specs.declared.records.Ending.TheVariants.{Halted};
 ghost use Rattle.shard.specs.Stand.{Final};
 ghost use Rattle.bench.specs.declared.closing.Closing.{Closing as ClosedBench};
 ghost use Rattle.bench.specs.declared.mail.RingMail.{RingMail as Rings};
-ghost use Rattle.lab.specs.declared.fault.RunFault.{RunFault as Fault};
+ghost use Rattle.alone.specs.declared.fault.RunFault.{RunFault as Fault};
 ghost use Rattle.lab.specs.Plans.{IsMemory, IsWorkers, graver_of};
 ghost use Rattle.lab.specs.Joins.{IsFreeAt, closings_of, dossiers_of, faults_of};
 ghost use Rattle.lab.specs.Gathers.{Holds};
 
-use crate::fault::RunFault;
 use crate::worker::Given;
+use alone::RunFault;
 use bench::{Closing, RingMail};
 use emu_model::Ending;
 use shard::Dossier;

@@ -2,10 +2,10 @@
 
 ghost use Rattle.std.specs.Prelude.{◌≡◌, map, IfOk, IfErr};
 ghost use Rattle.lab.specs.Plans.{IsMemory};
-ghost use Rattle.lab.specs.Reports.{trace_alone, report_alone};
+ghost use Rattle.alone.specs.Reports.{trace_alone, report_alone};
 
-use crate::fault::RunFault;
 use crate::outcome::Outcome;
+use alone::RunFault;
 use control::Experiment;
 use experiment::Report;
 use std::alloc::Global;

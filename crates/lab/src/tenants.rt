@@ -6,12 +6,12 @@ ghost use Rattle.bench.specs.Commands.{BeginsWith};
 ghost use Rattle.bench.specs.Tenants.{posted, SameTenant};
 ghost use Rattle.lab.specs.Joins.{AreEnded, Unfit, SettlesNot};
 ghost use Rattle.lab.specs.Plans.{IsMemory};
-ghost use Rattle.lab.specs.Reports.{trace_alone};
+ghost use Rattle.alone.specs.Reports.{trace_alone};
 ghost use Rattle.lab.specs.Serving.{Serves, ServesAll, IsServed};
 
-use crate::fault::RunFault;
 use crate::outcome::Outcome;
 use crate::worker::Board;
+use alone::RunFault;
 use bench::{PostError, Registry, RingMail, Tenant};
 use control::Experiment;
 use emu_model::{Timed, later_commands_wait};

@@ -4,20 +4,19 @@ ghost use Rattle.std.specs.Prelude.{◌≡◌, ◌≤◌, List, Option, All, Non
 ghost use Rattle.shard.specs.Stand.{Final};
 ghost use Rattle.bench.specs.declared.closing.Closing.{Closing as ClosedBench};
 ghost use Rattle.bench.specs.declared.mail.RingMail.{RingMail as Rings};
-ghost use Rattle.lab.specs.declared.fault.RunFault.{RunFault as Fault};
+ghost use Rattle.alone.specs.declared.fault.RunFault.{RunFault as Fault};
 ghost use Rattle.lab.specs.Gathers.{Holds, IsConcluded};
 ghost use Rattle.lab.specs.Joins.{closings_of, dossiers_of, faults_of, AreEnded, Concludes};
 ghost use Rattle.lab.specs.Plans.{IsTogetherFault, IsMemory, IsWorkers, fault_of, is_honest};
-ghost use Rattle.lab.specs.Reports.{trace_alone};
+ghost use Rattle.alone.specs.Reports.{trace_alone};
 ghost use Rattle.lab.specs.Serving.{IsServed};
 
-use crate::fault::RunFault;
 use crate::joined::{Joined, gather};
 use crate::outcome::Outcome;
 use crate::plan::{Gate, Plan};
-use crate::progress::Progress;
 use crate::tenants::{open_all, serve, settle_all};
 use crate::worker::{Board, Given, Job, Report, work};
+use alone::{Progress, RunFault};
 use bench::{Bench, Peer, RingMail, Tenant, audit};
 use control::Experiment;
 use shard::Parcel;

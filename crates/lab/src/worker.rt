@@ -5,9 +5,8 @@ ghost use Rattle.std.specs.Prelude.{◌≡◌, None, true, OnOk, IfErr, IsTrue};
 ghost use Rattle.lab.specs.Desks.{LosesNone, Readmits, HandsOver, parcel_of};
 ghost use Rattle.lab.specs.Plans.{IsWorkFault, IsMemory, is_honest};
 
-use crate::fault::RunFault;
 use crate::plan::{Gate, Plan};
-use crate::progress::Progress;
+use alone::{Progress, RunFault};
 use bench::{AdoptError, Bench, Closing, OfferError, Peer, RetakeError, RingMail};
 use shard::{Dossier, MOST_RESIDENTS, Parcel, Polled, TakeInError, Turned, Watch};
 use std::alloc::Global;

@@ -1,7 +1,7 @@
 //! Readers and writers of our own: they go byte by byte, are interrupted before each, and fail at each in its turn.
 
 ghost use Rattle.std.specs.Prelude.{◌≡◌, ◌<◌, true};
-ghost use Rattle.lab.specs.Troubles.{has_failed};
+ghost use Rattle.alone.specs.Troubles.{has_failed};
 
 use super::*;
 

@@ -1,7 +1,7 @@
 use Rattle.std.proofs.Common.{◌≡◌, ◌+◌, ◌∷◌, [], length, map, take, drop, sym, ap, ◌∙◌, arith}
 use Rattle.std.specs.Prelude.{slice_index_or}
 use Rattle.std.specs.Vec.Iter.{into_iter_items}
-use Rattle.lab.specs.Reports.{trace_alone, report_alone}
+use Rattle.alone.specs.Reports.{trace_alone, report_alone}
 use Rattle.lab.proofs.ReportTexts.{next_within, next_rest, one_made, none_behind, nothing_left}
 use Rattle.lab.proofs.reports.reports_in_turn.Goals as goal
 

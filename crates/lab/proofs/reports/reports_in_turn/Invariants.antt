@@ -1,6 +1,6 @@
 use Rattle.std.proofs.Common.{◌≡◌, ◌≤◌, length, map, take, drop, vec_capacity}
 use Rattle.std.specs.Vec.Iter.{into_iter_items, into_iter_len}
-use Rattle.lab.specs.Reports.{trace_alone, report_alone}
+use Rattle.alone.specs.Reports.{trace_alone, report_alone}
 use Rattle.lab.proofs.reports.reports_in_turn.Given as goal
 
 abbrev pub invariant-loop-outcome : goal.invariant-loop-outcome

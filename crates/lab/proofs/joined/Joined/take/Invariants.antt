@@ -3,7 +3,7 @@ use Rattle.std.specs.Vec.Iter.{into_iter_items, into_iter_len}
 use Rattle.shard.specs.Stand.{Final}
 use Rattle.bench.specs.declared.closing.Closing.{Closing}
 use Rattle.bench.specs.declared.mail.RingMail.{RingMail}
-use Rattle.lab.specs.declared.fault.RunFault.{RunFault}
+use Rattle.alone.specs.declared.fault.RunFault.{RunFault}
 use Rattle.lab.specs.Gathers.{Holds}
 use Rattle.lab.proofs.joined.Joined.take.Given as goal
 

@@ -1,0 +1,10 @@
+pub mod Answering
+pub mod Endings
+pub mod JoinedReports
+pub mod ReadFacts
+pub mod Reporting
+pub mod Settled
+pub mod Stopping
+pub mod Turns
+pub mod Writing
+pub mod Talking

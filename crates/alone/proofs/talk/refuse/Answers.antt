@@ -1,0 +1,14 @@
+use Rattle.std.proofs.Common.{ℕ, List, ◌++◌, sym, ap, ◌∙◌, append_assoc, append-nil}
+use Rattle.live.specs.declared.answer.Answer.TheVariants as answers
+use Rattle.live.specs.Lines.{answer_line, comment_of}
+use Rattle.alone.proofs.talk.refuse.Goals as goal
+
+pub returns-clause-says : goal.returns-clause-says
+returns-clause-says g c =
+    let text : List ℕ = c.as_slice.result.now in
+    let out : List ℕ = c.args.out.now.items in
+    let line : List ℕ = answer_line (answers.Fault c.args.cause) in (
+      text,
+      c.in-Ok-put_answer.ensures ∙ ap (λ (l : List ℕ). l ++ line) c.in-Ok-put_comment.ensures
+          ∙ append_assoc out (comment_of text) line ∙ ap (λ (l : List ℕ). out ++ (comment_of text ++ l)) (sym (append-nil line)),
+    )

@@ -1,0 +1,13 @@
+-- Laws of reports, over the definitions alone (our choice).
+use Rattle.std.specs.Prelude.{◌≡◌, ℕ, List, flat_map}
+use Rattle.std.specs.List.{AllZip}
+use Rattle.control.specs.declared.scenario.Experiment.{Experiment}
+use Rattle.control.specs.Scenario.{Spells}
+use Rattle.alone.specs.Reports.{reports}
+
+-- Where each of some texts spells a scenario by itself, and all of them, one after the other, spell one too, that one
+-- is theirs, one after the other, and its report is their reports.
+abbrev pub ReportsJoin : Type 0
+ReportsJoin = (texts : List (List ℕ)) (scenarios : List (List Experiment)) (all : List Experiment) →
+    AllZip Spells texts scenarios → Spells (flat_map (λ text. text) texts) all →
+    (all ≡ flat_map (λ s. s) scenarios) × (reports all ≡ flat_map reports scenarios)

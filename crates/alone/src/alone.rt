@@ -1,0 +1,147 @@
+//! An experiment by itself: each command is applied in its turn, and events are made until the next one
+//! is wanted. What they record is kept packed, and becomes lines when it is written.
+
+ghost use Rattle.std.specs.Prelude.{◌≡◌, ◌≤◌, ℕ, List, IfOk, OnOk, All, map};
+ghost use Rattle.packet_store.specs.Own.{own_pocket};
+ghost use Rattle.packet_store.specs.Pocket.{Pocket};
+ghost use Rattle.experiment.specs.Kept.{IsHousedIn};
+ghost use Rattle.control.specs.Order.{AreInOrder};
+ghost use Rattle.alone.specs.Runs.{Advances, IsNew, Plays};
+ghost use Rattle.experiment.specs.Written.{CanWrite, IsWritten};
+ghost use Rattle.alone.specs.Reports.{report_alone};
+
+use crate::lone::LoneShelf;
+use crate::progress::Progress;
+use control::Experiment as Script;
+use emu_model::{Timed, later_commands_wait, packets_add_up};
+use experiment::{ApplyError, BATCH, Event, Experiment, Report, ReportKeeper};
+use std::alloc::{AllocError, Global};
+
+/// After how many steps it is told again how many were made.
+const TOLD: u64 = 65_536;
+
+// Tells now and then how many steps were made.
+fn tell<P: Progress>(experiment: &Experiment, progress: &P)
+    requires { experiment.now.steps ≤ experiment.now.spec.budget.steps }
+{
+    let steps = experiment.events();
+    if steps % TOLD == 0 {
+        progress.note_steps(steps, u64::from(experiment.spec().budget.steps.get()));
+    }
+}
+
+// Keeps what was recorded, once there is a batch of it.
+#[inline(always)]
+fn keep_batch(experiment: &mut Experiment, report: &mut ReportKeeper) -> Result<(), AllocError>
+    requires { CanWrite report.old experiment.old }
+    ensures written { OnOk result ((head : List ℕ) (p : Pocket) →
+        IsWritten head report.old p experiment.old → IsWritten head report.new p experiment.new) }
+    ensures rest { OnOk result (experiment.new ≡ record experiment.old {
+      net = record experiment.old.net { log = experiment.new.net.log };
+    }) }
+    ensures housed { OnOk result
+        ((p : Pocket) → IsHousedIn p experiment.old → IsHousedIn p experiment.new) }
+{
+    if experiment.records().len() < BATCH {
+        return Ok(());
+    }
+    report.keep(experiment)?;
+    Ok(())
+}
+
+// Makes events until there is nothing more to do.
+#[inline(always)]
+fn advance<P: Progress>(
+    experiment: &mut Experiment,
+    shelf: &mut LoneShelf,
+    report: &mut ReportKeeper,
+    progress: &P,
+) -> Result<(), AllocError>
+    requires housed { IsHousedIn (own_pocket shelf.old) experiment.old }
+    requires written { (head : List ℕ)
+        × IsWritten head report.old (own_pocket shelf.old) experiment.old }
+    ensures { OnOk result
+        (Advances report.old (own_pocket shelf.old) experiment.old
+        report.new (own_pocket shelf.new) experiment.new) }
+{
+    packets_add_up();
+    loop {
+        keep_batch(experiment, report)?;
+        match experiment.event(shelf, 0) {
+            Event::Ran => tell(experiment, progress),
+            Event::Halted => return Err(AllocError),
+            Event::Ended | Event::Still => return Ok(()),
+        }
+    }
+}
+
+// Applies each command in its turn, until the experiment has ended.
+fn play<P: Progress>(
+    experiment: &mut Experiment,
+    shelf: &mut LoneShelf,
+    report: &mut ReportKeeper,
+    commands: &[Timed],
+    progress: &P,
+) -> Result<(), AllocError>
+    requires housed { IsHousedIn (own_pocket shelf.old) experiment.old }
+    requires new { IsNew experiment.old }
+    requires written { (head : List ℕ) × IsWritten head report.old (own_pocket shelf.old) experiment.old }
+    requires in_order { AreInOrder 0 commands.now }
+    ensures { OnOk result
+        (Plays commands.now report.old (own_pocket shelf.old) experiment.old
+        report.new (own_pocket shelf.new) experiment.new) }
+{
+    for command in commands {
+        match experiment.apply(command) {
+            Ok(()) => {}
+            Err(ApplyError::NoMemory) => return Err(AllocError),
+            Err(ApplyError::Over) => unreachable!(),
+            Err(ApplyError::Busy) => unreachable!(),
+            Err(ApplyError::Backward) => unreachable!(),
+        }
+        advance(experiment, shelf, report, progress)?;
+        if experiment.ending().is_some() {
+            break;
+        }
+    }
+    Ok(())
+}
+
+/// The report of an experiment that runs by itself; the moments (ns) of its commands don't fall. `AllocError` where
+/// memory was refused.
+fn report_by_itself<P: Progress>(
+    alloc: Global,
+    script: &Script,
+    progress: &P,
+) -> Result<Report, AllocError>
+    requires { AreInOrder 0 script.now.commands }
+    ensures { IfOk result (λ report. report ≡ report_alone script.now) }
+{
+    later_commands_wait();
+    packets_add_up();
+    let mut shelf = LoneShelf::new(alloc, script.spec.budget.packets);
+    let mut experiment = Experiment::new(alloc, script.spec)?;
+    let mut report = ReportKeeper::new(alloc, script.name.as_bytes())?;
+    let commands = script.commands.as_slice();
+    play(&mut experiment, &mut shelf, &mut report, commands, progress)?;
+    report.keep(&mut experiment)?;
+    report.into_report(&experiment.counters())
+}
+
+/// The reports of experiments that run by themselves, one after the other. `AllocError` where memory was refused.
+pub fn run_all<P: Progress>(
+    alloc: Global,
+    scripts: &[Script],
+    progress: &P,
+) -> Result<Vec<Report>, AllocError>
+    requires { All (λ e. AreInOrder 0 e.commands) scripts.now }
+    ensures { IfOk result (λ reports. reports.items ≡ map report_alone scripts.now) }
+{
+    let mut reports = Vec::with_capacity(alloc, scripts.len())?;
+    for script in scripts {
+        let report = report_by_itself(alloc, script, progress)?;
+        reports.push(report)?;
+        progress.note_ends(reports.len() as u64, scripts.len() as u64);
+    }
+    Ok(reports)
+}

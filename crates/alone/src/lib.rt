@@ -1,0 +1,30 @@
+//! The calls of the program that need one thread alone: the bytes of a scenario go in, the bytes of its reports come out. Own.
+#![tactic(auto)]
+
+mod alone;
+mod calls;
+mod device;
+mod ends;
+mod fault;
+mod hints;
+mod input;
+mod joining_law;
+mod limits;
+mod lone;
+mod output;
+mod progress;
+mod talk;
+mod whole;
+mod within;
+
+pub use calls::{check, check_kept, run_alone, run_alone_told, unlimited_outcome};
+pub use device::Device;
+pub use ends::{Inlet, Outlet, Trouble};
+pub use fault::RunFault;
+pub use hints::{Hints, NoHints};
+pub use joining_law::reports_join;
+pub use limits::{Limits, Stop};
+pub use progress::{Progress, Silent};
+pub use talk::live;
+pub use whole::{Reports, Tally, check_of, reports_of, reports_told};
+pub use within::{Made, read_scenario, run_alone_within, write_reports};

@@ -1,0 +1,187 @@
+//! Writing the reports, by way of a buffer that finds its room before the first byte is written.
+
+ghost use Rattle.std.specs.Prelude.{◌≡◌, ◌+◌, ◌<◌, ◌≤◌, [], true, is_err, drop, flat_map, length, take, IfOk, OnOk, OnErr};
+ghost use Rattle.report.specs.Lines.{line_of};
+ghost use Rattle.alone.specs.Bytes.{Puts, Stops};
+
+use crate::ends::{Failed, Outlet, flush_all, write_all};
+use experiment::Report;
+use report::{Archive, Moments, Source, write_some};
+use std::alloc::{AllocError, Global};
+use std::marker::Model;
+
+/// How many bytes are kept back before they are written.
+const CAPACITY: usize = 65_536;
+
+/// So many bytes are written by themselves: to copy them would cost more than a call.
+const LONG: usize = 16_384;
+
+/// So many bytes are enough for the lines that are made at once.
+const PAGE: usize = 4_624;
+
+/// What was not handed to the writer yet, at most 65536 bytes.
+#[derive(Drop)]
+pub struct Buffer {
+    kept: Vec<u8>,
+}
+
+impl Model for Buffer {
+    ghost use Rattle.std.specs.Prelude.{ℕ, List, ◌≤◌, vec_capacity};
+
+    ghost Value = { List ℕ };
+
+    ghost view = { λ b. b.kept.items };
+
+    ghost invariant = { λ b. 65536 ≤ vec_capacity b.kept };
+}
+
+impl Buffer {
+    /// An empty buffer. No other call here takes memory.
+    pub fn new(alloc: Global) -> Result<Self, AllocError>
+        ensures { IfOk result (λ b. b ≡ []) }
+    {
+        let kept = Vec::with_capacity(alloc, CAPACITY)?;
+        Ok(Buffer { kept })
+    }
+
+    // Writes all that is kept.
+    #[tactic(auto, using(crate::proofs::Writing::puts_out_as, crate::proofs::Writing::stops_out))]
+    fn hand_on<W: Outlet>(&mut self, writer: &mut W) -> Result<(), Failed>
+        ensures ok { OnOk result
+            (Puts (W.contents writer.old) self.old (W.contents writer.new) self.new []) }
+        ensures empty { OnOk result (self.new ≡ []) }
+        ensures cut { OnErr result
+            (Stops (W.contents writer.old) self.old (W.contents writer.new) []) }
+        ensures failed { OnErr result (W.failed writer.new ≡ true) }
+    {
+        write_all(writer, self.kept.as_slice())?;
+        self.kept.clear();
+        Ok(())
+    }
+
+    /// Puts bytes behind the others.
+    #[tactic(auto, using(crate::proofs::Writing::puts_next, crate::proofs::Writing::puts_kept_as, crate::proofs::Writing::puts_straight_as, crate::proofs::Writing::puts_none, crate::proofs::Writing::stops_any, crate::proofs::Writing::stops_straight_as, crate::proofs::Writing::stops_next))]
+    pub fn put<W: Outlet>(&mut self, writer: &mut W, bytes: &[u8]) -> Result<(), Failed>
+        ensures ok { OnOk result
+            (Puts (W.contents writer.old) self.old (W.contents writer.new) self.new bytes.now) }
+        ensures cut { OnErr result
+            (Stops (W.contents writer.old) self.old (W.contents writer.new) bytes.now) }
+        ensures failed { OnErr result (W.failed writer.new ≡ true) }
+    {
+        if bytes.len() > LONG {
+            self.hand_on(writer)?;
+            return write_all(writer, bytes);
+        }
+        if self.kept.len() > CAPACITY - bytes.len() {
+            self.hand_on(writer)?;
+        }
+        let Ok(()) = self.kept.extend_from_slice(bytes) else {
+            unreachable!()
+        };
+        Ok(())
+    }
+
+    /// Puts reports one after the other, whose lines are made on the way.
+    #[tactic(auto, using(crate::proofs::Writing::puts_none, crate::proofs::Reporting::texts_puts, crate::proofs::Reporting::texts_stops))]
+    pub fn put_reports<W: Outlet>(
+        &mut self,
+        writer: &mut W,
+        reports: &[Report],
+    ) -> Result<(), Failed>
+        ensures ok { OnOk result
+            (Puts (W.contents writer.old) self.old (W.contents writer.new) self.new
+            (flat_map (λ t. t) reports.now)) }
+        ensures cut { OnErr result
+            (Stops (W.contents writer.old) self.old (W.contents writer.new)
+            (flat_map (λ t. t) reports.now)) }
+        ensures failed { OnErr result (W.failed writer.new ≡ true) }
+    {
+        let mut moments = Moments::new();
+        for report in reports {
+            self.put_report(writer, &mut moments, report)?;
+        }
+        Ok(())
+    }
+
+    // Puts a report.
+    #[tactic(auto, using(crate::proofs::Reporting::three_put, crate::proofs::Reporting::first_stops, crate::proofs::Reporting::second_stops, crate::proofs::Reporting::third_stops))]
+    fn put_report<W: Outlet>(
+        &mut self,
+        writer: &mut W,
+        moments: &mut Moments,
+        report: &Report,
+    ) -> Result<(), Failed>
+        ensures ok { OnOk result
+            (Puts (W.contents writer.old) self.old (W.contents writer.new) self.new report.now) }
+        ensures cut { OnErr result
+            (Stops (W.contents writer.old) self.old (W.contents writer.new) report.now) }
+        ensures failed { OnErr result (W.failed writer.new ≡ true) }
+    {
+        let (heading, records, last) = report.parts();
+        self.put(writer, heading)?;
+        self.put_lines(writer, moments, records)?;
+        self.put(writer, last)
+    }
+
+    // Puts the lines of records.
+    #[tactic(auto, using(crate::proofs::Writing::puts_none, crate::proofs::Reporting::lines_puts, crate::proofs::Reporting::lines_stops))]
+    fn put_lines<W: Outlet>(
+        &mut self,
+        writer: &mut W,
+        moments: &mut Moments,
+        records: &Archive,
+    ) -> Result<(), Failed>
+        ensures ok { OnOk result
+            (Puts (W.contents writer.old) self.old (W.contents writer.new) self.new
+            (flat_map line_of records.now)) }
+        ensures cut { OnErr result
+            (Stops (W.contents writer.old) self.old (W.contents writer.new)
+            (flat_map line_of records.now)) }
+        ensures failed { OnErr result (W.failed writer.new ≡ true) }
+    {
+        let mut done = 0;
+        while done < records.len() {
+            done += self.put_some(writer, moments, records, done)?;
+        }
+        Ok(())
+    }
+
+    // Puts the lines of some records from a place on, and says of how many.
+    #[tactic(auto, using(crate::proofs::Writing::puts_next, crate::proofs::Writing::puts_kept_as, crate::proofs::Writing::puts_none, crate::proofs::Writing::stops_any))]
+    fn put_some<W: Outlet>(
+        &mut self,
+        writer: &mut W,
+        moments: &mut Moments,
+        records: &Archive,
+        from: usize,
+    ) -> Result<usize, Failed>
+        requires { from < length records.now }
+        ensures count { IfOk result (λ n. (0 < n) × (from + n ≤ length records.now)) }
+        ensures ok { IfOk result (λ n.
+            Puts (W.contents writer.old) self.old (W.contents writer.new) self.new
+            (flat_map line_of (take n (drop from records.now)))) }
+        ensures cut { OnErr result
+            (Stops (W.contents writer.old) self.old (W.contents writer.new) []) }
+        ensures failed { OnErr result (W.failed writer.new ≡ true) }
+    {
+        if self.kept.len() > CAPACITY - PAGE {
+            self.hand_on(writer)?;
+        }
+        let Ok(count) = write_some(&mut self.kept, moments, records, from) else {
+            unreachable!()
+        };
+        Ok(count)
+    }
+
+    /// Writes all that is kept, and has the writer hand it on.
+    #[tactic(auto, using(crate::proofs::Writing::puts_flushed_as, crate::proofs::Writing::stops_flushed_as))]
+    pub fn finish<W: Outlet>(self, writer: &mut W) -> Result<(), Failed>
+        ensures ok { OnOk result (Puts (W.contents writer.old) self (W.contents writer.new) [] []) }
+        ensures cut { OnErr result (Stops (W.contents writer.old) self (W.contents writer.new) []) }
+        ensures failed { W.failed writer.new ≡ is_err result }
+    {
+        let mut buffer = self;
+        buffer.hand_on(writer)?;
+        flush_all(writer)
+    }
+}

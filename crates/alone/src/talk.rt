@@ -1,0 +1,292 @@
+//! `live`: each line of a session is answered before more is read.
+
+ghost use Rattle.std.specs.Prelude.{◌≡◌, ◌++◌, ◌∷◌, [], ℕ, List, Some, Ok, All, true, false, flat_map, OnOk, IfErr};
+ghost use Rattle.std.specs.List.{AllByRecursion};
+ghost use Rattle.std.specs.Io.KnownBytes.{Appends};
+ghost use Rattle.control.specs.Scenario.{Spells};
+ghost use Rattle.control.specs.declared.scenario.Experiment.{Experiment as Script};
+ghost use Rattle.control_words.specs.Text.{lines};
+ghost use Rattle.live.specs.Sessions.{Piece, IsPlain, Takes, told, written};
+ghost use Rattle.alone.specs.Bytes.{Puts};
+ghost use Rattle.alone.specs.Reports.{reports, IsOwnFault};
+ghost use Rattle.alone.specs.Talks.{AsksForAll, GoesOn, refusal};
+
+use crate::ends::{Inlet, Outlet, flush_all, read_some, write_all};
+use crate::fault::RunFault;
+use crate::hints::Hints;
+use control::{Cause, Fault};
+use control_words::first_line;
+use live::{Answer, MAX_LINE, Session, put_answer, put_comment};
+use std::alloc::Global;
+use std::marker::Model;
+
+/// How many bytes are read at a time, and after how many bytes of answers these are written.
+const CHUNK: usize = 65_536;
+
+/// A session over bytes: its experiments, what came of a line that isn't whole yet, and what isn't written yet.
+#[derive(Drop)]
+struct Talk {
+    alloc: Global,
+    session: Session,
+    part: Vec<u8>,
+    out: Vec<u8>,
+    // How many lines are whole.
+    lines: u64,
+    // Whether the line that isn't whole was answered as too long.
+    is_skipping: bool,
+}
+
+impl Model for Talk {
+    ghost use Rattle.alone.specs.Talks.{KeptTalk};
+
+    ghost Value = { KeptTalk };
+
+    ghost view = { λ t. record {
+      session = t.session;
+      part = t.part.items;
+      out = t.out.items;
+      is_skipping = t.is_skipping;
+    } };
+}
+
+// Says that a line isn't taken, behind the hint for it. By itself, since it is rare: so others have a small frame.
+#[inline(never)]
+fn refuse<H: Hints>(
+    alloc: Global,
+    hints: &H,
+    line: &[u8],
+    cause: Cause,
+    out: &mut Vec<u8>,
+) -> Result<(), RunFault>
+    ensures own { IfErr result IsOwnFault }
+    ensures says { OnOk result ((text : List ℕ) × (out.new.items
+        ≡ out.old.items ++ flat_map written (refusal text cause))) }
+{
+    let Ok(text) = hints.hint(alloc, line, cause) else {
+        return Err(RunFault::Memory);
+    };
+    let Ok(()) = put_comment(out, text.as_slice()) else {
+        return Err(RunFault::Memory);
+    };
+    let Ok(()) = put_answer(out, Answer::Fault(cause)) else {
+        return Err(RunFault::Memory);
+    };
+    Ok(())
+}
+
+// Has a session answer a line.
+fn answer_line<H: Hints>(
+    alloc: Global,
+    session: &mut Session,
+    hints: &H,
+    line: &[u8],
+    out: &mut Vec<u8>,
+) -> Result<(), RunFault>
+    ensures own { IfErr result IsOwnFault }
+    ensures takes { OnOk result ((qs : List Piece)
+        × (out.new.items ≡ out.old.items ++ flat_map written qs)
+        × Takes line.now qs session.old session.new) }
+{
+    let Ok(fault) = session.take(line, out) else {
+        return Err(RunFault::Memory);
+    };
+    match fault {
+        None => Ok(()),
+        Some(cause) => refuse(alloc, hints, line, cause, out),
+    }
+}
+
+impl Talk {
+    fn new(alloc: Global) -> Self
+        ensures { result ≡ record {
+          session = record { opened = []; current = 0 };
+          part = [];
+          out = [];
+          is_skipping = false;
+        } }
+    {
+        Talk {
+            alloc,
+            session: Session::new(alloc),
+            part: Vec::new(alloc),
+            out: Vec::new(alloc),
+            lines: 0,
+            is_skipping: false,
+        }
+    }
+
+    // Writes what was said, and keeps its room.
+    fn hand_on<W: Outlet>(&mut self, writer: &mut W) -> Result<(), RunFault>
+        ensures own { IfErr result IsOwnFault }
+        ensures puts { OnOk result
+            (Puts (W.contents writer.old) self.old.out (W.contents writer.new) [] []) }
+        ensures same { OnOk result (self.new ≡ record self.old { out = [] }) }
+    {
+        let Ok(()) = write_all(writer, self.out.as_slice()) else {
+            return Err(RunFault::Write);
+        };
+        self.out.clear();
+        Ok(())
+    }
+
+    // Has the session answer the line that came in parts.
+    fn answer_part<H: Hints>(&mut self, hints: &H) -> Result<(), RunFault>
+        ensures own { IfErr result IsOwnFault }
+        ensures takes { OnOk result ((qs : List Piece)
+            × (self.new.out ≡ self.old.out ++ flat_map written qs)
+            × Takes self.old.part qs self.old.session self.new.session) }
+        ensures part { OnOk result (self.new.part ≡ []) }
+        ensures same { OnOk result (self.new.is_skipping ≡ self.old.is_skipping) }
+    {
+        let line = self.part.as_slice();
+        answer_line(self.alloc, &mut self.session, hints, line, &mut self.out)?;
+        self.part.clear();
+        Ok(())
+    }
+
+    // Has the session answer a line.
+    fn answer<H: Hints>(&mut self, hints: &H, line: &[u8]) -> Result<(), RunFault>
+        ensures own { IfErr result IsOwnFault }
+        ensures takes { OnOk result ((qs : List Piece)
+            × (self.new.out ≡ self.old.out ++ flat_map written qs)
+            × Takes line.now qs self.old.session self.new.session) }
+        ensures same { OnOk result ((self.new.part ≡ self.old.part)
+            × (self.new.is_skipping ≡ self.old.is_skipping)) }
+    {
+        answer_line(self.alloc, &mut self.session, hints, line, &mut self.out)
+    }
+
+    // Adds to the line that isn't whole. One that has too many bytes is answered at once, and not kept.
+    fn add<H: Hints>(&mut self, hints: &H, bytes: &[u8]) -> Result<(), RunFault>
+        requires { lines bytes.now ≡ bytes.now ∷ [] }
+        ensures own { IfErr result IsOwnFault }
+        ensures hears { OnOk result ((qs : List Piece)
+            × (self.new.out ≡ self.old.out ++ flat_map written qs)
+            × ((after : List ℕ) → GoesOn (bytes.now ++ after) after qs self.old self.new)) }
+    {
+        if self.is_skipping {
+            return Ok(());
+        }
+        if self.part.len().saturating_add(bytes.len()) > MAX_LINE {
+            refuse(self.alloc, hints, b"", Cause::TooLong, &mut self.out)?;
+            self.part.clear();
+            self.is_skipping = true;
+            return Ok(());
+        }
+        let Ok(()) = self.part.extend_from_slice(bytes) else {
+            return Err(RunFault::Memory);
+        };
+        Ok(())
+    }
+
+    // The rest of a line came, of which there is a part.
+    fn end_part<H: Hints>(&mut self, hints: &H, rest: &[u8]) -> Result<(), RunFault>
+        requires { lines rest.now ≡ rest.now ∷ [] }
+        ensures own { IfErr result IsOwnFault }
+        ensures hears { OnOk result ((qs : List Piece)
+            × (self.new.out ≡ self.old.out ++ flat_map written qs)
+            × ((after : List ℕ) → GoesOn (rest.now ++ 10 ∷ after) after qs self.old self.new)) }
+    {
+        self.add(hints, rest)?;
+        if self.is_skipping {
+            self.is_skipping = false;
+            return Ok(());
+        }
+        self.answer_part(hints)
+    }
+
+    // The rest of a line came.
+    fn end_line<H: Hints>(&mut self, hints: &H, rest: &[u8]) -> Result<(), RunFault>
+        requires { lines rest.now ≡ rest.now ∷ [] }
+        ensures own { IfErr result IsOwnFault }
+        ensures hears { OnOk result ((qs : List Piece)
+            × (self.new.out ≡ self.old.out ++ flat_map written qs)
+            × ((after : List ℕ) → GoesOn (rest.now ++ 10 ∷ after) after qs self.old self.new)) }
+    {
+        self.lines = self.lines.saturating_add(1);
+        if self.part.is_empty() && !self.is_skipping {
+            return self.answer(hints, rest);
+        }
+        self.end_part(hints, rest)
+    }
+
+    // Takes bytes that were read: each line that they end is answered.
+    fn take<W: Outlet, H: Hints>(
+        &mut self,
+        writer: &mut W,
+        hints: &H,
+        bytes: &[u8],
+    ) -> Result<(), RunFault>
+        ensures own { IfErr result IsOwnFault }
+        ensures hears { OnOk result ((qs : List Piece)
+            × Puts (W.contents writer.old) self.old.out (W.contents writer.new) self.new.out
+            (flat_map written qs)
+            × ((after : List ℕ) → GoesOn (bytes.now ++ after) after qs self.old self.new)) }
+    {
+        let mut rest = bytes;
+        while let Some((line, after)) = first_line(rest) {
+            self.end_line(hints, line)?;
+            if self.out.len() > CHUNK {
+                self.hand_on(writer)?;
+            }
+            rest = after;
+        }
+        self.add(hints, rest)
+    }
+
+    // How it ends where no more comes: each experiment has its end, and the last line is whole.
+    fn end(&self) -> Result<(), RunFault>
+        ensures own { IfErr result IsOwnFault }
+        ensures whole { result ≡ Ok tt → (self.now.part ≡ [])
+            × All (λ o. o.is_closed ≡ true) self.now.session.opened }
+    {
+        let line = self.lines.saturating_add(1);
+        if !self.part.is_empty() || self.is_skipping {
+            let cause = Cause::Cut;
+            return Err(RunFault::Scenario(Fault { line, cause }));
+        }
+        if !self.session.is_whole() {
+            let cause = Cause::NoEnd;
+            return Err(RunFault::Scenario(Fault { line, cause }));
+        }
+        Ok(())
+    }
+}
+
+/// A session: reads lines of a scenario as they come, with requests among them, and answers each before more is read.
+/// A line that isn't taken has the lines of `hints` in front of its answer, each behind `# `.
+/// Where the text spells a scenario, to which requests are comments, no answer is a fault, and neither `use` nor `show mine`
+/// was asked, what is written is what `run_alone` writes for it, with lines that begin with `#` in between. A `Scenario` fault comes at the end of what is read alone: the last line is cut, or an experiment has no end. `Read`
+/// comes where the reader failed, `Write` where the writer did, `Memory` where memory was refused; what was written is
+/// then the beginning of what would have been.
+pub fn live<R: Inlet, W: Outlet, H: Hints>(
+    alloc: Global,
+    reader: &mut R,
+    writer: &mut W,
+    hints: &H,
+) -> Result<(), RunFault>
+    ensures own { IfErr result IsOwnFault }
+    ensures tells { (text : List ℕ) → R.remaining reader.old ≡ Some text → result ≡ Ok tt →
+        (ps : List Piece) × Appends (W.contents writer.old) (W.contents writer.new)
+        (flat_map written ps)
+        × ((es : List Script) → Spells text es → AsksForAll (lines text) →
+        AllByRecursion IsPlain ps → flat_map told ps ≡ reports es) }
+{
+    let mut talk = Talk::new(alloc);
+    let mut chunk = [0u8; CHUNK];
+    for _ in 0..u64::MAX {
+        let Ok(count) = read_some(reader, &mut chunk) else {
+            return Err(RunFault::Read);
+        };
+        if count == 0 {
+            return talk.end();
+        }
+        talk.take(writer, hints, &chunk[..count])?;
+        talk.hand_on(writer)?;
+        let Ok(()) = flush_all(writer) else {
+            return Err(RunFault::Write);
+        };
+    }
+    // Nobody lives to see so many reads.
+    Err(RunFault::Read)
+}

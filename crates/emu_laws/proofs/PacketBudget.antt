@@ -1,0 +1,23 @@
+-- PacketBudget: the report of a scenario, computed by the definitions.
+use Rattle.emu_laws.proofs.Words.{Add, AnyProtocol, Budget, CommandDone, Config, End, Inject, List, PacketDelivered, PacketDropped, PacketFinished, Pipe, Plain, Record, Slots, TailDrop, Timed, Udp, [], alone, refl, trace_of, ◌++◌, ◌+◌, ◌∷◌, ◌≡◌}
+use Rattle.emu_laws.proofs.Makings.{at, counted, packet, pipe_with, rule_for_all, runs, spec, unmasked}
+
+-- experiment packet-budget
+abbrev exp_0-commands : List Timed
+exp_0-commands =
+    (at 0 (Config 1 (pipe_with 1000000 0 (Slots 50) 0 unmasked TailDrop)) ∷
+    at 0 (Add (rule_for_all 100 (Pipe 1) AnyProtocol)) ∷ []) ++
+    runs 3 (λ i. at 0 (Inject (packet Udp 167772161 1000 167772162 2000 1000)) ∷ []) ++
+    (at 20000000 End ∷ [])
+
+abbrev exp_0-records : List Record
+exp_0-records =
+    runs 5 (λ i. CommandDone 0 i ∷ []) ++
+    (PacketDropped 0 2 Plain Budget ∷ PacketFinished 8000000 0 1 0 ∷
+    PacketDelivered 8000001 0 Plain ∷ PacketFinished 16000000 1 1 0 ∷
+    PacketDelivered 16000001 1 Plain ∷ CommandDone 20000000 5 ∷ [])
+
+exp_0 :
+    trace_of (alone (spec 0 2 1000000) exp_0-commands 13)
+    ≡ record { records = exp_0-records; counters = counted 3 2 0 0 0 0 0 0 0 0 1 }
+exp_0 = refl

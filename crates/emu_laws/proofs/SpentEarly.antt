@@ -1,0 +1,19 @@
+-- SpentEarly: the report of a scenario, computed by the definitions.
+use Rattle.emu_laws.proofs.Words.{Add, AnyProtocol, CommandDone, Config, End, Inject, List, Pipe, Record, Slots, StepsSpent, TailDrop, Timed, Udp, [], alone, refl, trace_of, ◌∷◌, ◌≡◌}
+use Rattle.emu_laws.proofs.Makings.{at, counted, packet, pipe_with, rule_for_all, spec, unmasked}
+
+-- experiment s
+abbrev exp_0-commands : List Timed
+exp_0-commands =
+    (at 0 (Config 1 (pipe_with 1000000 10 (Slots 50) 0 unmasked TailDrop)) ∷
+    at 0 (Add (rule_for_all 100 (Pipe 1) AnyProtocol)) ∷
+    at 0 (Inject (packet Udp 167772161 1000 167772162 2000 1000)) ∷ at 20000000 End ∷ [])
+
+abbrev exp_0-records : List Record
+exp_0-records =
+    (CommandDone 0 0 ∷ CommandDone 0 1 ∷ StepsSpent 0 ∷ [])
+
+exp_0 :
+    trace_of (alone (spec 0 10 2) exp_0-commands 4)
+    ≡ record { records = exp_0-records; counters = counted 0 0 0 0 0 0 0 0 0 0 0 }
+exp_0 = refl

@@ -1,8 +1,0 @@
-use Rattle.std.proofs.Common.{◌≡◌, map, take}
-use Rattle.lab.specs.Reports.{report_alone}
-use Rattle.lab.proofs.alone.run_all.Given as goal
-
-abbrev pub invariant-loop-script : goal.invariant-loop-script
-invariant-loop-script g l = record {
-  done : l.reports.items ≡ map report_alone (take l.script-index l.scripts);
-}

@@ -1,8 +1,0 @@
-use Rattle.std.proofs.Common.{◌∙◌}
-use Rattle.lab.proofs.Endings.{cut_after}
-use Rattle.lab.proofs.calls.check_kept.Goals as goal
-
-pub returns-in_default-flush_all-clause-calls : goal.returns-in_default-flush_all-clause-calls
-returns-in_default-flush_all-clause-calls g c =
-    cut_after (g.R.Inlet.remaining c.args.reader.now) (g.W.Outlet.contents c.args.writer.now) (g.W.Outlet.contents c.write_all.new.writer) (g.W.Outlet.contents c.flush_all.new.writer)
-    c.as_slice.result.now c.in_ok-tally.tally c.in_ok-tally.ensures.made (c.as_slice.ensures.value ∙ c.in-Ok.ensures) c.in-Ok-write_all.ensures.bytes c.flush_all.ensures.bytes

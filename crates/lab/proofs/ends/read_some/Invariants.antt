@@ -1,8 +1,0 @@
-use Rattle.std.specs.Io.KnownBytes.{Keeps}
-use Rattle.lab.proofs.ends.read_some.Given as goal
-
-abbrev pub invariant-loop-count : goal.invariant-loop-count
-invariant-loop-count g l = Keeps (g.R.Inlet.remaining l.initial.reader) (g.R.Inlet.remaining l.reader)
-
-abbrev pub decreases-loop-count : goal.decreases-loop-count
-decreases-loop-count g l = g.R.Inlet.patience l.reader

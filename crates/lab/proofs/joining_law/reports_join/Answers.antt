@@ -1,5 +1,0 @@
-use Rattle.lab.proofs.JoinedReports.{reports_join_by}
-use Rattle.lab.proofs.joining_law.reports_join.Goals as goal
-
-pub returns : goal.returns
-returns c = reports_join_by c.texts_part.ensures

@@ -1,8 +1,0 @@
-use Rattle.std.proofs.Common.{◌≤◌, take}
-use Rattle.lab.specs.Within.{steps_of}
-use Rattle.lab.proofs.limits.first_past.Given as goal
-
-abbrev pub invariant-loop-number : goal.invariant-loop-number
-invariant-loop-number l = record {
-  before : steps_of (take l.number l.scripts) ≤ l.most;
-}

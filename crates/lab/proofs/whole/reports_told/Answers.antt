@@ -1,9 +1,0 @@
-use Rattle.lab.proofs.Endings.{same-texts}
-use Rattle.lab.proofs.whole.reports_told.Goals as goal
-
-pub returns-clause-ok : goal.returns-clause-ok
-returns-clause-ok g c = (
-  c.in_ok-scenario.scenario,
-  c.in_ok-scenario.ensures.spells,
-  same-texts c.in_ok-scenario.scenario c.experiments.result.now c.in-Ok.reports.items c.experiments.ensures.value c.in-Ok.ensures,
-)
