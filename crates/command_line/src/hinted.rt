@@ -2,7 +2,7 @@
 
 use control::{Cause, Fault};
 use explain_text::faults_text;
-use lab::Hints;
+use alone::Hints;
 use std::alloc::{AllocError, Global};
 
 /// What is expected of a line that asks.

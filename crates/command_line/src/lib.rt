@@ -1,23 +1,24 @@
-//! The words of the command line of `dnlab`, its exit statuses and what it prints on standard error; all else is in
-//! `lab`. The program `dnlab` adds its version.
+//! The words of the command line of `dnlab`, its exit statuses and what it prints on standard error. What they ask for is
+//! done by `alone`, or by many workers; the program `dnlab` says who these are, and adds its version.
 #![tactic(auto)]
 
 mod hinted;
 mod meter;
 mod tell;
 mod words;
+mod workers;
+
+pub use workers::Workers;
 
 ghost use Rattle.std.specs.Prelude.{◌≡◌};
 ghost use Rattle.command_line.specs.Status.{status_after};
 
+use alone::{Device, Made, RunFault, Stop, check_kept, live, run_alone_within};
 use clap::Error;
 use clap::error::ErrorKind;
 use explain::{Account, Note, Subject};
 use explain_text::{account_of, explanation, faults_text, scenario_explained};
 use hinted::LineHints;
-use lab::{
-    Device, Made, OpenGate, Plan, RunFault, Stop, check_kept, live, run_alone_within, run_within,
-};
 use meter::Meter;
 use std::alloc::{AllocError, Global};
 use std::process::ExitCode;
@@ -188,9 +189,11 @@ fn say<R: Print + Eprint>(rt: &R, error: &Error, words: &[String]) -> ExitCode {
     ExitCode::from(if error.use_stderr() { 2 } else { 0 })
 }
 
-/// Does what the program's words want; `version` is what it says of itself. The answer is the exit status.
-pub fn answer<H>(rt: &H, version: &str) -> ExitCode
+/// Does what the program's words want; `version` is what it says of itself, and `B` runs by many workers. The answer is
+/// the exit status.
+pub fn answer<B, H>(rt: &H, version: &str) -> ExitCode
 where
+    B: Workers,
     H: Alloc<A = Global> + Clock + Env + Eprint + Input + Print + Sync + Threads + Wait,
 {
     let alloc = rt.alloc();
@@ -222,15 +225,15 @@ where
             progress,
             ..
         } => {
-            // The words' ranges are those of a plan.
-            let Some(plan) = Plan::new(workers, moves) else {
-                return ExitCode::from(2);
-            };
             let meter = Meter::new(rt, progress);
             let (from, to) = (&mut reader, &mut writer);
-            with_reports(run_within(
-                rt, alloc, from, to, &mut text, &limits, plan, &OpenGate, &meter,
-            ))
+            let Some(outcome) = B::run_within(
+                rt, alloc, from, to, &mut text, &limits, workers, moves, &meter,
+            ) else {
+                // The words' ranges let none of these through.
+                return ExitCode::from(2);
+            };
+            with_reports(outcome)
         }
         Task::Alone {
             limits,

@@ -1,6 +1,6 @@
 //! Says on standard error how far a run is, where that was asked for.
 
-use lab::Progress;
+use alone::Progress;
 use std::sync::atomic::{AtomicU64, Ordering};
 use std::time::{Clock, Instant};
 

@@ -2,7 +2,7 @@
 //! is said of a stray word.
 
 use explain::Text;
-use lab::Limits;
+use alone::Limits;
 use std::str;
 
 /// Prints ASCII bytes on standard error.
