@@ -1,8 +1,8 @@
 //! What `--explain` says of a line of a session that isn't taken.
 
+use alone::Hints;
 use control::{Cause, Fault};
 use explain_text::faults_text;
-use alone::Hints;
 use std::alloc::{AllocError, Global};
 
 /// What is expected of a line that asks.

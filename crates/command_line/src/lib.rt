@@ -8,8 +8,6 @@ mod tell;
 mod words;
 mod workers;
 
-pub use workers::Workers;
-
 ghost use Rattle.std.specs.Prelude.{◌≡◌};
 ghost use Rattle.command_line.specs.Status.{status_after};
 
@@ -28,6 +26,7 @@ use std::thread::Threads;
 use std::{env, io};
 use tell::{hint_at, print, tell_output, tell_steps};
 use words::{Task, stray_word, task_of};
+pub use workers::Workers;
 
 /// The exit status of a strict run in which a command was refused, or an experiment spent its steps.
 const NOT_STRICT: u8 = 5;

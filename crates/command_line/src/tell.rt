@@ -1,8 +1,8 @@
 //! What is printed on standard error besides the one line of a fault: what is explained, what goes past a limit, and what
 //! is said of a stray word.
 
-use explain::Text;
 use alone::Limits;
+use explain::Text;
 use std::str;
 
 /// Prints ASCII bytes on standard error.

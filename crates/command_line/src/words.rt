@@ -1,7 +1,7 @@
 //! The words of the command line.
 
-use clap::{Arg, ArgAction, ArgMatches, Command, Error};
 use alone::Limits;
+use clap::{Arg, ArgAction, ArgMatches, Command, Error};
 use std::alloc::Global;
 
 /// What the program is asked to do.

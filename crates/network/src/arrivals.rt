@@ -379,9 +379,9 @@ impl Network {
             ..*packet
         };
         self.note_arrival(at.now, route.number, &sent);
-        let answer =
-            self.table
-                .arrive_at(route.pipe, route.instance, shelf, owner, at.now, &sent);
+        let answer = self
+            .table
+            .arrive_at(route.pipe, route.instance, shelf, owner, at.now, &sent);
         if let Some(cause) = answer {
             self.drop_packet(at.now, &sent, cause);
         }
