@@ -1,10 +1,11 @@
 //! Worked examples over memory: what is written, and the fault of each text that is none.
 
-use control::{Cause, Fault};
-use lab::{
-    Device, Gate, Inlet, Limits, OpenGate, Outlet, Plan, RunFault, Silent, Stop, Trouble, check,
-    run, run_alone, run_alone_within, run_within,
+use alone::{
+    Device, Inlet, Limits, Outlet, RunFault, Silent, Stop, Trouble, check, run_alone,
+    run_alone_within,
 };
+use control::{Cause, Fault};
+use lab::{Gate, OpenGate, Plan, run, run_within};
 use std::alloc::Global;
 use std::io;
 use std::process::Abort;

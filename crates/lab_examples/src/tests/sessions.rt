@@ -1,7 +1,7 @@
 //! Sessions over memory, and a scenario's bytes by the pure core.
 
 use super::*;
-use lab::{NoHints, live, reports_of};
+use alone::{NoHints, live, reports_of};
 
 /// What a session answers, and what it wrote.
 fn talk(alloc: Global, lines: &str) -> (Result<(), RunFault>, Vec<u8>) {
