@@ -160,23 +160,34 @@ fn run_command<'a>(alloc: Global) -> Result<Command<'a>, Error> {
     with_limits(alloc, run)
 }
 
-fn command<'a>(alloc: Global, version: &'a str) -> Result<Command<'a>, Error> {
+fn alone_command<'a>(alloc: Global) -> Result<Command<'a>, Error> {
     let alone = Command::new(alloc, "alone")
         .about("Reads a scenario on standard input and prints its reports")
         .arg(progress_word(alloc))?
         .arg(explain_word(alloc))?
         .arg(strict_word(alloc))?;
+    with_limits(alloc, alone)
+}
+
+fn check_command<'a>(alloc: Global) -> Result<Command<'a>, Error> {
     let check = Command::new(alloc, "check")
         .about("Says `ok`, how many experiments and commands, or the fault")
         .arg(explain_word(alloc))?;
+    Ok(check)
+}
+
+fn live_command<'a>(alloc: Global) -> Result<Command<'a>, Error> {
+    let explain = Arg::new(alloc, "explain")
+        .long("explain")
+        .action(ArgAction::SetTrue)
+        .help("Says, behind #, what is wrong with a line at fault");
     let live = Command::new(alloc, "live")
         .about("Answers lines of a scenario as they come (`#> help`: what to ask)")
-        .arg(
-            Arg::new(alloc, "explain")
-                .long("explain")
-                .action(ArgAction::SetTrue)
-                .help("Says, behind #, what is wrong with a line at fault"),
-        )?;
+        .arg(explain)?;
+    Ok(live)
+}
+
+fn command<'a>(alloc: Global, version: &'a str) -> Result<Command<'a>, Error> {
     let program = Command::new(alloc, "dnlab")
         .about(ABOUT)
         .version(version)
@@ -184,9 +195,9 @@ fn command<'a>(alloc: Global, version: &'a str) -> Result<Command<'a>, Error> {
         .subcommand_required(true)
         .arg_required_else_help(true)
         .subcommand(run_command(alloc)?)?
-        .subcommand(with_limits(alloc, alone)?)?
-        .subcommand(check)?
-        .subcommand(live)?;
+        .subcommand(alone_command(alloc)?)?
+        .subcommand(check_command(alloc)?)?
+        .subcommand(live_command(alloc)?)?;
     Ok(program)
 }
 
