@@ -44,6 +44,8 @@ SEEN = (
     Piece("tools/gate/texts", "the texts of the crate text_examples are those of examples/", ("tools/gate/texts", "--check"), 1),
     Piece("tools/definitions/spell", "each example of emu_laws spells the scenario of examples/ that it is named after",
           ("tools/definitions/spell", "--check"), 1),
+    Piece("tools/definitions/changes", "each change of a definition stands in it, and each law has one",
+          ("tools/definitions/changes", "--check"), 1),
 )
 # What is made without a proof, once for these sources.
 MADE = (
