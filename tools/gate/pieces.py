@@ -46,6 +46,7 @@ SEEN = (
           ("tools/definitions/spell", "--check"), 1),
     Piece("tools/definitions/changes", "each change of a definition stands in it, and each law has one",
           ("tools/definitions/changes", "--check"), 1),
+    Piece("tools/gate/plants", "each wrong body can be made in the sources as they are", ("tools/gate/plants", "--check"), 1),
 )
 # What is made without a proof, once for these sources.
 MADE = (
