@@ -2,19 +2,19 @@ ghost use Rattle.std.specs.Prelude.{◌≡◌, ◌*◌, ◌<◌};
 ghost use Rattle.emu_model.specs.Moments.{IsMoment};
 ghost use Rattle.emu_model.specs.Dues.{due};
 
+use crate::tests::wants::{assert_same, assert_told};
 use emu_model::{
     Amount, Class, Due, FlowNumber, FlowSpec, Gap, Load, Protocol, Refusal, SegmentSize, SendSpec,
     Size, Source, Threshold, Timing, TrainSpec, Window as Offered,
 };
 use std::process::Abort;
-use std::test::Fail;
 use traffic::{Sending, Traffic, Window};
 
 /// One millisecond (ns).
 const MS: u64 = 1_000_000;
 
-fn number(n: u16) -> Result<FlowNumber, Fail> {
-    Ok(FlowNumber::new(n).ok_or("no number")?)
+fn number(rt: &impl Abort, n: u16) -> FlowNumber {
+    FlowNumber::new(n).expect(rt, "a number")
 }
 
 /// The flow of the worked examples: four segments of 1460 bytes.
@@ -125,18 +125,19 @@ fn sends_segments(rt: &impl Abort, traffic: &mut Traffic, now: u64, firsts: &[u6
 {
     for first in firsts {
         let Some(Sending { load, send }) = sends(traffic, now, now.saturating_add(1)) else {
-            return assert!(rt; false, "nothing sent");
+            return assert_told(rt, false, "nothing sent");
         };
-        assert_eq!(rt; send.size.get(), 1500);
-        assert_eq!(rt;
+        assert_same(rt, send.size.get(), 1500);
+        assert_same(
+            rt,
             (send.src, send.sport, send.dst, send.dport),
-            (0x0a000001, 1000, 0x0a000002, 80)
+            (0x0a000001, 1000, 0x0a000002, 80),
         );
         let Load::Seg { flow, first: byte } = load else {
-            return assert!(rt; false, "no segment");
+            return assert_told(rt, false, "no segment");
         };
-        assert_eq!(rt; flow.get(), 1);
-        assert_eq!(rt; byte, *first);
+        assert_same(rt, flow.get(), 1);
+        assert_same(rt, byte, *first);
     }
     let more = sends(traffic, now, now.saturating_add(1));
     assert!(rt; more.is_none(), "one more at {now}");
@@ -153,33 +154,34 @@ fn answers(traffic: &mut Traffic, n: u16, first: u64) -> Option<Sending> {
 
 fn answers_upto(rt: &impl Abort, traffic: &mut Traffic, first: u64, upto: u64) {
     let Some(Sending { load, send }) = answers(traffic, 1, first) else {
-        return assert!(rt; false, "no answer");
+        return assert_told(rt, false, "no answer");
     };
-    assert_eq!(rt; send.size.get(), 40);
-    assert_eq!(rt;
+    assert_same(rt, send.size.get(), 40);
+    assert_same(
+        rt,
         (send.src, send.sport, send.dst, send.dport),
-        (0x0a000002, 80, 0x0a000001, 1000)
+        (0x0a000002, 80, 0x0a000001, 1000),
     );
     let Load::Ack { flow, upto: byte } = load else {
-        return assert!(rt; false, "no acknowledgement");
+        return assert_told(rt, false, "no acknowledgement");
     };
-    assert_eq!(rt; (flow.get(), byte), (1, upto));
+    assert_same(rt, (flow.get(), byte), (1, upto));
 }
 
 fn windows(rt: &impl Abort, window: Option<Window>, wanted: (u64, u64)) {
     let Some(Window { cwnd, ssthresh }) = window else {
-        return assert!(rt; false, "no windows");
+        return assert_told(rt, false, "no windows");
     };
-    assert_eq!(rt; (cwnd, ssthresh), wanted);
+    assert_same(rt, (cwnd, ssthresh), wanted);
 }
 
 // The example of four segments over 10 ms each way, by its report.
 #[test]
-fn four_segments_are_sent_and_answered(rt: HostRuntime) -> Result<(), Fail> {
-    let one = number(1)?;
+fn four_segments_are_sent_and_answered(rt: HostRuntime) {
+    let one = number(&rt, 1);
     let mut traffic = Traffic::new(rt.alloc());
     let begun = begins_flow(&mut traffic, 1);
-    assert!(rt; begun);
+    assert_holds!(&rt; begun);
     sends_segments(&rt, &mut traffic, 0, &[0, 1460, 2920]);
     answers_upto(&rt, &mut traffic, 0, 1460);
     answers_upto(&rt, &mut traffic, 1460, 2920);
@@ -191,53 +193,56 @@ fn four_segments_are_sent_and_answered(rt: HostRuntime) -> Result<(), Fail> {
     answers_upto(&rt, &mut traffic, 4380, 5840);
     windows(&rt, traffic.take_ack(42_400_000, one, 5840), (10220, 65535));
     let last = traffic.earliest(42_400_000, command(100 * MS));
-    assert!(rt; last.source.class == Class::NextCommand, "no timer runs");
+    assert_told(
+        &rt,
+        last.source.class == Class::NextCommand,
+        "no timer runs",
+    );
     drop(traffic);
-    Ok(())
 }
 
 // The example of a flow that is stopped between its first and its second acknowledgement.
 #[test]
-fn stopped_flow_answers_and_sends_nothing(rt: HostRuntime) -> Result<(), Fail> {
-    let one = number(1)?;
+fn stopped_flow_answers_and_sends_nothing(rt: HostRuntime) {
+    let one = number(&rt, 1);
     let mut traffic = Traffic::new(rt.alloc());
     let begun = begins_flow(&mut traffic, 1);
-    assert!(rt; begun);
+    assert_holds!(&rt; begun);
     sends_segments(&rt, &mut traffic, 0, &[0, 1460, 2920]);
     windows(&rt, traffic.take_ack(21_200_000, one, 1460), (5840, 65535));
     traffic.stop(one);
     sends_segments(&rt, &mut traffic, 21_300_000, &[]);
-    assert!(rt;
+    assert_told(
+        &rt,
         traffic.take_ack(22_400_000, one, 2920).is_none(),
-        "it is stopped"
+        "it is stopped",
     );
     answers_upto(&rt, &mut traffic, 0, 1460);
-    assert!(rt; traffic.has_flow(one), "it is there");
-    assert!(rt;
+    assert_told(&rt, traffic.has_flow(one), "it is there");
+    assert_told(
+        &rt,
         traffic.refusal(one) == Some(Refusal::FlowThere),
-        "its number is in use"
+        "its number is in use",
     );
     drop(traffic);
-    Ok(())
 }
 
 // One segment is left at the start of slow start; the time of one second is doubled.
 #[test]
-fn timer_expires(rt: HostRuntime) -> Result<(), Fail> {
-    let one = number(1)?;
+fn timer_expires(rt: HostRuntime) {
+    let one = number(&rt, 1);
     let mut traffic = Traffic::new(rt.alloc());
     let begun = begins_flow(&mut traffic, 1);
-    assert!(rt; begun);
+    assert_holds!(&rt; begun);
     sends_segments(&rt, &mut traffic, 0, &[0, 1460, 2920]);
     let due = traffic.earliest(0, command(2000 * MS));
-    assert!(rt; due.source.class == Class::Expiry, "the timer is due");
-    assert_eq!(rt; (due.source.number, due.moment), (1, 1000 * MS));
+    assert_told(&rt, due.source.class == Class::Expiry, "the timer is due");
+    assert_same(&rt, (due.source.number, due.moment), (1, 1000 * MS));
     windows(&rt, traffic.expire(1000 * MS, one), (1460, 2920));
     sends_segments(&rt, &mut traffic, 1000 * MS, &[0]);
     let due = traffic.earliest(1000 * MS, command(9000 * MS));
-    assert_eq!(rt; (due.source.number, due.moment), (1, 3000 * MS));
+    assert_same(&rt, (due.source.number, due.moment), (1, 3000 * MS));
     drop(traffic);
-    Ok(())
 }
 
 /// Which flow sends a segment now, if any does.
@@ -254,8 +259,8 @@ fn sender(traffic: &mut Traffic, now: u64) -> Option<u16>
 // Of flows that may send, the least number does, whichever began first; their first timers come after a
 // second, and one that is stopped has none.
 #[test]
-fn least_number_sends_and_first_timer_expires(rt: HostRuntime) -> Result<(), Fail> {
-    let (two, five, nine) = (number(2)?, number(5)?, number(9)?);
+fn least_number_sends_and_first_timer_expires(rt: HostRuntime) {
+    let (two, five, nine) = (number(&rt, 2), number(&rt, 5), number(&rt, 9));
     let mut traffic = Traffic::new(rt.alloc());
     for n in [9, 2, 5] {
         let begun = begins_flow(&mut traffic, n);
@@ -266,20 +271,28 @@ fn least_number_sends_and_first_timer_expires(rt: HostRuntime) -> Result<(), Fai
             assert!(rt; sender(&mut traffic, now) == Some(n), "at {now}");
         }
     }
-    assert!(rt; sender(&mut traffic, 6).is_none(), "all windows are full");
+    assert_told(
+        &rt,
+        sender(&mut traffic, 6).is_none(),
+        "all windows are full",
+    );
     for (now, number) in [(3, two), (4, five), (6, nine)] {
         let due = traffic.earliest(6, command(9000 * MS));
-        assert!(rt; due.source.class == Class::Expiry, "a timer");
-        assert_eq!(rt;
+        assert_told(&rt, due.source.class == Class::Expiry, "a timer");
+        assert_same(
+            &rt,
             (due.source.number, due.moment),
-            (u32::from(number.get()), now + 1000 * MS)
+            (u32::from(number.get()), now + 1000 * MS),
         );
         traffic.stop(number);
     }
     let due = traffic.earliest(6, command(9000 * MS));
-    assert!(rt; due.source.class == Class::NextCommand, "all are stopped");
+    assert_told(
+        &rt,
+        due.source.class == Class::NextCommand,
+        "all are stopped",
+    );
     drop(traffic);
-    Ok(())
 }
 
 /// The header of what is sent next.
@@ -299,46 +312,44 @@ fn is_thousand(sent: Option<Sending>, header: Option<SendSpec>) -> bool {
 
 // The example of a train of three packets, 5 ns apart.
 #[test]
-fn train_sends_its_packets(rt: HostRuntime) -> Result<(), Fail> {
-    let one = number(1)?;
+fn train_sends_its_packets(rt: HostRuntime) {
+    let one = number(&rt, 1);
     let mut traffic = Traffic::new(rt.alloc());
     let begun = begins_train(&mut traffic, 0, 1);
-    assert!(rt; begun);
+    assert_holds!(&rt; begun);
     for now in [0, 5, 10] {
         let due = traffic.earliest(now, command(20));
-        assert_eq!(rt; (due.moment, due.source.number), (now, 1));
+        assert_same(&rt, (due.moment, due.source.number), (now, 1));
         let header = header_of(&traffic, one);
         let sent = sends(&mut traffic, now, 20);
         assert!(rt; is_thousand(sent, header), "a packet at {now}");
     }
-    assert!(rt; sends(&mut traffic, 10, 20).is_none(), "three are all");
+    assert_told(&rt, sends(&mut traffic, 10, 20).is_none(), "three are all");
     traffic.stop(one);
-    assert!(rt; !traffic.has_flow(one), "it is no flow");
-    assert!(rt; traffic.reply(one).is_none(), "it has no receiver");
+    assert_told(&rt, !traffic.has_flow(one), "it is no flow");
+    assert_told(&rt, traffic.reply(one).is_none(), "it has no receiver");
     drop(traffic);
-    Ok(())
 }
 
 // Flows and trains share one set of numbers, and the limit of 256.
 #[test]
-fn sources_are_refused_in_order(rt: HostRuntime) -> Result<(), Fail> {
+fn sources_are_refused_in_order(rt: HostRuntime) {
     let refusals = [
-        (number(1)?, Refusal::FlowThere),
-        (number(256)?, Refusal::FlowThere),
-        (number(257)?, Refusal::TooManyFlows),
+        (number(&rt, 1), Refusal::FlowThere),
+        (number(&rt, 256), Refusal::FlowThere),
+        (number(&rt, 257), Refusal::TooManyFlows),
     ];
     let mut traffic = Traffic::new(rt.alloc());
     let begun = begins_flow(&mut traffic, 1);
-    assert!(rt; begun);
+    assert_holds!(&rt; begun);
     for n in 2..257 {
         let begun = begins_train(&mut traffic, 0, n);
         assert!(rt; begun, "{n}");
     }
     for (number, wanted) in refusals {
-        assert!(rt; traffic.refusal(number) == Some(wanted));
+        assert_holds!(&rt; traffic.refusal(number) == Some(wanted));
     }
     drop(traffic);
-    Ok(())
 }
 
 // A flow's timer, its segment, and a train's packet, in this order.
@@ -346,20 +357,20 @@ fn sources_are_refused_in_order(rt: HostRuntime) -> Result<(), Fail> {
 fn dues_stand_in_order(rt: HostRuntime) {
     let mut traffic = Traffic::new(rt.alloc());
     let begun = begins_flow(&mut traffic, 1);
-    assert!(rt; begun);
+    assert_holds!(&rt; begun);
     let begun = begins_train(&mut traffic, 7, 2);
-    assert!(rt; begun);
+    assert_holds!(&rt; begun);
     let sent = sends(&mut traffic, 3, 4);
-    assert!(rt; sent.is_some(), "a segment");
+    assert_told(&rt, sent.is_some(), "a segment");
     let mut dues = Vec::new(rt.alloc());
     let added = traffic.add_dues(9, &mut dues).is_ok();
-    assert!(rt; added, "memory");
+    assert_told(&rt, added, "memory");
     let wanted = [
         due_of(Class::Expiry, 1, 3 + 1000 * MS),
         due_of(Class::Emission, 1, 9),
         due_of(Class::Emission, 2, 7),
     ];
-    assert!(rt; dues[..] == wanted[..]);
+    assert_holds!(&rt; dues[..] == wanted[..]);
     drop(traffic);
 }
 
@@ -389,7 +400,7 @@ fn start_train_may_be_refused_memory(rt: HostRuntime) {
 fn take_ready_may_be_refused_memory(rt: HostRuntime) {
     let mut traffic = Traffic::new(rt.alloc());
     let begun = begins_flow(&mut traffic, 1);
-    assert!(rt; begun);
+    assert_holds!(&rt; begun);
     for n in 1..20 {
         answers_upto(&rt, &mut traffic, 1460 * n, 0);
     }
@@ -402,16 +413,16 @@ fn take_ready_may_be_refused_memory(rt: HostRuntime) {
 fn add_dues_may_be_refused_memory(rt: HostRuntime) {
     let mut traffic = Traffic::new(rt.alloc());
     let begun = begins_flow(&mut traffic, 1);
-    assert!(rt; begun);
+    assert_holds!(&rt; begun);
     let mut dues = Vec::new(rt.alloc());
     for n in 1..9 {
         let before = dues.len();
         if traffic.add_dues(0, &mut dues).is_err() {
-            assert!(rt; dues.len() == before, "as it was");
+            assert_told(&rt, dues.len() == before, "as it was");
             let added = traffic.add_dues(0, &mut dues).is_ok();
-            assert!(rt; added, "at the second try");
+            assert_told(&rt, added, "at the second try");
         }
-        assert_eq!(rt; dues.len(), n);
+        assert_same(&rt, dues.len(), n);
     }
     drop(traffic);
 }

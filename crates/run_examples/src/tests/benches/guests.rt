@@ -1,6 +1,7 @@
 //! Tenants that post the commands of a text, and want its report.
 
 use super::calls::Kit;
+use crate::tests::wants::assert_same;
 use bench::{OpenError, Registry};
 use control::{Experiment as Plan, ParseError, parse_scenario};
 use report::report_text;
@@ -28,7 +29,7 @@ fn plan_of(rt: &(impl Abort + AllocGlobal), text: &str) -> Result<Plan, AllocErr
     match parse_scenario(rt.alloc(), text.as_bytes()) {
         Ok(scenario) => {
             let mut plans = scenario.into_vec();
-            assert!(rt; plans.len() == 1);
+            assert_same(rt, plans.len(), 1);
             return Ok(plans.remove(0));
         }
         Err(error) => {
@@ -56,7 +57,7 @@ pub fn invite<K: Kit>(
             return Ok((guest, parcel));
         }
         Err(error) => {
-            assert!(rt; error == OpenError::NoMemory);
+            assert_same(rt, error, OpenError::NoMemory);
             return Err(AllocError);
         }
     }
@@ -69,14 +70,14 @@ pub fn take_guest<T: Drop>(
     name: u32,
 ) -> Guest<T> {
     let index = name as usize;
-    assert!(rt; index < guests.len());
+    assert_holds!(rt; index < guests.len());
     guests[index].take().expect(rt, "a second dossier")
 }
 
 /// Posts all commands, of which there are 64 at most.
 pub fn post_all<K: Kit>(rt: &impl Abort, guest: &mut Guest<K::Tenant>) {
     for command in guest.plan.commands.as_slice() {
-        assert!(rt; K::post(&mut guest.tenant, *command).is_ok());
+        assert_holds!(rt; K::post(&mut guest.tenant, *command).is_ok());
     }
 }
 
