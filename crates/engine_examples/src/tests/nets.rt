@@ -9,7 +9,7 @@ ghost use Rattle.packet_store.specs.Own.{own_pocket};
 
 mod traces;
 
-use crate::tests::wants::{assert_records, assert_same};
+use crate::tests::wants::{assert_records, assert_same, assert_told};
 use emu_model::{
     Action, Amount, Bandwidth, Class, Command, Delay, Discipline, DropCause, Due, EventContext,
     FlowNumber, FlowSpec, Gap, Load, LossRate, Mask, PacketBudget, PipeConfig, PipeNumber, Prefix,
@@ -604,9 +604,11 @@ fn steps_are_spent(rt: HostRuntime) {
         rule_line(default, 0, 0),
         Record::StepsSpent { moment: 0 },
     ];
-    let mut net = opens(rt.alloc()).expect(&rt, "memory");
+    let Some(mut net) = opens(rt.alloc()) else {
+        return assert_told(&rt, false, "memory");
+    };
     let mut shelf = OwnShelf::new(rt.alloc(), room);
-    assert_holds!(&rt; obeys(&mut net, &mut shelf, room, 0, 0, &Command::Show));
+    assert!(rt; obeys(&mut net, &mut shelf, room, 0, 0, &Command::Show));
     net.note_spent(0);
     assert_records(&rt, net.records(), 0, &expected);
     drop(net);
