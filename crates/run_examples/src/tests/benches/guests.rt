@@ -70,7 +70,7 @@ pub fn take_guest<T: Drop>(
     name: u32,
 ) -> Guest<T> {
     let index = name as usize;
-    assert_holds!(rt; index < guests.len());
+    assert!(rt; index < guests.len());
     guests[index].take().expect(rt, "a second dossier")
 }
 

@@ -1,7 +1,7 @@
 //! What the examples share: guests of a world, whose commands are posted in their order.
 
 use super::calls::{Stage, step};
-use crate::tests::wants::{assert_same, assert_told};
+use crate::tests::wants::assert_told;
 use control::{Experiment as Plan, ParseError, parse_scenario};
 use emu_model::Spec;
 use std::alloc::AllocError;
@@ -160,7 +160,7 @@ fn has_report<W: Stage>(
         assert_holds!(rt; begins_like(text, guest.report.as_bytes()));
         return Ok(Some(false));
     }
-    assert_same(rt, text, guest.report.as_bytes());
+    assert_holds!(rt; text == guest.report.as_bytes());
     Ok(Some(true))
 }
 
