@@ -29,7 +29,7 @@ fn plan_of(rt: &(impl Abort + AllocGlobal), text: &str) -> Result<Plan, AllocErr
     match parse_scenario(rt.alloc(), text.as_bytes()) {
         Ok(scenario) => {
             let mut plans = scenario.into_vec();
-            assert_same(rt, plans.len(), 1);
+            assert!(rt; plans.len() == 1);
             return Ok(plans.remove(0));
         }
         Err(error) => {
