@@ -1,5 +1,12 @@
 //! The tests, by what they are about.
 
+/// A condition holds, which is told as it is written where it doesn't.
+macro_rules! assert_holds {
+    ($rt:expr; $cond:expr) => {
+        crate::tests::wants::assert_told($rt, $cond, concat!("assertion failed: ", stringify!($cond)))
+    };
+}
+
 mod components;
 mod experiments;
 mod nets;
@@ -7,3 +14,4 @@ mod pipes;
 mod rehousing;
 mod rules;
 mod senders;
+mod wants;

@@ -3,6 +3,7 @@
 ghost use Rattle.packet_store.specs.Own.{own_pocket};
 ghost use Rattle.experiment.specs.Kept.{IsHousedIn};
 
+use crate::tests::wants::{assert_record, assert_same};
 use emu_model::{
     Action, Bandwidth, Budget, Class, Command, Delay, Discipline, Due, Ending, Load, LossRate,
     Mask, PacketBudget, PipeConfig, PipeNumber, Prefix, PrefixLength, Protocol, ProtocolMatch,
@@ -42,6 +43,11 @@ impl Bench {
 
     fn has_room(&mut self) -> bool {
         self.experiment.apply_ready().is_ok()
+    }
+
+    /// The same, at the second try where memory was refused.
+    fn has_room_in_the_end(&mut self) -> bool {
+        self.has_room() || self.has_room()
     }
 
     fn event(&mut self) -> Event {
@@ -163,29 +169,29 @@ fn done_record(moment: u64, command: u64) -> Record {
 
 /// Busy while a command waits, and backward below its moment.
 fn refuses_two_commands(rt: &impl Abort, bench: &mut Bench) {
-    assert!(rt; bench.apply(5, Command::Show).is_ok());
-    assert!(rt; bench.apply(5, Command::Show) == Err(ApplyError::Busy));
-    assert!(rt; bench.apply(4, Command::Show) == Err(ApplyError::Busy));
-    assert!(rt; bench.experiment.has_next());
-    assert!(rt; bench.event() == Event::Ran);
-    assert!(rt; !bench.experiment.has_next());
-    assert!(rt; bench.event() == Event::Still);
-    assert!(rt; bench.apply(4, Command::End) == Err(ApplyError::Backward));
+    assert_same(rt, bench.apply(5, Command::Show), Ok(()));
+    assert_same(rt, bench.apply(5, Command::Show), Err(ApplyError::Busy));
+    assert_same(rt, bench.apply(4, Command::Show), Err(ApplyError::Busy));
+    assert_holds!(rt; bench.experiment.has_next());
+    assert_same(rt, bench.event(), Event::Ran);
+    assert_holds!(rt; !bench.experiment.has_next());
+    assert_same(rt, bench.event(), Event::Still);
+    assert_same(rt, bench.apply(4, Command::End), Err(ApplyError::Backward));
 }
 
 /// Over after the end.
 fn refuses_all_after_the_end(rt: &impl Abort, bench: &mut Bench) {
-    assert!(rt; bench.apply(5, Command::End).is_ok());
-    assert!(rt; bench.event() == Event::Ended);
-    assert!(rt; bench.apply(4, Command::End) == Err(ApplyError::Over));
-    assert!(rt; bench.event() == Event::Still);
-    assert!(rt; matches!(bench.experiment.ending(), Some(Ending::Ended)));
+    assert_same(rt, bench.apply(5, Command::End), Ok(()));
+    assert_same(rt, bench.event(), Event::Ended);
+    assert_same(rt, bench.apply(4, Command::End), Err(ApplyError::Over));
+    assert_same(rt, bench.event(), Event::Still);
+    assert_holds!(rt; matches!(bench.experiment.ending(), Some(Ending::Ended)));
 
     // The reply, the line of the default rule, the reply.
     let records = bench.experiment.records();
-    assert!(rt; records.len() == 3);
-    assert!(rt; records[2] == done_record(5, 1));
-    assert!(rt; bench.totals() == (3, 2, 2, 0));
+    assert_same(rt, records.len(), 3);
+    assert_record(rt, records, 2, done_record(5, 1));
+    assert_same(rt, bench.totals(), (3, 2, 2, 0));
 }
 
 /// Busy, then backward, then over.
@@ -206,31 +212,31 @@ fn refusals_have_their_numbers(rt: HostRuntime) {
         ApplyError::Over as u8,
         ApplyError::NoMemory as u8,
     ];
-    assert!(rt; numbers == [27, 28, 29, 99]);
+    assert_holds!(&rt; numbers == [27, 28, 29, 99]);
 }
 
 /// The packet enters a pipe of 1 Mbit/s and 10 ms at 0.
 fn bench_with_packet(rt: &(impl Abort + AllocGlobal)) -> Bench {
     let mut bench = Bench::new(rt.alloc(), 10, 1000).expect(rt, "a bench");
-    assert!(rt; bench.takes(0, config().expect(rt, "in range")));
-    assert!(rt; bench.takes(0, rule().expect(rt, "in range")));
-    assert!(rt; bench.takes(0, inject().expect(rt, "in range")));
+    assert_holds!(rt; bench.takes(0, config().expect(rt, "in range")));
+    assert_holds!(rt; bench.takes(0, rule().expect(rt, "in range")));
+    assert_holds!(rt; bench.takes(0, inject().expect(rt, "in range")));
     bench
 }
 
 /// The packet finishes, is delivered, and the end comes.
 fn goes_through(rt: &impl Abort, bench: &mut Bench) {
-    assert!(rt; bench.experiment.counters().held == 1);
-    assert!(rt; bench.experiment.packet_count() == 1);
-    assert!(rt; bench.experiment.clock() == 0);
-    assert!(rt; bench.apply(20_000_000, Command::End).is_ok());
-    assert!(rt; bench.event() == Event::Ran);
-    assert!(rt; bench.experiment.clock() == 8_000_000);
-    assert!(rt; bench.event() == Event::Ran);
-    assert!(rt; bench.experiment.packet_count() == 0);
-    assert!(rt; bench.event() == Event::Ended);
-    assert!(rt; bench.experiment.clock() == 20_000_000);
-    assert!(rt; bench.experiment.spec().seed == 0);
+    assert_same(rt, bench.experiment.counters().held, 1);
+    assert_same(rt, bench.experiment.packet_count(), 1);
+    assert_same(rt, bench.experiment.clock(), 0);
+    assert_same(rt, bench.apply(20_000_000, Command::End), Ok(()));
+    assert_same(rt, bench.event(), Event::Ran);
+    assert_same(rt, bench.experiment.clock(), 8_000_000);
+    assert_same(rt, bench.event(), Event::Ran);
+    assert_same(rt, bench.experiment.packet_count(), 0);
+    assert_same(rt, bench.event(), Event::Ended);
+    assert_same(rt, bench.experiment.clock(), 20_000_000);
+    assert_holds!(rt; bench.experiment.spec().seed == 0);
 }
 
 /// The commands and the records.
@@ -256,11 +262,11 @@ fn one_packet(rt: HostRuntime) {
     let mut bench = bench_with_packet(&rt);
     goes_through(&rt, &mut bench);
     let (commands, records) = lists(bench);
-    assert!(rt; commands.len() == 4);
-    assert!(rt; records.len() == 6);
-    assert!(rt; records[3] == finished);
-    assert!(rt; records[4] == delivered);
-    assert!(rt; records[5] == done_record(20_000_000, 3));
+    assert_same(&rt, commands.len(), 4);
+    assert_same(&rt, records.len(), 6);
+    assert_record(&rt, &records, 3, finished);
+    assert_record(&rt, &records, 4, delivered);
+    assert_record(&rt, &records, 5, done_record(20_000_000, 3));
 }
 
 fn due(class: Class, number: u32, moment: u64) -> Due {
@@ -280,11 +286,11 @@ fn are_due(
     touched: &[(Due, bool)],
 ) {
     let dues = bench.dues_in_the_end(rt.alloc()).expect(rt, "memory");
-    assert!(rt; dues.as_slice() == wanted);
+    assert_holds!(rt; dues.as_slice() == wanted);
     let mut sources = Vec::new(rt.alloc());
-    assert!(rt; bench.touched_in_the_end(&mut sources));
+    assert_holds!(rt; bench.touched_in_the_end(&mut sources));
     for (due, is_touched) in touched {
-        assert!(rt; names(&sources, *due) == *is_touched);
+        assert_same(rt, names(&sources, *due), *is_touched);
     }
 }
 
@@ -294,16 +300,16 @@ fn dues_to_the_end(rt: &(impl Abort + AllocGlobal), bench: &mut Bench) {
     let end = due(Class::NextCommand, 0, 20_000_000);
     let finish = due(Class::Finish, 256, 8_000_000);
     let exit = due(Class::Exit, 256, 18_000_000);
-    assert!(rt; bench.apply(20_000_000, Command::End).is_ok());
+    assert_same(rt, bench.apply(20_000_000, Command::End), Ok(()));
     are_due(rt, bench, &[end, finish], &[(finish, true), (end, true)]);
-    assert!(rt; bench.experiment.noted_dues() == [end, finish].as_slice());
-    assert!(rt; bench.event() == Event::Ran);
+    assert_holds!(rt; bench.experiment.noted_dues() == [end, finish].as_slice());
+    assert_same(rt, bench.event(), Event::Ran);
     let touched = [(finish, true), (exit, true), (end, false)];
     are_due(rt, bench, &[end, exit], &touched);
-    assert!(rt; bench.event() == Event::Ran);
-    assert!(rt; bench.event() == Event::Ended);
+    assert_same(rt, bench.event(), Event::Ran);
+    assert_same(rt, bench.event(), Event::Ended);
     let dues = bench.dues_in_the_end(rt.alloc()).expect(rt, "memory");
-    assert!(rt; dues.is_empty());
+    assert_holds!(rt; dues.is_empty());
 }
 
 /// A packet in service is due at its finish, then at its exit. Its pipe's step touches both, and not
@@ -317,11 +323,15 @@ fn dues_of_one_packet(rt: HostRuntime) {
 
 /// It is held when the end comes.
 fn is_held_in_the_end(rt: &impl Abort, bench: &mut Bench) {
-    assert!(rt; bench.apply(18_000_000, Command::End).is_ok());
-    assert!(rt; bench.event() == Event::Ran);
-    assert!(rt; bench.event() == Event::Ended);
+    assert_same(rt, bench.apply(18_000_000, Command::End), Ok(()));
+    assert_same(rt, bench.event(), Event::Ran);
+    assert_same(rt, bench.event(), Event::Ended);
     let counters = bench.experiment.counters();
-    assert!(rt; (counters.made, counters.delivered, counters.held) == (1, 0, 1));
+    assert_same(
+        rt,
+        (counters.made, counters.delivered, counters.held),
+        (1, 0, 1),
+    );
 }
 
 /// With the end at the moment of the exit it isn't delivered: the command comes first.
@@ -332,30 +342,33 @@ fn one_packet_held(rt: HostRuntime) {
     drop(bench);
 }
 
+/// The line of a rule that has matched nothing.
+fn is_idle_rule(record: Option<&Record>) -> bool {
+    matches!(
+        record,
+        Some(Record::RuleLine {
+            packets: 0,
+            bytes: 0,
+            ..
+        })
+    )
+}
+
 /// The budget's two steps are two listings.
 fn spends_two_steps(rt: &impl Abort, bench: &mut Bench) {
-    assert!(rt; bench.takes(0, Command::Show));
-    assert!(rt; bench.apply(0, Command::Show).is_ok());
-    assert!(rt; bench.event() == Event::Ended);
-    assert!(rt; matches!(bench.experiment.ending(), Some(Ending::Spent)));
-    assert!(rt; bench.apply(0, Command::End) == Err(ApplyError::Over));
-    assert!(rt; bench.event() == Event::Still);
+    assert_holds!(rt; bench.takes(0, Command::Show));
+    assert_same(rt, bench.apply(0, Command::Show), Ok(()));
+    assert_same(rt, bench.event(), Event::Ended);
+    assert_holds!(rt; matches!(bench.experiment.ending(), Some(Ending::Spent)));
+    assert_same(rt, bench.apply(0, Command::End), Err(ApplyError::Over));
+    assert_same(rt, bench.event(), Event::Still);
     let records = bench.experiment.records();
-    assert!(rt; records.len() == 5);
-    assert!(rt; records[0] == done_record(0, 0));
-    assert!(rt;
-        matches!(
-            records[1],
-            Record::RuleLine {
-                packets: 0,
-                bytes: 0,
-                ..
-            }
-        )
-    );
-    assert!(rt; records[2] == done_record(0, 1));
-    assert!(rt; records[4] == Record::StepsSpent { moment: 0 });
-    assert!(rt; bench.experiment.events() == 2);
+    assert_same(rt, records.len(), 5);
+    assert_record(rt, records, 0, done_record(0, 0));
+    assert_holds!(rt; is_idle_rule(records.get(1)));
+    assert_record(rt, records, 2, done_record(0, 1));
+    assert_record(rt, records, 4, Record::StepsSpent { moment: 0 });
+    assert_same(rt, bench.experiment.events(), 2);
 }
 
 /// Two steps: the second listing ends with `spent`, and `end` has no step.
@@ -368,10 +381,10 @@ fn step_budget(rt: HostRuntime) {
 
 /// The end is the one step there is.
 fn ends_at_once(rt: &impl Abort, bench: &mut Bench) {
-    assert!(rt; bench.apply(7, Command::End).is_ok());
-    assert!(rt; bench.event() == Event::Ended);
-    assert!(rt; matches!(bench.experiment.ending(), Some(Ending::Ended)));
-    assert!(rt; bench.experiment.records().len() == 1);
+    assert_same(rt, bench.apply(7, Command::End), Ok(()));
+    assert_same(rt, bench.event(), Event::Ended);
+    assert_holds!(rt; matches!(bench.experiment.ending(), Some(Ending::Ended)));
+    assert_same(rt, bench.experiment.records().len(), 1);
 }
 
 /// An `end` that is the last step of the budget isn't spent.
@@ -385,9 +398,9 @@ fn last_step_is_the_end(rt: HostRuntime) {
 /// There is room at the second try at the latest, and nothing has changed.
 fn has_room_in_the_end(rt: &impl Abort, bench: &mut Bench) {
     let before = bench.totals();
-    assert!(rt; bench.has_room() || bench.has_room());
-    assert!(rt; bench.totals() == before);
-    assert!(rt; bench.apply(5, Command::Show).is_ok());
+    assert_holds!(rt; bench.has_room_in_the_end());
+    assert_same(rt, bench.totals(), before);
+    assert_same(rt, bench.apply(5, Command::Show), Ok(()));
 }
 
 /// There is room for a command before it comes, at the second try where memory was refused; nothing has
@@ -405,7 +418,7 @@ fn a_command_has_room(rt: HostRuntime) {
 /// answer was another.
 fn obeys_or_halts(rt: &impl Abort, bench: &mut Bench, commands: &[Command]) -> Option<bool> {
     for command in commands {
-        assert!(rt; bench.applies_in_the_end(0, *command));
+        assert_holds!(rt; bench.applies_in_the_end(0, *command));
         if bench.event_or_halt()? == Event::Halted {
             return Some(false);
         }
@@ -416,22 +429,22 @@ fn obeys_or_halts(rt: &impl Abort, bench: &mut Bench, commands: &[Command]) -> O
 /// Two are due, and something was touched.
 fn are_two_due(rt: &impl Abort, alloc: Global, bench: &mut Bench) {
     let dues = bench.dues_in_the_end(alloc).expect(rt, "memory");
-    assert!(rt; dues.len() == 2);
+    assert_same(rt, dues.len(), 2);
     let mut touched = Vec::new(alloc);
-    assert!(rt; bench.touched_in_the_end(&mut touched));
-    assert!(rt; !touched.is_empty());
+    assert_holds!(rt; bench.touched_in_the_end(&mut touched));
+    assert_holds!(rt; !touched.is_empty());
 }
 
 /// Three events more, or a halt before. Whether it came to its end; None where an answer was another.
 fn ends_or_halts(rt: &impl Abort, alloc: Global, bench: &mut Bench) -> Option<bool> {
-    assert!(rt; bench.applies_in_the_end(20_000_000, Command::End));
+    assert_holds!(rt; bench.applies_in_the_end(20_000_000, Command::End));
     are_two_due(rt, alloc, bench);
     for _ in 0..3 {
         if bench.event_or_halt()? == Event::Halted {
             return Some(false);
         }
     }
-    assert!(rt; matches!(bench.experiment.ending(), Some(Ending::Ended)));
+    assert_holds!(rt; matches!(bench.experiment.ending(), Some(Ending::Ended)));
     Some(true)
 }
 
@@ -453,7 +466,7 @@ fn refused_memory_changes_nothing(rt: HostRuntime) {
     };
     let played = plays_or_halts(&rt, rt.alloc(), &mut bench);
     drop(bench);
-    assert!(rt; played.is_some());
+    assert_holds!(&rt; played.is_some());
 }
 
 /// What is recorded of one packet through the pipe, traced from the first command on.
@@ -510,7 +523,7 @@ fn lines_of_a_traced_packet() -> Option<[Record; 10]> {
 /// The end comes behind a finish and an exit, or one of them halts. Whether it came; None where an
 /// answer was another.
 fn comes_out_or_halts(rt: &impl Abort, bench: &mut Bench) -> Option<bool> {
-    assert!(rt; bench.applies_in_the_end(20_000_000, Command::End));
+    assert_holds!(rt; bench.applies_in_the_end(20_000_000, Command::End));
     for _ in 0..3 {
         if bench.event_or_halt()? == Event::Halted {
             return Some(false);
@@ -526,8 +539,8 @@ fn traces_or_halts(rt: &impl Abort, bench: &mut Bench, lines: &[Record]) -> Opti
     let sent = obeys_or_halts(rt, bench, &commands)?;
     let whole = sent && comes_out_or_halts(rt, bench)?;
     let records = bench.experiment.records();
-    assert!(rt; (records.len() == lines.len()) == whole);
-    assert!(rt; lines.starts_with(records));
+    assert_holds!(rt; (records.len() == lines.len()) == whole);
+    assert_holds!(rt; lines.starts_with(records));
     Some(whole)
 }
 
@@ -545,5 +558,5 @@ fn refused_trace_is_recorded_at_the_second_try(rt: HostRuntime) {
         drop(bench);
         whole = whole || traced.expect(&rt, "an event");
     }
-    assert!(rt; whole);
+    assert_holds!(&rt; whole);
 }

@@ -9,6 +9,7 @@ ghost use Rattle.packet_store.specs.Own.{own_pocket};
 
 mod traces;
 
+use crate::tests::wants::{assert_records, assert_same, assert_told};
 use emu_model::{
     Action, Amount, Bandwidth, Class, Command, Delay, Discipline, DropCause, Due, EventContext,
     FlowNumber, FlowSpec, Gap, Load, LossRate, Mask, PacketBudget, PipeConfig, PipeNumber, Prefix,
@@ -18,7 +19,6 @@ use emu_model::{
 use network::{Network, still_is_housed};
 use packet_store::{OwnShelf, Shelf};
 use std::alloc::Global;
-use std::test::Fail;
 
 /// The last moment of a test (ns).
 const LATEST: u64 = 1_000_000_000;
@@ -361,18 +361,18 @@ fn rule_line(rule: Rule, packets: u64, bytes: u64) -> Record {
 
 // A packet goes on in the rules behind each pipe.
 #[test]
-fn two_pipes_in_turn(rt: HostRuntime) -> Result<(), Fail> {
-    let room = PacketBudget::new(1000).ok_or("budget")?;
+fn two_pipes_in_turn(rt: HostRuntime) {
+    let room = PacketBudget::new(1000).expect(&rt, "budget");
     let (one, two) = (
-        PipeNumber::new(1).ok_or("1")?,
-        PipeNumber::new(2).ok_or("2")?,
+        PipeNumber::new(1).expect(&rt, "1"),
+        PipeNumber::new(2).expect(&rt, "2"),
     );
-    let slow = pipe(1, 0, 10).ok_or("pipe 1")?;
-    let fast = pipe(2, 0, 5).ok_or("pipe 2")?;
-    let first = rule(100, Action::Pipe(one)).ok_or("100")?;
-    let second = rule(200, Action::Pipe(two)).ok_or("200")?;
-    let third = rule(300, Action::Allow).ok_or("300")?;
-    let send = thousand().ok_or("packet")?;
+    let slow = pipe(1, 0, 10).expect(&rt, "pipe 1");
+    let fast = pipe(2, 0, 5).expect(&rt, "pipe 2");
+    let first = rule(100, Action::Pipe(one)).expect(&rt, "100");
+    let second = rule(200, Action::Pipe(two)).expect(&rt, "200");
+    let third = rule(300, Action::Allow).expect(&rt, "300");
+    let send = thousand().expect(&rt, "packet");
     let commands = [
         timed_command(0, Command::OnePass(false)),
         timed_command(0, slow),
@@ -391,21 +391,20 @@ fn two_pipes_in_turn(rt: HostRuntime) -> Result<(), Fail> {
         delivery_record(15_000_001, 0, Load::Plain),
         done_record(20_000_000, 7),
     ];
-    let records = plays(rt.alloc(), room, &commands).ok_or("memory")?;
-    assert_eq!(rt; records.len(), 13);
-    assert!(rt; records[7..] == expected[..]);
-    Ok(())
+    let records = plays(rt.alloc(), room, &commands).expect(&rt, "memory");
+    assert_same(&rt, records.len(), 13);
+    assert_records(&rt, &records, 7, &expected);
 }
 
 // What a pipe held goes with it, and nothing comes to it then.
 #[test]
-fn pipe_deleted(rt: HostRuntime) -> Result<(), Fail> {
-    let room = PacketBudget::new(1000).ok_or("budget")?;
-    let one = PipeNumber::new(1).ok_or("1")?;
-    let config = pipe(1, 0, 100).ok_or("pipe")?;
-    let all = rule(100, Action::Pipe(one)).ok_or("rule")?;
-    let other = thousand().ok_or("packet")?;
-    let send = thousand().ok_or("packet")?;
+fn pipe_deleted(rt: HostRuntime) {
+    let room = PacketBudget::new(1000).expect(&rt, "budget");
+    let one = PipeNumber::new(1).expect(&rt, "1");
+    let config = pipe(1, 0, 100).expect(&rt, "pipe");
+    let all = rule(100, Action::Pipe(one)).expect(&rt, "rule");
+    let other = thousand().expect(&rt, "packet");
+    let send = thousand().expect(&rt, "packet");
     let commands = [
         timed_command(0, config),
         timed_command(0, Command::Add(all)),
@@ -425,25 +424,24 @@ fn pipe_deleted(rt: HostRuntime) -> Result<(), Fail> {
         drop_record(10_000_000, 1, DropCause::NoPipe),
         done_record(200_000_000, 5),
     ];
-    let records = plays(rt.alloc(), room, &commands).ok_or("memory")?;
-    assert!(rt; records[..] == expected[..]);
-    Ok(())
+    let records = plays(rt.alloc(), room, &commands).expect(&rt, "memory");
+    assert_records(&rt, &records, 0, &expected);
 }
 
 // 10 Mbit/s and 10 ms there, 10 ms back: what a stopped flow has sent still comes, and is not taken.
 #[test]
-fn stopped_flow(rt: HostRuntime) -> Result<(), Fail> {
-    let room = PacketBudget::new(100).ok_or("budget")?;
+fn stopped_flow(rt: HostRuntime) {
+    let room = PacketBudget::new(100).expect(&rt, "budget");
     let (one, two) = (
-        PipeNumber::new(1).ok_or("1")?,
-        PipeNumber::new(2).ok_or("2")?,
+        PipeNumber::new(1).expect(&rt, "1"),
+        PipeNumber::new(2).expect(&rt, "2"),
     );
-    let number = FlowNumber::new(1).ok_or("flow")?;
-    let there = pipe(1, 10_000_000, 10).ok_or("pipe 1")?;
-    let back = pipe(2, 0, 10).ok_or("pipe 2")?;
-    let data = between(100, 0x0a00_0001, 0x0a00_0002, 1).ok_or("100")?;
-    let answers = between(200, 0x0a00_0002, 0x0a00_0001, 2).ok_or("200")?;
-    let flow = four_segments().ok_or("segments")?;
+    let number = FlowNumber::new(1).expect(&rt, "flow");
+    let there = pipe(1, 10_000_000, 10).expect(&rt, "pipe 1");
+    let back = pipe(2, 0, 10).expect(&rt, "pipe 2");
+    let data = between(100, 0x0a00_0001, 0x0a00_0002, 1).expect(&rt, "100");
+    let answers = between(200, 0x0a00_0002, 0x0a00_0001, 2).expect(&rt, "200");
+    let flow = four_segments().expect(&rt, "segments");
     let commands = [
         timed_command(0, there),
         timed_command(0, back),
@@ -535,10 +533,9 @@ fn stopped_flow(rt: HostRuntime) -> Result<(), Fail> {
         ),
         done_record(100_000_000, 6),
     ];
-    let records = plays(rt.alloc(), room, &commands).ok_or("memory")?;
-    assert_eq!(rt; records.len(), 24);
-    assert!(rt; records[5..] == expected[..]);
-    Ok(())
+    let records = plays(rt.alloc(), room, &commands).expect(&rt, "memory");
+    assert_same(&rt, records.len(), 24);
+    assert_records(&rt, &records, 5, &expected);
 }
 
 /// The rules of the listing, of which the last sends to this pipe.
@@ -554,12 +551,12 @@ fn listed_rules(pipe: PipeNumber) -> Option<[Rule; 4]> {
 
 // The rules with what they counted, and the pipe with its instance, which serves the packet.
 #[test]
-fn listings(rt: HostRuntime) -> Result<(), Fail> {
-    let room = PacketBudget::new(10).ok_or("budget")?;
-    let one = PipeNumber::new(1).ok_or("1")?;
-    let made = pipe(1, 1_000_000, 0).ok_or("pipe")?;
-    let [count, skip, deny, send] = listed_rules(one).ok_or("rules")?;
-    let packet = thousand().ok_or("packet")?;
+fn listings(rt: HostRuntime) {
+    let room = PacketBudget::new(10).expect(&rt, "budget");
+    let one = PipeNumber::new(1).expect(&rt, "1");
+    let made = pipe(1, 1_000_000, 0).expect(&rt, "pipe");
+    let [count, skip, deny, send] = listed_rules(one).expect(&rt, "rules");
+    let packet = thousand().expect(&rt, "packet");
     let commands = [
         timed_command(0, Command::Add(send)),
         timed_command(0, Command::Add(count)),
@@ -570,9 +567,9 @@ fn listings(rt: HostRuntime) -> Result<(), Fail> {
         timed_command(0, Command::Show),
         timed_command(0, Command::PipeShow),
     ];
-    let [count, skip, deny, send] = listed_rules(one).ok_or("rules")?;
-    let default = rule(65535, Action::Deny).ok_or("default")?;
-    let config = config(1_000_000, 0).ok_or("config")?;
+    let [count, skip, deny, send] = listed_rules(one).expect(&rt, "rules");
+    let default = rule(65535, Action::Deny).expect(&rt, "default");
+    let config = config(1_000_000, 0).expect(&rt, "config");
     let expected = [
         done_record(0, 6),
         rule_line(count, 1, 1000),
@@ -592,30 +589,28 @@ fn listings(rt: HostRuntime) -> Result<(), Fail> {
             drawn: 1,
         },
     ];
-    let records = plays(rt.alloc(), room, &commands).ok_or("memory")?;
-    assert_eq!(rt; records.len(), 15);
-    assert!(rt; records[6..] == expected[..]);
-    Ok(())
+    let records = plays(rt.alloc(), room, &commands).expect(&rt, "memory");
+    assert_same(&rt, records.len(), 15);
+    assert_records(&rt, &records, 6, &expected);
 }
 
 // The steps are spent behind a listing.
 #[test]
-fn steps_are_spent(rt: HostRuntime) -> Result<(), Fail> {
-    let room = PacketBudget::new(10).ok_or("budget")?;
-    let default = rule(65535, Action::Deny).ok_or("default")?;
+fn steps_are_spent(rt: HostRuntime) {
+    let room = PacketBudget::new(10).expect(&rt, "budget");
+    let default = rule(65535, Action::Deny).expect(&rt, "default");
     let expected = [
         done_record(0, 0),
         rule_line(default, 0, 0),
         Record::StepsSpent { moment: 0 },
     ];
     let Some(mut net) = opens(rt.alloc()) else {
-        return Err(Fail::from("memory"));
+        return assert_told(&rt, false, "memory");
     };
     let mut shelf = OwnShelf::new(rt.alloc(), room);
     assert!(rt; obeys(&mut net, &mut shelf, room, 0, 0, &Command::Show));
     net.note_spent(0);
-    assert!(rt; net.records() == &expected[..]);
+    assert_records(&rt, net.records(), 0, &expected);
     drop(net);
     drop(shelf);
-    Ok(())
 }

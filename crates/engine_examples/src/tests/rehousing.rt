@@ -7,6 +7,7 @@ ghost use Rattle.packet_store.specs.Own.{own_pocket};
 ghost use Rattle.packet_store.specs.Books.{pocket_of};
 ghost use Rattle.experiment.specs.Kept.{IsHousedIn};
 
+use crate::tests::wants::assert_same;
 use emu_model::{
     Action, Amount, Bandwidth, Budget, Command, Delay, Discipline, FlowNumber, FlowSpec, Load,
     LossRate, Mask, PacketBudget, PipeConfig, PipeNumber, Prefix, PrefixLength, ProtocolMatch,
@@ -259,9 +260,9 @@ fn line_of(record: &Record) -> Option<Line> {
 }
 
 fn are_the_lines(rt: &impl Abort, records: &[Record]) {
-    assert!(rt; records.len() == LINES.len());
+    assert_holds!(rt; records.len() == LINES.len());
     for (record, line) in records.iter().zip(LINES.iter()) {
-        assert!(rt; line_of(record) == Some(*line));
+        assert_holds!(rt; line_of(record) == Some(*line));
     }
 }
 

@@ -1,12 +1,14 @@
 //! Worked numbers, each counted by hand. A test is proved safe too, so the calls stand in functions
 //! of their own, and the tests are tables.
 
+use crate::tests::wants::assert_same;
 use emu_model::{
     Action, Load, Packet, PipeNumber, Place, PortRange, Prefix, PrefixLength, Protocol,
     ProtocolMatch, Refusal, Rule, RuleNumber, Size, Verdict,
 };
 use emu_rules::{AddError, CountedRule, RuleList};
 use std::alloc::Global;
+use std::process::Abort;
 use std::test::Fail;
 
 /// A call, with the numbers of a rule and of what it names; behind a place its number and order.
@@ -153,13 +155,10 @@ fn answer(list: &mut RuleList, call: Call) -> &'static str {
 }
 
 /// Each call has its answer.
-fn answers(list: &mut RuleList, wanted: &[(Call, &'static str)]) -> bool {
-    for (call, want) in wanted {
-        if answer(list, *call) != *want {
-            return false;
-        }
+fn answers(rt: &impl Abort, list: &mut RuleList, wanted: &[(Call, &'static str)]) {
+    for (place, (call, want)) in wanted.iter().enumerate() {
+        assert_same(rt, (place, answer(list, *call)), (place, *want));
     }
-    true
 }
 
 /// Whether a rule has this number, order, packets and bytes.
@@ -172,16 +171,12 @@ fn is_line(counted: &CountedRule, want: (u32, u64, u64, u64)) -> bool {
 }
 
 /// The listing has these lines: number, order, packets, bytes.
-fn lists(list: &mut RuleList, wanted: &[(u32, u64, u64, u64)]) -> bool {
-    if list.len() != wanted.len() {
-        return false;
-    }
+fn lists(rt: &impl Abort, list: &mut RuleList, wanted: &[(u32, u64, u64, u64)]) {
+    assert_same(rt, list.len(), wanted.len());
     for (place, want) in wanted.iter().enumerate() {
-        if place >= list.len() || !is_line(&list.rule_at(place), *want) {
-            return false;
-        }
+        let is_there = place < list.len() && is_line(&list.rule_at(place), *want);
+        assert_same(rt, (place, is_there), (place, true));
     }
-    true
 }
 
 /// A packet of 1000 bytes gets this pipe, with this place.
@@ -195,143 +190,156 @@ fn finds_pipe(list: &RuleList, wanted: (u16, u32, u64)) -> bool {
     }
 }
 
+const JUMP: [(Call, &'static str); 6] = [
+    (Call::Pipe(300, 1), "ok"),
+    (Call::Count(100), "ok"),
+    (Call::Skip(100, 300), "ok"),
+    (Call::Deny(200), "ok"),
+    (Call::Look, "pipe"),
+    (Call::Send, "pipe"),
+];
+
 #[test]
 fn jump_to_a_pipe(rt: HostRuntime) -> Result<(), Fail> {
     let mut list = RuleList::new(rt.alloc())?;
-    let steps = [
-        (Call::Pipe(300, 1), "ok"),
-        (Call::Count(100), "ok"),
-        (Call::Skip(100, 300), "ok"),
-        (Call::Deny(200), "ok"),
-        (Call::Look, "pipe"),
-        (Call::Send, "pipe"),
-    ];
-    let answered = answers(&mut list, &steps);
-    let lines = [
-        (100, 1, 1, 1000),
-        (100, 2, 1, 1000),
-        (200, 3, 0, 0),
-        (300, 0, 1, 1000),
-        (65535, 0, 0, 0),
-    ];
-    let listed = lists(&mut list, &lines);
-    let told = finds_pipe(&list, (1, 300, 0));
-    assert!(rt; answered && listed && told);
+    answers(&rt, &mut list, &JUMP);
+    lists(
+        &rt,
+        &mut list,
+        &[
+            (100, 1, 1, 1000),
+            (100, 2, 1, 1000),
+            (200, 3, 0, 0),
+            (300, 0, 1, 1000),
+            (65535, 0, 0, 0),
+        ],
+    );
+    assert_holds!(&rt; finds_pipe(&list, (1, 300, 0)));
     Ok(())
 }
+
+/// The list is full then.
+fn skip_from_all(rt: &impl Abort, list: &mut RuleList) {
+    for n in 1..257 {
+        assert_same(rt, (n, answer(list, Call::Skip(n, 65535))), (n, "ok"));
+    }
+}
+
+const BEFORE_FULL: [(Call, &'static str); 4] = [
+    (Call::Allow(65535), "bad number"),
+    (Call::Skip(300, 300), "bad skip"),
+    (Call::Delete(7), "no rule"),
+    (Call::Delete(65535), "bad number"),
+];
+
+const FULL: [(Call, &'static str); 3] = [
+    (Call::Allow(300), "rules full"),
+    (Call::Skip(300, 65536), "bad skip"),
+    (Call::Send, "deny"),
+];
 
 #[test]
 fn refusals(rt: HostRuntime) -> Result<(), Fail> {
     let mut list = RuleList::new(rt.alloc())?;
-    let steps = [
-        (Call::Allow(65535), "bad number"),
-        (Call::Skip(300, 300), "bad skip"),
-        (Call::Delete(7), "no rule"),
-        (Call::Delete(65535), "bad number"),
-    ];
-    let mut answered = answers(&mut list, &steps);
-    for n in 1..257 {
-        answered = answered && answer(&mut list, Call::Skip(n, 65535)) == "ok";
-    }
-    let steps = [
-        (Call::Allow(300), "rules full"),
-        (Call::Skip(300, 65536), "bad skip"),
-        (Call::Send, "deny"),
-    ];
-    let full = answers(&mut list, &steps);
-    assert!(rt; answered && full);
+    answers(&rt, &mut list, &BEFORE_FULL);
+    skip_from_all(&rt, &mut list);
+    answers(&rt, &mut list, &FULL);
     Ok(())
 }
+
+const REPLACED: [(Call, &'static str); 9] = [
+    (Call::Pipe(100, 1), "ok"),
+    (Call::Allow(300), "ok"),
+    (Call::Send, "pipe"),
+    (Call::SendAfter(100, 0), "allow"),
+    (Call::Delete(100), "ok"),
+    (Call::ClassifyAfter(100, 0), "allow"),
+    (Call::Deny(100), "ok"),
+    (Call::ClassifyAfter(100, 0), "deny"),
+    (Call::SendAfter(100, 0), "deny"),
+];
 
 #[test]
 fn rule_replaced_behind_a_pipe(rt: HostRuntime) -> Result<(), Fail> {
     let mut list = RuleList::new(rt.alloc())?;
-    let steps = [
-        (Call::Pipe(100, 1), "ok"),
-        (Call::Allow(300), "ok"),
-        (Call::Send, "pipe"),
-        (Call::SendAfter(100, 0), "allow"),
-        (Call::Delete(100), "ok"),
-        (Call::ClassifyAfter(100, 0), "allow"),
-        (Call::Deny(100), "ok"),
-        (Call::ClassifyAfter(100, 0), "deny"),
-        (Call::SendAfter(100, 0), "deny"),
-    ];
-    let answered = answers(&mut list, &steps);
-    let lines = [(100, 2, 1, 1000), (300, 1, 1, 1000), (65535, 0, 0, 0)];
-    let listed = lists(&mut list, &lines);
-    assert!(rt; answered && listed);
+    answers(&rt, &mut list, &REPLACED);
+    lists(
+        &rt,
+        &mut list,
+        &[(100, 2, 1, 1000), (300, 1, 1, 1000), (65535, 0, 0, 0)],
+    );
     Ok(())
 }
+
+const FOUND_BEFORE: [(Call, &'static str); 11] = [
+    (Call::Classify, "deny"),
+    (Call::Send, "deny"),
+    (Call::Allow(6), "ok"),
+    (Call::Classify, "allow"),
+    (Call::Send, "allow"),
+    (Call::ClassifyAfter(1, 0), "allow"),
+    (Call::Delete(3), "ok"),
+    (Call::SendAfter(1, 0), "allow"),
+    (Call::Delete(6), "ok"),
+    (Call::Classify, "deny"),
+    (Call::SendAfter(1, 0), "deny"),
+];
 
 /// Rules come and go between packets of one flow, in a list that is long enough for paths.
 #[test]
 fn what_was_found_before_changes(rt: HostRuntime) -> Result<(), Fail> {
     let mut list = made_at_last(rt.alloc())?;
-    let mut grown = true;
-    for n in 1..6 {
-        grown = grown && grows(&mut list, n);
-    }
-    let steps = [
-        (Call::Classify, "deny"),
-        (Call::Send, "deny"),
-        (Call::Allow(6), "ok"),
-        (Call::Classify, "allow"),
-        (Call::Send, "allow"),
-        (Call::ClassifyAfter(1, 0), "allow"),
-        (Call::Delete(3), "ok"),
-        (Call::SendAfter(1, 0), "allow"),
-        (Call::Delete(6), "ok"),
-        (Call::Classify, "deny"),
-        (Call::SendAfter(1, 0), "deny"),
-    ];
-    let answered = answers(&mut list, &steps);
-    let lines = [
-        (1, 0, 2, 2000),
-        (2, 1, 4, 4000),
-        (4, 3, 4, 4000),
-        (5, 4, 4, 4000),
-        (65535, 0, 2, 2000),
-    ];
-    let listed = lists(&mut list, &lines);
-    assert!(rt; grown && answered && listed);
+    grows_to(&rt, &mut list, 6);
+    answers(&rt, &mut list, &FOUND_BEFORE);
+    lists(
+        &rt,
+        &mut list,
+        &[
+            (1, 0, 2, 2000),
+            (2, 1, 4, 4000),
+            (4, 3, 4, 4000),
+            (5, 4, 4, 4000),
+            (65535, 0, 2, 2000),
+        ],
+    );
     Ok(())
 }
+
+const COUNTED: [(Call, &'static str); 11] = [
+    (Call::Skip(3, 5), "ok"),
+    (Call::Allow(7), "ok"),
+    (Call::Classify, "allow"),
+    (Call::Send, "allow"),
+    (Call::Send, "allow"),
+    (Call::Delete(2), "ok"),
+    (Call::Count(2), "ok"),
+    (Call::Classify, "allow"),
+    (Call::Send, "allow"),
+    (Call::ClassifyAfter(2, 7), "allow"),
+    (Call::SendAfter(2, 7), "allow"),
+];
 
 /// Packets of one flow are counted by their path, and its rules have them when they are listed, and when one goes.
 #[test]
 fn what_a_path_counted(rt: HostRuntime) -> Result<(), Fail> {
     let mut list = made_at_last(rt.alloc())?;
-    let mut grown = true;
-    for n in 1..6 {
-        grown = grown && grows(&mut list, n);
-    }
-    let steps = [
-        (Call::Skip(3, 5), "ok"),
-        (Call::Allow(7), "ok"),
-        (Call::Classify, "allow"),
-        (Call::Send, "allow"),
-        (Call::Send, "allow"),
-        (Call::Delete(2), "ok"),
-        (Call::Count(2), "ok"),
-        (Call::Classify, "allow"),
-        (Call::Send, "allow"),
-        (Call::ClassifyAfter(2, 7), "allow"),
-        (Call::SendAfter(2, 7), "allow"),
-    ];
-    let answered = answers(&mut list, &steps);
-    let lines = [
-        (1, 0, 3, 3000),
-        (2, 7, 1, 1000),
-        (3, 2, 4, 4000),
-        (3, 5, 4, 4000),
-        (4, 3, 0, 0),
-        (5, 4, 4, 4000),
-        (7, 6, 4, 4000),
-        (65535, 0, 0, 0),
-    ];
-    let listed = lists(&mut list, &lines) && answer(&mut list, Call::Send) == "allow";
-    assert!(rt; grown && answered && listed);
+    grows_to(&rt, &mut list, 6);
+    answers(&rt, &mut list, &COUNTED);
+    lists(
+        &rt,
+        &mut list,
+        &[
+            (1, 0, 3, 3000),
+            (2, 7, 1, 1000),
+            (3, 2, 4, 4000),
+            (3, 5, 4, 4000),
+            (4, 3, 0, 0),
+            (5, 4, 4, 4000),
+            (7, 6, 4, 4000),
+            (65535, 0, 0, 0),
+        ],
+    );
+    assert_same(&rt, send(&mut list), "allow");
     Ok(())
 }
 
@@ -340,6 +348,13 @@ fn made_at_last(alloc: Global) -> Result<RuleList, Fail> {
     match RuleList::new(alloc) {
         Ok(list) => Ok(list),
         Err(_) => Ok(RuleList::new(alloc)?),
+    }
+}
+
+/// Rules of each number below an end come, one after the other.
+fn grows_to(rt: &impl Abort, list: &mut RuleList, end: u32) {
+    for n in 1..end {
+        assert_same(rt, (n, grows(list, n)), (n, true));
     }
 }
 
@@ -357,10 +372,7 @@ fn grows(list: &mut RuleList, n: u32) -> bool {
 #[test]
 fn memory_may_be_refused(rt: HostRuntime) -> Result<(), Fail> {
     let mut list = made_at_last(rt.alloc())?;
-    for n in 1..20 {
-        let grown = grows(&mut list, n);
-        assert!(rt; grown);
-    }
+    grows_to(&rt, &mut list, 20);
     Ok(())
 }
 
@@ -377,32 +389,31 @@ fn narrow_rule() -> Rule {
     }
 }
 
-/// Whether the one rule of this list matches the packets that it should, each told by hand.
-fn matches_as_told(list: &RuleList) -> bool {
-    for (proto, src, sport, dst, dport, want) in [
-        (Protocol::Udp, 0x0a00_0001, 1000, 0x0a00_0002, 2000, "allow"),
-        (Protocol::Udp, 0x0a00_0003, 1001, 0x0a00_0002, 2000, "allow"),
-        (Protocol::Tcp, 0x0a00_0001, 1000, 0x0a00_0002, 2000, "deny"),
-        (Protocol::Udp, 0x0a00_0004, 1000, 0x0a00_0002, 2000, "deny"),
-        (Protocol::Udp, 0x0a00_0001, 1002, 0x0a00_0002, 2000, "deny"),
-        (Protocol::Udp, 0x0a00_0001, 999, 0x0a00_0002, 2000, "deny"),
-        (Protocol::Udp, 0x0a00_0001, 1000, 0x0a00_0003, 2000, "deny"),
-        (Protocol::Udp, 0x0a00_0001, 1000, 0x0a00_0002, 2001, "deny"),
-    ] {
-        let sent = packet(proto, src, sport, dst, dport);
-        if word(list.find(&sent)) != want {
-            return false;
-        }
+/// What is done with a packet: its protocol, source, destination, each with its port, and the answer, told by hand.
+const MATCHES: [(Protocol, u32, u16, u32, u16, &'static str); 8] = [
+    (Protocol::Udp, 0x0a00_0001, 1000, 0x0a00_0002, 2000, "allow"),
+    (Protocol::Udp, 0x0a00_0003, 1001, 0x0a00_0002, 2000, "allow"),
+    (Protocol::Tcp, 0x0a00_0001, 1000, 0x0a00_0002, 2000, "deny"),
+    (Protocol::Udp, 0x0a00_0004, 1000, 0x0a00_0002, 2000, "deny"),
+    (Protocol::Udp, 0x0a00_0001, 1002, 0x0a00_0002, 2000, "deny"),
+    (Protocol::Udp, 0x0a00_0001, 999, 0x0a00_0002, 2000, "deny"),
+    (Protocol::Udp, 0x0a00_0001, 1000, 0x0a00_0003, 2000, "deny"),
+    (Protocol::Udp, 0x0a00_0001, 1000, 0x0a00_0002, 2001, "deny"),
+];
+
+/// The one rule of this list matches the packets that it should.
+fn matches_as_told(rt: &impl Abort, list: &RuleList) {
+    for (place, (proto, src, sport, dst, dport, want)) in MATCHES.iter().enumerate() {
+        let sent = packet(*proto, *src, *sport, *dst, *dport);
+        assert_same(rt, (place, word(list.find(&sent))), (place, *want));
     }
-    true
 }
 
 #[test]
 fn what_a_rule_matches(rt: HostRuntime) -> Result<(), Fail> {
     let mut list = RuleList::new(rt.alloc())?;
-    let added = add(&mut list, narrow_rule()) == "ok";
-    let matched = matches_as_told(&list);
-    assert!(rt; added && matched);
+    assert_same(&rt, add(&mut list, narrow_rule()), "ok");
+    matches_as_told(&rt, &list);
     Ok(())
 }
 
@@ -427,24 +438,32 @@ fn take_turns(list: &mut RuleList) -> bool {
     true
 }
 
+const DENIALS: [(Call, &'static str); 4] = [
+    (Call::Deny(20), "ok"),
+    (Call::Deny(21), "ok"),
+    (Call::Deny(22), "ok"),
+    (Call::Deny(23), "ok"),
+];
+
 /// More flows than there are places for paths, in turn: they take each other's places.
 #[test]
 fn flows_at_one_place(rt: HostRuntime) -> Result<(), Fail> {
     let mut list = RuleList::new(rt.alloc())?;
-    let mut added = add(&mut list, low_ports()) == "ok";
-    for n in 20..24 {
-        added = added && add_plain(&mut list, n, Action::Deny) == "ok";
-    }
-    let judged = take_turns(&mut list) && take_turns(&mut list);
-    let lines = [
-        (10, 0, 600, 600_000),
-        (20, 1, 5400, 5_400_000),
-        (21, 2, 0, 0),
-        (22, 3, 0, 0),
-        (23, 4, 0, 0),
-        (65535, 0, 0, 0),
-    ];
-    let listed = lists(&mut list, &lines);
-    assert!(rt; added && judged && listed);
+    assert_same(&rt, add(&mut list, low_ports()), "ok");
+    answers(&rt, &mut list, &DENIALS);
+    assert_holds!(&rt; take_turns(&mut list));
+    assert_holds!(&rt; take_turns(&mut list));
+    lists(
+        &rt,
+        &mut list,
+        &[
+            (10, 0, 600, 600_000),
+            (20, 1, 5400, 5_400_000),
+            (21, 2, 0, 0),
+            (22, 3, 0, 0),
+            (23, 4, 0, 0),
+            (65535, 0, 0, 0),
+        ],
+    );
     Ok(())
 }

@@ -5,6 +5,7 @@ mod guests;
 mod refusals;
 mod threads;
 
+use crate::tests::wants::assert_same;
 use bench::{Closing, Lost, OpenError, PostError, Registry, audit};
 use calls::{Advance, Kit, Move, Real, admit, adopt, last_turn, offer, retake, turn};
 use emu_model::{Budget, Command, Ending, PacketBudget, Spec, StepBudget, Timed};
@@ -41,7 +42,7 @@ fn host_tenant<K: Kit>(
     bench: &mut K::Bench,
 ) -> K::Tenant {
     let (tenant, parcel) = open_tenant::<K>(rt, registry);
-    assert!(rt; admit::<K>(bench, parcel));
+    assert_holds!(rt; admit::<K>(bench, parcel));
     tenant
 }
 
@@ -50,7 +51,7 @@ fn refusal<K: Kit>(rt: &impl Abort, tenant: &mut K::Tenant, timed: Timed) -> Opt
     match K::post(tenant, timed) {
         Ok(()) => return None,
         Err(refused) => {
-            assert!(rt; refused.command == timed);
+            assert_holds!(rt; refused.command == timed);
             return Some(refused.cause);
         }
     }
@@ -62,7 +63,8 @@ fn shows<K: Kit>(rt: &impl Abort, tenant: &mut K::Tenant, moment: u64, wanted: O
         moment,
         command: Command::Show,
     };
-    assert!(rt; refusal::<K>(rt, tenant, timed) == wanted, "at {moment}");
+    let is_answered = refusal::<K>(rt, tenant, timed) == wanted;
+    assert_same(rt, (moment, is_answered), (moment, true));
 }
 
 // Posts an end likewise.
@@ -71,7 +73,8 @@ fn ends<K: Kit>(rt: &impl Abort, tenant: &mut K::Tenant, moment: u64, wanted: Op
         moment,
         command: Command::End,
     };
-    assert!(rt; refusal::<K>(rt, tenant, timed) == wanted, "at {moment}");
+    let is_answered = refusal::<K>(rt, tenant, timed) == wanted;
+    assert_same(rt, (moment, is_answered), (moment, true));
 }
 
 fn posting_refusals_of<K: Kit>(rt: &(impl Abort + AllocGlobal)) {
@@ -86,7 +89,7 @@ fn posting_refusals_of<K: Kit>(rt: &(impl Abort + AllocGlobal)) {
     }
     ends::<K>(rt, &mut tenant, LATEST, Some(PostError::MailFull));
     shows::<K>(rt, &mut tenant, 5, Some(PostError::Early));
-    assert!(rt; K::posted_len(&tenant) == 64);
+    assert_same(rt, K::posted_len(&tenant), 64);
 }
 
 #[test]
@@ -100,7 +103,7 @@ fn nothing_is_posted_behind_an_end_of<K: Kit>(rt: &(impl Abort + AllocGlobal)) {
     ends::<K>(rt, &mut tenant, 6, None);
     shows::<K>(rt, &mut tenant, LATEST + 1, Some(PostError::Closed));
     ends::<K>(rt, &mut tenant, 6, Some(PostError::Closed));
-    assert!(rt; K::posted_len(&tenant) == 1);
+    assert_same(rt, K::posted_len(&tenant), 1);
 }
 
 #[test]
@@ -119,10 +122,18 @@ fn open_error<K: Kit>(
 fn the_last_name_of<K: Kit>(rt: &(impl Abort + AllocGlobal)) {
     let mut registry = Registry::with_first_name(999_999);
     let (tenant, parcel) = open_tenant::<K>(rt, &mut registry);
-    assert!(rt; K::name(&tenant) == 999_999);
-    assert!(rt; K::shape(&parcel).name == 999_999);
-    assert!(rt; open_error::<K>(rt, &mut registry) == Some(OpenError::NamesOut));
-    assert!(rt; open_error::<K>(rt, &mut registry) == Some(OpenError::NamesOut));
+    assert_same(rt, K::name(&tenant), 999_999);
+    assert_same(rt, K::shape(&parcel).name, 999_999);
+    assert_same(
+        rt,
+        open_error::<K>(rt, &mut registry),
+        Some(OpenError::NamesOut),
+    );
+    assert_same(
+        rt,
+        open_error::<K>(rt, &mut registry),
+        Some(OpenError::NamesOut),
+    );
 }
 
 #[test]
@@ -137,9 +148,9 @@ fn end_resident<K: Kit>(
     slot: usize,
     name: u32,
 ) -> K::Dossier {
-    assert!(rt; K::poll(bench, slot) == Polled::Took(name));
+    assert_same(rt, K::poll(bench, slot), Polled::Took(name));
     let dossier = last_turn::<K>(bench).expect(rt, "an end");
-    assert!(rt; K::ended_name(&dossier) == name);
+    assert_same(rt, K::ended_name(&dossier), name);
     dossier
 }
 
@@ -157,12 +168,12 @@ fn settles<K: Kit>(rt: &impl Abort, tenant: K::Tenant, dossier: K::Dossier) {
     let name = K::name(&tenant);
     let outcome = K::settle(tenant, dossier).ok().expect(rt, "strange");
     let last = K::last(&outcome);
-    assert!(rt; last.name == name);
-    assert!(rt; last.spec == small_spec(rt));
-    assert!(rt; last.commands == 1);
-    assert!(rt; last.events == 1);
-    assert!(rt; matches!(last.ending, Ending::Ended));
-    assert!(rt; K::given_records(outcome) == 1);
+    assert_same(rt, last.name, name);
+    assert_holds!(rt; last.spec == small_spec(rt));
+    assert_holds!(rt; last.commands == 1);
+    assert_same(rt, last.events, 1);
+    assert_holds!(rt; matches!(last.ending, Ending::Ended));
+    assert_holds!(rt; K::given_records(outcome) == 1);
 }
 
 fn strange_dossier_of<K: Kit>(rt: &(impl Abort + AllocGlobal)) {
@@ -175,8 +186,10 @@ fn strange_dossier_of<K: Kit>(rt: &(impl Abort + AllocGlobal)) {
     let of_zero = end_resident::<K>(rt, &mut bench, 0, 0);
     let of_one = end_resident::<K>(rt, &mut bench, 1, 1);
     let (zero, of_one) = strangers::<K>(rt, zero, of_one);
-    assert!(rt; K::name(&zero) == 0 && K::posted_len(&zero) == 1);
-    assert!(rt; K::ended_name(&of_one) == 1 && has_records::<K>(&of_one, 1));
+    assert_same(rt, K::name(&zero), 0);
+    assert_same(rt, K::posted_len(&zero), 1);
+    assert_same(rt, K::ended_name(&of_one), 1);
+    assert_holds!(rt; has_records::<K>(&of_one, 1));
     settles::<K>(rt, one, of_one);
     settles::<K>(rt, zero, of_zero);
 }
@@ -189,21 +202,21 @@ fn strange_dossier(rt: HostRuntime) {
 // Offers the resident of a name.
 fn offers<K: Kit>(rt: &impl Abort, bench: &mut K::Bench, name: u32) {
     let slot = K::slot_of(bench, name).expect(rt, "a resident");
-    assert!(rt; offer::<K>(bench, slot) == Move::Done);
-    assert!(rt; K::slot_of(bench, name).is_none());
-    assert!(rt; offer::<K>(bench, slot) == Move::Nobody);
+    assert_holds!(rt; offer::<K>(bench, slot) == Move::Done);
+    assert_holds!(rt; K::slot_of(bench, name).is_none());
+    assert_holds!(rt; offer::<K>(bench, slot) == Move::Nobody);
 }
 
 fn retakes<K: Kit>(rt: &impl Abort, bench: &mut K::Bench, name: u32) {
-    assert!(rt; retake::<K>(bench) == Move::Done);
-    assert!(rt; K::slot_of(bench, name).is_some());
-    assert!(rt; retake::<K>(bench) == Move::Nobody);
+    assert_holds!(rt; retake::<K>(bench) == Move::Done);
+    assert_holds!(rt; K::slot_of(bench, name).is_some());
+    assert_holds!(rt; retake::<K>(bench) == Move::Nobody);
 }
 
 fn adopts<K: Kit>(rt: &impl Abort, bench: &mut K::Bench, peer: &mut K::Peer, name: u32) {
-    assert!(rt; adopt::<K>(bench, peer) == Move::Done);
-    assert!(rt; K::slot_of(bench, name) == Some(0));
-    assert!(rt; adopt::<K>(bench, peer) == Move::Nobody);
+    assert_holds!(rt; adopt::<K>(bench, peer) == Move::Done);
+    assert_same(rt, K::slot_of(bench, name), Some(0));
+    assert_holds!(rt; adopt::<K>(bench, peer) == Move::Nobody);
 }
 
 // Bench 0 admits 0, 1 and 2: 0 ends, 1 goes to the other bench, 2 is offered, retaken and offered
@@ -228,17 +241,17 @@ fn two_closings<K: Kit>(rt: &(impl Abort + AllocGlobal)) -> (Closing, Closing) {
 #[test]
 fn custody(rt: HostRuntime) {
     let (here, there) = two_closings::<Real>(&rt);
-    assert!(rt; audit(&[]).is_ok());
-    assert!(rt; audit(slice::from_ref(&here)) == Err(Lost(1)));
-    assert!(rt; audit(&[here, there]).is_ok());
+    assert_holds!(&rt; audit(&[]).is_ok());
+    assert_same(&rt, audit(slice::from_ref(&here)), Err(Lost(1)));
+    assert_holds!(&rt; audit(&[here, there]).is_ok());
 }
 
 fn nobody_is_at_a_new_bench_of<K: Kit>(rt: &(impl Abort + AllocGlobal)) {
     let (mut bench, _peer) = K::with_peer(rt.alloc()).expect(rt, "a bench");
-    assert!(rt; K::slot_of(&bench, 0).is_none());
-    assert!(rt; K::poll(&mut bench, 0) == Polled::Vacant);
-    assert!(rt; turn::<K>(&mut bench) == Advance::Idle);
-    assert!(rt; offer::<K>(&mut bench, 256) == Move::Nobody);
+    assert_holds!(rt; K::slot_of(&bench, 0).is_none());
+    assert_same(rt, K::poll(&mut bench, 0), Polled::Vacant);
+    assert_holds!(rt; turn::<K>(&mut bench) == Advance::Idle);
+    assert_holds!(rt; offer::<K>(&mut bench, 256) == Move::Nobody);
 }
 
 #[test]
@@ -248,8 +261,8 @@ fn nobody_is_at_a_new_bench(rt: HostRuntime) {
 
 // The only resident is polled, which answers so, and makes an event after which it goes on.
 fn runs<K: Kit>(rt: &impl Abort, bench: &mut K::Bench, polled: Polled) {
-    assert!(rt; K::poll(bench, 0) == polled);
-    assert!(rt; turn::<K>(bench) == Advance::Ran(0));
+    assert_same(rt, K::poll(bench, 0), polled);
+    assert_holds!(rt; turn::<K>(bench) == Advance::Ran(0));
 }
 
 // A letter was there.
@@ -267,10 +280,10 @@ fn has_records<K: Kit>(dossier: &K::Dossier, count: usize) -> bool {
 // The dossier has six records, of which the first five were read.
 fn has_read_five<K: Kit>(rt: &impl Abort, guest: &Guest<K::Tenant>, dossier: &K::Dossier) {
     let read = K::letters(&guest.tenant);
-    assert!(rt; read.len() == 5);
-    assert!(rt; has_records::<K>(dossier, 6));
+    assert_same(rt, read.len(), 5);
+    assert_holds!(rt; has_records::<K>(dossier, 6));
     for place in 0..read.len() {
-        assert!(rt; K::ended_record(dossier, place) == Some(read[place]));
+        assert_holds!(rt; K::ended_record(dossier, place) == Some(read[place]));
     }
 }
 
@@ -279,7 +292,7 @@ fn letters_of<K: Kit>(rt: &(impl Abort + AllocGlobal)) {
     let (mut bench, _peer) = K::with_peer(rt.alloc()).expect(rt, "a bench");
     let (text, report) = (texts::ONE_PACKET, texts::ONE_PACKET_REPORT);
     let (mut guest, parcel) = invite::<K>(rt, &mut registry, text, report).expect(rt, "a guest");
-    assert!(rt; admit::<K>(&mut bench, parcel));
+    assert_holds!(rt; admit::<K>(&mut bench, parcel));
     post_all::<K>(rt, &mut guest);
 
     // Three commands, and the two events that come before the fourth, which is the end.
@@ -288,14 +301,14 @@ fn letters_of<K: Kit>(rt: &(impl Abort + AllocGlobal)) {
     }
     runs::<K>(rt, &mut bench, Polled::Held(0));
     for _ in 0..5 {
-        assert!(rt; reads::<K>(rt, &mut guest));
+        assert_holds!(rt; reads::<K>(rt, &mut guest));
     }
-    assert!(rt; !reads::<K>(rt, &mut guest));
+    assert_holds!(rt; !reads::<K>(rt, &mut guest));
     let dossier = last_turn::<K>(&mut bench).expect(rt, "an end");
     has_read_five::<K>(rt, &guest, &dossier);
     let settled = settle::<K>(rt, guest, dossier);
     let written = text_of::<K>(rt.alloc(), &settled).expect(rt, "memory");
-    assert!(rt; written.as_slice() == settled.wanted_report());
+    assert_holds!(rt; written.as_slice() == settled.wanted_report());
 }
 
 #[test]
@@ -323,16 +336,16 @@ fn unread_of<K: Kit>(rt: &(impl Abort + AllocGlobal)) {
     let (mut bench, _peer) = K::with_peer(rt.alloc()).expect(rt, "a bench");
     let (text, report) = (texts::CODEL_TWO_DROPS, texts::CODEL_TWO_DROPS_REPORT);
     let (mut guest, parcel) = invite::<K>(rt, &mut registry, text, report).expect(rt, "a guest");
-    assert!(rt; admit::<K>(&mut bench, parcel));
+    assert_holds!(rt; admit::<K>(&mut bench, parcel));
     post_all::<K>(rt, &mut guest);
     let dossier = last_of::<K>(rt, &mut bench);
-    assert!(rt; has_records::<K>(&dossier, CODEL_RECORDS));
-    assert!(rt; K::letters(&guest.tenant).is_empty());
+    assert_holds!(rt; has_records::<K>(&dossier, CODEL_RECORDS));
+    assert_holds!(rt; K::letters(&guest.tenant).is_empty());
     let settled = settle::<K>(rt, guest, dossier);
-    assert!(rt; K::record(&settled.outcome, CODEL_RECORDS - 1).is_some());
-    assert!(rt; K::record(&settled.outcome, CODEL_RECORDS).is_none());
+    assert_holds!(rt; K::record(&settled.outcome, CODEL_RECORDS - 1).is_some());
+    assert_holds!(rt; K::record(&settled.outcome, CODEL_RECORDS).is_none());
     let written = text_of::<K>(rt.alloc(), &settled).expect(rt, "memory");
-    assert!(rt; written.as_slice() == settled.wanted_report());
+    assert_holds!(rt; written.as_slice() == settled.wanted_report());
 }
 
 #[test]
@@ -342,13 +355,13 @@ fn unread_letters(rt: HostRuntime) {
 
 #[test]
 fn refusals_have_their_numbers(rt: HostRuntime) {
-    assert_eq!(rt; PackError::Vacant as u8, 31);
-    assert_eq!(rt; PackError::NoMemory as u8, 99);
-    assert_eq!(rt; PostError::Early as u8, 40);
-    assert_eq!(rt; PostError::MailFull as u8, 41);
-    assert_eq!(rt; PostError::TooLate as u8, 42);
-    assert_eq!(rt; PostError::Closed as u8, 45);
-    assert_eq!(rt; PostError::NoMemory as u8, 99);
-    assert_eq!(rt; OpenError::NamesOut as u8, 46);
-    assert_eq!(rt; OpenError::NoMemory as u8, 99);
+    assert_same(&rt, PackError::Vacant as u8, 31);
+    assert_same(&rt, PackError::NoMemory as u8, 99);
+    assert_same(&rt, PostError::Early as u8, 40);
+    assert_same(&rt, PostError::MailFull as u8, 41);
+    assert_same(&rt, PostError::TooLate as u8, 42);
+    assert_same(&rt, PostError::Closed as u8, 45);
+    assert_same(&rt, PostError::NoMemory as u8, 99);
+    assert_same(&rt, OpenError::NamesOut as u8, 46);
+    assert_same(&rt, OpenError::NoMemory as u8, 99);
 }

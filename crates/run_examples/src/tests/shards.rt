@@ -9,6 +9,7 @@ mod desk;
 mod refusals;
 mod turns;
 
+use crate::tests::wants::{assert_same, assert_told};
 use agendas::{Anew, GivesUp};
 use calls::{
     Desk, Host, advance, arrive, counts_of, is_crowded, pack, packs_nobody, poll, put, seen_back,
@@ -34,27 +35,27 @@ fn answers(
     guests: &[Guest],
 ) -> Result<(), AllocError> {
     let Some(guest) = guests.first() else {
-        assert!(rt; false, "no guest");
+        assert_told(rt, false, "no guest");
         return Ok(());
     };
     let Some(config) = guest.commands().first() else {
-        assert!(rt; false, "no command");
+        assert_told(rt, false, "no command");
         return Ok(());
     };
-    assert_eq!(rt; config.moment, 0);
-    assert!(rt; matches!(config.command, Command::Config { .. }));
+    assert_same(rt, config.moment, 0);
+    assert_holds!(rt; matches!(config.command, Command::Config { .. }));
 
-    assert_eq!(rt; poll(shard, 0), Polled::Vacant);
-    assert_eq!(rt; turn(rt, shard, guests)?, Move::Idle);
-    assert!(rt; packs_nobody(shard, 0));
+    assert_same(rt, poll(shard, 0), Polled::Vacant);
+    assert_same(rt, turn(rt, shard, guests)?, Move::Idle);
+    assert_holds!(rt; packs_nobody(shard, 0));
 
-    assert_eq!(rt; settle(rt.alloc(), shard, guest)?, 0);
-    assert_eq!(rt; poll(shard, 0), Polled::Empty(0));
-    assert!(rt; matches!(put(shard, 0, *config), Some(Ok(()))));
-    assert_eq!(rt; poll(shard, 0), Polled::Took(0));
-    assert_eq!(rt; poll(shard, 0), Polled::Held(0));
-    assert_eq!(rt; turn(rt, shard, guests)?, Move::Ran(0));
-    assert_eq!(rt; turn(rt, shard, guests)?, Move::Idle);
+    assert_same(rt, settle(rt.alloc(), shard, guest)?, 0);
+    assert_same(rt, poll(shard, 0), Polled::Empty(0));
+    assert_holds!(rt; matches!(put(shard, 0, *config), Some(Ok(()))));
+    assert_same(rt, poll(shard, 0), Polled::Took(0));
+    assert_same(rt, poll(shard, 0), Polled::Held(0));
+    assert_same(rt, turn(rt, shard, guests)?, Move::Ran(0));
+    assert_same(rt, turn(rt, shard, guests)?, Move::Idle);
     Ok(())
 }
 
@@ -128,12 +129,12 @@ fn moves<A: Agenda, B: Agenda>(
     name: u32,
 ) -> Result<(), AllocError> {
     let Some(slot) = slot_of(here, name) else {
-        assert!(rt; false, "nobody to be moved");
+        assert_told(rt, false, "nobody to be moved");
         return Ok(());
     };
     let found = hand_over(here, there, slot).ok_or(AllocError)?;
-    assert_eq!(rt; slot_of(here, name), None);
-    assert_eq!(rt; slot_of(there, name), Some(found));
+    assert_same(rt, slot_of(here, name), None);
+    assert_same(rt, slot_of(there, name), Some(found));
     Ok(())
 }
 
@@ -189,13 +190,13 @@ fn goes<A: Agenda>(
             Move::Ran(_) => {}
             Move::Ended(name, events) => {
                 // It was moved after each event but the last.
-                assert!(rt; name != 0 || events == moved.saturating_add(1));
+                assert_holds!(rt; name != 0 || events == moved.saturating_add(1));
                 ended = ended.saturating_add(1);
             }
             Move::Idle => mem::swap(here, there),
         }
     }
-    assert!(rt; false, "not ended");
+    assert_told(rt, false, "not ended");
     Ok(Way { moved, refused })
 }
 
@@ -236,8 +237,8 @@ fn is_packed_every_event(
 ) -> Result<(), AllocError> {
     let mut guests = beside_floods(rt, text, report)?;
     let way = travels::<Wheel>(rt, 0, guests.as_mut_slice())?;
-    assert!(rt; way.moved > 10);
-    assert_eq!(rt; way.refused, 0);
+    assert_holds!(rt; way.moved > 10);
+    assert_same(rt, way.refused, 0);
     Ok(())
 }
 
@@ -265,10 +266,10 @@ fn begins_anew<A: Agenda>(rt: &(impl Abort + AllocGlobal)) -> Result<Way, AllocE
 fn rebase(rt: HostRuntime) -> Result<(), Fail> {
     let plain = begins_anew::<Wheel>(&rt)?;
     let counted = begins_anew::<Anew<Wheel>>(&rt)?;
-    assert!(rt; plain.moved > 10);
-    assert_eq!(rt; plain.refused, 0);
-    assert_eq!(rt; counted.moved, plain.moved);
-    assert_eq!(rt; counted.refused, 2);
+    assert_holds!(&rt; plain.moved > 10);
+    assert_same(&rt, plain.refused, 0);
+    assert_same(&rt, counted.moved, plain.moved);
+    assert_same(&rt, counted.refused, 2);
     Ok(())
 }
 
@@ -284,11 +285,11 @@ fn waits<A: Agenda>(
     for guest in guests.iter_mut() {
         post(here, 0, guest);
     }
-    assert_eq!(rt; poll(here, 0), Polled::Took(0));
+    assert_same(rt, poll(here, 0), Polled::Took(0));
     for _ in 0..100 {
-        assert_eq!(rt; poll(here, 0), Polled::NoMemory(0));
-        assert_eq!(rt; turn(rt, here, guests.as_slice())?, Move::Idle);
-        assert_eq!(rt; counts_of(here, 0), Some((0, 1)));
+        assert_same(rt, poll(here, 0), Polled::NoMemory(0));
+        assert_same(rt, turn(rt, here, guests.as_slice())?, Move::Idle);
+        assert_same(rt, counts_of(here, 0), Some((0, 1)));
     }
     moves(rt, here, there, 0)?;
     host(rt, there, guests.as_mut_slice(), true)
@@ -333,11 +334,11 @@ fn seats(
 fn crowds(rt: &(impl Abort + AllocGlobal), shard: &mut Desk) -> Result<(), AllocError> {
     for slot in 0..MOST_RESIDENTS {
         let name = u32::try_from(slot).unwrap_or(0);
-        assert_eq!(rt; seats(rt, shard, name)?, slot);
+        assert_same(rt, seats(rt, shard, name)?, slot);
     }
     let last = invite(rt, 777, texts::NEW_RATE, texts::NEW_RATE_REPORT)?;
-    assert!(rt; crowds_out(rt.alloc(), shard, &last)?);
-    assert_eq!(rt; slot_of(shard, 777), None);
+    assert_holds!(rt; crowds_out(rt.alloc(), shard, &last)?);
+    assert_same(rt, slot_of(shard, 777), None);
     Ok(())
 }
 
@@ -384,11 +385,11 @@ fn ends_unread(rt: &(impl Abort + AllocGlobal), shard: &mut Desk) -> Result<(), 
         drop(turned);
         if left.is_some() {
             // The lines of three commands, and one for each packet.
-            assert_eq!(rt; left, Some((20_003, 20_000)));
+            assert_same(rt, left, Some((20_003, 20_000)));
             return Ok(());
         }
     }
-    assert!(rt; false, "not ended");
+    assert_told(rt, false, "not ended");
     Ok(())
 }
 
@@ -421,9 +422,9 @@ fn flood_shard(
             return Ok(());
         }
         attend(rt, shard, neighbour, false);
-        assert_eq!(rt; turn(rt, shard, neighbour)?, Move::Ran(1));
+        assert_same(rt, turn(rt, shard, neighbour)?, Move::Ran(1));
     }
-    assert!(rt; false, "not flooded");
+    assert_told(rt, false, "not flooded");
     Ok(())
 }
 
@@ -434,7 +435,7 @@ fn is_beside(rt: &(impl Abort + AllocGlobal), shard: &mut Desk) -> Result<(), Al
     let cards = [(texts::PACKET_BUDGET, texts::PACKET_BUDGET_REPORT)];
     let mut guests = invite_all(rt, 0, &cards)?;
     hosts(rt, shard, guests.as_mut_slice(), false)?;
-    assert_eq!(rt; record_count(shard, 0), HELD);
+    assert_same(rt, record_count(shard, 0), HELD);
     Ok(())
 }
 

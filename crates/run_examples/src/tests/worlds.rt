@@ -4,6 +4,7 @@ mod calls;
 mod desk;
 mod refusals;
 
+use crate::tests::wants::assert_same;
 use calls::{Stage, counts_of, run, step};
 use desk::{
     Guest, MOST_ROUNDS, finish, invite, invite_all, next_post, post_all, register, reports_of_ended,
@@ -100,7 +101,7 @@ fn lives_in<W: Stage>(
     }
     let early = reports_of_ended(rt, world, guests)?.whole;
     finish(rt, world, guests)?;
-    assert_eq!(rt; reports_of_ended(rt, world, guests)?.whole, guests.len());
+    assert_same(rt, reports_of_ended(rt, world, guests)?.whole, guests.len());
     Ok(early)
 }
 
@@ -147,7 +148,7 @@ fn random_steps_over_a_list(rt: HostRuntime) -> Result<(), Fail> {
     let seed = 17;
     let _ = println!(rt; "seed {seed}");
     let early = lives_all::<World<ListAgenda>>(&rt, seed, LISTS)?;
-    assert!(rt; early > 0);
+    assert_holds!(&rt; early > 0);
     Ok(())
 }
 
@@ -156,7 +157,7 @@ fn random_steps_over_a_wheel(rt: HostRuntime) -> Result<(), Fail> {
     let seed = 18;
     let _ = println!(rt; "seed {seed}");
     let early = lives_all::<World<Wheel>>(&rt, seed, LISTS)?;
-    assert!(rt; early > 0);
+    assert_holds!(&rt; early > 0);
     Ok(())
 }
 
@@ -212,9 +213,9 @@ fn travels_through<W: Stage>(
         post_all(world, guests, name)?;
     }
     let moved = travels_in(world)?;
-    assert!(rt; world.place_of(0) == Some(Place::Ended));
+    assert_holds!(rt; world.place_of(0) == Some(Place::Ended));
     finish(rt, world, guests)?;
-    assert_eq!(rt; reports_of_ended(rt, world, guests)?.whole, 3);
+    assert_same(rt, reports_of_ended(rt, world, guests)?.whole, 3);
     Ok(moved)
 }
 
@@ -232,20 +233,16 @@ fn travels<W: Stage>(
 
 #[test]
 fn packed_every_event(rt: HostRuntime) -> Result<(), Fail> {
-    assert!(rt;
-        travels::<World<ListAgenda>>(
+    assert_holds!(&rt; travels::<World<ListAgenda>>(
             &rt,
             text_examples::FAST_RETRANSMIT,
             text_examples::FAST_RETRANSMIT_REPORT
-        )? > 10
-    );
-    assert!(rt;
-        travels::<World<Wheel>>(
+        )? > 10);
+    assert_holds!(&rt; travels::<World<Wheel>>(
             &rt,
             text_examples::TWO_PIPES_IN_TURN,
             text_examples::TWO_PIPES_IN_TURN_REPORT
-        )? > 10
-    );
+        )? > 10);
     Ok(())
 }
 
@@ -294,13 +291,13 @@ fn is_beside_a_flood<W: Stage>(
     step(world, Step::Admit { name: 0, shard: 0 })?;
     post_all(world, guests, 0)?;
     floods(world)?;
-    assert!(rt; counts_of(world, 0) == (HELD, 4));
+    assert_same(rt, counts_of(world, 0), (HELD, 4));
 
     step(world, Step::Admit { name: 1, shard: 0 })?;
     post_all(world, guests, 1)?;
     turns_beside(world)?;
-    assert!(rt; counts_of(world, 0) == (HELD, 4));
-    assert_eq!(rt; reports_of_ended(rt, world, guests)?.whole, 1);
+    assert_same(rt, counts_of(world, 0), (HELD, 4));
+    assert_same(rt, reports_of_ended(rt, world, guests)?.whole, 1);
     Ok(())
 }
 
@@ -325,26 +322,26 @@ fn beside_a_flood(rt: HostRuntime) -> Result<(), Fail> {
 
 // Nothing can be done in a world of no name but to begin a shard's time anew.
 fn has_nobody<W: Stage>(rt: &impl Abort, world: &mut W) -> Result<(), AllocError> {
-    assert!(rt; world.place_of(0).is_none());
-    assert!(rt; counts_of(world, 0) == (0, 0));
-    assert!(rt; !step(world, Step::Admit { name: 0, shard: 0 })?);
-    assert!(rt; !step(world, Step::Turn { shard: 0 })?);
-    assert!(rt; !step(world, Step::Turn { shard: 2 })?);
-    assert!(rt; !step(world, Step::Retake { shard: 1 })?);
-    assert!(rt; step(world, Step::Rebase { shard: 1 })?);
+    assert_holds!(rt; world.place_of(0).is_none());
+    assert_same(rt, counts_of(world, 0), (0, 0));
+    assert_holds!(rt; !step(world, Step::Admit { name: 0, shard: 0 })?);
+    assert_holds!(rt; !step(world, Step::Turn { shard: 0 })?);
+    assert_holds!(rt; !step(world, Step::Turn { shard: 2 })?);
+    assert_holds!(rt; !step(world, Step::Retake { shard: 1 })?);
+    assert_holds!(rt; step(world, Step::Rebase { shard: 1 })?);
     Ok(())
 }
 
 // The first name of a world goes where these steps take it.
 fn has_one<W: Stage>(rt: &impl Abort, world: &mut W, spec: Spec) -> Result<(), AllocError> {
-    assert!(rt; step(world, Step::Registered(spec))?);
-    assert!(rt; world.place_of(0) == Some(Place::HandedOut));
-    assert!(rt; step(world, Step::Admit { name: 0, shard: 1 })?);
-    assert!(rt; world.place_of(0) == Some(Place::Resident { shard: 1, slot: 0 }));
-    assert!(rt; step(world, Step::Offer { shard: 1, slot: 0 })?);
-    assert!(rt; world.place_of(0) == Some(Place::InDeque { shard: 1 }));
-    assert!(rt; step(world, Step::Adopt { shard: 0, from: 1 })?);
-    assert!(rt; world.place_of(0) == Some(Place::Resident { shard: 0, slot: 0 }));
+    assert_holds!(rt; step(world, Step::Registered(spec))?);
+    assert_holds!(rt; world.place_of(0) == Some(Place::HandedOut));
+    assert_holds!(rt; step(world, Step::Admit { name: 0, shard: 1 })?);
+    assert_holds!(rt; world.place_of(0) == Some(Place::Resident { shard: 1, slot: 0 }));
+    assert_holds!(rt; step(world, Step::Offer { shard: 1, slot: 0 })?);
+    assert_holds!(rt; world.place_of(0) == Some(Place::InDeque { shard: 1 }));
+    assert_holds!(rt; step(world, Step::Adopt { shard: 0, from: 1 })?);
+    assert_holds!(rt; world.place_of(0) == Some(Place::Resident { shard: 0, slot: 0 }));
     Ok(())
 }
 

@@ -1,5 +1,6 @@
 //! Orders and dues chosen by hand.
 
+use crate::tests::wants::assert_same;
 use emu_model::{Class, Source};
 use std::alloc::{AllocError, Global};
 use timer_wheel::*;
@@ -198,12 +199,12 @@ fn fault_of<A: Agenda + Drop>(alloc: Global) -> Option<&'static str> {
 
 #[test]
 fn a_list_in_order_and_refused(rt: HostRuntime) {
-    assert_eq!(rt; fault_of::<ListAgenda>(rt.alloc()), None);
+    assert_same(&rt, fault_of::<ListAgenda>(rt.alloc()), None);
 }
 
 #[test]
 fn a_wheel_in_order_and_refused(rt: HostRuntime) {
-    assert_eq!(rt; fault_of::<Wheel>(rt.alloc()), None);
+    assert_same(&rt, fault_of::<Wheel>(rt.alloc()), None);
 }
 
 // Over a walk of 500 sets with numbers from a generator of Lehmer's (multiplier 48271, modulus 2^31 - 1), and what is
@@ -257,7 +258,7 @@ fn kinds_answer_alike<A: Agenda + Drop, B: Agenda + Drop>(alloc: Global) -> bool
 
 #[test]
 fn wheel_answers_as_the_list(rt: HostRuntime) {
-    assert!(rt; kinds_answer_alike::<Wheel, ListAgenda>(rt.alloc()));
+    assert_holds!(&rt; kinds_answer_alike::<Wheel, ListAgenda>(rt.alloc()));
 }
 
 // More entries in one slot than a call for each would have room for on the stack.
@@ -283,5 +284,5 @@ fn drops_a_long_slot<A: Agenda + Drop>(alloc: Global) -> bool {
 
 #[test]
 fn wheel_drops_a_long_slot(rt: HostRuntime) {
-    assert!(rt; drops_a_long_slot::<Wheel>(rt.alloc()));
+    assert_holds!(&rt; drops_a_long_slot::<Wheel>(rt.alloc()));
 }

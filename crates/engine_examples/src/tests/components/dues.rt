@@ -1,3 +1,4 @@
+use crate::tests::wants::{assert_same, assert_told};
 use due_index::{DueIndex, DueNumber};
 use emu_model::{Class, Due, Source};
 use std::process::Abort;
@@ -13,7 +14,7 @@ fn due(moment: u64, class: Class, number: u32) -> Option<Due> {
 fn pushes(rt: &impl Abort, index: &mut DueIndex, due: Option<Due>) {
     let before = index.len();
     if index.push_ready().is_err() {
-        assert!(rt; index.len() == before, "it has changed");
+        assert_told(rt, index.len() == before, "it has changed");
         index.push_ready().expect(rt, "memory");
     }
     index.push(DueNumber::of(due));
@@ -26,7 +27,7 @@ fn changes(rt: &impl Abort, index: &mut DueIndex, place: usize, due: Option<Due>
 }
 
 fn least_is(rt: &impl Abort, index: &DueIndex, due: Option<Due>) {
-    assert!(rt; index.least().due() == due);
+    assert_holds!(rt; index.least().due() == due);
 }
 
 fn follows_each_change(rt: &impl Abort, index: &mut DueIndex) {
@@ -34,7 +35,7 @@ fn follows_each_change(rt: &impl Abort, index: &mut DueIndex) {
     for moment in &[60, 40, 50, 20, 30, 10] {
         pushes(rt, index, due(*moment, Class::Expiry, 7));
     }
-    assert!(rt; index.len() == 6);
+    assert_same(rt, index.len(), 6);
     for (place, moment, least) in &[
         (5, 70, 20),
         (3, 80, 30),
@@ -98,7 +99,7 @@ fn some_are_empty(rt: &impl Abort, index: &mut DueIndex) {
     pushes(rt, index, None);
     least_is(rt, index, due(3, Class::Exit, 256));
     index.clear();
-    assert!(rt; index.len() == 0);
+    assert_same(rt, index.len(), 0);
     least_is(rt, index, None);
     pushes(rt, index, due(8, Class::Exit, 512));
     pushes(rt, index, None);

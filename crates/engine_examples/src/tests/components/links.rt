@@ -1,5 +1,6 @@
 ghost use Rattle.emu_model.specs.Moments.{IsMoment};
 
+use crate::tests::wants::assert_same;
 use emu_model::{Bandwidth, Delay, Size};
 use link_core::{DelayLine, RateServer};
 use std::process::Abort;
@@ -20,17 +21,17 @@ fn milliseconds(rt: &impl Abort, count: u16) -> Delay {
 fn period_is_rounded_once(rt: HostRuntime) {
     let size = bytes(&rt, 1000);
     let mut server = RateServer::new(rate(&rt, 3_000_000));
-    assert!(rt; server.due() == None);
+    assert_same(&rt, server.due(), None);
     server.start(0, size);
-    assert!(rt; server.due() == Some(2_666_667));
+    assert_same(&rt, server.due(), Some(2_666_667));
     server.follow(size);
-    assert!(rt; server.due() == Some(5_333_334));
+    assert_same(&rt, server.due(), Some(5_333_334));
     server.follow(size);
-    assert!(rt; server.due() == Some(8_000_000));
+    assert_same(&rt, server.due(), Some(8_000_000));
     server.rest();
-    assert!(rt; server.due() == None);
+    assert_same(&rt, server.due(), None);
     server.follow(size);
-    assert!(rt; server.due() == None);
+    assert_same(&rt, server.due(), None);
 }
 
 #[test]
@@ -38,20 +39,20 @@ fn new_rate_waits_for_packet_in_service(rt: HostRuntime) {
     let size = bytes(&rt, 1000);
     let mut server = RateServer::new(rate(&rt, 1_000_000));
     server.start(0, size);
-    assert!(rt; server.due() == Some(8_000_000));
+    assert_same(&rt, server.due(), Some(8_000_000));
     server.configure(rate(&rt, 2_000_000));
-    assert!(rt; server.due() == Some(8_000_000));
+    assert_same(&rt, server.due(), Some(8_000_000));
     server.follow(size);
-    assert!(rt; server.due() == Some(12_000_000));
+    assert_same(&rt, server.due(), Some(12_000_000));
 }
 
 #[test]
 fn unlimited_rate_takes_no_time(rt: HostRuntime) {
     let mut server = RateServer::new(rate(&rt, 0));
     server.start(7, bytes(&rt, 1500));
-    assert!(rt; server.due() == Some(7));
+    assert_same(&rt, server.due(), Some(7));
     server.follow(bytes(&rt, 40));
-    assert!(rt; server.due() == Some(7));
+    assert_same(&rt, server.due(), Some(7));
 }
 
 /// When what is next on its way is due, and what it is, which leaves.
@@ -63,20 +64,20 @@ fn enters(rt: &impl Abort, line: &mut DelayLine<u8>, item: u8, now: u64, delay: 
     requires { IsMoment now }
 {
     let entered = line.enter(item, now, milliseconds(rt, delay));
-    assert!(rt; entered.is_ok());
+    assert_holds!(rt; entered.is_ok());
 }
 
 fn exits_keep_order_on(rt: &impl Abort, line: &mut DelayLine<u8>) {
-    assert!(rt; line.due() == None);
-    assert!(rt; line.enter_ready(0, milliseconds(rt, 100)).is_ok());
+    assert_same(rt, line.due(), None);
+    assert_holds!(rt; line.enter_ready(0, milliseconds(rt, 100)).is_ok());
     enters(rt, line, 1, 0, 100);
     enters(rt, line, 2, 20_000_000, 1);
-    assert!(rt; line.in_flight() == 2);
-    assert!(rt; next(line) == (Some(100_000_000), Some(1)));
-    assert!(rt; next(line) == (Some(100_000_000), Some(2)));
-    assert!(rt; next(line) == (None, None));
+    assert_same(rt, line.in_flight(), 2);
+    assert_same(rt, next(line), (Some(100_000_000), Some(1)));
+    assert_same(rt, next(line), (Some(100_000_000), Some(2)));
+    assert_same(rt, next(line), (None, None));
     enters(rt, line, 3, 100_000_000, 0);
-    assert!(rt; line.due() == Some(100_000_001));
+    assert_same(rt, line.due(), Some(100_000_001));
 }
 
 #[test]
@@ -89,13 +90,13 @@ fn two_enter(rt: &impl Abort, line: &mut DelayLine<u8>, item: u8, delay: Delay) 
     let now = u64::from(item);
     let before = (line.due(), line.in_flight());
     if line.enter_ready(now, delay).is_ok() {
-        assert!(rt; line.enter(item, now, delay) == Ok(()));
+        assert_same(rt, line.enter(item, now, delay), Ok(()));
     } else {
-        assert!(rt; (line.due(), line.in_flight()) == before);
+        assert_holds!(rt; (line.due(), line.in_flight()) == before);
     }
     let before = (line.due(), line.in_flight());
     if line.enter(item, now, delay).is_err() {
-        assert!(rt; (line.due(), line.in_flight()) == before);
+        assert_holds!(rt; (line.due(), line.in_flight()) == before);
     }
 }
 
@@ -111,18 +112,20 @@ fn refused_entries_change_nothing(rt: HostRuntime) {
 }
 
 fn items_are_replaced_on(rt: &impl Abort, line: &mut DelayLine<u8>) {
-    assert!(rt; line.at(0) == None);
+    assert_same(rt, line.at(0), None);
     enters(rt, line, 1, 0, 1);
     enters(rt, line, 2, 0, 2);
     assert!(rt; line.in_flight() == 2);
     line.replace(1, 12);
-    assert_eq!(rt;
+    assert_same(
+        rt,
         (line.at(0), line.at(1), line.at(2)),
-        (Some(1), Some(12), None)
+        (Some(1), Some(12), None),
     );
+    assert!(rt; line.in_flight() == 2);
     line.replace(0, 11);
-    assert!(rt; next(line) == (Some(1_000_000), Some(11)));
-    assert!(rt; next(line) == (Some(2_000_000), Some(12)));
+    assert_same(rt, next(line), (Some(1_000_000), Some(11)));
+    assert_same(rt, next(line), (Some(2_000_000), Some(12)));
 }
 
 /// What is on its way stands at its place, and another item that is put there leaves at the same

@@ -1,5 +1,6 @@
 //! Records of each kind that counts, with counts by hand.
 
+use crate::tests::wants::{assert_record, assert_same};
 use emu_model::{DropCause, Load, Record};
 use pipe_table::*;
 use std::process::Abort;
@@ -60,12 +61,12 @@ fn notes_all(rt: &impl Abort, log: &mut RecordLog) {
 fn counts_go_by_kind_and_cause(rt: HostRuntime) {
     let mut log = RecordLog::new(rt.alloc());
     notes_all(&rt, &mut log);
-    assert!(rt; log.delivered_count() == 2);
-    assert!(rt; log.drops() == [1, 1, 1, 1, 2, 1, 1, 1]);
-    assert!(rt; log.as_slice().get(2) == Some(&delivery_record(2)));
+    assert_same(&rt, log.delivered_count(), 2);
+    assert_same(&rt, log.drops(), [1, 1, 1, 1, 2, 1, 1, 1]);
+    assert_record(&rt, log.as_slice(), 2, delivery_record(2));
     let records = log.into_vec();
-    assert!(rt; records.len() == 13);
-    assert!(rt; records[11] == drop_record(4, DropCause::Full));
+    assert_same(&rt, records.len(), 13);
+    assert_record(&rt, &records, 11, drop_record(4, DropCause::Full));
 }
 
 // How many records there are, and how many packets were delivered.
@@ -76,14 +77,14 @@ fn counts(log: &RecordLog) -> (usize, u64) {
 // Where memory is refused nothing is lost.
 fn keeps_its_records(rt: &impl Abort, log: &mut RecordLog) {
     if log.reserve(1).is_err() {
-        return assert!(rt; counts(log) == (0, 0));
+        return assert_same(rt, counts(log), (0, 0));
     }
     log.note(&delivery_record(1));
     if log.reserve(100).is_err() {
-        return assert!(rt; counts(log) == (1, 1));
+        return assert_same(rt, counts(log), (1, 1));
     }
     log.note(&delivery_record(2));
-    assert!(rt; counts(log) == (2, 2));
+    assert_same(rt, counts(log), (2, 2));
 }
 
 #[test]

@@ -1,3 +1,4 @@
+use crate::tests::wants::assert_same;
 use emu_model::{LossRate, PipeNumber};
 use loss_stream::LossStream;
 use std::process::Abort;
@@ -7,11 +8,11 @@ use std::process::Abort;
 fn two_lost(rt: &impl Abort, first: u32, second: u32) -> [bool; 2] {
     let pipe = PipeNumber::new(1).expect(rt, "a pipe");
     let mut stream = LossStream::new(0, pipe, 0);
-    assert!(rt; stream.drawn() == 0);
+    assert_same(rt, stream.drawn(), 0);
     let one = stream.lose(LossRate::new(first).expect(rt, "a rate"));
-    assert!(rt; stream.drawn() == 1);
+    assert_same(rt, stream.drawn(), 1);
     let other = stream.lose(LossRate::new(second).expect(rt, "a rate"));
-    assert!(rt; stream.drawn() == 2);
+    assert_same(rt, stream.drawn(), 2);
     [one, other]
 }
 
@@ -27,11 +28,11 @@ fn words_are_those_of_the_cipher(rt: HostRuntime) {
         (680_000, [true, true]),
         (1_000_000, [true, true]),
     ] {
-        assert!(rt; two_lost(&rt, *plr, *plr) == *lost);
+        assert_same(&rt, two_lost(&rt, *plr, *plr), *lost);
     }
 }
 
 #[test]
 fn each_packet_draws(rt: HostRuntime) {
-    assert!(rt; two_lost(&rt, 0, 600_000) == [false, true]);
+    assert_same(&rt, two_lost(&rt, 0, 600_000), [false, true]);
 }

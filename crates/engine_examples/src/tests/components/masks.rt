@@ -1,5 +1,6 @@
 //! Masks and instance numbers, with packets chosen by hand.
 
+use crate::tests::wants::assert_same;
 use emu_model::{Load, Mask, Packet, Place, Protocol, RuleNumber, Size};
 use flow_mask::*;
 use std::process::Abort;
@@ -53,10 +54,10 @@ fn number(rt: &impl Abort, instances: &mut Instances, dst: u32) -> u8 {
 fn each_destination_has_its_instance(rt: HostRuntime) {
     let mut instances = Instances::new(rt.alloc());
     for (dst, want) in &[(0x0a00_0002, 0), (0x0a00_0003, 1), (0x0a00_0002, 0)] {
-        assert!(rt; number(&rt, &mut instances, *dst) == *want);
+        assert_same(&rt, number(&rt, &mut instances, *dst), *want);
     }
-    assert!(rt; instances.find(to(0x0a00_0003)) == Some(1));
-    assert!(rt; instances.len() == 2);
+    assert_same(&rt, instances.find(to(0x0a00_0003)), Some(1));
+    assert_same(&rt, instances.len(), 2);
 }
 
 // Whether packets of two protocols, to two destinations and ports, are one flow.
@@ -68,22 +69,22 @@ fn are_one(mask: Mask, one: (Protocol, u32, u16), other: (Protocol, u32, u16)) -
 fn a_mask_tells_its_bits_apart(rt: HostRuntime) {
     use Protocol::{Tcp, Udp};
 
-    assert!(rt; are_one(mask(0, 0, 0), (Udp, 1, 80), (Tcp, 2, 90)));
+    assert_holds!(&rt; are_one(mask(0, 0, 0), (Udp, 1, 80), (Tcp, 2, 90)));
     // 6 and 17 differ, and 8 is a bit of neither.
-    assert!(rt; !are_one(mask(0xff, 0, 0), (Udp, 1, 80), (Tcp, 1, 80)));
-    assert!(rt; are_one(mask(8, 0, 0), (Udp, 1, 80), (Tcp, 1, 80)));
-    assert!(rt; !are_one(mask(0, 0, 1), (Udp, 1, 80), (Udp, 1, 83)));
-    assert!(rt; are_one(mask(0, 0, 1), (Udp, 1, 80), (Udp, 1, 82)));
+    assert_holds!(&rt; !are_one(mask(0xff, 0, 0), (Udp, 1, 80), (Tcp, 1, 80)));
+    assert_holds!(&rt; are_one(mask(8, 0, 0), (Udp, 1, 80), (Tcp, 1, 80)));
+    assert_holds!(&rt; !are_one(mask(0, 0, 1), (Udp, 1, 80), (Udp, 1, 83)));
+    assert_holds!(&rt; are_one(mask(0, 0, 1), (Udp, 1, 80), (Udp, 1, 82)));
 }
 
 fn take_no_257th(rt: &impl Abort, instances: &mut Instances) {
     for low in 0..256u16 {
-        assert!(rt; u16::from(number(rt, instances, u32::from(low))) == low);
+        assert_same(rt, u16::from(number(rt, instances, u32::from(low))), low);
     }
-    assert!(rt; instances.find_or_make_ready(to(256)).is_ok());
+    assert_holds!(rt; instances.find_or_make_ready(to(256)).is_ok());
     let answer = instances.find_or_make(to(256));
-    assert!(rt; matches!(answer, Err(InstanceError::TooMany)));
-    assert!(rt; number(rt, instances, 255) == 255);
+    assert_holds!(rt; matches!(answer, Err(InstanceError::TooMany)));
+    assert_same(rt, number(rt, instances, 255), 255);
 }
 
 #[test]
@@ -110,6 +111,6 @@ fn a_refused_growth_changes_nothing(rt: HostRuntime) {
     let mut instances = Instances::new(rt.alloc());
     for low in 0..20u8 {
         let index = number_in_the_end(&mut instances, u32::from(low));
-        assert!(rt; index == Some(low));
+        assert_same(&rt, index, Some(low));
     }
 }

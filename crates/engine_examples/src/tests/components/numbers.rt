@@ -1,3 +1,4 @@
+use crate::tests::wants::{assert_same, assert_told};
 use due_index::NumberTable;
 use std::process::Abort;
 
@@ -6,7 +7,7 @@ use std::process::Abort;
 fn leads(rt: &impl Abort, table: &mut NumberTable, number: u16, place: u16) {
     let before = around(table, number);
     if table.make_room(number).is_err() {
-        assert!(rt; around(table, number) == before, "it has changed");
+        assert_told(rt, around(table, number) == before, "it has changed");
         table.make_room(number).expect(rt, "memory");
     }
     table.set(number, usize::from(place));
@@ -23,7 +24,7 @@ fn around(table: &NumberTable, number: u16) -> [Option<usize>; 3] {
 
 // Numbers far apart, in no order, and the last of all.
 fn numbers_lead(rt: &impl Abort, table: &mut NumberTable) {
-    assert!(rt; table.get(0).is_none());
+    assert_holds!(rt; table.get(0).is_none());
     for (number, place) in &[(7, 0), (1, 1), (65535, 2), (300, 65535), (0, 4)] {
         leads(rt, table, *number, *place);
     }
@@ -38,11 +39,11 @@ fn numbers_lead(rt: &impl Abort, table: &mut NumberTable) {
         (65534, None),
         (65535, Some(2)),
     ] {
-        assert!(rt; table.get(*number) == *place);
+        assert_same(rt, table.get(*number), *place);
     }
     leads(rt, table, 7, 9);
-    assert!(rt; table.get(7) == Some(9));
-    assert!(rt; table.get(1) == Some(1));
+    assert_same(rt, table.get(7), Some(9));
+    assert_same(rt, table.get(1), Some(1));
 }
 
 #[test]
@@ -55,10 +56,10 @@ fn numbers_lead_to_their_places(rt: HostRuntime) {
 fn many_numbers_lead(rt: &impl Abort, table: &mut NumberTable) {
     for number in 1..40 {
         leads(rt, table, number, 40 - number);
-        assert!(rt; table.get(number) == Some(usize::from(40 - number)));
+        assert_same(rt, table.get(number), Some(usize::from(40 - number)));
     }
     for number in 1..40 {
-        assert!(rt; table.get(number).is_some());
+        assert_holds!(rt; table.get(number).is_some());
     }
 }
 

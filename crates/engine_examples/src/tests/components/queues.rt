@@ -2,6 +2,7 @@
 
 ghost use Rattle.emu_model.specs.Moments.{IsMoment};
 
+use crate::tests::wants::assert_same;
 use emu_model::{CodelTime, KByteLimit, QueueLimit, Size, SlotLimit};
 use queue_disc::*;
 use std::alloc::{AllocError, Global};
@@ -31,11 +32,11 @@ fn cause(refused: Result<(), Refused<u32>>) -> Option<EnqueueError> {
 #[test]
 fn control_law_rounds_down(rt: HostRuntime) {
     let interval = time(&rt, 100 * MILLISECOND);
-    assert!(rt; control_law(112_000_000, 1, interval) == 212_000_000);
-    assert!(rt; control_law(212_000_000, 2, interval) == 282_710_678);
+    assert_same(&rt, control_law(112_000_000, 1, interval), 212_000_000);
+    assert_same(&rt, control_law(212_000_000, 2, interval), 282_710_678);
     let longest = time(&rt, 60_000 * MILLISECOND);
-    assert!(rt; control_law(0, 4, longest) == 30_000 * MILLISECOND);
-    assert!(rt; control_law(7, u32::MAX, time(&rt, 1000)) == 7);
+    assert_same(&rt, control_law(0, 4, longest), 30_000 * MILLISECOND);
+    assert_same(&rt, control_law(7, u32::MAX, time(&rt, 1000)), 7);
 }
 
 /// Wants a packet to be taken, or to be refused for this cause, at ten times its number.
@@ -48,7 +49,7 @@ fn comes(
 ) {
     let now = 10 * u64::from(packet);
     let answer = cause(tail.enqueue(packet, size(rt, bytes), now));
-    assert!(rt; answer == wanted);
+    assert_holds!(rt; answer == wanted);
 }
 
 /// The same of a queue under CoDel.
@@ -61,7 +62,7 @@ fn comes_to_codel(
 ) {
     let now = 10 * u64::from(packet);
     let answer = cause(queue.enqueue(packet, size(rt, bytes), now));
-    assert!(rt; answer == wanted);
+    assert_holds!(rt; answer == wanted);
 }
 
 const FULL: Option<EnqueueError> = Some(EnqueueError::Full);
@@ -75,15 +76,15 @@ fn parts(given: Option<Queued<u32>>) -> Option<(u32, u16, u64)> {
 }
 
 fn slots_limit(rt: &impl Abort, queue: &mut DropTail<u32>) {
-    assert!(rt; queue.enqueue_ready(size(rt, 40), 0) == Ok(()));
+    assert_same(rt, queue.enqueue_ready(size(rt, 40), 0), Ok(()));
     comes(rt, queue, 5, 40, None);
     comes(rt, queue, 6, 1500, None);
     comes(rt, queue, 7, 40, FULL);
-    assert!(rt; (queue.waiting(), queue.bytes()) == (2, 1540));
+    assert_same(rt, (queue.waiting(), queue.bytes()), (2, 1540));
     queue.set_limit(slots(rt, 1));
-    assert!(rt; parts(queue.dequeue()) == Some((5, 40, 50)));
+    assert_same(rt, parts(queue.dequeue()), Some((5, 40, 50)));
     comes(rt, queue, 8, 40, FULL);
-    assert!(rt; (queue.waiting(), queue.bytes()) == (1, 1500));
+    assert_same(rt, (queue.waiting(), queue.bytes()), (1, 1500));
 }
 
 #[test]
@@ -97,7 +98,7 @@ fn kbytes_limit(rt: &impl Abort, queue: &mut DropTail<u32>) {
     comes(rt, queue, 1, 600, None);
     comes(rt, queue, 2, 600, FULL);
     comes(rt, queue, 3, 424, None);
-    assert!(rt; (queue.waiting(), queue.bytes()) == (2, 1024));
+    assert_same(rt, (queue.waiting(), queue.bytes()), (2, 1024));
 }
 
 #[test]
@@ -124,12 +125,12 @@ fn come(rt: &impl Abort, queue: &mut Codel<u32>, first: u32, count: u32, now: u6
     for place in 0..count {
         let packet = first.saturating_add(place);
         let answer = cause(queue.enqueue(packet, size(rt, 1000), now));
-        assert!(rt; answer == None);
+        assert_same(rt, answer, None);
     }
 }
 
 fn note(rt: &impl Abort, events: &mut Vec<Event>, event: Event) {
-    assert!(rt; events.push(event).is_ok());
+    assert_holds!(rt; events.push(event).is_ok());
 }
 
 /// Notes the drops of a dequeue at a moment, and what is given from `from` on.
@@ -173,7 +174,7 @@ fn serve(
 }
 
 fn are(rt: &impl Abort, events: &Vec<Event>, wanted: &[Event]) {
-    assert!(rt; events.as_slice() == wanted);
+    assert_holds!(rt; events.as_slice() == wanted);
 }
 
 /// Wants this of so many packets that come at 0.
@@ -249,7 +250,7 @@ fn codel_begins_again_after_it_ended(rt: HostRuntime) {
     come(&rt, &mut queue, 0, 30, 0);
     let mut events = Vec::new(rt.alloc());
     serve(&rt, &mut queue, 0, 28, 216 * MILLISECOND, &mut events);
-    assert!(rt; queue.bytes() == 1000);
+    assert_same(&rt, queue.bytes(), 1000);
     come(&rt, &mut queue, 30, 20, 216 * MILLISECOND);
     serve(&rt, &mut queue, 28, 43, 320 * MILLISECOND, &mut events);
     are(&rt, &events, &BEGUN_AGAIN);
@@ -285,11 +286,11 @@ fn queues_refuse(
     let small = size(rt, 40);
     let refused = Some(EnqueueError::NoMemory);
     comes(rt, tail, 1, 40, refused);
-    assert!(rt; tail.enqueue_ready(small, 0) == Err(AllocError));
+    assert_same(rt, tail.enqueue_ready(small, 0), Err(AllocError));
     comes_to_codel(rt, fresh, 1, 40, refused);
-    assert!(rt; fresh.enqueue_ready(small, 0) == Err(AllocError));
-    assert!(rt; dropping.dequeue(300 * MILLISECOND).is_err());
-    assert!(rt; (dropping.waiting(), dropping.bytes()) == (3, 3000));
+    assert_same(rt, fresh.enqueue_ready(small, 0), Err(AllocError));
+    assert_holds!(rt; dropping.dequeue(300 * MILLISECOND).is_err());
+    assert_same(rt, (dropping.waiting(), dropping.bytes()), (3, 3000));
 }
 
 fn queues_go_on(
@@ -304,8 +305,8 @@ fn queues_go_on(
         .dequeue(300 * MILLISECOND)
         .ok()
         .expect(rt, "memory");
-    assert!(rt; served.dropped.len() == 1);
-    assert!(rt; parts(served.given) == Some((2, 1000, 0)));
+    assert_same(rt, served.dropped.len(), 1);
+    assert_same(rt, parts(served.given), Some((2, 1000, 0)));
 }
 
 #[test]
@@ -314,7 +315,7 @@ fn memory_that_runs_out_changes_nothing(rt: HostRuntime) {
     let mut fresh = codel(&rt);
     let mut dropping = codel(&rt);
     come(&rt, &mut dropping, 0, 4, 0);
-    assert!(rt; dropping.dequeue(100 * MILLISECOND).is_ok());
+    assert_holds!(&rt; dropping.dequeue(100 * MILLISECOND).is_ok());
     let mut blocks = Vec::with_capacity(rt.alloc(), MOST_BLOCKS).expect(&rt, "memory");
     let filled = fill(rt.alloc(), &mut blocks);
     if filled {
@@ -328,14 +329,14 @@ fn memory_that_runs_out_changes_nothing(rt: HostRuntime) {
 
 /// What waits stands at its place, and another item that is put there keeps its size and its stamp.
 fn tail_is_replaced(rt: &impl Abort, tail: &mut DropTail<u32>) {
-    assert!(rt; tail.at(0) == None);
+    assert_same(rt, tail.at(0), None);
     for packet in 0..3 {
         comes(rt, tail, packet, 100 + packet as u16, None);
     }
     assert!(rt; tail.waiting() == 3);
     tail.replace(1, 11);
     let items = [tail.at(0), tail.at(1), tail.at(2), tail.at(3)];
-    assert!(rt; items == [Some(0), Some(11), Some(2), None]);
+    assert_holds!(rt; items == [Some(0), Some(11), Some(2), None]);
 }
 
 fn codel_is_replaced(rt: &impl Abort, queue: &mut Codel<u32>) {
@@ -347,11 +348,11 @@ fn codel_is_replaced(rt: &impl Abort, queue: &mut Codel<u32>) {
     assert!(rt; queue.waiting() == 3);
     queue.replace(1, 11);
     let items = [queue.at(0), queue.at(1), queue.at(3)];
-    assert!(rt; items == [Some(10), Some(11), None]);
-    assert!(rt; (queue.waiting(), queue.bytes()) == (3, 303));
+    assert_holds!(rt; items == [Some(10), Some(11), None]);
+    assert_same(rt, (queue.waiting(), queue.bytes()), (3, 303));
     for wanted in [(10, 100, 0), (11, 101, 10), (2, 102, 20)] {
         let dequeued = queue.dequeue(20).ok().expect(rt, "memory");
-        assert!(rt; parts(dequeued.given) == Some(wanted));
+        assert_holds!(rt; parts(dequeued.given) == Some(wanted));
     }
 }
 

@@ -1,5 +1,6 @@
 //! The ranges of a scenario's numbers, the order of dues, and the size of a record.
 
+use crate::tests::wants::assert_same;
 use emu_model::*;
 use std::process::Abort;
 
@@ -68,50 +69,50 @@ fn takes_64<const LOW: u64, const HIGH: u64>(value: u64) -> bool {
 // Each range of a scenario.
 #[test]
 fn makers_keep_their_ranges(rt: HostRuntime) {
-    assert!(rt; keeps_16(Size::new(0), 40, 1500));
-    assert!(rt; keeps_32(RuleNumber::new(0), 0, 99_999));
-    assert!(rt; keeps_8(PrefixLength::new(0), 0, 32));
-    assert!(rt; keeps_16(PipeNumber::new(0), 1, 65_535));
-    assert!(rt; keeps_16(FlowNumber::new(0), 1, 65_535));
-    assert!(rt; keeps_64(Bandwidth::new(0), 0, 10_000_000_000));
-    assert!(rt; keeps_16(Delay::new(0), 0, 60_000));
-    assert!(rt; keeps_16(SlotLimit::new(0), 1, 1000));
-    assert!(rt; keeps_16(KByteLimit::new(0), 1, 1024));
-    assert!(rt; keeps_32(LossRate::new(0), 0, 1_000_000));
-    assert!(rt; keeps_64(CodelTime::new(0), 1000, 60_000_000_000));
-    assert!(rt; keeps_16(SegmentSize::new(0), 64, 1460));
-    assert!(rt; keeps_32(Amount::new(0), 1, 1_000_000));
-    assert!(rt; keeps_64(Gap::new(0), 0, 1_000_000_000_000));
-    assert!(rt; keeps_32(Threshold::new(0), 1, 1_000_000_000));
-    assert!(rt; keeps_16(Window::new(0), 1, 65_535));
-    assert!(rt; keeps_16(Timeout::new(0), 1, 60_000));
-    assert!(rt; keeps_16(PacketBudget::new(0), 1, 65_535));
-    assert!(rt; keeps_32(StepBudget::new(0), 1, 10_000_000));
+    assert_holds!(&rt; keeps_16(Size::new(0), 40, 1500));
+    assert_holds!(&rt; keeps_32(RuleNumber::new(0), 0, 99_999));
+    assert_holds!(&rt; keeps_8(PrefixLength::new(0), 0, 32));
+    assert_holds!(&rt; keeps_16(PipeNumber::new(0), 1, 65_535));
+    assert_holds!(&rt; keeps_16(FlowNumber::new(0), 1, 65_535));
+    assert_holds!(&rt; keeps_64(Bandwidth::new(0), 0, 10_000_000_000));
+    assert_holds!(&rt; keeps_16(Delay::new(0), 0, 60_000));
+    assert_holds!(&rt; keeps_16(SlotLimit::new(0), 1, 1000));
+    assert_holds!(&rt; keeps_16(KByteLimit::new(0), 1, 1024));
+    assert_holds!(&rt; keeps_32(LossRate::new(0), 0, 1_000_000));
+    assert_holds!(&rt; keeps_64(CodelTime::new(0), 1000, 60_000_000_000));
+    assert_holds!(&rt; keeps_16(SegmentSize::new(0), 64, 1460));
+    assert_holds!(&rt; keeps_32(Amount::new(0), 1, 1_000_000));
+    assert_holds!(&rt; keeps_64(Gap::new(0), 0, 1_000_000_000_000));
+    assert_holds!(&rt; keeps_32(Threshold::new(0), 1, 1_000_000_000));
+    assert_holds!(&rt; keeps_16(Window::new(0), 1, 65_535));
+    assert_holds!(&rt; keeps_16(Timeout::new(0), 1, 60_000));
+    assert_holds!(&rt; keeps_16(PacketBudget::new(0), 1, 65_535));
+    assert_holds!(&rt; keeps_32(StepBudget::new(0), 1, 10_000_000));
 }
 
 #[test]
 fn ports_stand_in_order(rt: HostRuntime) {
-    assert!(rt; PortRange::new(10, 20).is_some());
-    assert!(rt; PortRange::new(20, 20).is_some());
-    assert!(rt; PortRange::new(20, 10).is_none());
+    assert_holds!(&rt; PortRange::new(10, 20).is_some());
+    assert_holds!(&rt; PortRange::new(20, 20).is_some());
+    assert_holds!(&rt; PortRange::new(20, 10).is_none());
 }
 
 // What is left of 10.1.2.3 at a length, which is kept.
 fn cleared_address(rt: &impl Abort, len: u8) -> u32 {
     let length = PrefixLength::new(len).expect(rt, "a length");
     let prefix = Prefix::new(0x0a010203, length);
-    assert!(rt; prefix.length().get() == len);
+    assert_same(rt, prefix.length().get(), len);
     prefix.address()
 }
 
 #[test]
 fn prefix_clears_what_is_past_its_length(rt: HostRuntime) {
-    assert!(rt; cleared_address(&rt, 0) == 0);
-    assert!(rt; cleared_address(&rt, 8) == 0x0a000000);
-    assert!(rt; cleared_address(&rt, 15) == 0x0a000000);
-    assert!(rt; cleared_address(&rt, 16) == 0x0a010000);
-    assert!(rt; cleared_address(&rt, 31) == 0x0a010202);
-    assert!(rt; cleared_address(&rt, 32) == 0x0a010203);
+    assert_same(&rt, cleared_address(&rt, 0), 0);
+    assert_same(&rt, cleared_address(&rt, 8), 0x0a000000);
+    assert_same(&rt, cleared_address(&rt, 15), 0x0a000000);
+    assert_same(&rt, cleared_address(&rt, 16), 0x0a010000);
+    assert_same(&rt, cleared_address(&rt, 31), 0x0a010202);
+    assert_same(&rt, cleared_address(&rt, 32), 0x0a010203);
 }
 
 fn due(moment: u64, class: Class, number: u32) -> Due {
@@ -142,7 +143,7 @@ fn dues_stand_in_order(rt: HostRuntime) {
         due(6, Class::Finish, 0),
     ];
     for (place, earlier) in rising.iter().enumerate() {
-        assert!(rt; is_before_all_from(earlier, &rising, place));
+        assert_holds!(&rt; is_before_all_from(earlier, &rising, place));
     }
 }
 
@@ -163,11 +164,11 @@ fn ranges_of_a_command_are_told(rt: HostRuntime) {
     let size = Size::new(1500).expect(&rt, "a size");
     let command = inject(size);
     command_in_range(&command);
-    assert!(rt; command == inject(size));
+    assert_holds!(&rt; command == inject(size));
 }
 
 #[test]
 fn records_are_small(rt: HostRuntime) {
-    assert!(rt; size_of::<Record>() <= 72);
-    assert!(rt; size_of::<Timed>() <= 80);
+    assert_holds!(&rt; size_of::<Record>() <= 72);
+    assert_holds!(&rt; size_of::<Timed>() <= 80);
 }

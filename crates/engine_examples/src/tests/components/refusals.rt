@@ -18,7 +18,7 @@ fn refused_commands_have_their_numbers(rt: HostRuntime) {
         Refusal::TooManyPipes as u8,
         Refusal::TooManyFlows as u8,
     ];
-    assert!(rt; numbers == [10, 11, 12, 13, 20, 21, 22, 23, 24, 25]);
+    assert_holds!(&rt; numbers == [10, 11, 12, 13, 20, 21, 22, 23, 24, 25]);
 }
 
 #[test]
@@ -33,7 +33,7 @@ fn drops_have_the_numbers_of_their_causes(rt: HostRuntime) {
         DropCause::Deleted as u8,
         DropCause::Budget as u8,
     ];
-    assert!(rt; numbers == [1, 2, 3, 4, 5, 6, 7, 8]);
+    assert_holds!(&rt; numbers == [1, 2, 3, 4, 5, 6, 7, 8]);
 }
 
 #[test]
@@ -43,5 +43,5 @@ fn refused_packets_have_their_numbers(rt: HostRuntime) {
         PutError::NoMemory as u8,
         InstanceError::NoMemory as u8,
     ];
-    assert!(rt; numbers == [50, 99, 99]);
+    assert_holds!(&rt; numbers == [50, 99, 99]);
 }

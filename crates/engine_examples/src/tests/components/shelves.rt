@@ -1,5 +1,6 @@
 //! Budgets, keys and refusals, with numbers chosen by hand.
 
+use crate::tests::wants::assert_same;
 use emu_model::{Load, Packet, PacketBudget, Place, Protocol, RuleNumber, Size};
 use packet_store::*;
 use std::process::Abort;
@@ -77,20 +78,20 @@ fn is_over_budget<S: Shelf>(shelf: &mut S, owner: Owner) -> bool {
 fn keeps_its_budget<S: Shelf>(rt: &impl Abort, shelf: &mut S) {
     let first = puts(rt, shelf, 0, 10);
     let second = puts(rt, shelf, 0, 11);
-    assert!(rt; is_over_budget(shelf, 0));
-    assert!(rt; look(shelf, 0, second) == Some(11));
-    assert!(rt; (shelf.count(0), shelf.count(1)) == (2, 0));
-    assert!(rt; take(shelf, 0, first) == Some(10));
-    assert!(rt; (shelf.count(0), shelf.count(1)) == (1, 0));
-    assert!(rt; take(shelf, 0, first) == None);
-    assert!(rt; puts(rt, shelf, 0, 13) == first);
-    assert!(rt; is_over_budget(shelf, 1));
+    assert_holds!(rt; is_over_budget(shelf, 0));
+    assert_same(rt, look(shelf, 0, second), Some(11));
+    assert_same(rt, (shelf.count(0), shelf.count(1)), (2, 0));
+    assert_holds!(rt; take(shelf, 0, first) == Some(10));
+    assert_same(rt, (shelf.count(0), shelf.count(1)), (1, 0));
+    assert_holds!(rt; take(shelf, 0, first) == None);
+    assert_holds!(rt; puts(rt, shelf, 0, 13) == first);
+    assert_holds!(rt; is_over_budget(shelf, 1));
 }
 
 #[test]
 fn own_shelf_keeps_its_budget(rt: HostRuntime) {
     let mut shelf = OwnShelf::new(rt.alloc(), budget(&rt, 2));
-    assert!(rt; shelf.reserve(1000).is_ok());
+    assert_holds!(&rt; shelf.reserve(1000).is_ok());
     keeps_its_budget(&rt, &mut shelf);
 }
 
@@ -105,18 +106,18 @@ fn new_owner(rt: &impl Abort, store: &mut Store, packets: u16) -> Owner {
 fn floods(rt: &impl Abort, store: &mut Store) {
     let quiet = new_owner(rt, store, 2);
     let loud = new_owner(rt, store, 65535);
-    assert!(rt; flood(store, loud) == Some(65535));
+    assert_holds!(rt; flood(store, loud) == Some(65535));
     let kept = puts(rt, store, quiet, 20);
-    assert!(rt; look(store, loud, kept) != Some(20));
-    assert!(rt; flood(store, quiet) == Some(1));
-    assert!(rt; (store.count(quiet), store.count(loud)) == (2, 65535));
+    assert_holds!(rt; look(store, loud, kept) != Some(20));
+    assert_same(rt, flood(store, quiet), Some(1));
+    assert_holds!(rt; (store.count(quiet), store.count(loud)) == (2, 65535));
 
     // What a dismissed owner held is gone, and its number is given out anew.
     store.dismiss(loud);
-    assert!(rt; flood(store, loud) == Some(0));
-    assert!(rt; look(store, quiet, kept) == Some(20));
-    assert!(rt; new_owner(rt, store, 3) == loud);
-    assert!(rt; flood(store, loud) == Some(3));
+    assert_holds!(rt; flood(store, loud) == Some(0));
+    assert_same(rt, look(store, quiet, kept), Some(20));
+    assert_holds!(rt; new_owner(rt, store, 3) == loud);
+    assert_holds!(rt; flood(store, loud) == Some(3));
 }
 
 #[test]
@@ -129,8 +130,8 @@ fn grows(rt: &impl Abort, store: &mut Store) {
     let first = new_owner(rt, store, 3);
     let kept = puts(rt, store, first, 40);
     let second = new_owner(rt, store, 3);
-    assert!(rt; look(store, first, kept) == Some(40));
-    assert!(rt; flood(store, second) == Some(3));
+    assert_same(rt, look(store, first, kept), Some(40));
+    assert_same(rt, flood(store, second), Some(3));
 }
 
 // Passes with ample memory, and where any one allocation of it is refused: a refused call left all as
@@ -146,9 +147,9 @@ fn puts_in_the_end<S: Shelf>(rt: &impl Abort, shelf: &mut S) {
         Ok(key) => key,
         Err(_) => puts(rt, shelf, 0, 50),
     };
-    assert!(rt; shelf.put_ready(0).is_ok() || shelf.put_ready(0).is_ok());
-    assert!(rt; look(shelf, 0, first) == Some(50));
-    assert!(rt; flood(shelf, 0) == Some(2));
+    assert_holds!(rt; shelf.put_ready(0).is_ok() || shelf.put_ready(0).is_ok());
+    assert_holds!(rt; look(shelf, 0, first) == Some(50));
+    assert_same(rt, flood(shelf, 0), Some(2));
 }
 
 #[test]

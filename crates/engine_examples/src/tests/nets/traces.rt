@@ -69,24 +69,24 @@ fn other_thousand() -> Option<SendSpec> {
 // With `trace` a making, the instance that it makes, and an arrival are recorded, and a making that the
 // budget drops; without it none.
 #[test]
-fn traced_budget(rt: HostRuntime) -> Result<(), Fail> {
-    let room = PacketBudget::new(1).ok_or("budget")?;
-    let one = PipeNumber::new(1).ok_or("1")?;
-    let config = pipe(1, 0, 100).ok_or("pipe")?;
-    let all = rule(100, Action::Pipe(one)).ok_or("rule")?;
+fn traced_budget(rt: HostRuntime) {
+    let room = PacketBudget::new(1).expect(&rt, "budget");
+    let one = PipeNumber::new(1).expect(&rt, "1");
+    let config = pipe(1, 0, 100).expect(&rt, "pipe");
+    let all = rule(100, Action::Pipe(one)).expect(&rt, "rule");
     let commands = [
         timed_command(0, Command::Trace(true)),
         timed_command(0, config),
         timed_command(0, Command::Add(all)),
-        timed_command(0, Command::Inject(thousand().ok_or("packet")?)),
-        timed_command(0, Command::Inject(thousand().ok_or("packet")?)),
+        timed_command(0, Command::Inject(thousand().expect(&rt, "packet"))),
+        timed_command(0, Command::Inject(thousand().expect(&rt, "packet"))),
         timed_command(5, Command::Trace(false)),
-        timed_command(5, Command::Inject(thousand().ok_or("packet")?)),
+        timed_command(5, Command::Inject(thousand().expect(&rt, "packet"))),
         timed_command(6, Command::End),
     ];
     let expected = [
         done_record(0, 3),
-        make_record(0, 0).ok_or("size")?,
+        make_record(0, 0).expect(&rt, "size"),
         Record::InstanceIdentified {
             moment: 0,
             pipe: one,
@@ -104,7 +104,7 @@ fn traced_budget(rt: HostRuntime) -> Result<(), Fail> {
             instance: 0,
         },
         done_record(0, 4),
-        make_record(0, 1).ok_or("size")?,
+        make_record(0, 1).expect(&rt, "size"),
         drop_record(0, 1, DropCause::Budget),
         finish_record(0, 0, one),
         done_record(5, 5),
@@ -112,29 +112,28 @@ fn traced_budget(rt: HostRuntime) -> Result<(), Fail> {
         drop_record(5, 2, DropCause::Budget),
         done_record(6, 7),
     ];
-    let records = plays(rt.alloc(), room, &commands).ok_or("memory")?;
-    assert_eq!(rt; records.len(), 15);
-    assert!(rt; records[3..] == expected[..]);
-    Ok(())
+    let records = plays(rt.alloc(), room, &commands).expect(&rt, "memory");
+    assert_same(&rt, records.len(), 15);
+    assert_records(&rt, &records, 3, &expected);
 }
 
 // A command and an event that each make an instance, and an event that makes none. Passes with ample
 // memory, and where any one allocation is refused: what is refused leaves all as it was (`obeys` and
 // `goes_on` look at that), and makes its three lines at the second try.
 #[test]
-fn refused_trace_changes_nothing(rt: HostRuntime) -> Result<(), Fail> {
-    let room = PacketBudget::new(10).ok_or("budget")?;
-    let one = PipeNumber::new(1).ok_or("1")?;
-    let masked = pipe_for_each_source(one).ok_or("pipe")?;
-    let all = rule(100, Action::Pipe(one)).ok_or("rule")?;
-    let send = thousand().ok_or("packet")?;
-    let other = other_thousand().ok_or("packet")?;
+fn refused_trace_changes_nothing(rt: HostRuntime) {
+    let room = PacketBudget::new(10).expect(&rt, "budget");
+    let one = PipeNumber::new(1).expect(&rt, "1");
+    let masked = pipe_for_each_source(one).expect(&rt, "pipe");
+    let all = rule(100, Action::Pipe(one)).expect(&rt, "rule");
+    let send = thousand().expect(&rt, "packet");
+    let other = other_thousand().expect(&rt, "packet");
     let train = TrainSpec {
         packet: other,
-        count: Amount::new(2).ok_or("count")?,
-        gap: Gap::new(4_000_000).ok_or("gap")?,
+        count: Amount::new(2).expect(&rt, "count"),
+        gap: Gap::new(4_000_000).expect(&rt, "gap"),
     };
-    let number = FlowNumber::new(7).ok_or("7")?;
+    let number = FlowNumber::new(7).expect(&rt, "7");
     let commands = [
         timed_command(0, Command::Trace(true)),
         timed_command(0, masked),
@@ -165,7 +164,6 @@ fn refused_trace_changes_nothing(rt: HostRuntime) -> Result<(), Fail> {
         delivery_record(26_000_000, 2, Load::Plain),
         done_record(30_000_000, 5),
     ];
-    let records = plays(rt.alloc(), room, &commands).ok_or("refused twice, or changed")?;
-    assert!(rt; records[..] == expected[..]);
-    Ok(())
+    let records = plays(rt.alloc(), room, &commands).expect(&rt, "refused twice, or changed");
+    assert_records(&rt, &records, 0, &expected);
 }

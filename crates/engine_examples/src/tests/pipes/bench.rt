@@ -402,8 +402,8 @@ pub fn plays(rt: &(impl Abort + AllocGlobal), config: PipeConfig, acts: &[Act], 
     let mut bench = Bench::new(rt.alloc(), config).expect(rt, "a pipe");
     let played = bench.play(rt.alloc(), acts, &mut notes);
     drop(bench);
-    assert!(rt; played.is_some());
-    assert!(rt; notes.as_slice() == wanted);
+    assert_holds!(rt; played.is_some());
+    assert_holds!(rt; notes.as_slice() == wanted);
 }
 
 fn packet(number: u64, dst: u32, size: u16) -> Option<Packet> {

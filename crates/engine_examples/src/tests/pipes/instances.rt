@@ -1,6 +1,7 @@
 //! Worked pipes of one instance, with their moments from the texts that go with them.
 
 use super::*;
+use crate::tests::wants::assert_same;
 use emu_model::{
     Load, Packet, PacketBudget, PipeNumber, Place, Protocol, RuleNumber, Size, SlotLimit,
 };
@@ -98,7 +99,7 @@ fn plain_config(rt: &impl Abort, bw: u64, delay: u16) -> PipeConfig {
 fn one_arrives(rt: &impl Abort, instance: &mut Instance, shelf: &mut OwnShelf) {
     let size = Size::new(1000).expect(rt, "a size");
     if arrive(instance, shelf, 0, 7, size).is_none() {
-        assert!(rt; arrive(instance, shelf, 0, 7, size) == Some(Arrival::In));
+        assert_same(rt, arrive(instance, shelf, 0, 7, size), Some(Arrival::In));
     }
 }
 
@@ -115,11 +116,11 @@ fn configured_and_given_up(rt: HostRuntime) {
     instance.configure(&first, &second);
     let mut shelf = OwnShelf::new(rt.alloc(), budget);
     one_arrives(&rt, &mut instance, &mut shelf);
-    assert!(rt; instance.dues().finish == Some(4_000_000));
+    assert_holds!(&rt; instance.dues().finish == Some(4_000_000));
     let mut leftovers = instance.into_leftovers();
     let key = leftovers.next().expect(&rt, "a packet");
-    assert!(rt; number_at(&shelf, key) == 7);
-    assert!(rt; leftovers.next().is_none());
+    assert_same(&rt, number_at(&shelf, key), 7);
+    assert_holds!(&rt; leftovers.next().is_none());
 }
 
 /// Three packets, of which one is on its way, one in service and one waits, change places by their
@@ -163,8 +164,8 @@ fn keys_are_replaced_in_place(rt: HostRuntime) {
     let number = PipeNumber::new(1).expect(&rt, "a number");
     let budget = PacketBudget::new(3).expect(&rt, "a budget");
     let mut instance = Instance::new(rt.alloc(), &config, 0, number, 0);
-    assert!(rt; instance.key_count() == 0);
-    assert!(rt; instance.key_at(0).is_none());
+    assert_same(&rt, instance.key_count(), 0);
+    assert_holds!(&rt; instance.key_at(0).is_none());
     let mut shelf = OwnShelf::new(rt.alloc(), budget);
     let mut left = Vec::new(rt.alloc());
     let mut keys = Vec::new(rt.alloc());
@@ -175,7 +176,7 @@ fn keys_are_replaced_in_place(rt: HostRuntime) {
         &mut keys,
         config.delay,
     );
-    assert!(rt; changed.is_some());
+    assert_holds!(&rt; changed.is_some());
     let wanted = [(28_000_000, 2), (36_000_000, 1), (44_000_000, 0)];
-    assert!(rt; left.as_slice() == wanted.as_slice());
+    assert_holds!(&rt; left.as_slice() == wanted.as_slice());
 }

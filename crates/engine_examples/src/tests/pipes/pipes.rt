@@ -3,6 +3,7 @@
 
 use super::bench::{Act, FIRST, Fate, SECOND, keep, number_at, plays, thousand};
 use super::*;
+use crate::tests::wants::assert_same;
 use emu_model::{PacketBudget, Refusal, SlotLimit};
 use link_core::DelayLine;
 use packet_store::{OwnShelf, Shelf, Store};
@@ -138,8 +139,8 @@ fn a_line_that_moves_goes_on(rt: HostRuntime) {
     let mut line = DelayLine::new(rt.alloc());
     line.enter(key, 0, delay).expect(&rt, "memory");
     rehouse_line(&mut line, &mut shelf, 0, &mut store, owner);
-    assert!(rt; (line.due(), line.in_flight()) == (Some(1_000_000), 1));
-    assert!(rt; (shelf.count(0), store.count(owner)) == (0, 1));
+    assert_same(&rt, (line.due(), line.in_flight()), (Some(1_000_000), 1));
+    assert_same(&rt, (shelf.count(0), store.count(owner)), (0, 1));
     let key = line.leave().expect(&rt, "a packet");
-    assert!(rt; number_at(&store, owner, key) == Some(7));
+    assert_same(&rt, number_at(&store, owner, key), Some(7));
 }

@@ -1,5 +1,10 @@
 //! What stands in the table, with numbers chosen by hand.
 
+ghost use Rattle.std.specs.Prelude.{[], ◌≡◌};
+ghost use Rattle.packet_store.specs.Own.{own_pocket};
+ghost use Rattle.packet_store.specs.Pocket.{empty_pocket};
+
+use crate::tests::wants::assert_same;
 use due_index::DueNumber;
 use emu_model::{
     Bandwidth, Class, Delay, Discipline, Due, Load, LossRate, Mask, Packet, PacketBudget,
@@ -9,7 +14,6 @@ use emu_model::{
 use packet_store::{OwnShelf, Shelf};
 use pipe_table::*;
 use std::process::Abort;
-use std::test::Fail;
 
 fn config(bw: u64, delay: u16) -> Option<PipeConfig> {
     Some(PipeConfig {
@@ -84,13 +88,13 @@ fn number(rt: &impl Abort, value: u16) -> PipeNumber {
 fn pipes_stand_by_number(rt: HostRuntime) {
     let mut pipes = PipeTable::new(rt.alloc(), 0);
     let slow = slow_config(&rt);
-    assert!(rt; configures(&mut pipes, 7, &slow));
-    assert!(rt; configures(&mut pipes, 1, &slow));
-    assert!(rt; configures(&mut pipes, 3, &slow));
+    assert_holds!(&rt; configures(&mut pipes, 7, &slow));
+    assert_holds!(&rt; configures(&mut pipes, 1, &slow));
+    assert_holds!(&rt; configures(&mut pipes, 3, &slow));
     let least = pipes.earliest(DueNumber::of(Some(command(9)))).due();
     let least = least.expect(&rt, "something is due");
-    assert!(rt; is(least, 9, Class::NextCommand, 0));
-    assert!(rt; pipes.lines() == 3);
+    assert_holds!(&rt; is(least, 9, Class::NextCommand, 0));
+    assert_holds!(&rt; pipes.lines() == 3);
 }
 
 // Where memory is refused nothing has changed.
@@ -102,42 +106,53 @@ fn a_refused_pipe_is_not_made(rt: HostRuntime) {
         Err(ConfigureError::NoMemory) => 0,
         Err(ConfigureError::Refused(_)) => 99,
     };
-    assert!(rt; pipes.lines() == wanted);
+    assert_holds!(&rt; pipes.lines() == wanted);
+}
+
+/// A packet comes to a pipe that is made for it; None where memory was refused.
+fn arrives_alone(rt: &impl Abort, pipes: &mut PipeTable, shelf: &mut OwnShelf) -> Option<()>
+    requires empty { pipes.old ≡ record { seed = 0; pipes = [] } }
+    requires room { own_pocket shelf.old ≡ empty_pocket 2 }
+{
+    let one = number(rt, 1);
+    let first = packet(rt, 0);
+    pipes.configure(one, &slow_config(rt)).ok()?;
+    let place = pipes.place_of(one).expect(rt, "a place");
+    pipes.route_ready(shelf, 0, 0, place, &first).ok()?;
+    assert_holds!(rt; pipes.arrive(place, shelf, 0, 0, &first).is_none());
+    Some(())
+}
+
+/// Its finish at 8000000 is appended to what was due before, or nothing where memory was refused.
+fn appends_dues(rt: &(impl Abort + AllocGlobal), pipes: &PipeTable) {
+    let mut dues = Vec::new(rt.alloc());
+    if dues.push(command(9)).is_err() {
+        return;
+    }
+    if pipes.add_dues(&mut dues).is_err() {
+        return assert_same(rt, dues.len(), 1);
+    }
+    assert!(rt; dues.len() == 2);
+    assert_holds!(rt; is(dues[0], 9, Class::NextCommand, 0));
+    assert_holds!(rt; is(dues[1], 8_000_000, Class::Finish, 256));
 }
 
 // A packet of 1000 bytes at 0 finishes at 8000000, behind what was due before.
 #[test]
-fn dues_are_appended(rt: HostRuntime) -> Result<(), Fail> {
-    let mut shelf = OwnShelf::new(rt.alloc(), PacketBudget::new(2).ok_or("budget")?);
+fn dues_are_appended(rt: HostRuntime) {
+    let mut shelf = OwnShelf::new(rt.alloc(), PacketBudget::new(2).expect(&rt, "a budget"));
     let mut pipes = PipeTable::new(rt.alloc(), 0);
-    let slow = config(1_000_000, 10).ok_or("config")?;
-    let one = PipeNumber::new(1).ok_or("1")?;
-    let first = packet(&rt, 0);
-    let mut dues = Vec::new(rt.alloc());
-    let Ok(()) = dues.push(command(9)) else {
-        return Ok(());
-    };
-    let Ok(()) = pipes.configure(one, &slow) else {
-        return Ok(());
-    };
-    let place = pipes.place_of(one).ok_or("place")?;
-    let Ok(_instance) = pipes.route_ready(&mut shelf, 0, 0, place, &first) else {
-        return Ok(());
-    };
-    assert!(rt; pipes.arrive(place, &mut shelf, 0, 0, &first).is_none());
-    let Ok(()) = pipes.add_dues(&mut dues) else {
-        assert_eq!(rt; dues.len(), 1);
-        return Ok(());
-    };
-    assert_eq!(rt; dues.len(), 2);
-    assert!(rt; is(dues[0], 9, Class::NextCommand, 0));
-    assert!(rt; is(dues[1], 8_000_000, Class::Finish, 256));
-    Ok(())
+    let arrived = arrives_alone(&rt, &mut pipes, &mut shelf);
+    drop(shelf);
+    if arrived.is_some() {
+        appends_dues(&rt, &pipes);
+    }
+    drop(pipes);
 }
 
 fn sixty_four_are_there(rt: &impl Abort, pipes: &mut PipeTable, slow: &PipeConfig) {
     for number in 1..65 {
-        assert!(rt; configures(pipes, number, slow));
+        assert_holds!(rt; configures(pipes, number, slow));
     }
 }
 
@@ -148,7 +163,7 @@ fn pipes_are_counted(rt: HostRuntime) {
     let slow = slow_config(&rt);
     sixty_four_are_there(&rt, &mut pipes, &slow);
     let refused = pipes.configure(number(&rt, 65), &slow);
-    assert!(rt; matches!(refused, Err(ConfigureError::Refused(Refusal::TooManyPipes))));
-    assert!(rt; pipes.lines() == 64);
-    assert!(rt; configures(&mut pipes, 64, &slow));
+    assert_holds!(&rt; matches!(refused, Err(ConfigureError::Refused(Refusal::TooManyPipes))));
+    assert_holds!(&rt; pipes.lines() == 64);
+    assert_holds!(&rt; configures(&mut pipes, 64, &slow));
 }

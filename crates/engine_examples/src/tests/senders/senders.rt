@@ -1,31 +1,41 @@
 ghost use Rattle.std.specs.Prelude.{◌*◌, ◌<◌};
 ghost use Rattle.emu_model.specs.Moments.{IsMoment};
 
+use crate::tests::wants::{assert_same, assert_told};
 use emu_model::{Amount, FlowSpec, SegmentSize, Threshold, Timeout, Timing, Window};
 use reno_core::{Receiver, Sender};
 use std::process::Abort;
-use std::test::Fail;
 
-fn segment_size(bytes: u16) -> Result<SegmentSize, Fail> {
-    Ok(SegmentSize::new(bytes).ok_or("no segment size")?)
+fn segment_size(rt: &impl Abort, bytes: u16) -> SegmentSize {
+    SegmentSize::new(bytes).expect(rt, "a segment size")
 }
 
-fn fixed_timing(milliseconds: u16) -> Result<Timing, Fail> {
-    Ok(Timing::Fixed(Timeout::new(milliseconds).ok_or("no time")?))
+fn fixed_timing(rt: &impl Abort, milliseconds: u16) -> Timing {
+    Timing::Fixed(Timeout::new(milliseconds).expect(rt, "a time"))
 }
 
-fn sender(smss: u16, segments: u32, ssthresh: u32, timing: Timing) -> Result<Sender, Fail> {
-    Ok(Sender::new(FlowSpec {
+fn sender(rt: &impl Abort, smss: u16, segments: u32, ssthresh: u32, timing: Timing) -> Sender {
+    Sender::new(FlowSpec {
         src: 0x0a000001,
         sport: 1000,
         dst: 0x0a000002,
         dport: 80,
-        smss: segment_size(smss)?,
-        segments: Amount::new(segments).ok_or("no count")?,
-        ssthresh: Threshold::new(ssthresh).ok_or("no threshold")?,
-        rwnd: Window::new(65535).ok_or("no window")?,
+        smss: segment_size(rt, smss),
+        segments: Amount::new(segments).expect(rt, "a count"),
+        ssthresh: Threshold::new(ssthresh).expect(rt, "a threshold"),
+        rwnd: Window::new(65535).expect(rt, "a window"),
         timing,
-    }))
+    })
+}
+
+/// The first byte of what is sent, if anything may be.
+fn sent(sender: &mut Sender, now: u64) -> Option<u64>
+    requires early { IsMoment now }
+{
+    if !sender.may_emit() {
+        return None;
+    }
+    Some(sender.emit(now))
 }
 
 /// Sends just the segments that begin at these bytes.
@@ -33,11 +43,9 @@ fn sends(rt: &impl Abort, sender: &mut Sender, now: u64, firsts: &[u64])
     requires early { IsMoment now }
 {
     for first in firsts {
-        assert!(rt; sender.may_emit(), "at {first}");
-        let sent = sender.emit(now);
-        assert_eq!(rt; sent, *first);
+        assert_same(rt, sent(sender, now), Some(*first));
     }
-    assert!(rt; !sender.may_emit(), "no more");
+    assert_told(rt, !sender.may_emit(), "no more");
 }
 
 /// What an acknowledgement leaves as cwnd and ssthresh.
@@ -45,7 +53,8 @@ fn check_ack(rt: &impl Abort, sender: &mut Sender, now: u64, upto: u64, wanted: 
     requires early { IsMoment now }
 {
     sender.ack(now, upto);
-    assert_eq!(rt; (sender.cwnd(), sender.ssthresh()), wanted, "after {upto}");
+    let windows = (upto, sender.cwnd(), sender.ssthresh());
+    assert_same(rt, windows, (upto, wanted.0, wanted.1));
 }
 
 /// What an expiry leaves as cwnd and ssthresh.
@@ -53,16 +62,17 @@ fn check_expiry(rt: &impl Abort, sender: &mut Sender, now: u64, wanted: (u64, u6
     requires early { IsMoment now }
 {
     sender.expire(now);
-    assert_eq!(rt; (sender.cwnd(), sender.ssthresh()), wanted, "at {now}");
+    let windows = (now, sender.cwnd(), sender.ssthresh());
+    assert_same(rt, windows, (now, wanted.0, wanted.1));
 }
 
 fn due_at(rt: &impl Abort, sender: &Sender, wanted: Option<u64>) {
-    assert_eq!(rt; sender.due(), wanted);
+    assert_same(rt, sender.due(), wanted);
 }
 
 #[test]
-fn adaptive_times_follow_samples(rt: HostRuntime) -> Result<(), Fail> {
-    let mut adaptive = sender(1000, 100, 65535, Timing::Adaptive)?;
+fn adaptive_times_follow_samples(rt: HostRuntime) {
+    let mut adaptive = sender(&rt, 1000, 100, 65535, Timing::Adaptive);
     sends(&rt, &mut adaptive, 0, &[0, 1000, 2000, 3000]);
     due_at(&rt, &adaptive, Some(1_000_000_000));
     check_ack(&rt, &mut adaptive, 800_000_000, 1000, (5000, 65535));
@@ -72,22 +82,20 @@ fn adaptive_times_follow_samples(rt: HostRuntime) -> Result<(), Fail> {
     due_at(&rt, &adaptive, Some(3_750_000_000));
     check_expiry(&rt, &mut adaptive, 3_750_000_000, (1000, 2000));
     due_at(&rt, &adaptive, Some(8_450_000_000));
-    Ok(())
 }
 
 #[test]
-fn adaptive_times_are_one_second_at_least(rt: HostRuntime) -> Result<(), Fail> {
-    let mut quick = sender(1000, 100, 65535, Timing::Adaptive)?;
+fn adaptive_times_are_one_second_at_least(rt: HostRuntime) {
+    let mut quick = sender(&rt, 1000, 100, 65535, Timing::Adaptive);
     sends(&rt, &mut quick, 0, &[0, 1000, 2000, 3000]);
     check_ack(&rt, &mut quick, 1, 1000, (5000, 65535));
     due_at(&rt, &quick, Some(1_000_000_001));
-    Ok(())
 }
 
 #[test]
-fn slow_start_adds_a_segment(rt: HostRuntime) -> Result<(), Fail> {
-    let mut slow = sender(1460, 4, 65535, fixed_timing(1000)?)?;
-    assert_eq!(rt; slow.cwnd(), 4380);
+fn slow_start_adds_a_segment(rt: HostRuntime) {
+    let mut slow = sender(&rt, 1460, 4, 65535, fixed_timing(&rt, 1000));
+    assert_same(&rt, slow.cwnd(), 4380);
     sends(&rt, &mut slow, 0, &[0, 1460, 2920]);
     due_at(&rt, &slow, Some(1_000_000_000));
     check_ack(&rt, &mut slow, 10, 1460, (5840, 65535));
@@ -97,12 +105,11 @@ fn slow_start_adds_a_segment(rt: HostRuntime) -> Result<(), Fail> {
         check_ack(&rt, &mut slow, 30, upto, (cwnd, 65535));
     }
     due_at(&rt, &slow, None);
-    Ok(())
 }
 
 #[test]
-fn third_duplicate_sends_again(rt: HostRuntime) -> Result<(), Fail> {
-    let mut fast = sender(1000, 8, 4000, fixed_timing(1000)?)?;
+fn third_duplicate_sends_again(rt: HostRuntime) {
+    let mut fast = sender(&rt, 1000, 8, 4000, fixed_timing(&rt, 1000));
     sends(&rt, &mut fast, 0, &[0, 1000, 2000, 3000]);
     for (upto, cwnd, next) in [
         (1000, 4250, 4000),
@@ -118,14 +125,13 @@ fn third_duplicate_sends_again(rt: HostRuntime) -> Result<(), Fail> {
     }
     sends(&rt, &mut fast, 20, &[4000]);
     check_ack(&rt, &mut fast, 30, 8000, (2000, 2000));
-    Ok(())
 }
 
 // Duplicates let new segments through after the first expiry, so 10 segments are under way at the
 // second: half of them would be 5000.
 #[test]
-fn second_expiry_holds_the_threshold(rt: HostRuntime) -> Result<(), Fail> {
-    let mut late = sender(1000, 20, 65535, fixed_timing(1000)?)?;
+fn second_expiry_holds_the_threshold(rt: HostRuntime) {
+    let mut late = sender(&rt, 1000, 20, 65535, fixed_timing(&rt, 1000));
     sends(&rt, &mut late, 0, &[0, 1000, 2000, 3000]);
     for (upto, cwnd) in [(1000, 5000), (2000, 6000), (3000, 7000), (4000, 8000)] {
         check_ack(&rt, &mut late, 20_000_000, upto, (cwnd, 65535));
@@ -149,36 +155,43 @@ fn second_expiry_holds_the_threshold(rt: HostRuntime) -> Result<(), Fail> {
     check_ack(&rt, &mut late, 7_000_000_000, 14000, (2000, 4000));
     sends(&rt, &mut late, 7_000_000_000, &[14000, 15000]);
     due_at(&rt, &late, Some(8_000_000_000));
-    Ok(())
+}
+
+/// A segment that was made ready is acknowledged up to here.
+fn takes(rt: &impl Abort, receiver: &mut Receiver, first: u64, wanted: u64) {
+    assert_told(rt, receiver.take_ready(first).is_ok(), "memory");
+    assert_same(rt, (first, receiver.take(first)), (first, Ok(wanted)));
 }
 
 #[test]
-fn receiver_acknowledges_the_first_gap(rt: HostRuntime) -> Result<(), Fail> {
-    let mut receiver = Receiver::new(rt.alloc(), segment_size(1000)?);
+fn receiver_acknowledges_the_first_gap(rt: HostRuntime) {
+    let mut receiver = Receiver::new(rt.alloc(), segment_size(&rt, 1000));
     for (first, wanted) in [(0, 1000), (2000, 1000), (1000, 3000), (2000, 3000)] {
-        receiver.take_ready(first)?;
-        assert_eq!(rt; receiver.take(first)?, wanted, "{first}");
+        takes(&rt, &mut receiver, first, wanted);
     }
-    Ok(())
 }
 
-/// Every second segment comes first. What is refused leaves the receiver as it was, and a segment
-/// that was made ready isn't refused. A run in which an allocation fails shows it.
+/// What is refused leaves the receiver, of whose segments the first alone has come without a gap, as it was; and a
+/// segment that was made ready isn't refused.
+fn comes_behind_a_gap(rt: &impl Abort, receiver: &mut Receiver, first: u64) {
+    if receiver.take(first).is_ok() {
+        return;
+    }
+    assert_same(rt, receiver.take(0), Ok(64));
+    if receiver.take_ready(first).is_ok() {
+        assert_same(rt, receiver.take(first), Ok(64));
+    }
+}
+
+/// Every second segment comes first. A run in which an allocation fails shows what is refused.
 #[test]
-fn refused_segments_change_nothing(rt: HostRuntime) -> Result<(), Fail> {
-    let mut receiver = Receiver::new(rt.alloc(), segment_size(64)?);
-    assert_eq!(rt; receiver.take(0)?, 64);
+fn refused_segments_change_nothing(rt: HostRuntime) {
+    let mut receiver = Receiver::new(rt.alloc(), segment_size(&rt, 64));
+    assert_same(&rt, receiver.take(0), Ok(64));
     for place in 1..40u64 {
-        let first = 128 * place;
-        if receiver.take(first).is_err() {
-            assert_eq!(rt; receiver.take(0), Ok(64), "as it was");
-            if receiver.take_ready(first).is_ok() {
-                assert_eq!(rt; receiver.take(first), Ok(64));
-            }
-        }
+        comes_behind_a_gap(&rt, &mut receiver, 128 * place);
     }
     for place in 0..39u64 {
-        assert_eq!(rt; receiver.take(128 * place + 64), Ok(128 * place + 192));
+        assert_same(&rt, receiver.take(128 * place + 64), Ok(128 * place + 192));
     }
-    Ok(())
 }

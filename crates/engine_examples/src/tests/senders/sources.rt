@@ -2,19 +2,19 @@ ghost use Rattle.std.specs.Prelude.{◌≡◌, ◌*◌, ◌<◌};
 ghost use Rattle.emu_model.specs.Moments.{IsMoment};
 ghost use Rattle.emu_model.specs.Dues.{due};
 
+use crate::tests::wants::{assert_same, assert_told};
 use emu_model::{
     Amount, Class, Due, FlowNumber, FlowSpec, Gap, Load, Protocol, Refusal, SegmentSize, SendSpec,
     Size, Source, Threshold, Timing, TrainSpec, Window as Offered,
 };
 use std::process::Abort;
-use std::test::Fail;
 use traffic::{Sending, Traffic, Window};
 
 /// One millisecond (ns).
 const MS: u64 = 1_000_000;
 
-fn number(n: u16) -> Result<FlowNumber, Fail> {
-    Ok(FlowNumber::new(n).ok_or("no number")?)
+fn number(rt: &impl Abort, n: u16) -> FlowNumber {
+    FlowNumber::new(n).expect(rt, "a number")
 }
 
 /// The flow of the worked examples: four segments of 1460 bytes.
@@ -119,27 +119,38 @@ fn sends(traffic: &mut Traffic, now: u64, end: u64) -> Option<Sending>
     Some(Sending { load, send })
 }
 
+/// Source and destination, each with its port.
+fn ends_of(send: SendSpec) -> (u32, u16, u32, u16) {
+    (send.src, send.sport, send.dst, send.dport)
+}
+
+/// Flow and first byte of a segment.
+fn segment_in(load: Load) -> Option<(u16, u64)> {
+    match load {
+        Load::Seg { flow, first } => Some((flow.get(), first)),
+        _ => None,
+    }
+}
+
+/// The segment of flow 1 that begins at this byte is sent.
+fn sends_segment(rt: &impl Abort, traffic: &mut Traffic, now: u64, first: u64)
+    requires early { IsMoment now }
+{
+    let sent = sends(traffic, now, now.saturating_add(1)).expect(rt, "a segment");
+    assert_same(rt, ends_of(sent.send), (0x0a000001, 1000, 0x0a000002, 80));
+    assert_same(rt, sent.send.size.get(), 1500);
+    assert_same(rt, segment_in(sent.load), Some((1, first)));
+}
+
 /// Just the segments that begin at these bytes are sent.
 fn sends_segments(rt: &impl Abort, traffic: &mut Traffic, now: u64, firsts: &[u64])
     requires early { IsMoment now }
 {
     for first in firsts {
-        let Some(Sending { load, send }) = sends(traffic, now, now.saturating_add(1)) else {
-            return assert!(rt; false, "nothing sent");
-        };
-        assert_eq!(rt; send.size.get(), 1500);
-        assert_eq!(rt;
-            (send.src, send.sport, send.dst, send.dport),
-            (0x0a000001, 1000, 0x0a000002, 80)
-        );
-        let Load::Seg { flow, first: byte } = load else {
-            return assert!(rt; false, "no segment");
-        };
-        assert_eq!(rt; flow.get(), 1);
-        assert_eq!(rt; byte, *first);
+        sends_segment(rt, traffic, now, *first);
     }
     let more = sends(traffic, now, now.saturating_add(1));
-    assert!(rt; more.is_none(), "one more at {now}");
+    assert_same(rt, (now, more.is_none()), (now, true));
 }
 
 /// The acknowledgement of a segment, at the second try where memory was refused.
@@ -151,35 +162,55 @@ fn answers(traffic: &mut Traffic, n: u16, first: u64) -> Option<Sending> {
     traffic.take(number, first)
 }
 
+/// Flow and what is acknowledged.
+fn acknowledged_in(load: Load) -> Option<(u16, u64)> {
+    match load {
+        Load::Ack { flow, upto } => Some((flow.get(), upto)),
+        _ => None,
+    }
+}
+
 fn answers_upto(rt: &impl Abort, traffic: &mut Traffic, first: u64, upto: u64) {
-    let Some(Sending { load, send }) = answers(traffic, 1, first) else {
-        return assert!(rt; false, "no answer");
-    };
-    assert_eq!(rt; send.size.get(), 40);
-    assert_eq!(rt;
-        (send.src, send.sport, send.dst, send.dport),
-        (0x0a000002, 80, 0x0a000001, 1000)
-    );
-    let Load::Ack { flow, upto: byte } = load else {
-        return assert!(rt; false, "no acknowledgement");
-    };
-    assert_eq!(rt; (flow.get(), byte), (1, upto));
+    let answer = answers(traffic, 1, first).expect(rt, "an answer");
+    assert_same(rt, ends_of(answer.send), (0x0a000002, 80, 0x0a000001, 1000));
+    assert_same(rt, answer.send.size.get(), 40);
+    assert_same(rt, acknowledged_in(answer.load), Some((1, upto)));
 }
 
 fn windows(rt: &impl Abort, window: Option<Window>, wanted: (u64, u64)) {
-    let Some(Window { cwnd, ssthresh }) = window else {
-        return assert!(rt; false, "no windows");
-    };
-    assert_eq!(rt; (cwnd, ssthresh), wanted);
+    let window = window.expect(rt, "windows");
+    assert_same(rt, (window.cwnd, window.ssthresh), wanted);
+}
+
+fn flow_begins(rt: &impl Abort, traffic: &mut Traffic, n: u16) {
+    assert_same(rt, (n, begins_flow(traffic, n)), (n, true));
+}
+
+fn train_begins(rt: &impl Abort, traffic: &mut Traffic, now: u64, n: u16)
+    requires early { IsMoment now }
+{
+    assert_same(rt, (n, begins_train(traffic, now, n)), (n, true));
+}
+
+/// A timer is due next, before a command, with this number and at this moment.
+fn timer_is_next(rt: &impl Abort, traffic: &Traffic, now: u64, end: u64, wanted: (u32, u64)) {
+    let due = traffic.earliest(now, command(end));
+    assert_told(rt, due.source.class == Class::Expiry, "a timer");
+    assert_same(rt, (due.source.number, due.moment), wanted);
+}
+
+/// Nothing is due before a command.
+fn command_is_next(rt: &impl Abort, traffic: &Traffic, now: u64, end: u64) {
+    let due = traffic.earliest(now, command(end));
+    assert_told(rt, due.source.class == Class::NextCommand, "no timer runs");
 }
 
 // The example of four segments over 10 ms each way, by its report.
 #[test]
-fn four_segments_are_sent_and_answered(rt: HostRuntime) -> Result<(), Fail> {
-    let one = number(1)?;
+fn four_segments_are_sent_and_answered(rt: HostRuntime) {
+    let one = number(&rt, 1);
     let mut traffic = Traffic::new(rt.alloc());
-    let begun = begins_flow(&mut traffic, 1);
-    assert!(rt; begun);
+    flow_begins(&rt, &mut traffic, 1);
     sends_segments(&rt, &mut traffic, 0, &[0, 1460, 2920]);
     answers_upto(&rt, &mut traffic, 0, 1460);
     answers_upto(&rt, &mut traffic, 1460, 2920);
@@ -190,96 +221,92 @@ fn four_segments_are_sent_and_answered(rt: HostRuntime) -> Result<(), Fail> {
     windows(&rt, traffic.take_ack(23_600_000, one, 4380), (8760, 65535));
     answers_upto(&rt, &mut traffic, 4380, 5840);
     windows(&rt, traffic.take_ack(42_400_000, one, 5840), (10220, 65535));
-    let last = traffic.earliest(42_400_000, command(100 * MS));
-    assert!(rt; last.source.class == Class::NextCommand, "no timer runs");
+    command_is_next(&rt, &traffic, 42_400_000, 100 * MS);
     drop(traffic);
-    Ok(())
 }
 
 // The example of a flow that is stopped between its first and its second acknowledgement.
 #[test]
-fn stopped_flow_answers_and_sends_nothing(rt: HostRuntime) -> Result<(), Fail> {
-    let one = number(1)?;
+fn stopped_flow_answers_and_sends_nothing(rt: HostRuntime) {
+    let one = number(&rt, 1);
     let mut traffic = Traffic::new(rt.alloc());
-    let begun = begins_flow(&mut traffic, 1);
-    assert!(rt; begun);
+    flow_begins(&rt, &mut traffic, 1);
     sends_segments(&rt, &mut traffic, 0, &[0, 1460, 2920]);
     windows(&rt, traffic.take_ack(21_200_000, one, 1460), (5840, 65535));
     traffic.stop(one);
     sends_segments(&rt, &mut traffic, 21_300_000, &[]);
-    assert!(rt;
+    assert_told(
+        &rt,
         traffic.take_ack(22_400_000, one, 2920).is_none(),
-        "it is stopped"
+        "it is stopped",
     );
     answers_upto(&rt, &mut traffic, 0, 1460);
-    assert!(rt; traffic.has_flow(one), "it is there");
-    assert!(rt;
+    assert_told(&rt, traffic.has_flow(one), "it is there");
+    assert_told(
+        &rt,
         traffic.refusal(one) == Some(Refusal::FlowThere),
-        "its number is in use"
+        "its number is in use",
     );
     drop(traffic);
-    Ok(())
 }
 
 // One segment is left at the start of slow start; the time of one second is doubled.
 #[test]
-fn timer_expires(rt: HostRuntime) -> Result<(), Fail> {
-    let one = number(1)?;
+fn timer_expires(rt: HostRuntime) {
+    let one = number(&rt, 1);
     let mut traffic = Traffic::new(rt.alloc());
-    let begun = begins_flow(&mut traffic, 1);
-    assert!(rt; begun);
+    flow_begins(&rt, &mut traffic, 1);
     sends_segments(&rt, &mut traffic, 0, &[0, 1460, 2920]);
-    let due = traffic.earliest(0, command(2000 * MS));
-    assert!(rt; due.source.class == Class::Expiry, "the timer is due");
-    assert_eq!(rt; (due.source.number, due.moment), (1, 1000 * MS));
+    timer_is_next(&rt, &traffic, 0, 2000 * MS, (1, 1000 * MS));
     windows(&rt, traffic.expire(1000 * MS, one), (1460, 2920));
     sends_segments(&rt, &mut traffic, 1000 * MS, &[0]);
-    let due = traffic.earliest(1000 * MS, command(9000 * MS));
-    assert_eq!(rt; (due.source.number, due.moment), (1, 3000 * MS));
+    timer_is_next(&rt, &traffic, 1000 * MS, 9000 * MS, (1, 3000 * MS));
     drop(traffic);
-    Ok(())
 }
 
 /// Which flow sends a segment now, if any does.
 fn sender(traffic: &mut Traffic, now: u64) -> Option<u16>
     requires early { IsMoment now }
 {
-    let Sending { load, .. } = sends(traffic, now, now + 1)?;
-    match load {
-        Load::Seg { flow, .. } => Some(flow.get()),
-        _ => None,
+    let sent = sends(traffic, now, now + 1)?;
+    let (flow, _) = segment_in(sent.load)?;
+    Some(flow)
+}
+
+/// This flow sends three segments now.
+fn three_of(rt: &impl Abort, traffic: &mut Traffic, now: u64, n: u16)
+    requires early { IsMoment now }
+{
+    for _ in 0..3 {
+        assert_same(rt, (now, sender(traffic, now)), (now, Some(n)));
     }
+}
+
+/// The timer of a flow that sent first at this moment is the next, up to when it is stopped.
+fn timer_goes(rt: &impl Abort, traffic: &mut Traffic, now: u64, n: u16)
+    requires early { IsMoment now }
+{
+    timer_is_next(rt, traffic, 6, 9000 * MS, (u32::from(n), now + 1000 * MS));
+    traffic.stop(number(rt, n));
 }
 
 // Of flows that may send, the least number does, whichever began first; their first timers come after a
 // second, and one that is stopped has none.
 #[test]
-fn least_number_sends_and_first_timer_expires(rt: HostRuntime) -> Result<(), Fail> {
-    let (two, five, nine) = (number(2)?, number(5)?, number(9)?);
+fn least_number_sends_and_first_timer_expires(rt: HostRuntime) {
     let mut traffic = Traffic::new(rt.alloc());
     for n in [9, 2, 5] {
-        let begun = begins_flow(&mut traffic, n);
-        assert!(rt; begun, "{n}");
+        flow_begins(&rt, &mut traffic, n);
     }
     for (now, n) in [(3, 2), (4, 5), (6, 9)] {
-        for _ in 0..3 {
-            assert!(rt; sender(&mut traffic, now) == Some(n), "at {now}");
-        }
+        three_of(&rt, &mut traffic, now, n);
     }
-    assert!(rt; sender(&mut traffic, 6).is_none(), "all windows are full");
-    for (now, number) in [(3, two), (4, five), (6, nine)] {
-        let due = traffic.earliest(6, command(9000 * MS));
-        assert!(rt; due.source.class == Class::Expiry, "a timer");
-        assert_eq!(rt;
-            (due.source.number, due.moment),
-            (u32::from(number.get()), now + 1000 * MS)
-        );
-        traffic.stop(number);
+    assert_same(&rt, sender(&mut traffic, 6), None);
+    for (now, n) in [(3, 2), (4, 5), (6, 9)] {
+        timer_goes(&rt, &mut traffic, now, n);
     }
-    let due = traffic.earliest(6, command(9000 * MS));
-    assert!(rt; due.source.class == Class::NextCommand, "all are stopped");
+    command_is_next(&rt, &traffic, 6, 9000 * MS);
     drop(traffic);
-    Ok(())
 }
 
 /// The header of what is sent next.
@@ -297,69 +324,70 @@ fn is_thousand(sent: Option<Sending>, header: Option<SendSpec>) -> bool {
     header == Some(send) && load == Load::Plain && size == 1000
 }
 
+/// Of a train, whose number is the least, a packet is due and sent now.
+fn thousand_is_sent(rt: &impl Abort, traffic: &mut Traffic, now: u64, number: FlowNumber)
+    requires early { IsMoment now }
+{
+    let due = traffic.earliest(now, command(20));
+    let number_of = u32::from(number.get());
+    assert_same(rt, (due.moment, due.source.number), (now, number_of));
+    let header = header_of(traffic, number);
+    let sent = sends(traffic, now, 20);
+    assert_same(rt, (now, is_thousand(sent, header)), (now, true));
+}
+
 // The example of a train of three packets, 5 ns apart.
 #[test]
-fn train_sends_its_packets(rt: HostRuntime) -> Result<(), Fail> {
-    let one = number(1)?;
+fn train_sends_its_packets(rt: HostRuntime) {
+    let one = number(&rt, 1);
     let mut traffic = Traffic::new(rt.alloc());
-    let begun = begins_train(&mut traffic, 0, 1);
-    assert!(rt; begun);
+    train_begins(&rt, &mut traffic, 0, 1);
     for now in [0, 5, 10] {
-        let due = traffic.earliest(now, command(20));
-        assert_eq!(rt; (due.moment, due.source.number), (now, 1));
-        let header = header_of(&traffic, one);
-        let sent = sends(&mut traffic, now, 20);
-        assert!(rt; is_thousand(sent, header), "a packet at {now}");
+        thousand_is_sent(&rt, &mut traffic, now, one);
     }
-    assert!(rt; sends(&mut traffic, 10, 20).is_none(), "three are all");
+    assert_told(&rt, sends(&mut traffic, 10, 20).is_none(), "three are all");
     traffic.stop(one);
-    assert!(rt; !traffic.has_flow(one), "it is no flow");
-    assert!(rt; traffic.reply(one).is_none(), "it has no receiver");
+    assert_told(&rt, !traffic.has_flow(one), "it is no flow");
+    assert_told(&rt, traffic.reply(one).is_none(), "it has no receiver");
     drop(traffic);
-    Ok(())
+}
+
+fn refuses(rt: &impl Abort, traffic: &Traffic, n: u16, wanted: Refusal) {
+    let refusal = traffic.refusal(number(rt, n));
+    assert_same(rt, (n, refusal == Some(wanted)), (n, true));
 }
 
 // Flows and trains share one set of numbers, and the limit of 256.
 #[test]
-fn sources_are_refused_in_order(rt: HostRuntime) -> Result<(), Fail> {
-    let refusals = [
-        (number(1)?, Refusal::FlowThere),
-        (number(256)?, Refusal::FlowThere),
-        (number(257)?, Refusal::TooManyFlows),
-    ];
+fn sources_are_refused_in_order(rt: HostRuntime) {
     let mut traffic = Traffic::new(rt.alloc());
-    let begun = begins_flow(&mut traffic, 1);
-    assert!(rt; begun);
+    flow_begins(&rt, &mut traffic, 1);
     for n in 2..257 {
-        let begun = begins_train(&mut traffic, 0, n);
-        assert!(rt; begun, "{n}");
+        train_begins(&rt, &mut traffic, 0, n);
     }
-    for (number, wanted) in refusals {
-        assert!(rt; traffic.refusal(number) == Some(wanted));
-    }
+    refuses(&rt, &traffic, 1, Refusal::FlowThere);
+    refuses(&rt, &traffic, 256, Refusal::FlowThere);
+    refuses(&rt, &traffic, 257, Refusal::TooManyFlows);
     drop(traffic);
-    Ok(())
 }
 
 // A flow's timer, its segment, and a train's packet, in this order.
 #[test]
 fn dues_stand_in_order(rt: HostRuntime) {
     let mut traffic = Traffic::new(rt.alloc());
-    let begun = begins_flow(&mut traffic, 1);
-    assert!(rt; begun);
-    let begun = begins_train(&mut traffic, 7, 2);
-    assert!(rt; begun);
+    flow_begins(&rt, &mut traffic, 1);
+    train_begins(&rt, &mut traffic, 7, 2);
     let sent = sends(&mut traffic, 3, 4);
-    assert!(rt; sent.is_some(), "a segment");
+    assert_told(&rt, sent.is_some(), "a segment");
     let mut dues = Vec::new(rt.alloc());
     let added = traffic.add_dues(9, &mut dues).is_ok();
-    assert!(rt; added, "memory");
+    assert_told(&rt, added, "memory");
     let wanted = [
         due_of(Class::Expiry, 1, 3 + 1000 * MS),
         due_of(Class::Emission, 1, 9),
         due_of(Class::Emission, 2, 7),
     ];
-    assert!(rt; dues[..] == wanted[..]);
+    assert_holds!(&rt; dues[..] == wanted[..]);
     drop(traffic);
 }
 
@@ -368,8 +396,7 @@ fn dues_stand_in_order(rt: HostRuntime) {
 fn start_flow_may_be_refused_memory(rt: HostRuntime) {
     let mut traffic = Traffic::new(rt.alloc());
     for n in 1..20 {
-        let begun = begins_flow(&mut traffic, n);
-        assert!(rt; begun, "{n}");
+        flow_begins(&rt, &mut traffic, n);
     }
     drop(traffic);
 }
@@ -378,8 +405,7 @@ fn start_flow_may_be_refused_memory(rt: HostRuntime) {
 fn start_train_may_be_refused_memory(rt: HostRuntime) {
     let mut traffic = Traffic::new(rt.alloc());
     for n in 1..20 {
-        let begun = begins_train(&mut traffic, 0, n);
-        assert!(rt; begun, "{n}");
+        train_begins(&rt, &mut traffic, 0, n);
     }
     drop(traffic);
 }
@@ -388,8 +414,7 @@ fn start_train_may_be_refused_memory(rt: HostRuntime) {
 #[test]
 fn take_ready_may_be_refused_memory(rt: HostRuntime) {
     let mut traffic = Traffic::new(rt.alloc());
-    let begun = begins_flow(&mut traffic, 1);
-    assert!(rt; begun);
+    flow_begins(&rt, &mut traffic, 1);
     for n in 1..20 {
         answers_upto(&rt, &mut traffic, 1460 * n, 0);
     }
@@ -397,21 +422,24 @@ fn take_ready_may_be_refused_memory(rt: HostRuntime) {
     drop(traffic);
 }
 
+/// Dues are added, at the second try where memory was refused, and the list was as before then.
+fn adds_dues(rt: &impl Abort, traffic: &Traffic, dues: &mut Vec<Due>) {
+    let before = dues.len();
+    if traffic.add_dues(0, dues).is_err() {
+        assert_same(rt, dues.len(), before);
+        assert_told(rt, traffic.add_dues(0, dues).is_ok(), "at the second try");
+    }
+}
+
 /// Where memory is refused the list is as it was.
 #[test]
 fn add_dues_may_be_refused_memory(rt: HostRuntime) {
     let mut traffic = Traffic::new(rt.alloc());
-    let begun = begins_flow(&mut traffic, 1);
-    assert!(rt; begun);
+    flow_begins(&rt, &mut traffic, 1);
     let mut dues = Vec::new(rt.alloc());
     for n in 1..9 {
-        let before = dues.len();
-        if traffic.add_dues(0, &mut dues).is_err() {
-            assert!(rt; dues.len() == before, "as it was");
-            let added = traffic.add_dues(0, &mut dues).is_ok();
-            assert!(rt; added, "at the second try");
-        }
-        assert_eq!(rt; dues.len(), n);
+        adds_dues(&rt, &traffic, &mut dues);
+        assert_same(&rt, dues.len(), n);
     }
     drop(traffic);
 }

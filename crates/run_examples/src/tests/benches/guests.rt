@@ -1,6 +1,7 @@
 //! Tenants that post the commands of a text, and want its report.
 
 use super::calls::Kit;
+use crate::tests::wants::assert_same;
 use bench::{OpenError, Registry};
 use control::{Experiment as Plan, ParseError, parse_scenario};
 use report::report_text;
@@ -56,7 +57,7 @@ pub fn invite<K: Kit>(
             return Ok((guest, parcel));
         }
         Err(error) => {
-            assert!(rt; error == OpenError::NoMemory);
+            assert_same(rt, error, OpenError::NoMemory);
             return Err(AllocError);
         }
     }
@@ -76,7 +77,7 @@ pub fn take_guest<T: Drop>(
 /// Posts all commands, of which there are 64 at most.
 pub fn post_all<K: Kit>(rt: &impl Abort, guest: &mut Guest<K::Tenant>) {
     for command in guest.plan.commands.as_slice() {
-        assert!(rt; K::post(&mut guest.tenant, *command).is_ok());
+        assert_holds!(rt; K::post(&mut guest.tenant, *command).is_ok());
     }
 }
 

@@ -5,6 +5,7 @@ use super::calls::{
     Answer, Kit, Move, Real, Shape, admit, adopt, last_turn, move_of, offer, retake,
 };
 use super::guests::{Guest, Settled, invite, settle, take_guest, text_of};
+use crate::tests::wants::assert_same;
 use bench::{PostError, Registry, audit};
 use emu_model::{Ending, Record, Timed};
 use shard::Polled;
@@ -20,10 +21,10 @@ const MOST_ROUNDS: u32 = 1000;
 
 // A parcel has the shape that it had before.
 fn has_shape(rt: &impl Abort, now: &Shape, shape: &Shape) {
-    assert!(rt; now.name == shape.name);
-    assert!(rt; now.spec == shape.spec);
-    assert!(rt; now.events == shape.events);
-    assert!(rt; now.consumed == shape.consumed);
+    assert_same(rt, now.name, shape.name);
+    assert_holds!(rt; now.spec == shape.spec);
+    assert_same(rt, now.events, shape.events);
+    assert_same(rt, now.consumed, shape.consumed);
 }
 
 // The parcel that comes back for want of memory, if one does.
@@ -44,7 +45,7 @@ fn admits<K: Kit>(rt: &impl Abort, bench: &mut K::Bench, parcel: K::Parcel) {
     }
     let parcel = back(rt, answer).expect(rt, "a parcel");
     has_shape(rt, &K::shape(&parcel), &shape);
-    assert!(rt; admit::<K>(bench, parcel));
+    assert_holds!(rt; admit::<K>(bench, parcel));
 }
 
 fn bench_and_peer<K: Kit>(rt: &(impl Abort + AllocGlobal)) -> (K::Bench, K::Peer) {
@@ -80,10 +81,10 @@ fn posts<K: Kit>(rt: &impl Abort, tenant: &mut K::Tenant, timed: Timed) {
     let Some((cause, command)) = refusal::<K>(tenant, timed) else {
         return;
     };
-    assert!(rt; cause == PostError::NoMemory);
-    assert!(rt; command == timed);
-    assert!(rt; K::posted_len(tenant) == count);
-    assert!(rt; K::post(tenant, timed).is_ok());
+    assert_holds!(rt; cause == PostError::NoMemory);
+    assert_holds!(rt; command == timed);
+    assert_same(rt, K::posted_len(tenant), count);
+    assert_holds!(rt; K::post(tenant, timed).is_ok());
 }
 
 fn posts_all<K: Kit>(rt: &impl Abort, guest: &mut Guest<K::Tenant>) {
@@ -99,7 +100,7 @@ fn reads<K: Kit>(rt: &impl Abort, tenant: &mut K::Tenant) -> Option<Record> {
     if let Ok(letter) = K::read(tenant) {
         return letter;
     }
-    assert!(rt; K::letters(tenant).len() == count);
+    assert_same(rt, K::letters(tenant).len(), count);
     K::read(tenant).expect(rt, "memory")
 }
 
@@ -116,7 +117,7 @@ fn reads_all<K: Kit>(rt: &impl Abort, tenant: &mut K::Tenant) {
 fn polls<K: Kit>(rt: &impl Abort, bench: &mut K::Bench, slot: usize) {
     if let Polled::NoMemory(name) = K::poll(bench, slot) {
         let again = K::poll(bench, slot);
-        assert!(rt; again == Polled::Resumed(name) || again == Polled::Took(name));
+        assert_holds!(rt; again == Polled::Resumed(name) || again == Polled::Took(name));
     }
 }
 
@@ -137,12 +138,12 @@ fn offers_again<K: Kit>(
     answer: Answer<K::Parcel>,
 ) {
     if let Some(parcel) = of_offer(answer) {
-        assert!(rt; K::shape(&parcel).name == name);
+        assert_same(rt, K::shape(&parcel).name, name);
         admits::<K>(rt, bench, parcel);
         return;
     }
-    assert!(rt; K::slot_of(bench, name) == Some(slot));
-    assert!(rt; offer::<K>(bench, slot) == Move::Done);
+    assert_same(rt, K::slot_of(bench, name), Some(slot));
+    assert_holds!(rt; offer::<K>(bench, slot) == Move::Done);
 }
 
 fn offers<K: Kit>(rt: &impl Abort, bench: &mut K::Bench, name: u32) {
@@ -162,10 +163,10 @@ fn retakes<K: Kit>(rt: &impl Abort, bench: &mut K::Bench) {
         return;
     }
     if let Some(parcel) = back(rt, answer) {
-        assert!(rt; admit::<K>(bench, parcel));
+        assert_holds!(rt; admit::<K>(bench, parcel));
         return;
     }
-    assert!(rt; retake::<K>(bench) != Move::Failed);
+    assert_holds!(rt; retake::<K>(bench) != Move::Failed);
 }
 
 fn adopts<K: Kit>(rt: &impl Abort, bench: &mut K::Bench, peer: &mut K::Peer) {
@@ -174,10 +175,10 @@ fn adopts<K: Kit>(rt: &impl Abort, bench: &mut K::Bench, peer: &mut K::Peer) {
         return;
     }
     if let Some(parcel) = back(rt, answer) {
-        assert!(rt; admit::<K>(bench, parcel));
+        assert_holds!(rt; admit::<K>(bench, parcel));
         return;
     }
-    assert!(rt; adopt::<K>(bench, peer) != Move::Failed);
+    assert_holds!(rt; adopt::<K>(bench, peer) != Move::Failed);
 }
 
 // Whether all lines of a text but the last are the first of another one.
@@ -210,10 +211,10 @@ fn has_report<K: Kit>(
     let settled = settle::<K>(rt, guest, dossier);
     let written = settled_text::<K>(rt, &settled);
     if matches!(K::last(&settled.outcome).ending, Ending::Halted) {
-        assert!(rt; begins_like(written.as_slice(), settled.wanted_report()));
+        assert_holds!(rt; begins_like(written.as_slice(), settled.wanted_report()));
         return;
     }
-    assert!(rt; written.as_slice() == settled.wanted_report());
+    assert_holds!(rt; written.as_slice() == settled.wanted_report());
 }
 
 // Makes an event, and settles with who has ended by it.
@@ -246,7 +247,7 @@ fn seat_guest<K: Kit>(
 ) -> Guest<K::Tenant> {
     let (text, report) = example(name);
     let (mut guest, parcel) = guest_of::<K>(rt, registry, text, report);
-    assert!(rt; K::shape(&parcel).name == name);
+    assert_same(rt, K::shape(&parcel).name, name);
     admits::<K>(rt, bench, parcel);
     posts_all::<K>(rt, &mut guest);
     guest
@@ -322,8 +323,8 @@ fn refused_of<K: Kit>(rt: &(impl Abort + AllocGlobal)) {
         mem::swap(&mut here, &mut there);
         mem::swap(&mut mine, &mut theirs);
     }
-    assert!(rt; all_left(guests.as_slice()));
-    assert!(rt; audit(&[K::close(here), K::close(there)]).is_ok());
+    assert_holds!(rt; all_left(guests.as_slice()));
+    assert_holds!(rt; audit(&[K::close(here), K::close(there)]).is_ok());
 }
 
 // Passes with ample memory, and where any one allocation of it is refused.

@@ -2,6 +2,7 @@
 
 use super::calls::{Kit, Move, Real, admit, adopt, last_turn, offer, retake};
 use super::guests::{Guest, invite, post_all, settle, take_guest, text_of};
+use crate::tests::wants::assert_same;
 use bench::{Closing, Registry, audit};
 use std::process::Abort;
 use std::sync::atomic::{AtomicU64, Ordering};
@@ -40,12 +41,12 @@ struct Left<D> {
 // Whether one came from the other bench's deque, or else from its own.
 fn takes<K: Kit>(rt: &impl Abort, bench: &mut K::Bench, peer: &mut K::Peer) -> bool {
     let adopted = adopt::<K>(bench, peer);
-    assert!(rt; adopted != Move::Failed);
+    assert_holds!(rt; adopted != Move::Failed);
     if adopted == Move::Done {
         return true;
     }
     let retaken = retake::<K>(bench);
-    assert!(rt; retaken != Move::Failed);
+    assert_holds!(rt; retaken != Move::Failed);
     retaken == Move::Done
 }
 
@@ -59,7 +60,7 @@ fn poll_all<K: Kit>(bench: &mut K::Bench) {
 // Offers the resident of a slot, if there is one, and takes one.
 fn exchange<K: Kit>(rt: &impl Abort, desk: &mut Desk<K::Bench, K::Peer, K::Dossier>, slot: usize) {
     let offered = offer::<K>(&mut desk.bench, slot);
-    assert!(rt; offered != Move::Failed);
+    assert_holds!(rt; offered != Move::Failed);
     if takes::<K>(rt, &mut desk.bench, &mut desk.peer) {
         desk.exchanges = desk.exchanges.saturating_add(1);
     }
@@ -79,7 +80,7 @@ fn event<K: Kit>(
     let Some(dossier) = last_turn::<K>(&mut desk.bench) else {
         return;
     };
-    assert!(rt; desk.dossiers.push(dossier).is_ok());
+    assert_holds!(rt; desk.dossiers.push(dossier).is_ok());
     ended.fetch_add(1, Ordering::SeqCst);
 }
 
@@ -135,7 +136,7 @@ fn seat_guest<K: Kit>(
     let (text, report) = example(k);
     let (mut guest, parcel) = invite::<K>(rt, registry, text, report).expect(rt, "a guest");
     post_all::<K>(rt, &mut guest);
-    assert!(rt; admit::<K>(bench, parcel));
+    assert_holds!(rt; admit::<K>(bench, parcel));
     guest
 }
 
@@ -149,9 +150,9 @@ fn seat_all<K: Kit>(
     let mut guests = Vec::new(rt.alloc());
     for k in 0..GUESTS / 2 {
         let guest = seat_guest::<K>(rt, &mut registry, here, k);
-        assert!(rt; guests.push(Some(guest)).is_ok());
+        assert_holds!(rt; guests.push(Some(guest)).is_ok());
         let guest = seat_guest::<K>(rt, &mut registry, there, k);
-        assert!(rt; guests.push(Some(guest)).is_ok());
+        assert_holds!(rt; guests.push(Some(guest)).is_ok());
     }
     guests
 }
@@ -165,7 +166,7 @@ fn has_report<K: Kit>(
     let guest = take_guest(rt, guests, K::ended_name(&dossier));
     let settled = settle::<K>(rt, guest, dossier);
     let written = text_of::<K>(rt.alloc(), &settled).expect(rt, "memory");
-    assert!(rt; written.as_slice() == settled.wanted_report());
+    assert_holds!(rt; written.as_slice() == settled.wanted_report());
 }
 
 // Wants the report of each dossier's guest, and answers how many there are.
@@ -190,10 +191,10 @@ fn judge<K: Kit>(
 ) {
     let exchanges = here.exchanges.saturating_add(there.exchanges);
     assert!(rt; exchanges >= EXCHANGES, "{exchanges} exchanges");
-    assert!(rt; audit(&[here.closing, there.closing]).is_ok());
+    assert_holds!(rt; audit(&[here.closing, there.closing]).is_ok());
     let count = settle_all::<K>(rt, guests, here.dossiers);
     let also_count = settle_all::<K>(rt, guests, there.dossiers);
-    assert!(rt; count.saturating_add(also_count) == GUESTS);
+    assert_same(rt, count.saturating_add(also_count), GUESTS);
 }
 
 #[test]

@@ -1,6 +1,7 @@
 //! A full shard, whose residents have numbers chosen by hand: each call is about the slot that it names, to the last one.
 
 use super::turns::{Lists, Was, consumed_count, parcel, put, turn_once};
+use crate::tests::wants::assert_same;
 use shard::{MOST_RESIDENTS, PackError, Polled};
 use std::alloc::Global;
 use std::process::Abort;
@@ -18,7 +19,7 @@ fn name_at(slot: usize) -> u32 {
 fn fill(rt: &impl Abort, alloc: Global, shard: &mut Lists) -> Option<()> {
     for slot in 0..MOST_RESIDENTS {
         let parcel = parcel(alloc, name_at(slot))?;
-        assert_eq!(rt; shard.take_in(parcel).ok()?, slot);
+        assert_same(rt, shard.take_in(parcel).ok()?, slot);
     }
     Some(())
 }
@@ -26,16 +27,16 @@ fn fill(rt: &impl Abort, alloc: Global, shard: &mut Lists) -> Option<()> {
 // Gives each resident one command, of which the last slot's comes first.
 fn posts_to_each(rt: &impl Abort, shard: &mut Lists) {
     for slot in 0..MOST_RESIDENTS {
-        assert_eq!(rt; shard.slot_of(name_at(slot)), Some(slot));
-        assert_eq!(rt; consumed_count(shard, slot), Some(0));
-        assert_eq!(rt; shard.poll(slot), Polled::Empty(name_at(slot)));
+        assert_same(rt, shard.slot_of(name_at(slot)), Some(slot));
+        assert_same(rt, consumed_count(shard, slot), Some(0));
+        assert_same(rt, shard.poll(slot), Polled::Empty(name_at(slot)));
         let moment = u16::try_from(MOST_RESIDENTS - slot).unwrap_or(0);
-        assert!(rt; put(shard, slot, moment).is_ok());
+        assert_holds!(rt; put(shard, slot, moment).is_ok());
     }
     for slot in 0..MOST_RESIDENTS {
-        assert_eq!(rt; shard.poll(slot), Polled::Took(name_at(slot)));
-        assert_eq!(rt; shard.poll(slot), Polled::Held(name_at(slot)));
-        assert_eq!(rt; consumed_count(shard, slot), Some(1));
+        assert_same(rt, shard.poll(slot), Polled::Took(name_at(slot)));
+        assert_same(rt, shard.poll(slot), Polled::Held(name_at(slot)));
+        assert_same(rt, consumed_count(shard, slot), Some(1));
     }
 }
 
@@ -48,13 +49,13 @@ fn record_count(shard: &Lists, slot: usize) -> usize {
 fn turns_each(rt: &impl Abort, shard: &mut Lists) {
     for before in 0..MOST_RESIDENTS {
         let slot = MOST_RESIDENTS - 1 - before;
-        assert_eq!(rt; record_count(shard, slot), 0);
-        assert_eq!(rt; turn_once(shard), Was::Ran(name_at(slot)));
-        assert_eq!(rt; record_count(shard, slot), 1);
-        assert!(rt; matches!(shard.read(slot), Ok(Some(_))));
-        assert!(rt; matches!(shard.read(slot), Ok(None)));
+        assert_same(rt, record_count(shard, slot), 0);
+        assert_same(rt, turn_once(shard), Was::Ran(name_at(slot)));
+        assert_same(rt, record_count(shard, slot), 1);
+        assert_holds!(rt; matches!(shard.read(slot), Ok(Some(_))));
+        assert_holds!(rt; matches!(shard.read(slot), Ok(None)));
     }
-    assert_eq!(rt; turn_once(shard), Was::Idle);
+    assert_same(rt, turn_once(shard), Was::Idle);
 }
 
 // Each resident is packed by its own slot, and comes back to it: it alone is vacant.
@@ -64,12 +65,12 @@ fn moves_each(rt: &impl Abort, shard: &mut Lists) {
             // One allocation was refused, and no more.
             continue;
         };
-        assert_eq!(rt; parcel.name(), name_at(slot));
-        assert!(rt; matches!(shard.pack(slot).err(), Some(PackError::Vacant)));
-        assert_eq!(rt; shard.slot_of(name_at(slot)), None);
-        assert_eq!(rt; shard.take_in(parcel).ok(), Some(slot));
-        assert_eq!(rt; shard.slot_of(name_at(slot)), Some(slot));
-        assert_eq!(rt; record_count(shard, slot), 1);
+        assert_same(rt, parcel.name(), name_at(slot));
+        assert_holds!(rt; matches!(shard.pack(slot).err(), Some(PackError::Vacant)));
+        assert_same(rt, shard.slot_of(name_at(slot)), None);
+        assert_same(rt, shard.take_in(parcel).ok(), Some(slot));
+        assert_same(rt, shard.slot_of(name_at(slot)), Some(slot));
+        assert_same(rt, record_count(shard, slot), 1);
     }
 }
 

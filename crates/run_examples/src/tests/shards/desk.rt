@@ -1,6 +1,7 @@
 //! What the examples share: guests of a shard, whose commands are posted to it in their order.
 
 use super::calls::{Host, advance, poll, put, read, slot_of, take_in};
+use crate::tests::wants::{assert_same, assert_told};
 use control::{Experiment as Plan, ParseError, parse_scenario};
 use emu_model::Timed;
 use report::report_text;
@@ -152,7 +153,7 @@ pub fn attend<A: Agenda>(
         };
         post(shard, slot, guest);
         let answer = poll(shard, slot);
-        assert!(rt; !matches!(answer, Polled::NoMemory(_)));
+        assert_holds!(rt; !matches!(answer, Polled::NoMemory(_)));
         if matches!(answer, Polled::Resumed(_)) {
             resumed = resumed.saturating_add(1);
         }
@@ -211,12 +212,12 @@ pub fn host<A: Agenda>(
         if ended == guests.len() {
             return Ok(());
         }
-        assert_eq!(rt; attend(rt, shard, guests, reads), 0);
+        assert_same(rt, attend(rt, shard, guests, reads), 0);
         if let Move::Ended(..) = turn(rt, shard, guests)? {
             ended = ended.saturating_add(1);
         }
     }
-    assert!(rt; false, "not ended");
+    assert_told(rt, false, "not ended");
     Ok(())
 }
 

@@ -7,6 +7,7 @@ use super::calls::{
 use super::desk::{
     Guest, MOST_TURNS, Move, has_lines, has_report, invite_all, parcel, post, read_all,
 };
+use crate::tests::wants::{assert_same, assert_told};
 use emu_model::Ending;
 use shard::{Dossier, ListMail, PackError, Parcel, Polled, Turned};
 use std::alloc::AllocError;
@@ -34,13 +35,13 @@ fn takes_in(rt: &impl Abort, shard: &mut Desk, parcel: Parcel<ListMail>, road: &
     let before = seen_in(&parcel);
     let name = parcel.name();
     let answer = arrive(shard, parcel);
-    assert!(rt; !is_crowded(&answer), "crowded");
+    assert_told(rt, !is_crowded(&answer), "crowded");
     if answer.is_err() {
         road.refuses();
-        assert!(rt; seen_back(&answer) == Some(before), "another parcel");
-        assert!(rt; slot_of(shard, name).is_none());
+        assert_told(rt, seen_back(&answer) == Some(before), "another parcel");
+        assert_holds!(rt; slot_of(shard, name).is_none());
     }
-    assert!(rt; take_in_again(shard, answer).is_some(), "refused again");
+    assert_told(rt, take_in_again(shard, answer).is_some(), "refused again");
 }
 
 // Packs the first guest. Refused memory, it stays as it was, and is packed then.
@@ -56,19 +57,20 @@ fn packs(
         return packed.ok();
     }
     road.refuses();
-    assert_eq!(rt; packed.unwrap_err(), PackError::NoMemory);
-    assert!(rt; slot_of(shard, 0) == Some(slot) && counts_of(shard, slot) == before);
+    assert_same(rt, packed.unwrap_err(), PackError::NoMemory);
+    assert_same(rt, slot_of(shard, 0), Some(slot));
+    assert_same(rt, counts_of(shard, slot), before);
     pack(shard, slot).ok()
 }
 
 // Has the first guest go from one shard to the other.
 fn moves(rt: &impl Abort, here: &mut Desk, there: &mut Desk, road: &mut Road) {
     let Some(slot) = slot_of(here, 0) else {
-        assert!(rt; false, "nobody to be moved");
+        assert_told(rt, false, "nobody to be moved");
         return;
     };
     let Some(parcel) = packs(rt, here, slot, road) else {
-        assert!(rt; false, "refused again");
+        assert_told(rt, false, "refused again");
         return;
     };
     takes_in(rt, there, parcel, road);
@@ -87,10 +89,11 @@ fn attends(rt: &impl Abort, shard: &mut Desk, guests: &mut [Guest], road: &mut R
             Polled::Resumed(_) => road.refuses(),
             Polled::NoMemory(_) => {
                 road.refuses();
-                assert!(rt; counts_of(shard, slot) == before);
-                assert!(rt;
+                assert_holds!(rt; counts_of(shard, slot) == before);
+                assert_told(
+                    rt,
                     !matches!(poll(shard, slot), Polled::NoMemory(_)),
-                    "refused again"
+                    "refused again",
                 );
             }
             _ => {}
@@ -193,7 +196,7 @@ fn go(
             Move::Idle => mem::swap(here, there),
         }
     }
-    assert!(rt; false, "not ended");
+    assert_told(rt, false, "not ended");
     Ok(road.refused)
 }
 
@@ -226,7 +229,7 @@ fn memory_refusal(rt: HostRuntime) -> Result<(), Fail> {
     };
     assert!(rt; met <= 1, "refused {met} times");
     if met > 0 {
-        assert_eq!(rt; three_to_their_ends(&rt)?, 0);
+        assert_same(&rt, three_to_their_ends(&rt)?, 0);
     }
     Ok(())
 }

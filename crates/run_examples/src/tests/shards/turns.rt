@@ -1,5 +1,6 @@
 //! A shard over a list agenda and mails of two lists, with numbers chosen by hand.
 
+use crate::tests::wants::assert_same;
 use emu_model::{Budget, Command, PacketBudget, Record, Spec, StepBudget, Timed};
 use shard::*;
 use std::alloc::Global;
@@ -67,12 +68,12 @@ pub fn consumed_count(shard: &Lists, slot: usize) -> Option<usize> {
 }
 
 fn has_nobody(rt: &impl Abort, shard: &mut Lists) {
-    assert!(rt; shard.slot_of(1).is_none());
-    assert!(rt; matches!(shard.records(0), Err(Vacant)));
-    assert!(rt; matches!(shard.consumed(255), Err(Vacant)));
+    assert_holds!(rt; shard.slot_of(1).is_none());
+    assert_holds!(rt; matches!(shard.records(0), Err(Vacant)));
+    assert_holds!(rt; matches!(shard.consumed(255), Err(Vacant)));
     for slot in [0, 255, 256] {
-        assert!(rt; matches!(put(shard, slot, 5), Err(PostError::Vacant(t)) if t.moment == 5));
-        assert!(rt; shard.read(slot).is_err());
+        assert_holds!(rt; matches!(put(shard, slot, 5), Err(PostError::Vacant(t)) if t.moment == 5));
+        assert_holds!(rt; shard.read(slot).is_err());
     }
     shard.reveal_invariant();
 }
@@ -86,31 +87,29 @@ fn nobody_is_in_a_new_shard(rt: HostRuntime) -> Result<(), Fail> {
 }
 
 fn fills_a_mail(rt: &impl Abort, shard: &mut Lists) {
-    assert_eq!(rt; shard.slot_of(20), Some(1));
-    assert_eq!(rt; shard.slot_of(30), None);
+    assert_same(rt, shard.slot_of(20), Some(1));
+    assert_same(rt, shard.slot_of(30), None);
     for moment in 0..64 {
-        assert!(rt; put(shard, 1, moment).is_ok());
+        assert_holds!(rt; put(shard, 1, moment).is_ok());
     }
-    assert!(rt; matches!(put(shard, 1, 64), Err(PostError::Full(t)) if t.moment == 64));
-    assert!(rt; put(shard, 0, 64).is_ok());
+    assert_holds!(rt; matches!(put(shard, 1, 64), Err(PostError::Full(t)) if t.moment == 64));
+    assert_holds!(rt; put(shard, 0, 64).is_ok());
 
     // A place is free again once the first command is taken.
-    assert_eq!(rt; shard.poll(1), Polled::Took(20));
-    assert_eq!(rt; consumed_count(shard, 1), Some(1));
-    assert!(rt; put(shard, 1, 64).is_ok());
+    assert_same(rt, shard.poll(1), Polled::Took(20));
+    assert_same(rt, consumed_count(shard, 1), Some(1));
+    assert_holds!(rt; put(shard, 1, 64).is_ok());
 }
 
 fn reads_a_letter(rt: &impl Abort, shard: &mut Lists) {
-    assert!(rt; matches!(shard.read(1), Ok(None)));
-    assert_eq!(rt; turn_once(shard), Was::Ran(20));
-    assert!(rt; matches!(shard.records(1), Ok([_])));
-    assert!(rt;
-        matches!(
+    assert_holds!(rt; matches!(shard.read(1), Ok(None)));
+    assert_same(rt, turn_once(shard), Was::Ran(20));
+    assert_holds!(rt; matches!(shard.records(1), Ok([_])));
+    assert_holds!(rt; matches!(
             shard.read(1),
             Ok(Some(Record::CommandDone { moment: 0, .. }))
-        )
-    );
-    assert!(rt; matches!(shard.read(1), Ok(None)));
+        ));
+    assert_holds!(rt; matches!(shard.read(1), Ok(None)));
 }
 
 #[test]
@@ -127,17 +126,17 @@ fn a_resident_is_posted_to_and_read(rt: HostRuntime) -> Result<(), Fail> {
 }
 
 fn goes_on_after_rebases(rt: &impl Abort, shard: &mut Lists) {
-    assert!(rt; put(shard, 0, 9).is_ok());
-    assert!(rt; put(shard, 1, 5).is_ok());
-    assert_eq!(rt; shard.poll(0), Polled::Took(10));
-    assert_eq!(rt; shard.poll(1), Polled::Took(20));
+    assert_holds!(rt; put(shard, 0, 9).is_ok());
+    assert_holds!(rt; put(shard, 1, 5).is_ok());
+    assert_same(rt, shard.poll(0), Polled::Took(10));
+    assert_same(rt, shard.poll(1), Polled::Took(20));
     shard.rebase();
-    assert_eq!(rt; shard.slot_of(20), Some(1));
-    assert_eq!(rt; turn_once(shard), Was::Ran(20));
+    assert_same(rt, shard.slot_of(20), Some(1));
+    assert_same(rt, turn_once(shard), Was::Ran(20));
     shard.rebase();
-    assert_eq!(rt; turn_once(shard), Was::Ran(10));
-    assert_eq!(rt; turn_once(shard), Was::Idle);
-    assert_eq!(rt; consumed_count(shard, 0), Some(1));
+    assert_same(rt, turn_once(shard), Was::Ran(10));
+    assert_same(rt, turn_once(shard), Was::Idle);
+    assert_same(rt, consumed_count(shard, 0), Some(1));
 }
 
 #[test]
@@ -164,6 +163,6 @@ fn a_refused_shard_is_made_at_the_second_try(rt: HostRuntime) -> Result<(), Fail
     };
     let vacant = shard.as_ref().map(|shard| shard.slot_of(0).is_none());
     drop(shard);
-    assert_eq!(rt; vacant, Some(true));
+    assert_same(&rt, vacant, Some(true));
     Ok(())
 }

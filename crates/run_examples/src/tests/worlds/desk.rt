@@ -1,6 +1,7 @@
 //! What the examples share: guests of a world, whose commands are posted in their order.
 
 use super::calls::{Stage, step};
+use crate::tests::wants::assert_told;
 use control::{Experiment as Plan, ParseError, parse_scenario};
 use emu_model::Spec;
 use std::alloc::AllocError;
@@ -138,7 +139,7 @@ pub fn finish<W: Stage>(
             return Ok(());
         }
     }
-    assert!(rt; false, "not ended");
+    assert_told(rt, false, "not ended");
     Ok(())
 }
 
@@ -156,10 +157,10 @@ fn has_report<W: Stage>(
     };
     let text = written.text.as_slice();
     if written.halted {
-        assert!(rt; begins_like(text, guest.report.as_bytes()));
+        assert_holds!(rt; begins_like(text, guest.report.as_bytes()));
         return Ok(Some(false));
     }
-    assert!(rt; text == guest.report.as_bytes());
+    assert_holds!(rt; text == guest.report.as_bytes());
     Ok(Some(true))
 }
 

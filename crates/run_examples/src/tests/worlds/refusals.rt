@@ -2,6 +2,7 @@
 
 use super::calls::{Sight, Stage, counted_run};
 use super::desk::{Guest, MOST_ROUNDS, invite_all, name_of, next_post, reports_of_ended};
+use crate::tests::wants::assert_same;
 use std::alloc::AllocError;
 use std::process::Abort;
 use std::test::Fail;
@@ -72,7 +73,7 @@ fn insists<W: Stage>(rt: &impl Abort, world: &mut W, one: &Step) -> u64 {
         }
     }
     assert!(rt; moved <= 1, "moved: {moved}");
-    assert_eq!(rt; counted_run(world, one), 0, "refused again");
+    assert_same(rt, counted_run(world, one), 0);
     met
 }
 
@@ -88,7 +89,7 @@ fn settle<W: Stage>(rt: &impl Abort, world: &mut W, guests: &mut [Guest]) -> u64
             let Some(post) = next_post(guests, name) else {
                 break;
             };
-            assert_eq!(rt; counted_run(world, &post), 0, "a post takes no memory");
+            assert_same(rt, counted_run(world, &post), 0);
         }
     }
     met
@@ -149,7 +150,7 @@ fn have_reports<W: Stage>(
     met: u64,
 ) -> Result<u64, AllocError> {
     let reports = reports_of_ended(rt, world, guests)?;
-    assert_eq!(rt; reports.whole.saturating_add(reports.cut), 4, "not ended");
+    assert_same(rt, reports.whole.saturating_add(reports.cut), 4);
     assert!(rt; reports.cut as u64 <= met, "cut: {}", reports.cut);
     Ok(met)
 }
@@ -173,7 +174,7 @@ fn memory_refusal(rt: HostRuntime) -> Result<(), Fail> {
     };
     assert!(rt; met <= 1, "refused {met} times");
     if met > 0 {
-        assert_eq!(rt; four_to_their_ends::<World<Wheel>>(&rt)?, 0);
+        assert_same(&rt, four_to_their_ends::<World<Wheel>>(&rt)?, 0);
     }
     Ok(())
 }

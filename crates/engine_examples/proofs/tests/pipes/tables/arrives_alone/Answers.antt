@@ -1,9 +1,10 @@
 use Rattle.std.proofs.Common.{◌≡◌, ℕ, refl, ap, ◌∙◌, List, [], length, arith}
-use Rattle.packet_store.specs.Pocket.{Pocket}
+use Rattle.packet_store.specs.Pocket.{Pocket, empty_pocket}
+use Rattle.packet_store.specs.Own.{own_pocket}
 use Rattle.pipe_core.specs.Uses.{total, one_at}
 use Rattle.pipe_core.specs.Moves.{AreNamed}
 use Rattle.pipe_table.specs.Table.{Table, pipe_keys}
-use Rattle.engine_examples.proofs.tests.pipes.tables.dues_are_appended.Goals as goal
+use Rattle.engine_examples.proofs.tests.pipes.tables.arrives_alone.Goals as goal
 
 total-nil : (weight : ℕ → ℕ) → total weight [] ≡ 0
 unfolding total
@@ -22,4 +23,9 @@ no-keys = refl
 pub arrive-requires-clause-named : goal.arrive-requires-clause-named
 arrive-requires-clause-named g c =
     none-named _ _
-    (c.route_ready.ensures.grown.keys ∙ c.configure.ensures.keys ∙ ap (λ (t : Table). pipe_keys t.pipes) c.new-pipes.ensures ∙ no-keys)
+    (c.route_ready.ensures.grown.keys ∙ c.configure.ensures.keys ∙ ap (λ (t : Table). pipe_keys t.pipes) c.requires.empty ∙ no-keys)
+
+pub arrive-requires-clause-budget : goal.arrive-requires-clause-budget
+arrive-requires-clause-budget g c =
+    let e : own_pocket c.route_ready.new.shelf ≡ empty_pocket 2 = c.route_ready.ensures.pockets 0 ∙ c.requires.room in
+    omega (arith, ap (λ (p : Pocket). p.count) e, ap (λ (p : Pocket). p.budget) e)

@@ -1,0 +1,13 @@
+//! What the tests want. `assert!` and `assert_eq!` are proved at each place where they stand, and a call is not.
+
+use std::fmt::Debug;
+use std::process::Abort;
+
+pub fn assert_same<T: Debug + Drop + PartialEq>(rt: &impl Abort, given: T, wanted: T) {
+    assert_eq!(rt; given, wanted);
+}
+
+/// What holds is told where it doesn't.
+pub fn assert_told(rt: &impl Abort, holds: bool, what: &str) {
+    assert!(rt; holds, "{what}");
+}
