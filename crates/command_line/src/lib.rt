@@ -1,32 +1,29 @@
 //! The words of the command line of `dnlab`, its exit statuses and what it prints on standard error. What they ask for is
-//! done by `alone`, or by many workers; the program `dnlab` says who these are, and adds its version.
+//! done by `alone`; the program `dnlab` has workers besides, and adds its version.
 #![tactic(auto)]
 
 mod hinted;
 mod meter;
 mod tell;
 mod words;
-mod workers;
 
 ghost use Rattle.std.specs.Prelude.{◌≡◌};
 ghost use Rattle.command_line.specs.Status.{status_after};
 
-use alone::{Device, Made, RunFault, Stop, check_kept, live, run_alone_within};
+use alone::{Inlet, Made, Outlet, RunFault, Stop, check_kept, live, run_alone_within};
 use clap::Error;
 use clap::error::ErrorKind;
 use explain::{Account, Note, Subject};
 use explain_text::{account_of, explanation, faults_text, scenario_explained};
 use hinted::LineHints;
-use meter::Meter;
+pub use meter::Meter;
 use std::alloc::{AllocError, Global};
 use std::process::ExitCode;
 use std::rt::{Clock, Env};
-use std::sync::Wait;
-use std::thread::Threads;
 use std::{env, io};
 use tell::{hint_at, print, tell_output, tell_steps};
-use words::{Task, stray_word, task_of};
-pub use workers::Workers;
+pub use words::Task;
+use words::{stray_word, task_of};
 
 /// The exit status of a strict run in which a command was refused, or an experiment spent its steps.
 const NOT_STRICT: u8 = 5;
@@ -66,8 +63,8 @@ fn unlimited_outcome(outcome: Result<(), RunFault>) -> Result<Option<Made>, Stop
     }
 }
 
-// What a call answers that makes reports.
-fn with_reports(outcome: Result<Made, Stop>) -> Result<Option<Made>, Stop> {
+/// What a call answers that makes reports.
+pub fn with_reports(outcome: Result<Made, Stop>) -> Result<Option<Made>, Stop> {
     match outcome {
         Ok(made) => Ok(Some(made)),
         Err(stop) => Err(stop),
@@ -155,8 +152,8 @@ fn end_stopped(
     Ok(end(rt, Err(stop)))
 }
 
-// Says what is to be said behind a call, and how the program ends. Where memory for that is refused the program says so.
-fn end_with(
+/// Says what is to be said behind a call, and how the program ends. Where memory for that is refused the program says so.
+pub fn end_with(
     rt: &impl Eprint,
     alloc: Global,
     text: &[u8],
@@ -188,71 +185,60 @@ fn say<R: Print + Eprint>(rt: &R, error: &Error, words: &[String]) -> ExitCode {
     ExitCode::from(if error.use_stderr() { 2 } else { 0 })
 }
 
-/// Does what the program's words want; `version` is what it says of itself, and `B` runs by many workers. The answer is
-/// the exit status.
-pub fn answer<B, H>(rt: &H, version: &str) -> ExitCode
-where
-    B: Workers,
-    H: Alloc<A = Global> + Clock + Env + Eprint + Input + Print + Sync + Threads + Wait,
-{
-    let alloc = rt.alloc();
+/// What the program's words ask for; else what is to be said of them has been said, and how the program ends. `version` is
+/// what it says of itself.
+pub fn asked<H: Alloc<A = Global> + Env + Eprint + Print>(
+    rt: &H,
+    alloc: Global,
+    version: &str,
+) -> Result<Task, ExitCode> {
     let words = match env::args(rt) {
         Ok(words) => words,
         Err(error) if error.kind() == io::ErrorKind::OutOfMemory => {
-            return fail(rt, RunFault::Memory);
+            return Err(fail(rt, RunFault::Memory));
         }
         Err(error) => {
             let _ = eprintln!(rt; "error: {error}");
-            return ExitCode::from(2);
+            return Err(ExitCode::from(2));
         }
     };
     let Ok(words) = words.collect::<Vec<String>>(alloc) else {
-        return fail(rt, RunFault::Memory);
+        return Err(fail(rt, RunFault::Memory));
     };
-    let task = match task_of(alloc, version, words.as_slice()) {
-        Ok(task) => task,
-        Err(error) => return say(rt, &error, words.as_slice()),
-    };
-    let mut text = Vec::new(alloc);
-    let mut reader = Device::new(rt.reader());
-    let mut writer = Device::new(io::writer(rt));
-    let outcome = match task {
+    match task_of(alloc, version, words.as_slice()) {
+        Ok(task) => Ok(task),
+        Err(error) => Err(say(rt, &error, words.as_slice())),
+    }
+}
+
+/// Does by one thread what is asked for. A run by workers is made so too, and writes the same; who has workers makes it by
+/// them.
+pub fn by_one_thread<H: Clock + Eprint + Sync, R: Inlet, W: Outlet>(
+    rt: &H,
+    alloc: Global,
+    task: &Task,
+    reader: &mut R,
+    writer: &mut W,
+    text: &mut Vec<u8>,
+) -> Result<Option<Made>, Stop> {
+    match *task {
         Task::Run {
-            workers,
-            moves,
+            limits,
+            progress,
+            ..
+        }
+        | Task::Alone {
             limits,
             progress,
             ..
         } => {
             let meter = Meter::new(rt, progress);
-            let (from, to) = (&mut reader, &mut writer);
-            let Some(outcome) = B::run_within(
-                rt, alloc, from, to, &mut text, &limits, workers, moves, &meter,
-            ) else {
-                // The words' ranges let none of these through.
-                return ExitCode::from(2);
-            };
-            with_reports(outcome)
+            with_reports(run_alone_within(alloc, reader, writer, text, &limits, &meter))
         }
-        Task::Alone {
-            limits,
-            progress,
-            ..
-        } => {
-            let meter = Meter::new(rt, progress);
-            let (from, to) = (&mut reader, &mut writer);
-            with_reports(run_alone_within(alloc, from, to, &mut text, &limits, &meter))
-        }
-        Task::Check { .. } => unlimited_outcome(check_kept(
-            alloc,
-            &mut reader,
-            &mut writer,
-            &mut text,
-        )),
+        Task::Check { .. } => unlimited_outcome(check_kept(alloc, reader, writer, text)),
         Task::Live { explain } => {
             let hints = LineHints { wanted: explain };
-            unlimited_outcome(live(alloc, &mut reader, &mut writer, &hints))
+            unlimited_outcome(live(alloc, reader, writer, &hints))
         }
-    };
-    end_with(rt, alloc, text.as_slice(), outcome, &task)
+    }
 }
