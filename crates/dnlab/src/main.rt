@@ -7,8 +7,12 @@ mod version;
 use alone::Device;
 use command_line::{Meter, Task, asked, by_one_thread, end_with, with_reports};
 use lab::{OpenGate, Plan, run_within};
+use std::alloc::Global;
 use std::io;
 use std::process::ExitCode;
+use std::rt::{Clock, Env};
+use std::sync::Wait;
+use std::thread::Threads;
 use version::VERSION;
 
 fn main(rt: HostRuntime) -> ExitCode {
