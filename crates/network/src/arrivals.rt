@@ -8,9 +8,9 @@ ghost use Rattle.emu_model.specs.Net.{arrivals, by_verdict, drop_record, enter_p
 ghost use Rattle.network.specs.Kept.{net_of, IsHoused, Stands};
 ghost use Rattle.network.specs.Changes.{Becomes, IsStill, Notes};
 ghost use Rattle.network.specs.Frames.{TakesRoom};
-ghost use Rattle.network.specs.Ready.{IsMatch, IsReady, CanGo, CanPass, HasRoute, start_after, CanMake};
+ghost use Rattle.network.specs.Ready.{IsMatch, IsReady, CanGo, CanPass, start_after, CanMake};
 ghost use Rattle.pipe_table.specs.Table.{HasRoomIn};
-ghost use Rattle.pipe_table.specs.Places.{IsRouted, HasRoomAtPlace, KeepsPlaces};
+ghost use Rattle.pipe_table.specs.Places.{KeepsPlaces};
 ghost use Rattle.emu_model.specs.declared.rules.Verdict.TheVariants.{IntoPipe};
 
 use crate::flow_cache::{Lookup, Route};
