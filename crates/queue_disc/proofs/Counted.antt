@@ -1,10 +1,13 @@
 -- The sum beside what waits, as an item comes and goes.
-use Rattle.std.proofs.Common.{◌≡◌, ℕ, zero, suc, ◌+◌, ◌-◌, ◌*◌, ◌<◌, ◌≤◌, List, [], ◌∷◌, ◌++◌, length, map, set, refl, sym, ap, ◌∙◌, slice_index_or, arith}
+use Rattle.std.proofs.Common.{◌≡◌, ℕ, zero, suc, ◌+◌, ◌-◌, ◌*◌, ◌<◌, ◌≤◌, List, [], ◌∷◌, ◌++◌, length, map, set, true, refl, sym, ap, ◌∙◌, slice_index_or, arith}
 use Rattle.std.specs.Prelude.{All, sum}
 use Rattle.std.proofs.lemmas.List.Sums.{sum-map, sum_by-cons, sum_by_push, sum_by-le}
 use Rattle.std.proofs.lemmas.List.Elements.{All-push, All-cons, All-head, All-tail}
-use Rattle.emu_model.specs.DropTail.{Queued, bytes_of}
-use Rattle.queue_disc.specs.Queues.{IsCounted, with_item}
+use Rattle.std.proofs.lemmas.Bool.{ltb-true, leb-true}
+use Rattle.emu_model.specs.declared.pipes.QueueLimit.{QueueLimit}
+use Rattle.emu_model.specs.declared.pipes.QueueLimit.TheVariants.{Slots, KBytes}
+use Rattle.emu_model.specs.DropTail.{Queued, bytes_of, accepts}
+use Rattle.queue_disc.specs.Queues.{IsCounted, IsLimit, with_item}
 
 pub bytes_of-cons : {A : Type 0} (w : Queued A) (ws : List (Queued A)) →
     bytes_of (w ∷ ws) ≡ w.size + bytes_of ws
@@ -68,3 +71,11 @@ IsCounted-replaced bytes ws n item h = record {
   few = h.few;
   sizes = with_item-small ws n item h.sizes;
 }
+
+-- so a queue has few bytes after what its limit lets in
+pub accepted-few : {A : Type 0} (bytes : ℕ) (ws : List (Queued A)) (limit : QueueLimit) (size : ℕ) → IsCounted bytes ws →
+    IsLimit limit → size ≤ 1500 → accepts limit ws size ≡ true → bytes_of ws + size ≤ 1500000
+accepted-few bytes ws (Slots n) size counted limit small let_in =
+    omega (arith, ltb-true (length ws) n let_in, limit, small, bytes_of-le ws counted.sizes)
+accepted-few bytes ws (KBytes n) size counted limit small let_in =
+    omega (arith, leb-true (bytes_of ws + size) (1024 * n) let_in, limit)

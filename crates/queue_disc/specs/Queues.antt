@@ -1,6 +1,7 @@
 -- The queues as their callers see them.
 use Rattle.std.specs.Prelude.{◌≡◌, ℕ, zero, suc, ◌≤◌, ◌==◌, ◌&&◌, ◌||◌, not, nat_lt, if◌then◌else◌, Bool, true, false, Option, List, [], ◌∷◌, ◌++◌, All}
 use Rattle.emu_model.specs.declared.pipes.QueueLimit.{QueueLimit}
+use Rattle.emu_model.specs.declared.pipes.QueueLimit.TheVariants.{Slots, KBytes}
 use Rattle.emu_model.specs.declared.pipes.Discipline.{Discipline}
 use Rattle.emu_model.specs.declared.pipes.Discipline.TheVariants.{TailDrop, ControlledDelay}
 use Rattle.emu_model.specs.DropTail.{Queued, bytes_of}
@@ -97,6 +98,11 @@ pub record IsCounted {A : Type 0} (bytes : ℕ) (ws : List (Queued A)) : Type 0 
   pub sum : bytes ≡ bytes_of ws
   pub few : bytes ≤ 1500000
   pub sizes : All (λ w. w.size ≤ 1500) ws
+
+-- what a limit can be: 1000 slots or 1024 KBytes at most
+abbrev pub IsLimit : QueueLimit → Type 0
+IsLimit (Slots n) = n ≤ 1000
+IsLimit (KBytes n) = n ≤ 1024
 
 -- another item at a place; its size and its stamp stay
 abbrev pub with_item : {A : Type 0} → List (Queued A) → ℕ → A → List (Queued A)

@@ -72,7 +72,7 @@ impl<A> Queue<A> {
 
     /// Makes the growth that `enqueue_reserved` of these can need.
     #[inline(always)]
-    pub fn enqueue_ready(&mut self, size: Size, now: u64) -> Result<(), AllocError>
+    pub fn enqueue_ready(&mut self, size: Size, _now: u64) -> Result<(), AllocError>
         ensures same { self.new ≡ record self.old { capacity = self.new.capacity } }
         ensures room { OnOk result
             (accepts self.old.limit self.old.waiting size ≡ true →
@@ -83,7 +83,11 @@ impl<A> Queue<A> {
             ((accepts self.old.limit self.old.waiting size ≡ true)
             × (self.old.capacity ≤ length self.old.waiting)) }
     {
-        self.tail.enqueue_ready(size, now)
+        if self.tail.accepts(size) {
+            self.tail.reserve()
+        } else {
+            Ok(())
+        }
     }
 
     /// Puts an item of `size` bytes last, stamped with `now`, where the limit lets it in and there is

@@ -2,7 +2,7 @@
 
 ghost use Rattle.std.specs.Prelude.{◌≡◌, ◌+◌, ◌-◌, ◌*◌, ◌^◌, ◌<◌, ◌≤◌, true, false, [], ◌∷◌, ◌++◌, length, map, drop, IfErr, OnOk, OnErr, IsTrue, MatchOption, slice_get, take, vec_len, vec_capacity};
 ghost use Rattle.emu_model.specs.DropTail.{bytes_of, accepts};
-ghost use Rattle.queue_disc.specs.Queues.{with_item};
+ghost use Rattle.queue_disc.specs.Queues.{with_item, IsLimit};
 
 use crate::entries::{EnqueueError, Queued, Refused};
 use emu_model::{QueueLimit, Size};
@@ -12,6 +12,20 @@ use std::marker::Model;
 
 /// The places of the first growth.
 const LEAST_GROWTH: usize = 4;
+
+// The range that the types of a limit keep; nothing of it is left in the program.
+fn limit_in_range(limit: &QueueLimit)
+    ensures { IsLimit limit.now }
+{
+    match limit {
+        QueueLimit::Slots(slots) => {
+            let _ = slots.get();
+        }
+        QueueLimit::KBytes(kbytes) => {
+            let _ = kbytes.get();
+        }
+    }
+}
 
 /// A queue with a limit, first in first out.
 #[derive(Drop)]
@@ -24,7 +38,7 @@ pub struct DropTail<A> {
 impl<A> Model for DropTail<A> {
     ghost use Rattle.std.specs.Prelude.{◌≡◌, ◌≤◌};
     ghost use Rattle.std.specs.VecDeque.{deque_capacity};
-    ghost use Rattle.queue_disc.specs.Queues.{TailQueue, IsCounted};
+    ghost use Rattle.queue_disc.specs.Queues.{TailQueue, IsCounted, IsLimit};
 
     ghost Value = { TailQueue A };
 
@@ -34,7 +48,7 @@ impl<A> Model for DropTail<A> {
       capacity = deque_capacity q.waiting;
     } };
 
-    ghost invariant = { λ q. IsCounted q.bytes q.waiting.items };
+    ghost invariant = { λ q. IsCounted q.bytes q.waiting.items × IsLimit q.limit };
 }
 
 impl<A> DropTail<A> {
@@ -43,6 +57,7 @@ impl<A> DropTail<A> {
         ensures limit { result.limit ≡ limit }
         ensures empty { result.waiting ≡ [] }
     {
+        limit_in_range(&limit);
         DropTail {
             limit,
             waiting: VecDeque::new(alloc),
@@ -97,34 +112,12 @@ impl<A> DropTail<A> {
                   ++ record { item = item; size = size; stamp = now } ∷ [];
             } }
     {
-        // Tells how many bytes can wait at most; nothing of it is left in the program.
-        let _accepted = self.accepts(size);
         self.bytes += u64::from(size.get());
         self.waiting.push_back_reserved(Queued {
             item,
             size,
             stamp: now,
         });
-    }
-
-    /// Makes the growth that `enqueue` of these can need.
-    #[inline(always)]
-    pub fn enqueue_ready(&mut self, size: Size, _now: u64) -> Result<(), AllocError>
-        ensures ok { OnOk result (self.new ≡ record self.old { capacity = self.new.capacity }) }
-        ensures room { OnOk result
-            (accepts self.old.limit self.old.waiting size ≡ true →
-            length self.new.waiting < self.new.capacity) }
-        ensures grows { self.old.capacity ≤ self.new.capacity }
-        ensures unchanged { OnErr result (self.new ≡ self.old) }
-        ensures full { OnErr result
-            ((accepts self.old.limit self.old.waiting size ≡ true)
-            × (self.old.capacity ≤ length self.old.waiting)) }
-    {
-        if self.accepts(size) {
-            self.reserve()
-        } else {
-            Ok(())
-        }
     }
 
     /// Takes the head. Takes no memory.
@@ -175,6 +168,7 @@ impl<A> DropTail<A> {
     pub fn set_limit(&mut self, limit: QueueLimit)
         ensures { self.new ≡ record self.old { limit = limit } }
     {
+        limit_in_range(&limit);
         self.limit = limit;
     }
 
@@ -208,7 +202,7 @@ impl<A> DropTail<A> {
 
     /// Makes room for one more: twice as many places where none is free.
     #[inline(always)]
-    fn reserve(&mut self) -> Result<(), AllocError>
+    pub(crate) fn reserve(&mut self) -> Result<(), AllocError>
         ensures ok { OnOk result (self.new ≡ record self.old { capacity = self.new.capacity }) }
         ensures room { OnOk result (length self.new.waiting < self.new.capacity) }
         ensures grows { self.old.capacity ≤ self.new.capacity }
