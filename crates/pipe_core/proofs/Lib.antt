@@ -2,6 +2,7 @@ mod KeyMoves
 mod SlotArrivals
 mod Leavings
 mod Makings
+mod PipeArrivals
 mod PipeFacts
 mod InstancePlaces
 mod Growths

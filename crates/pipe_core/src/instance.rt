@@ -140,21 +140,23 @@ impl Instance {
     }
 
     /// A packet of `size` bytes comes in at the moment `now` (ns) that the limit lets in: it waits, or
-    /// is served at once.
+    /// is served at once. Whether it waits.
     #[inline(always)]
-    pub fn accept(&mut self, key: Key, size: Size, now: u64)
+    pub fn accept(&mut self, key: Key, size: Size, now: u64) -> bool
         requires early { IsMoment now }
         requires accepted { accepts self.old.queue.limit self.old.queue.waiting size ≡ true }
         requires ready { IsSome self.old.service.busy →
             length self.old.queue.waiting < self.old.queue.capacity }
-        ensures { IsAccept now key size self.old self.new }
+        ensures came { IsAccept now key size self.old self.new }
+        ensures waits { result ≡ is_some self.old.service.busy }
     {
         if self.service.is_busy() {
             self.queue.enqueue_reserved(key, size, now);
-        } else {
-            self.queue.pass(now);
-            self.service.start(key, size, now);
+            return true;
         }
+        self.queue.pass(now);
+        self.service.start(key, size, now);
+        false
     }
 
     /// The packet in service finishes at the moment `now` (ns), at which it is due: it goes on its way

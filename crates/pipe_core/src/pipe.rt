@@ -1,6 +1,6 @@
 //! A pipe: its configuration, and its instances by flow identifier.
 
-ghost use Rattle.std.specs.Prelude.{◌≡◌, ◌≢◌, ℕ, ◌+◌, ◌-◌, ◌*◌, ◌<◌, ◌≤◌, ◌↔◌, true, false, [], map, length, position, slice_get, slice_set, Some, None, is_some, unwrap_or, option_map, option_and_then, IfSome, OnSome, IfNone, IfOk, OnOk, OnErr, IsOk, IsTrue, vec_capacity};
+ghost use Rattle.std.specs.Prelude.{◌≡◌, ◌≢◌, ℕ, ◌+◌, ◌-◌, ◌*◌, ◌<◌, ◌≤◌, ◌↔◌, ◌||◌, true, false, [], map, length, position, slice_get, slice_set, Some, None, is_some, unwrap_or, option_map, option_and_then, IfSome, OnSome, IfNone, IfOk, OnOk, OnErr, IsOk, IsTrue, vec_capacity};
 ghost use Rattle.std.specs.List.{list_any, All};
 ghost use Rattle.emu_model.specs.declared.packets.Packet.{Packet};
 ghost use Rattle.emu_model.specs.Moments.{IsMoment};
@@ -23,7 +23,9 @@ use crate::slot::Slot;
 use crate::takes::take_all;
 use crate::{Instance, InstanceDues, Shown};
 use due_index::{DueIndex, DueNumber};
-use emu_model::{DropCause, Mask, Packet, PipeConfig, PipeNumber, Refusal, Size};
+use emu_model::{
+    DropCause, Mask, Packet, PipeConfig, PipeNumber, Refusal, Size, unreachable_unchecked,
+};
 use flow_mask::{ApplyMask, FlowId, InstanceError, Instances};
 use packet_store::{Owner, Shelf};
 use std::alloc::{AllocError, Global};
@@ -35,8 +37,8 @@ use std::mem;
 pub struct Arrival {
     /// Why it is dropped; `None` where it is taken in.
     pub cause: Option<DropCause>,
-    /// Whether its instance had a packet in service before. What is due first is the same then.
-    pub was_busy: bool,
+    /// Whether what is due first is the same for sure: it is dropped, or waits for the one in service.
+    pub is_due_same: bool,
 }
 
 /// A pipe with its instances. Its packets stand on a shelf, and it holds their keys.
@@ -355,19 +357,36 @@ impl Pipe {
             (keys_of self.old.slots) (keys_of self.new.slots) }
         ensures same { self.new ≡ record self.old { slots = self.new.slots } }
         ensures ids { ids_of self.new.slots ≡ ids_of self.old.slots }
-        ensures found { (f : ℕ → Packet) →
-            result.was_busy ≡ is_some (served_in instance (seen_pipe f self.old)) }
-        ensures busy { IsTrue result.was_busy → (f : ℕ → Packet) →
+        ensures told { (f : ℕ → Packet) → result.is_due_same
+            ≡ (is_some result.cause || is_some (served_in instance (seen_pipe f self.old))) }
+        ensures due { IsTrue result.is_due_same → (f : ℕ → Packet) →
             pipe_due f self.new ≡ pipe_due f self.old }
         ensures others { OthersStay owner (S.pocket shelf.old) (S.pocket shelf.new) }
     {
         let slot = &mut self.slots[instance];
-        let was_busy = slot.instance.is_busy();
-        let answer = slot.arrive(shelf, owner, now, packet, &self.config);
-        set_unless(was_busy, &mut self.dues, instance, slot, self.number);
+        if slot.instance.lose(self.config.plr) {
+            return Arrival {
+                cause: Some(DropCause::Lost),
+                is_due_same: true,
+            };
+        }
+        if !slot.instance.accepts(packet.size) {
+            return Arrival {
+                cause: Some(DropCause::Full),
+                is_due_same: true,
+            };
+        }
+        let Ok(key) = shelf.put(owner, *packet) else {
+            unreachable_unchecked!();
+        };
+        let waits = slot.instance.accept(key, packet.size, now);
+        if !waits {
+            self.dues
+                .set(instance, slot.due(self.number, instance as u8));
+        }
         Arrival {
-            cause: answer,
-            was_busy,
+            cause: None,
+            is_due_same: waits,
         }
     }
 
@@ -607,21 +626,6 @@ fn is_zero(mask: &Mask) -> bool
     ensures { IsTrue result ↔ IsZero mask.now }
 {
     mask.proto == 0 && mask.src == 0 && mask.dst == 0 && mask.sport == 0 && mask.dport == 0
-}
-
-// What is due of an instance is set anew, unless it's the same for sure.
-#[inline(always)]
-fn set_unless(same: bool, dues: &mut DueIndex, instance: usize, slot: &Slot, number: PipeNumber)
-    requires inside { instance < length dues.old.leaves }
-    requires few { instance < 256 }
-    requires numbered { number * 256 + instance ≡ instance_number slot.now }
-    requires same { IsTrue same → slice_get dues.old.leaves instance ≡ Some (slot_due slot.now) }
-    ensures { dues.new
-        ≡ record dues.old { leaves = slice_set dues.old.leaves instance (slot_due slot.now) } }
-{
-    if !same {
-        dues.set(instance, slot.due(number, instance as u8));
-    }
 }
 
 // Each instance's due is set anew.

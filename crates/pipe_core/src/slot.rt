@@ -36,40 +36,6 @@ impl Slot {
         exit.or_earlier(DueNumber::at_some(dues.finish, Source::finish(pipe, instance)))
     }
 
-    /// A packet comes: its loss word is drawn, and then the limit decides.
-    #[inline(always)]
-    pub(crate) fn arrive<S: Shelf>(
-        &mut self,
-        shelf: &mut S,
-        owner: Owner,
-        now: u64,
-        packet: &Packet,
-        config: &PipeConfig,
-    ) -> Option<DropCause>
-        requires early { IsMoment now }
-        requires tuned { IsTuned config.now self.old.instance }
-        requires budget { (S.pocket shelf.old owner).count < (S.pocket shelf.old owner).budget }
-        requires room { 0 < S.room shelf.old owner }
-        requires ready { HasRoom packet.now.size self.old.instance }
-        ensures came { Arrives config.now now packet.now result (S.pocket shelf.old owner)
-            (S.pocket shelf.new owner) self.old self.new }
-        ensures others { OthersStay owner (S.pocket shelf.old) (S.pocket shelf.new) }
-    {
-        let lost = self.instance.lose(config.plr);
-        if lost {
-            return Some(DropCause::Lost);
-        }
-        let room = self.instance.accepts(packet.size);
-        if room {
-            let Ok(key) = shelf.put(owner, *packet) else {
-                unreachable_unchecked!();
-            };
-            self.instance.accept(key, packet.size, now);
-            return None;
-        }
-        Some(DropCause::Full)
-    }
-
     /// The packet in service finishes, at the moment at which it is due, and is told; the next is
     /// served. What CoDel drops is taken from the shelf into `drops`, which loses what it held and
     /// keeps its room: nothing where the caller knows that the finish is `plain`. All growths come first.

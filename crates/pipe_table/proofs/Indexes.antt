@@ -1,10 +1,10 @@
 -- The index of pipes, as they change, and its least.
 use Rattle.std.proofs.Common.{◌≡◌, ℕ, ◌+◌, ◌*◌, ◌<◌, ◌≤◌, refl, sym, ap, ◌∙◌, subst, List, [], ◌∷◌, ◌++◌, length, map, take, get_or, set, Option, Some, None, arith, get_or-set_same}
-use Rattle.std.specs.Prelude.{option_map, option_to_list, flat_map, slice_get}
-use Rattle.std.proofs.lemmas.Option.{slice_get-map}
+use Rattle.std.specs.Prelude.{option_map, option_to_list, flat_map}
 use Rattle.std.specs.List.{All}
-use Rattle.std.proofs.lemmas.List.{map-append, map-set, length-map, take_more}
-use Rattle.std.proofs.lemmas.List.Elements.{All-nil, All-cons, All-head, All-tail, All-set, All-push}
+use Rattle.std.proofs.Math.ListN.{get_or-map}
+use Rattle.std.proofs.lemmas.List.{map-append, map-set, length-map, set-get_or, take_more}
+use Rattle.std.proofs.lemmas.List.Elements.{All-nil, All-cons, All-head, All-tail, All-set, All-push, All-get_or}
 use Rattle.emu_model.specs.declared.packets.Packet.{Packet}
 use Rattle.emu_model.specs.declared.sources.Due.{Due}
 use Rattle.emu_model.specs.declared.sources.Class.TheVariants.{Exit, Finish}
@@ -16,7 +16,7 @@ use Rattle.due_index.proofs.CallerLemmas.{least_all, least_of-all, least_all-app
 use Rattle.pipe_core.specs.KeyedInstance.{seen_service}
 use Rattle.pipe_core.specs.declared.slot.Slot.{Slot}
 use Rattle.pipe_core.specs.Moves.{some_packet}
-use Rattle.pipe_core.specs.Keyed.{KeyedPipe, seen_slot, seen_pipe}
+use Rattle.pipe_core.specs.Keyed.{KeyedPipe, ids_of, seen_slot, seen_pipe}
 use Rattle.pipe_core.proofs.CallerLemmas.{first_exit-seen}
 use Rattle.pipe_table.specs.Table.{seen_pipes, IsPipeNumber}
 use Rattle.pipe_table.specs.Leaves.{leaf_of, IsFit, IsIndexed, AreIndexed}
@@ -108,14 +108,31 @@ indexed-put ps i y x z h l number few e =
     let f : ℕ → Packet = λ k. some_packet in
     indexed-set ps i y y x z (leaf_of (seen_pipe f y)) h l (sym (get_or-set_same ps i y y l)) (λ g. leaf-alike f g y) number few (e f)
 
--- what is due of a pipe stands at its place
-pub indexed-there : (ps : List KeyedPipe) (i : ℕ) (x y : KeyedPipe) (z : Places) → AreIndexed ps z →
-    slice_get ps i ≡ Some x → ((f : ℕ → Packet) → leaf_of (seen_pipe f y) ≡ leaf_of (seen_pipe f x)) →
-    (f : ℕ → Packet) → slice_get z.leaves i ≡ Some (leaf_of (seen_pipe f y))
-indexed-there ps i x y z h there same f =
-    ap (λ l. slice_get l i) (h f).leaves ∙ slice_get-map leaf_of (seen_pipes f ps) i
-    ∙ ap (option_map leaf_of) (slice_get-map (seen_pipe f) ps i ∙ ap (option_map (seen_pipe f)) there)
-    ∙ ap (λ d. Some d) (sym (same f))
+-- as many instances have as many identifiers
+pub same-ids : (ss tt : List Slot) → ids_of tt ≡ ids_of ss → length tt ≡ length ss
+same-ids ss tt e = sym (length-map tt (λ s. s.id)) ∙ ap length e ∙ length-map ss (λ s. s.id)
+
+-- a pipe changed, and its due stayed
+pub indexed-same : (ps : List KeyedPipe) (i : ℕ) (x y : KeyedPipe) (z : Places) → AreIndexed ps z →
+    i < length ps → x ≡ get_or ps i x → y.number ≡ x.number → length y.slots ≡ length x.slots →
+    ((f : ℕ → Packet) → leaf_of (seen_pipe f y) ≡ leaf_of (seen_pipe f x)) →
+    AreIndexed (set ps i y) z
+indexed-same ps i x y z h l read number long same = λ f.
+    let ss = seen_pipes f ps in
+    let sx : PipeState = seen_pipe f x in
+    let at : sx ≡ get_or ss i sx = ap (seen_pipe f) read ∙ sym (get_or-map (seen_pipe f) ps i x) in
+    let was : IsFit sx =
+    subst IsFit (sym at) (All-get_or IsFit ss i sx (omega (arith, l, length-map ps (seen_pipe f))) (h f).fit) in
+    let fit : IsFit (seen_pipe f y) = record {
+      number = subst IsPipeNumber (sym number) was.number;
+      few = omega (arith, was.few, length-map x.slots (seen_slot f), length-map y.slots (seen_slot f), long);
+    } in
+    subst (λ ss. IsIndexed ss z) (sym (map-set (seen_pipe f) ps i y)) (record {
+      leaves = (h f).leaves ∙ sym (map-set leaf_of ss i (seen_pipe f y)
+          ∙ ap (set (map leaf_of ss) i) (same f ∙ ap leaf_of at ∙ sym (get_or-map leaf_of ss i sx))
+          ∙ set-get_or (map leaf_of ss) i (leaf_of sx));
+      fit = All-set IsFit ss i (seen_pipe f y) fit (h f).fit;
+    })
 
 -- no pipes yet, and one more
 pub indexed-none : (x : Places) → x.leaves ≡ [] → AreIndexed [] x

@@ -30,25 +30,6 @@ pub(crate) fn index_all(pipes: &[Pipe], dues: &mut DueIndex)
     }
 }
 
-/// What is due of a pipe is set anew, unless it's the same for sure. Tells the ranges of its number and of how many
-/// instances it has.
-#[inline(always)]
-pub(crate) fn set_unless(same: bool, dues: &mut DueIndex, place: usize, pipe: &Pipe)
-    requires inside { place < length dues.old.leaves }
-    requires same { IsTrue same →
-        (f : ℕ → Packet) → slice_get dues.old.leaves place ≡ Some (pipe_due f pipe.now) }
-    ensures set { (f : ℕ → Packet) → dues.new
-        ≡ record dues.old { leaves = slice_set dues.old.leaves place (pipe_due f pipe.now) } }
-    ensures number { (1 ≤ pipe.now.number) × (pipe.now.number ≤ 65535) }
-    ensures few { length pipe.now.slots ≤ 256 }
-{
-    let _number = pipe.number().get();
-    let _instances = pipe.instances();
-    if !same {
-        dues.set(place, pipe.least());
-    }
-}
-
 // Appends a due that may be there.
 fn append(dues: &mut Vec<Due>, source: Source, moment: Option<u64>)
     requires { vec_len dues.old + 1 ≤ vec_capacity dues.old }

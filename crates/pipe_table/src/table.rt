@@ -17,7 +17,7 @@ ghost use Rattle.pipe_core.specs.Steps.{drops_of, drops_by_codel};
 ghost use Rattle.pipe_table.specs.Table.{with_pipes, pipe_keys, pipe_of, has_number, HasRoomIn, HasGrown, IsFinishing, is_above, drops_by_deletion, refusal_in};
 ghost use Rattle.pipe_table.specs.Places.{StandsAt, IsInside, IsRouted, HasRoomAtPlace, HasLineRoomIn, IsFreeIn, IsPlainIn, KeepsPlaces};
 
-use crate::dues::{index_all, set_unless};
+use crate::dues::index_all;
 use crate::places::lead_all;
 use due_index::{DueIndex, NumberTable};
 use emu_model::{DropCause, Packet, PipeConfig, PipeNumber, Refusal, Size};
@@ -175,7 +175,9 @@ impl PipeTable {
         keys_say_all();
         let pipe = &mut self.pipes[place];
         let answer = pipe.arrive_at(instance, shelf, owner, now, packet);
-        set_unless(answer.was_busy, &mut self.dues, place, pipe);
+        if !answer.is_due_same {
+            self.dues.set(place, pipe.least());
+        }
         answer.cause
     }
 
@@ -236,7 +238,7 @@ impl PipeTable {
         keys_say_all();
         let pipe = &mut self.pipes[place];
         let finished = pipe.finish(shelf, owner, instance, now, plain, drops);
-        set_unless(false, &mut self.dues, place, pipe);
+        self.dues.set(place, pipe.least());
         finished
     }
 
@@ -295,7 +297,7 @@ impl PipeTable {
         keys_say_all();
         let pipe = &mut self.pipes[place];
         let packet = pipe.exit(shelf, owner, instance);
-        set_unless(false, &mut self.dues, place, pipe);
+        self.dues.set(place, pipe.least());
         packet
     }
 
@@ -337,7 +339,7 @@ impl PipeTable {
         keys_say_all();
         let pipe = &mut self.pipes[place];
         let answer = pipe.arrive(shelf, owner, now, packet);
-        set_unless(false, &mut self.dues, place, pipe);
+        self.dues.set(place, pipe.least());
         answer
     }
 

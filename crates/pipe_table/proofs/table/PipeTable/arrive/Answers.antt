@@ -1,4 +1,5 @@
 use Rattle.std.proofs.Common.{◌≡◌, ℕ, ◌<◌, List, length, sym, ap, ◌∙◌, subst}
+use Rattle.std.specs.Prelude.{slice_set}
 use Rattle.emu_model.specs.Pipes.{pipe_arrive}
 use Rattle.packet_store.specs.Pocket.{Pocket}
 use Rattle.pipe_core.specs.Moves.{AreNamed}
@@ -36,8 +37,8 @@ arrive-answer-requires-clause-ready g c =
     let within : i < length ps = stands-within k i ps here in
     (subst (λ (t : Table). HasRoomIn k c.args.packet.now t.pipes) (sym c.self.view_is) c.requires.there.2) x (pipe-at k i ps x here read)
 
-pub set_unless-requires-clause-inside : goal.set_unless-requires-clause-inside
-set_unless-requires-clause-inside g c =
+pub set-requires : goal.set-requires
+set-requires g c =
     let s = c.self.inside in
     let ps : List KeyedPipe = s.pipes.items in
     let i : ℕ = c.args.place in
@@ -61,7 +62,7 @@ invariant_of-self g c =
     let y : KeyedPipe = c.arrive-answer.new.self in
     let at : StandsAt x.number i ps = standing-place s.seed ps i x c.self.invariant.0.0 within read in (
       sound-at x.number i ps x at read s.seed y c.self.invariant.0 (ap (λ (p : KeyedPipe). p.seed) c.arrive-answer.ensures.same) (ap (λ (p : KeyedPipe). p.number) c.arrive-answer.ensures.same),
-      indexed-put ps i y s.dues c.set_unless.new.dues c.self.invariant.1 within c.set_unless.ensures.number c.set_unless.ensures.few c.set_unless.ensures.set,
+      indexed-put ps i y s.dues c.set.new.self c.self.invariant.1 within c.least.ensures.number c.least.ensures.few (λ f. c.set.ensures ∙ ap (λ d. record s.dues { leaves = slice_set s.dues.leaves i d }) (c.least.ensures.due f)),
       led-set ps i x y s.places within read (ap (λ (p : KeyedPipe). p.number) c.arrive-answer.ensures.same) c.self.invariant.2,
     )
 

@@ -1,5 +1,5 @@
 use Rattle.std.proofs.Common.{ℕ, ◌<◌, List, length, sym, ap, ◌∙◌, subst}
-use Rattle.std.specs.Prelude.{option_and_then}
+use Rattle.std.specs.Prelude.{option_and_then, slice_set}
 use Rattle.emu_model.specs.Events.{flying_in}
 use Rattle.packet_store.specs.Pocket.{Pocket}
 use Rattle.pipe_core.specs.Moves.{AreNamed}
@@ -38,8 +38,8 @@ exit-packet-requires-clause-named g c =
     subst (λ (t : Table). AreNamed (g.S.Shelf.pocket c.args.shelf.now c.args.owner) (pipe_keys t.pipes)) (sym c.self.view_is) c.requires.named in
     named-at x.number i ps x at read (g.S.Shelf.pocket c.args.shelf.now c.args.owner) named
 
-pub set_unless-requires-clause-inside : goal.set_unless-requires-clause-inside
-set_unless-requires-clause-inside g c =
+pub set-requires : goal.set-requires
+set-requires g c =
     let s = c.self.inside in
     let ps : List KeyedPipe = s.pipes.items in
     let i : ℕ = c.args.place in
@@ -60,7 +60,7 @@ invariant_of-self g c =
     let within : i < length ps = inside-within i c.args.instance ps inside in
     let at : StandsAt x.number i ps = standing-place s.seed ps i x c.self.invariant.0.0 within read in (
       sound-at x.number i ps x at read s.seed c.exit-packet.new.self c.self.invariant.0 (ap (λ (p : KeyedPipe). p.seed) c.exit-packet.ensures.same) (ap (λ (p : KeyedPipe). p.number) c.exit-packet.ensures.same),
-      indexed-put ps i c.exit-packet.new.self s.dues c.set_unless.new.dues c.self.invariant.1 within c.set_unless.ensures.number c.set_unless.ensures.few c.set_unless.ensures.set,
+      indexed-put ps i c.exit-packet.new.self s.dues c.set.new.self c.self.invariant.1 within c.least.ensures.number c.least.ensures.few (λ f. c.set.ensures ∙ ap (λ d. record s.dues { leaves = slice_set s.dues.leaves i d }) (c.least.ensures.due f)),
       led-set ps i x c.exit-packet.new.self s.places within read (ap (λ (p : KeyedPipe). p.number) c.exit-packet.ensures.same) c.self.invariant.2,
     )
 
