@@ -1,15 +1,20 @@
 -- What an experiment shows is the state of the experiment by itself.
-use Rattle.std.proofs.Common.{◌≡◌, ℕ, ◌+◌, sym, ap, ◌∙◌, List, [], ◌∷◌, ◌++◌, Some, None, add-one}
+use Rattle.std.proofs.Common.{◌≡◌, ℕ, ◌+◌, sym, subst, ap, ◌∙◌, List, [], ◌∷◌, ◌++◌, Some, None, add-one}
 use Rattle.std.specs.Prelude.{option_to_list, is_some, if◌then◌else◌}
+use Rattle.std.specs.List.{best_of}
 use Rattle.std.proofs.lemmas.List.{append-nil}
 use Rattle.emu_model.specs.declared.commands.Timed.{Timed}
 use Rattle.emu_model.specs.declared.records.Record.{Record}
+use Rattle.emu_model.specs.declared.sources.Due.{Due}
+use Rattle.emu_model.specs.declared.sources.Class.TheVariants.{NextCommand}
+use Rattle.emu_model.specs.Dues.{due, is_before, dues_of}
 use Rattle.emu_model.specs.Step.{State, step, step_with, next_event}
 use Rattle.emu_model.specs.Alone.{alone}
 use Rattle.emu_model.specs.RunLaws.{LaterCommandsWait, RecordsGrow, RecordsAreNotRead, IsExtendedBy, with_more, with_earlier}
 use Rattle.packet_store.specs.Pocket.{Pocket}
+use Rattle.network.specs.Kept.{KeptNet, net_of}
 use Rattle.experiment.specs.Kept.{KeptExperiment, view, IsAlone, IsAloneAfter, shown_ending}
-use Rattle.experiment.specs.Moves.{Steps, IsStep}
+use Rattle.experiment.specs.Moves.{Steps}
 
 -- a command that came behind all others waits
 pub alone-applied : LaterCommandsWait → (p : Pocket) (e : KeptExperiment) (c : Timed) (spare : ℕ) → e.next ≡ None → IsAlone p e →
@@ -19,15 +24,15 @@ alone-applied law p e c spare none is =
     ∙ ap (with_more (c ∷ [])) is
     ∙ sym (law e.spec e.consumed (c ∷ []) e.steps (sym (ap (λ (s : State). s.steps) is)))
 
--- a step of the definitions was made
-pub is_step : (p q : Pocket) (old new : KeptExperiment) (c : Timed) → Steps (next_event (view p old) c) c p old q new →
-    old.next ≡ Some c → old.ending ≡ None → IsStep p old q new
-is_step p q old new c s next going = record {
-  stepped = s.stepped
-      ∙ sym (λ i. if is_some (shown_ending (going i)) then view p old else step_with (option_to_list (next i)) (view p old));
-  counted = s.counted;
-  going = going;
-}
+-- the step of what was due first, beside the next command, whose due is `first`
+pub steps_of : (p q : Pocket) (old new e : KeptExperiment) (c : Timed) (d first : Due) (n : KeptNet) → e ≡ old → n ≡ e.net →
+    d ≡ best_of is_before first (dues_of e.clock (net_of p e.net)) → first ≡ due NextCommand 0 c.moment →
+    Steps d c p (record e { net = n }) q new → Steps (next_event (view p old) c) c p old q new
+steps_of p q old new e c d first n is same least at s =
+    subst (λ (x : Due). Steps x c p old q new)
+    (least ∙ ap (λ (z : KeptExperiment). best_of is_before first (dues_of z.clock (net_of p z.net))) is
+    ∙ ap (λ b. best_of is_before b (dues_of old.clock (net_of p old.net))) at)
+    (subst (λ (z : KeptExperiment). Steps d c p z q new) (ap (λ m. record e { net = m }) same ∙ is) s)
 
 -- a step, the next command being known
 pub alone_counted : (p q : Pocket) (old new : KeptExperiment) (c : Timed) → Steps (next_event (view p old) c) c p old q new →

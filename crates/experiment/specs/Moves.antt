@@ -5,8 +5,6 @@ use Rattle.emu_model.specs.declared.sources.Due.{Due}
 use Rattle.emu_model.specs.declared.records.Ending.{Ending}
 use Rattle.emu_model.specs.declared.records.Ending.TheVariants.{Spent, Halted as HaltedSo}
 use Rattle.emu_model.specs.declared.records.Record.TheVariants.{StepsSpent}
-use Rattle.emu_model.specs.declared.sources.Class.TheVariants.{NextCommand}
-use Rattle.emu_model.specs.Dues.{due}
 use Rattle.emu_model.specs.Step.{step, take_due, count_step}
 use Rattle.experiment.specs.Waits.{step_before, IsSettled}
 use Rattle.packet_store.specs.Pocket.{Pocket}
@@ -59,11 +57,6 @@ pub record Steps (d : Due) (c : Timed) (p : Pocket) (old : KeptExperiment) (q : 
   pub stepped : view q new ≡ count_step (take_due d c [] (view p old))
   pub counted : new.steps ≡ old.steps + 1
   pub ending : IsSome new.ending → IsSome (shown_ending new.ending)
-
--- there is a next command, and this is its due
-abbrev pub IsNext : Due → Option Timed → Type 0
-IsNext d (Some c) = d ≡ due NextCommand 0 c.moment
-IsNext d None = ⊥
 
 -- how a step ends: as its event said, or since it was the last of the budget
 abbrev pub Closes : Option Ending → Bool → ℕ → KeptNet → KeptNet → Option Ending → Type 0

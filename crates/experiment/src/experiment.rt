@@ -12,7 +12,7 @@ ghost use Rattle.network.specs.Kept.{net_of};
 ghost use Rattle.network.specs.Due.{IsDue};
 ghost use Rattle.network.specs.Ready.{TakesNoMemory};
 ghost use Rattle.experiment.specs.Kept.{view, IsAlone, IsAloneAfter, IsHousedIn, IsWaiting, last_moment};
-ghost use Rattle.experiment.specs.Moves.{Makes, Steps, Halts, IsNext, Closes};
+ghost use Rattle.experiment.specs.Moves.{Makes, Steps, Halts, Closes};
 
 use crate::told::command_due;
 use emu_model::{
@@ -232,46 +232,29 @@ impl Experiment {
             return Event::Still;
         };
         let first = command_due(command);
-        let Ok(()) = self.step(shelf, owner, first) else {
+        let due = self.net.next_due(self.clock, first);
+        if due.source.class == Class::NextCommand {
+            let Ok(()) = self.take_command(shelf, owner, due) else {
+                return Event::Halted;
+            };
+            return self.made();
+        }
+        let Ok(()) = self.take_event(shelf, owner, due) else {
             return Event::Halted;
         };
+        self.made()
+    }
+
+    // What came of a step that was made. It was within the budget.
+    #[inline(always)]
+    fn made(&self) -> Event
+        ensures event { result ≡ (if is_some self.now.ending then Event.Ended else Event.Ran) }
+        ensures steps { self.now.steps ≤ self.now.spec.budget.steps }
+    {
         if self.ending.is_some() {
             return Event::Ended;
         }
         Event::Ran
-    }
-
-    // One step, where there is a next command, which is due then.
-    #[inline(always)]
-    fn step<S: Shelf>(&mut self, shelf: &mut S, owner: Owner, first: Due) -> Result<(), AllocError>
-        requires next { IsNext first self.old.next }
-        requires going { self.old.ending ≡ None }
-        requires housed { IsHousedIn (S.pocket shelf.old owner) self.old }
-        ensures ok { OnOk result ((c : Timed) → self.old.next ≡ Some c →
-            Steps (next_event (view (S.pocket shelf.old owner) self.old) c) c
-            (S.pocket shelf.old owner) self.old (S.pocket shelf.new owner) self.new) }
-        ensures halted { OnErr result
-            (Halts (S.pocket shelf.old owner) self.old (S.pocket shelf.new owner) self.new) }
-        ensures housed { IsHousedIn (S.pocket shelf.new owner) self.new }
-        ensures noted { self.new.noted ≡ self.old.noted }
-        ensures expires { (c : Timed) → self.old.next ≡ Some c →
-            (next_event (view (S.pocket shelf.old owner) self.old) c).source.class ≡ Expiry →
-            6 ≤ self.old.net.log.spare → IsOk result }
-        ensures obeys { (c : Timed) → self.old.next ≡ Some c →
-            (next_event (view (S.pocket shelf.old owner) self.old) c).source.class ≡ NextCommand →
-            TakesNoMemory c.command (net_of (S.pocket shelf.old owner) self.old.net) →
-            6 ≤ self.old.net.log.spare → IsOk result }
-        ensures consumed { self.new.consumed ≡ self.old.consumed }
-        ensures spec { self.new.spec ≡ self.old.spec }
-        ensures budget { (S.pocket shelf.new owner).budget ≡ (S.pocket shelf.old owner).budget }
-        ensures others { OthersStay owner (S.pocket shelf.old) (S.pocket shelf.new) }
-    {
-        let due = self.net.next_due(self.clock, first);
-        if due.source.class == Class::NextCommand {
-            self.take_command(shelf, owner, due)
-        } else {
-            self.take_event(shelf, owner, due)
-        }
     }
 
     // The next event, where this is the next command.

@@ -76,7 +76,6 @@ fn parts(given: Option<Queued<u32>>) -> Option<(u32, u16, u64)> {
 }
 
 fn slots_limit(rt: &impl Abort, queue: &mut DropTail<u32>) {
-    assert_same(rt, queue.enqueue_ready(size(rt, 40), 0), Ok(()));
     comes(rt, queue, 5, 40, None);
     comes(rt, queue, 6, 1500, None);
     comes(rt, queue, 7, 40, FULL);
@@ -286,7 +285,6 @@ fn queues_refuse(
     let small = size(rt, 40);
     let refused = Some(EnqueueError::NoMemory);
     comes(rt, tail, 1, 40, refused);
-    assert_same(rt, tail.enqueue_ready(small, 0), Err(AllocError));
     comes_to_codel(rt, fresh, 1, 40, refused);
     assert_same(rt, fresh.enqueue_ready(small, 0), Err(AllocError));
     assert_holds!(rt; dropping.dequeue(300 * MILLISECOND).is_err());

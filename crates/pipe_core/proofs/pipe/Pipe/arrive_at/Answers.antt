@@ -168,8 +168,7 @@ invariant_of-self-then-not-waits g c =
     let q : Pocket = g.S.Shelf.pocket c.put.new.self c.args.owner in
     let came =
     arrive-in s.config c.args.now c.args.packet.now p q c.index_mut-slot.result.now.id _ _ c.accept-waits.new.self _ _ c.in-Ok.key c.lose.ensures.answer c.if-lose.false
-    c.lose.ensures.drawn tuned c.accepts.ensures c.if-not-accepts.false c.in-Ok.ensures.vacant c.in-Ok.ensures.ok c.accept-waits.ensures.came in
-    (
+    c.lose.ensures.drawn tuned c.accepts.ensures c.if-not-accepts.false c.in-Ok.ensures.vacant c.in-Ok.ensures.ok c.accept-waits.ensures.came in (
       came_pipe at c.self.invariant.0 came,
       leaves_set s.slots.items c.args.instance _ s.dues c.set.new.self c.due.result c.self.invariant.1 c.due.ensures c.set.ensures,
       c.self.invariant.2,

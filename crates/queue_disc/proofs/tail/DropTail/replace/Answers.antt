@@ -9,10 +9,9 @@ invariant_of-self g c =
     let at = c.args.place in
     let view = c.behind-self.view_is in
     let within : at < length items = omega (arith, c.requires, ap (λ q. length q.waiting) c.self.view_is) in
-    let replaced = with_item-set items at _ c.args.item within (view ∙ c.index_mut.ensures.value ∙ ap (get_or items at) (sym view)) in
-    (
+    let replaced = with_item-set items at _ c.args.item within (view ∙ c.index_mut.ensures.value ∙ ap (get_or items at) (sym view)) in (
       subst (IsCounted c.self.inside.bytes) (sym replaced)
-      (IsCounted-replaced c.self.inside.bytes items at c.args.item c.self.invariant.0),
+          (IsCounted-replaced c.self.inside.bytes items at c.args.item c.self.invariant.0),
       c.self.invariant.1,
     )
 
