@@ -7,8 +7,12 @@ mod meter;
 mod tell;
 mod words;
 
-ghost use Rattle.std.specs.Prelude.{◌≡◌};
-ghost use Rattle.command_line.specs.Status.{status_after};
+ghost use Rattle.std.specs.Prelude.{◌≡◌, ◌⊎◌, Some, Ok, Err, false, true, IsOk, IfOk, IfErr, OnOk, MatchResult};
+ghost use Rattle.std.specs.Process.{exit_status};
+ghost use Rattle.alone.specs.Reports.{Calls, tally};
+ghost use Rattle.alone.specs.Within.{CallsWithin, done_of, leaves};
+ghost use Rattle.command_line.specs.Status.{status_after, status_of_fault, IsStatusAfter, IsStatusOfWords};
+ghost use Rattle.command_line.specs.Tasks.{explains, is_strict, limits_of, MakesReports, Checks};
 
 use alone::{Inlet, Made, Outlet, RunFault, Stop, check_kept, live, run_alone_within};
 use clap::Error;
@@ -42,7 +46,9 @@ fn status_of(outcome: &Result<(), Stop>) -> u8
 }
 
 // Says of what fault a call gave no answer, if of one, and how the program ends.
-fn end(rt: &impl Eprint, outcome: Result<(), Stop>) -> ExitCode {
+fn end(rt: &impl Eprint, outcome: Result<(), Stop>) -> ExitCode
+    ensures { exit_status result ≡ status_after outcome }
+{
     let status = status_of(&outcome);
     if let Err(Stop::Fault(fault)) = outcome {
         // There is nowhere else to say that this can't be printed.
@@ -51,12 +57,16 @@ fn end(rt: &impl Eprint, outcome: Result<(), Stop>) -> ExitCode {
     ExitCode::from(status)
 }
 
-fn fail(rt: &impl Eprint, fault: RunFault) -> ExitCode {
+fn fail(rt: &impl Eprint, fault: RunFault) -> ExitCode
+    ensures { exit_status result ≡ status_of_fault fault }
+{
     end(rt, Err(Stop::Fault(fault)))
 }
 
 // What a call without limits answers that makes no reports.
-fn unlimited_outcome(outcome: Result<(), RunFault>) -> Result<Option<Made>, Stop> {
+fn unlimited_outcome(outcome: Result<(), RunFault>) -> Result<Option<Made>, Stop>
+    ensures { leaves (done_of result) ≡ outcome }
+{
     match outcome {
         Ok(()) => Ok(None),
         Err(fault) => Err(Stop::Fault(fault)),
@@ -64,7 +74,10 @@ fn unlimited_outcome(outcome: Result<(), RunFault>) -> Result<Option<Made>, Stop
 }
 
 /// What a call answers that makes reports.
-pub fn with_reports(outcome: Result<Made, Stop>) -> Result<Option<Made>, Stop> {
+pub fn with_reports(outcome: Result<Made, Stop>) -> Result<Option<Made>, Stop>
+    ensures result { MatchResult outcome (λ made. result ≡ Ok (Some made)) (λ stop. result ≡ Err stop) }
+    ensures done { done_of result ≡ done_of outcome }
+{
     match outcome {
         Ok(made) => Ok(Some(made)),
         Err(stop) => Err(stop),
@@ -80,7 +93,9 @@ fn count_spent(notes: &[Note]) -> usize {
 }
 
 // Says of a strict run that commands were refused or steps were spent, if so, and how the program ends.
-fn end_strictly(rt: &impl Eprint, account: &Account) -> ExitCode {
+fn end_strictly(rt: &impl Eprint, account: &Account) -> ExitCode
+    ensures { (exit_status result ≡ 0) ⊎ (exit_status result ≡ 5) }
+{
     let refused = account.refusals().len();
     let spent = count_spent(account.notes());
     if refused == 0 && spent == 0 {
@@ -100,7 +115,12 @@ fn end_run(
     text: &[u8],
     made: &Made,
     task: &Task,
-) -> Result<ExitCode, AllocError> {
+) -> Result<ExitCode, AllocError>
+    ensures plain { explains task.now ≡ false → is_strict task.now ≡ false →
+        IsOk result × IfOk result (λ code. exit_status code ≡ 0) }
+    ensures lax { is_strict task.now ≡ false → IfOk result (λ code. exit_status code ≡ 0) }
+    ensures strict { IfOk result (λ code. (exit_status code ≡ 0) ⊎ (exit_status code ≡ 5)) }
+{
     if !task.explains() && !task.is_strict() {
         return Ok(ExitCode::from(0));
     }
@@ -122,7 +142,10 @@ fn end_unrun(
     alloc: Global,
     text: &[u8],
     task: &Task,
-) -> Result<ExitCode, AllocError> {
+) -> Result<ExitCode, AllocError>
+    ensures plain { explains task.now ≡ false → IsOk result }
+    ensures done { IfOk result (λ code. exit_status code ≡ 0) }
+{
     if task.explains() {
         let said = explanation(alloc, text, None)?;
         print(rt, said.as_slice());
@@ -137,7 +160,10 @@ fn end_stopped(
     text: &[u8],
     stop: Stop,
     task: &Task,
-) -> Result<ExitCode, AllocError> {
+) -> Result<ExitCode, AllocError>
+    ensures plain { explains task.now ≡ false → IsOk result }
+    ensures stopped { IfOk result (λ code. exit_status code ≡ status_after (Err stop)) }
+{
     match stop {
         Stop::Fault(RunFault::Scenario(fault)) if task.explains() => {
             let shown = faults_text(alloc, text, &fault)?;
@@ -159,7 +185,14 @@ pub fn end_with(
     text: &[u8],
     outcome: Result<Option<Made>, Stop>,
     task: &Task,
-) -> ExitCode {
+) -> ExitCode
+    ensures plain { explains task.now ≡ false → is_strict task.now ≡ false →
+        exit_status result ≡ status_after (done_of outcome) }
+    ensures lax { is_strict task.now ≡ false → IsStatusAfter (done_of outcome) (exit_status result) }
+    ensures stopped { IfErr outcome (λ stop. IsStatusAfter (Err stop) (exit_status result)) }
+    ensures strict { OnOk outcome (IsStatusAfter (done_of outcome) (exit_status result)
+        ⊎ (exit_status result ≡ 5)) }
+{
     let code = match outcome {
         Ok(Some(made)) => end_run(rt, alloc, text, &made, task),
         Ok(None) => end_unrun(rt, alloc, text, task),
@@ -172,7 +205,9 @@ pub fn end_with(
 }
 
 // Prints what `clap` has to say: a mistake in the words, help or the version; of a word too many also how a text is given.
-fn say<R: Print + Eprint>(rt: &R, error: &Error, words: &[String]) -> ExitCode {
+fn say<R: Print + Eprint>(rt: &R, error: &Error, words: &[String]) -> ExitCode
+    ensures { IsStatusOfWords (exit_status result) }
+{
     if error.kind() == ErrorKind::OutOfMemory {
         return fail(rt, RunFault::Memory);
     }
@@ -191,7 +226,9 @@ pub fn asked<H: Alloc<A = Global> + Env + Eprint + Print>(
     rt: &H,
     alloc: Global,
     version: &str,
-) -> Result<Task, ExitCode> {
+) -> Result<Task, ExitCode>
+    ensures { IfErr result (λ code. IsStatusOfWords (exit_status code)) }
+{
     let words = match env::args(rt) {
         Ok(words) => words,
         Err(error) if error.kind() == io::ErrorKind::OutOfMemory => {
@@ -220,7 +257,12 @@ pub fn by_one_thread<H: Clock + Eprint + Sync, R: Inlet, W: Outlet>(
     reader: &mut R,
     writer: &mut W,
     text: &mut Vec<u8>,
-) -> Result<Option<Made>, Stop> {
+) -> Result<Option<Made>, Stop>
+    ensures runs { MakesReports task.now → CallsWithin (limits_of task.now) (R.remaining reader.old)
+        (W.contents writer.old) (W.contents writer.new) (done_of result) }
+    ensures checks { Checks task.now → Calls tally (R.remaining reader.old)
+        (W.contents writer.old) (W.contents writer.new) (leaves (done_of result)) }
+{
     match *task {
         Task::Run {
             limits,

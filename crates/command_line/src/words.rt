@@ -1,5 +1,8 @@
 //! The words of the command line.
 
+ghost use Rattle.std.specs.Prelude.{◌≡◌};
+ghost use Rattle.command_line.specs.Tasks.{explains, is_strict, limits_of};
+
 use alone::Limits;
 use clap::{Arg, ArgAction, ArgMatches, Command, Error};
 use std::alloc::Global;
@@ -36,7 +39,9 @@ pub enum Task {
 
 impl Task {
     /// Whether faults, refused commands and what is silently wrong are to be explained, once the text has ended.
-    pub fn explains(&self) -> bool {
+    pub fn explains(&self) -> bool
+        ensures { result ≡ explains self.now }
+    {
         match self {
             Task::Run { explain, .. } => *explain,
             Task::Alone { explain, .. } => *explain,
@@ -46,7 +51,9 @@ impl Task {
     }
 
     /// Whether a run in which a command was refused or steps were spent has a status of its own.
-    pub fn is_strict(&self) -> bool {
+    pub fn is_strict(&self) -> bool
+        ensures { result ≡ is_strict self.now }
+    {
         match self {
             Task::Run { strict, .. } => *strict,
             Task::Alone { strict, .. } => *strict,
@@ -55,7 +62,9 @@ impl Task {
     }
 
     /// What all experiments may have together.
-    pub fn limits(&self) -> Limits {
+    pub fn limits(&self) -> Limits
+        ensures { result ≡ limits_of self.now }
+    {
         match self {
             Task::Run { limits, .. } => *limits,
             Task::Alone { limits, .. } => *limits,
