@@ -50,7 +50,7 @@ impl Registry {
     }
 
     /// Names from n on.
-    pub fn with_first_name(n: u32) -> Self
+    pub fn starting(n: u32) -> Self
         ensures { result.next ≡ n }
     {
         Registry { next: n }

@@ -163,6 +163,15 @@ impl RuleList {
         judge_and_count(&mut self.cache, &mut self.rules, &self.jumps, start, packet)
     }
 
+    /// Returns the verdict of `verdict_after` and counts nothing. Takes no memory.
+    pub fn find_after(&self, place: Place, packet: &Packet) -> Verdict
+        ensures { let start = start_behind place self.now.rules in
+            result ≡ verdict start packet.now self.now.rules }
+    {
+        let start = first_behind(&self.rules, place);
+        find(&self.rules, &self.jumps, start, packet)
+    }
+
     /// The verdict of `find`, and by which rule; a later search for a packet of this flow goes by the
     /// cached search that this one found. Takes no memory.
     #[inline(always)]

@@ -1,13 +1,20 @@
 -- Texts that are put into a room one behind the other.
-use Rattle.std.proofs.Common.{◌≡◌, ℕ, ◌+◌, ◌<◌, ◌≤◌, List, [], ◌∷◌, ◌++◌, length, take, drop, sym, ap, ◌∙◌, refl, append_assoc, append-nil, arith}
-use Rattle.std.specs.Prelude.{flat_map, slice_index_or}
-use Rattle.std.proofs.lemmas.List.{length-append, take_more}
+use Rattle.std.proofs.Common.{◌≡◌, ℕ, ◌+◌, ◌-◌, ◌<◌, ◌≤◌, List, [], ◌∷◌, ◌++◌, length, take, drop, sym, ap, ◌∙◌, refl, append_assoc, append-nil, arith}
+use Rattle.std.specs.Prelude.{flat_map, slice_index_or, Result, Ok, Err, IfOk}
+use Rattle.std.proofs.lemmas.List.{length-append, take_more, drop-drop}
 use Rattle.std.proofs.lemmas.List.Concat.{flat_map-append}
 use Rattle.report.proofs.Taken.{flat_map_further}
 use Rattle.experiment.specs.Rooms.{IsPutAt}
 
 pub put_none : (at : ℕ) (room : List ℕ) → IsPutAt [] at room room at
-put_none at room = record { ends = omega arith; stands = λ h. sym (append-nil (take at room)); room = refl }
+put_none at room = record { ends = omega arith; stands = λ h. sym (append-nil (take at room)); rest = refl; room = refl }
+
+-- bytes behind a place that stay are also those behind a later one
+later : (a b : List ℕ) (middle end : ℕ) → middle ≤ end → drop middle b ≡ drop middle a → drop end b ≡ drop end a
+later a b middle end below same =
+    let is : middle + (end - middle) ≡ end = omega (arith, below) in
+    ap (λ (n : ℕ). drop n b) (sym is) ∙ sym (drop-drop (end - middle) middle b) ∙ ap (drop (end - middle)) same
+    ∙ drop-drop (end - middle) middle a ∙ ap (λ (n : ℕ). drop n a) is
 
 pub put_both : (first second whole : List ℕ) → first ++ second ≡ whole → (at middle end : ℕ) (a b c : List ℕ) →
     IsPutAt first at a b middle → IsPutAt second middle b c end → IsPutAt whole at a c end
@@ -18,13 +25,19 @@ put_both first second whole is at middle end a b c f g = record {
       ∙ ap (λ (l : List ℕ). l ++ second) (f.stands (omega (arith, h, g.ends)))
       ∙ append_assoc (take at a) first second
       ∙ ap (λ (l : List ℕ). take at a ++ l) is;
+  rest = g.rest ∙ later a b middle end (omega (arith, g.ends)) f.rest;
   room = g.room ∙ f.room;
 }
 
-pub put_three : (first second third whole : List ℕ) → first ++ (second ++ third) ≡ whole → (at one two end : ℕ) (a b c d : List ℕ) →
+put_three : (first second third whole : List ℕ) → first ++ (second ++ third) ≡ whole → (at one two end : ℕ) (a b c d : List ℕ) →
     IsPutAt first at a b one → IsPutAt second one b c two → IsPutAt third two c d end → IsPutAt whole at a d end
 put_three first second third whole is at one two end a b c d f g h =
     put_both first (second ++ third) whole is at one end a b d f (put_both second third (second ++ third) refl one two end b c d g h)
+
+pub put_last : {E : Type 0} (first second third whole : List ℕ) → first ++ (second ++ third) ≡ whole → (at one two : ℕ) (a b c d : List ℕ) (r : Result ℕ E) →
+    IsPutAt first at a b one → IsPutAt second one b c two → IfOk r (IsPutAt third two c d) → IfOk r (IsPutAt whole at a d)
+put_last first second third whole is at one two a b c d (Ok end) f g h = put_three first second third whole is at one two end a b c d f g h
+put_last first second third whole is at one two a b c d (Err e) f g h = tt
 
 module _ {A : Type 0} (f : A → List ℕ) where
   further : (rs : List A) (i n : ℕ) → flat_map f (take i rs) ++ flat_map f (take n (drop i rs)) ≡ flat_map f (take (i + n) rs)

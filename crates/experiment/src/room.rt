@@ -67,7 +67,7 @@ fn put_lines(
 }
 
 // Puts a report, and returns where it ends.
-#[tactic(auto, using(crate::proofs::Rooms::put_three))]
+#[tactic(auto, using(crate::proofs::Rooms::put_last))]
 fn put_report(
     room: &mut [u8],
     at: usize,

@@ -77,22 +77,24 @@ impl Store {
         }
     }
 
-    /// Lets an owner go, with all that it holds on its shelf, each packet at its key: its budget is 0 from then on. `None`
-    /// of one that was not admitted.
+    /// Removes an owner and returns its shelf, each packet at its key. Its budget is 0 from then on, and its place in the
+    /// slab is free. Returns `None` if the owner was not admitted.
     #[tactic(auto, unfolding(crate::specs::Books::pocket_of))]
     pub fn lift(&mut self, owner: Owner) -> Option<OwnShelf>
         ensures some { IfSome result (λ shelf. own_pocket shelf ≡ pocket_of self.old owner) }
         ensures none { IfNone result (pocket_of self.old owner ≡ empty_pocket 0) }
         ensures gone { pocket_of self.new owner ≡ empty_pocket 0 }
+        ensures freed { ¬ IsAdmitted owner self.new }
         ensures others { (o : ℕ) → o ≢ owner → pocket_of self.new o ≡ pocket_of self.old o }
     {
         self.shelves.try_remove(owner)
     }
 
-    /// Drops what an owner holds, and lets it go: its budget is 0 from then on.
+    /// Drops what an owner holds and removes the owner: its budget is 0 from then on, and its place in the slab is free.
     #[tactic(auto, unfolding(crate::specs::Books::pocket_of))]
     pub fn dismiss(&mut self, owner: Owner)
         ensures gone { pocket_of self.new owner ≡ empty_pocket 0 }
+        ensures freed { ¬ IsAdmitted owner self.new }
         ensures others { (o : ℕ) → o ≢ owner → pocket_of self.new o ≡ pocket_of self.old o }
     {
         let _gone = self.lift(owner);

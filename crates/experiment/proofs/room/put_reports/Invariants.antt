@@ -1,6 +1,5 @@
 use Rattle.std.proofs.Common.{◌≡◌, ◌-◌, ◌≤◌, length, take}
 use Rattle.std.specs.Prelude.{flat_map}
-use Rattle.report.specs.Lines.{line_of}
 use Rattle.experiment.specs.Rooms.{IsPutAt}
 use Rattle.experiment.proofs.room.put_reports.Given as goal
 
