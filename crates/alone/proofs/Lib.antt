@@ -8,3 +8,5 @@ pub mod Stopping
 pub mod Turns
 pub mod Writing
 pub mod Talking
+pub mod Hearing
+pub mod Told

@@ -10,10 +10,6 @@ use Rattle.control.specs.Scenario.{Spells, HasFault}
 use Rattle.std.specs.Io.KnownBytes.{Consumes, Keeps}
 use Rattle.std.proofs.KnownBytes.{Consumes-kept, Consumes-trans}
 use Rattle.alone.specs.Bytes.{IsRead, TakesFew, limit}
-use Rattle.alone.specs.declared.fault.RunFault.{RunFault}
-use Rattle.alone.specs.declared.fault.RunFault.TheVariants as faults
-use Rattle.alone.specs.declared.whole.Tally.{Tally}
-use Rattle.alone.specs.Reports.{reports, tally_of, Reads, ReadsFault, IsTextFault}
 
 -- all of a text within the limit was read
 whole : (xs ys text : List ℕ) → xs ≡ text ++ ys → ys ≡ [] → text ≡ xs
@@ -32,19 +28,6 @@ pub read_faults : (old new : Option (List ℕ)) (text : List ℕ) (f : Fault) �
 read_faults None new text f r fault = tt
 read_faults (Some xs) None text f r fault = absurd r.first
 read_faults (Some xs) (Some ys) text f r fault = faulty xs ys text f r fault
-
--- what is made of the text that was read
-pub read_tally : (old new : Option (List ℕ)) (text : List ℕ) (t : Tally) → IsRead old new text →
-    ((es : List Experiment) × Spells text es × (t ≡ tally_of es)) → (es : List Experiment) × Reads old es × (t ≡ tally_of es)
-read_tally old new text t is (es, spells, made) = (es, read_spells old new text es is spells, made)
-
-pub read_text_fault : (old new : Option (List ℕ)) (text : List ℕ) (e : RunFault) → IsRead old new text → IsTextFault text e → ReadsFault old e
-read_text_fault old new text (faults.Scenario f) is fault = read_faults old new text f is fault
-read_text_fault old new text faults.Read is fault = absurd fault
-read_text_fault old new text faults.Write is fault = absurd fault
-read_text_fault old new text faults.Memory is fault = tt
-read_text_fault old new text faults.Strange is fault = absurd fault
-read_text_fault old new text faults.Gate is fault = absurd fault
 
 -- so much was read, and then a call more was made
 pub few_left : (a b : Option (List ℕ)) (bytes : List ℕ) → Consumes a b bytes → length bytes ≤ limit + 1 → TakesFew a b

@@ -1,30 +1,26 @@
 -- What a session hears of a text.
-use Rattle.std.proofs.Common.{◌≡◌, ℕ, ◌≤◌, map, cond, eqb, Bool, true, false, List, [], ◌∷◌, ◌++◌, length, refl, sym, ap, ◌∙◌, subst, append_assoc, append-nil, arith}
-use Rattle.std.specs.Prelude.{flat_map, All, Result, Ok, Err, OnOk, Option, Some, None}
-use Rattle.alone.specs.declared.fault.RunFault.{RunFault}
-use Rattle.std.proofs.lemmas.List.Elements.{recursion_from_All}
-use Rattle.emu_model.specs.declared.commands.Spec.{Spec}
-use Rattle.emu_model.specs.declared.commands.Timed.{Timed}
+use Rattle.std.proofs.Common.{◌≡◌, ℕ, take, ◌-◌, ◌+◌, ◌<◌, ◌≤◌, inl, inr, cond, eqb, Bool, true, false, List, [], ◌∷◌, ◌++◌, length, length-append, refl, sym, ap, ◌∙◌, subst, append_assoc, append-nil, arith}
+use Rattle.std.specs.Prelude.{◌↔◌, IsTrue, flat_map, Result, Ok, Err, OnOk, Option, Some, None, IsSome}
 use Rattle.std.specs.List.{AllByRecursion, onto_first}
+use Rattle.std.proofs.Math.Seq.{take-append-add}
+use Rattle.std.proofs.lemmas.List.{append_cancel_left, take-append-le}
 use Rattle.std.proofs.lemmas.List.Concat.{flat_map-append}
 use Rattle.std.proofs.lemmas.Bool.Decides.{Decides-eqb}
-use Rattle.control.specs.declared.scenario.Experiment.{Experiment as Script}
-use Rattle.control.specs.declared.fault.Cause.TheVariants.{TooLong}
-use Rattle.control.specs.Scenario.{experiments, AreSpelled, Spells}
+use Rattle.control.specs.declared.fault.Cause.{Cause}
+use Rattle.control.specs.declared.fault.Cause.TheVariants.{TooLong, NoEnd}
 use Rattle.control.proofs.Joining.{some_line, lines-glue, onto, glue}
+use Rattle.control.specs.Scenario.{experiments}
 use Rattle.control_lines.specs.Entries.{Entry}
 use Rattle.control_words.specs.Text.{lines}
-use Rattle.live.specs.declared.open.Phase.{Phase}
-use Rattle.live.specs.declared.open.Phase.TheVariants.{Going, Over, Lost}
-use Rattle.live.specs.RunLaws.{report_of_commands}
-use Rattle.live.specs.Opens.{KeptOpen, IsToldIn}
-use Rattle.live.specs.Sessions.{KeptSession, Piece, IsPlain, Stand, IsSoFar, TellsAll, Takes, told, written}
-use Rattle.alone.specs.Reports.{report_alone, reports}
-use Rattle.alone.specs.Bytes.{Puts}
-use Rattle.std.specs.Io.KnownBytes.{Appends, Consumes, Keeps, IsAtEnd}
-use Rattle.alone.proofs.Writing.{puts_none, puts_kept, puts_both, puts_flushed, writing_none, writing_done}
-use Rattle.control.specs.declared.fault.Cause.{Cause}
-use Rattle.alone.specs.Talks.{KeptTalk, refusal, AsksForAll, Say, IsHeard, with_earlier, HasHeard, Hears, GoesOn}
+use Rattle.live.specs.declared.answer.Answer.TheVariants as answers
+use Rattle.live.specs.Effects.{LineDoes}
+use Rattle.live.specs.Faults.{IsFaultOf}
+use Rattle.live.specs.Lines.{answer_line, comment_of}
+use Rattle.live.specs.Sessions.{KeptSession, Piece, IsPlain, TellsAll, Takes, told, written}
+use Rattle.alone.specs.declared.fault.RunFault.{RunFault}
+use Rattle.alone.specs.declared.fault.RunFault.TheVariants.{Scenario}
+use Rattle.alone.specs.Conversations.{AreClosed, AreReplied, Conversation, Hinting, IsAwaited, IsRefusal, Replies, count_of, next_line, nobody, seen_of, with_earlier}
+use Rattle.alone.specs.Talks.{KeptTalk, refusal, AsksForAll, Say, IsHeard, IsKept, IsReplied, Heard, GoesOn, IsEnding, counted}
 
 -- ---- lines
 joined : List (List ℕ) → List ℕ
@@ -84,6 +80,28 @@ parted bs x y h =
 onto-lines : (p ys : List ℕ) → lines p ≡ p ∷ [] → lines (p ++ ys) ≡ onto p (lines ys)
 onto-lines p ys h = lines-glue p ys ∙ ap (λ (l : List (List ℕ)). glue l (lines ys)) h
 
+glue-earlier : (done : List (List ℕ)) (m : List ℕ) (ms qs : List (List ℕ)) → glue (with_earlier done (m ∷ ms)) qs ≡ with_earlier done (glue (m ∷ ms) qs)
+glue-earlier [] m ms qs = refl
+glue-earlier (line ∷ done) m ms qs = glue-earlier done line (m ∷ ms) qs
+
+-- the lines of a text and of bytes behind it
+lines-more : (text bytes : List ℕ) (done : List (List ℕ)) (last : List ℕ) → lines text ≡ with_earlier done (last ∷ []) →
+    lines (text ++ bytes) ≡ with_earlier done (onto last (lines bytes))
+lines-more text bytes done last is =
+    lines-glue text bytes ∙ ap (λ (l : List (List ℕ)). glue l (lines bytes)) is ∙ glue-earlier done last [] (lines bytes)
+
+lines-open : (text bytes : List ℕ) (done : List (List ℕ)) (last : List ℕ) → lines text ≡ with_earlier done (last ∷ []) → lines bytes ≡ bytes ∷ [] →
+    lines (text ++ bytes) ≡ with_earlier done ((last ++ bytes) ∷ [])
+lines-open text bytes done last is no_feed =
+    lines-more text bytes done last is ∙ ap (λ (l : List (List ℕ)). with_earlier done (onto last l)) no_feed
+
+lines-fed : (text rest : List ℕ) (done : List (List ℕ)) (last : List ℕ) → lines text ≡ with_earlier done (last ∷ []) → lines rest ≡ rest ∷ [] →
+    lines (text ++ (rest ++ 10 ∷ [])) ≡ with_earlier ((last ++ rest) ∷ done) ([] ∷ [])
+lines-fed text rest done last is no_feed =
+    lines-more text (rest ++ 10 ∷ []) done last is
+    ∙ ap (λ (l : List (List ℕ)). with_earlier done (onto last l)) (onto-lines rest (10 ∷ []) no_feed)
+    ∙ ap (λ (l : List ℕ). with_earlier done ((last ++ l) ∷ [] ∷ [])) (append-nil rest)
+
 -- ---- what is heard
 first_half : {A : Type 0} (P : A → Type 0) (xs ys : List A) → AllByRecursion P (xs ++ ys) → AllByRecursion P xs
 first_half P [] ys h = tt
@@ -99,280 +117,318 @@ heard-line line done ps qs s u h t mine plain (e ∷ before) say =
     subst (λ (l : List ℕ). TellsAll (experiments (e ∷ before)) l u) (sym (flat_map-append told ps qs))
     (t.hears (second_half IsPlain ps qs plain) mine.0 e before (flat_map told ps) say.0 (h mine.1 (first_half IsPlain ps qs plain) before say.1))
 
-pub goes-both : (a b c : List ℕ) (ps qs : List Piece) (r s t : KeptTalk) → GoesOn a b ps r s → GoesOn b c qs s t → GoesOn a c (ps ++ qs) r t
-goes-both a b c ps qs r s t f g text first h = subst (λ (l : List Piece). Hears text c l t) (append_assoc first ps qs) (g text (first ++ ps) (f text first h))
+pub goes-both : (hinting : Hinting) (a b : List ℕ) (ps qs : List Piece) (r s t : KeptTalk) → GoesOn hinting a ps r s → GoesOn hinting b qs s t → GoesOn hinting (a ++ b) (ps ++ qs) r t
+goes-both hinting a b ps qs r s t f g text first h =
+    subst (λ (l : List ℕ). Heard hinting l (first ++ (ps ++ qs)) t) (append_assoc text a b)
+    (subst (λ (l : List Piece). Heard hinting ((text ++ a) ++ b) l t) (append_assoc first ps qs) (g (text ++ a) (first ++ ps) (f text first h)))
 
-never : (b : Bool) → b ≡ true → b ≡ false → ⊥
+pub never : (b : Bool) → b ≡ true → b ≡ false → ⊥
 never true e f = absurd (cc)
 never false e f = absurd (cc)
 
--- one that passes over a line has refused one
-pub goes-skipping : (a b : List ℕ) (qs : List Piece) (s t : KeptTalk) → s.is_skipping ≡ true → GoesOn a b qs s t
-goes-skipping a b qs s t skips text ps h plain = absurd (never s.is_skipping skips (h (first_half IsPlain ps qs plain)).takes)
+too_far : (n : ℕ) → n ≤ 512 → 512 < n → ⊥
+too_far n few many = omega (arith, few, many)
 
--- a line is refused
-pub goes-refused : (a b : List ℕ) (qs : List Piece) (s t : KeptTalk) → (AllByRecursion IsPlain qs → ⊥) → GoesOn a b qs s t
-goes-refused a b qs s t refused text ps h plain = absurd (refused (second_half IsPlain ps qs plain))
+-- ---- nothing more
+pub goes-none : (hinting : Hinting) (s : KeptTalk) → GoesOn hinting [] [] s s
+goes-none hinting s text ps h =
+    subst (λ (l : List ℕ). Heard hinting l (ps ++ []) s) (sym (append-nil text))
+    (subst (λ (l : List Piece). Heard hinting text l s) (sym (append-nil ps)) h)
 
--- bytes without a line feed are added to the part of a line
-pub goes-added : (bytes after : List ℕ) (s t : KeptTalk) → lines bytes ≡ bytes ∷ [] → t.part ≡ s.part ++ bytes → length t.part ≤ 512 →
-    t.session ≡ s.session → t.is_skipping ≡ s.is_skipping → GoesOn (bytes ++ after) after [] s t
-goes-added bytes after s t no_feed part short session skipping text ps h plain =
-    let was = h (first_half IsPlain ps [] plain) in
-    subst (λ (l : List Piece). HasHeard text after l t) (sym (append-nil ps)) (record {
-      done = was.done;
-      lines_are = was.lines_are ∙ ap (λ (l : List ℕ). with_earlier was.done (lines l)) (sym (append_assoc s.part bytes after) ∙ ap (λ (l : List ℕ). l ++ after) (sym part));
-      part_is = subst (λ (l : List ℕ). lines l ≡ l ∷ []) (sym part) (onto-lines s.part bytes was.part_is ∙ ap (onto s.part) no_feed);
-      short = short;
-      takes = skipping ∙ was.takes;
-      heard = subst (λ (u : KeptSession). IsHeard was.done ps u) (sym session) was.heard;
+-- ---- of a line that isn't whole
+is_long : (hinting : Hinting) (last part said : List ℕ) (b : Bool) → b ≡ true → IsKept b last part → IsAwaited hinting last said →
+    (512 < length last) × (part ≡ []) × IsRefusal hinting last TooLong said
+is_long hinting last part said true e kept (inl few) = absurd (too_far (length last) few.0 kept.0)
+is_long hinting last part said true e kept (inr many) = (kept.0, kept.1, many.1)
+is_long hinting last part said false e kept awaited = absurd (cc)
+
+is_short : (hinting : Hinting) (last part said : List ℕ) (b : Bool) → b ≡ false → IsKept b last part → IsAwaited hinting last said →
+    (length last ≤ 512) × (part ≡ last) × (said ≡ [])
+is_short hinting last part said false e kept (inl few) = (kept.0, kept.1, few.1)
+is_short hinting last part said false e kept (inr many) = absurd (too_far (length last) kept.0 many.0)
+is_short hinting last part said true e kept awaited = absurd (cc)
+
+kept_long : (b : Bool) (last part : List ℕ) → b ≡ true → 512 < length last → part ≡ [] → IsKept b last part
+kept_long true last part e many none = (many, none)
+kept_long false last part e many none = absurd (cc)
+
+kept_short : (b : Bool) (last part : List ℕ) → b ≡ false → length last ≤ 512 → part ≡ last → IsKept b last part
+kept_short false last part e few is = (few, is)
+kept_short true last part e few is = absurd (cc)
+
+longer : (last bytes : List ℕ) → 512 < length last → 512 < length (last ++ bytes)
+longer last bytes many = omega (arith, many, length-append last bytes)
+
+-- the rest of one that is too long is passed over
+pub goes-skipping : (hinting : Hinting) (bytes : List ℕ) (s : KeptTalk) → s.is_skipping ≡ true → lines bytes ≡ bytes ∷ [] → GoesOn hinting bytes [] s s
+goes-skipping hinting bytes s skips no_feed text ps h =
+    let c = h.says in
+    let w = is_long hinting c.last s.part c.more s.is_skipping skips h.kept c.awaited in
+    let may = subst (λ (l : List ℕ). hinting l TooLong w.2.0) (sym (take-append-le 513 c.last bytes w.0)) w.2.1 in
+    subst (λ (l : List Piece). Heard hinting (text ++ bytes) l s) (sym (append-nil ps)) (record {
+      says = record {
+        done = c.done;
+        last = c.last ++ bytes;
+        lines_are = lines-open text bytes c.done c.last c.lines_are no_feed;
+        now = c.now;
+        first = c.first;
+        more = c.more;
+        replied = c.replied;
+        awaited = inr (longer c.last bytes w.0, (w.2.0, may, w.2.2));
+        said_is = c.said_is;
+      };
+      now = h.now;
+      counted = h.counted;
+      kept = kept_long s.is_skipping (c.last ++ bytes) s.part skips (longer c.last bytes w.0) w.1;
+      heard = h.heard;
+      takes = h.takes;
     })
 
--- the line that came in parts is answered
-pub goes-answered : (after : List ℕ) (qs : List Piece) (s t : KeptTalk) → Takes s.part qs s.session t.session → t.part ≡ [] → t.is_skipping ≡ s.is_skipping →
-    GoesOn (10 ∷ after) after qs s t
-goes-answered after qs s t takes part skipping text ps h plain =
-    let was = h (first_half IsPlain ps qs plain) in
+-- so much of it is seen
+seen-long : (part last bytes : List ℕ) → part ≡ last → length last ≤ 512 → part ++ take (513 - length part) bytes ≡ take 513 (last ++ bytes)
+seen-long part last bytes is few =
+    let n = length last in
+    let all : n + (513 - n) ≡ 513 = omega (arith, few) in
+    ap (λ (l : List ℕ). l ++ take (513 - length l) bytes) is
+    ∙ sym (take-append-add last bytes (513 - n))
+    ∙ ap (λ (m : ℕ). take m (last ++ bytes)) all
+
+-- what is said of one that becomes too long
+said_refused : (first more said hint : List ℕ) → said ≡ first ++ more → more ≡ [] →
+    said ++ flat_map written (refusal hint TooLong) ≡ first ++ (comment_of hint ++ answer_line (answers.Fault TooLong))
+said_refused first more said hint is none =
+    ap (λ (l : List ℕ). l ++ flat_map written (refusal hint TooLong)) (is ∙ ap (λ (l : List ℕ). first ++ l) none ∙ append-nil first)
+    ∙ ap (λ (l : List ℕ). first ++ (comment_of hint ++ l)) (append-nil (answer_line (answers.Fault TooLong)))
+
+not_plain : (hint : List ℕ) → AllByRecursion IsPlain (refusal hint TooLong) → ⊥
+not_plain hint plain = plain.1.0 tt
+
+goes-long : (hinting : Hinting) (hint bytes : List ℕ) (s t : KeptTalk) → s.is_skipping ≡ false → lines bytes ≡ bytes ∷ [] → 512 < length s.part + length bytes →
+    hinting (s.part ++ take (513 - length s.part) bytes) TooLong hint → t.session ≡ s.session → t.lines ≡ s.lines → t.part ≡ [] → t.is_skipping ≡ true → GoesOn hinting bytes (refusal hint TooLong) s t
+goes-long hinting hint bytes s t takes no_feed many may session lines_are none skips text ps h =
+    let c = h.says in
+    let w = is_short hinting c.last s.part c.more s.is_skipping takes h.kept c.awaited in
+    let long : 512 < length (c.last ++ bytes) = omega (arith, many, length-append c.last bytes, ap length w.1) in
     record {
-      done = s.part ∷ was.done;
-      lines_are = was.lines_are
-          ∙ ap (with_earlier was.done) (onto-lines s.part (10 ∷ after) was.part_is ∙ ap (λ (l : List ℕ). l ∷ lines after) (append-nil s.part))
-          ∙ ap (λ (l : List ℕ). with_earlier (s.part ∷ was.done) (lines (l ++ after))) (sym part);
-      part_is = subst (λ (l : List ℕ). lines l ≡ l ∷ []) (sym part) refl;
-      short = let none = ap length part in omega (arith, none);
-      takes = skipping ∙ was.takes;
-      heard = heard-line s.part was.done ps qs s.session t.session was.heard takes;
+      says = record {
+        done = c.done;
+        last = c.last ++ bytes;
+        lines_are = lines-open text bytes c.done c.last c.lines_are no_feed;
+        now = c.now;
+        first = c.first;
+        more = comment_of hint ++ answer_line (answers.Fault TooLong);
+        replied = c.replied;
+        awaited = inr (long, (hint, subst (λ (l : List ℕ). hinting l TooLong hint) (seen-long s.part c.last bytes w.1 w.0) may, refl));
+        said_is = flat_map-append written ps (refusal hint TooLong) ∙ said_refused c.first c.more (flat_map written ps) hint c.said_is w.2;
+      };
+      now = session ∙ h.now;
+      counted = lines_are ∙ h.counted;
+      kept = kept_long t.is_skipping (c.last ++ bytes) t.part skips long none;
+      heard = λ mine plain. absurd (not_plain hint (second_half IsPlain ps (refusal hint TooLong) plain));
+      takes = λ plain. absurd (not_plain hint (second_half IsPlain ps (refusal hint TooLong) plain));
     }
 
-pub goes-long : (hint a b : List ℕ) (s t : KeptTalk) → GoesOn a b (refusal hint TooLong) s t
-goes-long hint a b s t = goes-refused a b (refusal hint TooLong) s t (λ plain. plain.1.0 tt)
+-- bytes without a line feed are added to the part of a line
+pub goes-added : (hinting : Hinting) (bytes : List ℕ) (s t : KeptTalk) → s.is_skipping ≡ false → lines bytes ≡ bytes ∷ [] → t.part ≡ s.part ++ bytes → length t.part ≤ 512 →
+    t.session ≡ s.session → t.lines ≡ s.lines → t.is_skipping ≡ s.is_skipping → GoesOn hinting bytes [] s t
+goes-added hinting bytes s t takes no_feed part short session lines_are skipping text ps h =
+    let c = h.says in
+    let w = is_short hinting c.last s.part c.more s.is_skipping takes h.kept c.awaited in
+    let now : t.part ≡ c.last ++ bytes = part ∙ ap (λ (l : List ℕ). l ++ bytes) w.1 in
+    let few : length (c.last ++ bytes) ≤ 512 = subst (λ (l : List ℕ). length l ≤ 512) now short in
+    subst (λ (l : List Piece). Heard hinting (text ++ bytes) l t) (sym (append-nil ps)) (record {
+      says = record {
+        done = c.done;
+        last = c.last ++ bytes;
+        lines_are = lines-open text bytes c.done c.last c.lines_are no_feed;
+        now = c.now;
+        first = c.first;
+        more = c.more;
+        replied = c.replied;
+        awaited = inl (few, w.2);
+        said_is = c.said_is;
+      };
+      now = session ∙ h.now;
+      counted = lines_are ∙ h.counted;
+      kept = kept_short t.is_skipping (c.last ++ bytes) t.part (skipping ∙ takes) few now;
+      heard = subst (λ (u : KeptSession). IsHeard c.done ps u) (sym session) h.heard;
+      takes = λ plain. skipping ∙ takes;
+    })
 
-pub on_ok : {T E : Type 0} (P Q : Type 0) (r : Result T E) → (P → Q) → OnOk r P → OnOk r Q
-on_ok P Q (Ok x) f h = f h
-on_ok P Q (Err e) f h = h
+-- ---- of a whole line
+-- one that isn't too long is answered
+replied : (hinting : Hinting) (text whole line : List ℕ) (ps qs : List Piece) (s t : KeptTalk) → (h : Heard hinting text ps s) →
+    lines whole ≡ with_earlier (line ∷ h.says.done) ([] ∷ []) → h.says.more ≡ [] → IsReplied hinting line qs s.session t.session →
+    t.part ≡ [] → t.is_skipping ≡ false → t.lines ≡ next_line s.lines → Heard hinting whole (ps ++ qs) t
+replied hinting text whole line ps qs s t h lines_are none is part takes count =
+    let c = h.says in
+    record {
+      says = record {
+        done = line ∷ c.done;
+        last = [];
+        lines_are = lines_are;
+        now = t.session;
+        first = c.first ++ flat_map written qs;
+        more = [];
+        replied = (c.first, flat_map written qs, c.now, refl, c.replied, subst (λ (u : KeptSession). Replies hinting line (flat_map written qs) u t.session) h.now is.1);
+        awaited = inl (omega arith, refl);
+        said_is = flat_map-append written ps qs
+            ∙ ap (λ (l : List ℕ). l ++ flat_map written qs) (c.said_is ∙ ap (λ (l : List ℕ). c.first ++ l) none ∙ append-nil c.first)
+            ∙ sym (append-nil (c.first ++ flat_map written qs));
+      };
+      now = refl;
+      counted = count ∙ ap next_line h.counted;
+      kept = kept_short t.is_skipping [] t.part takes (omega arith) part;
+      heard = heard-line line c.done ps qs s.session t.session h.heard is.0;
+      takes = λ plain. takes;
+    }
 
+-- the line came in parts
+pub goes-answered : (hinting : Hinting) (qs : List Piece) (s t : KeptTalk) → s.is_skipping ≡ false → IsReplied hinting s.part qs s.session t.session →
+    t.part ≡ [] → t.is_skipping ≡ s.is_skipping → t.lines ≡ s.lines → GoesOn hinting (10 ∷ []) qs s (counted t)
+goes-answered hinting qs s t takes is part skipping count text ps h =
+    let c = h.says in
+    let w = is_short hinting c.last s.part c.more s.is_skipping takes h.kept c.awaited in
+    replied hinting text (text ++ 10 ∷ []) s.part ps qs s (counted t) h
+    (lines-fed text [] c.done c.last c.lines_are refl ∙ ap (λ (l : List ℕ). with_earlier (l ∷ c.done) ([] ∷ [])) (append-nil c.last ∙ sym w.1))
+    w.2 is part (skipping ∙ takes) (ap next_line count)
+
+-- the line came at once
+pub goes-line : (hinting : Hinting) (line : List ℕ) (qs : List Piece) (s t : KeptTalk) → lines line ≡ line ∷ [] → s.part ≡ [] → s.is_skipping ≡ false →
+    IsReplied hinting line qs s.session t.session → t.part ≡ s.part → t.is_skipping ≡ s.is_skipping → t.lines ≡ s.lines →
+    GoesOn hinting (line ++ 10 ∷ []) qs s (counted t)
+goes-line hinting line qs s t no_feed none takes is part skipping count text ps h =
+    let c = h.says in
+    let w = is_short hinting c.last s.part c.more s.is_skipping takes h.kept c.awaited in
+    replied hinting text (text ++ (line ++ 10 ∷ [])) line ps qs s (counted t) h
+    (lines-fed text line c.done c.last c.lines_are no_feed ∙ ap (λ (l : List ℕ). with_earlier ((l ++ line) ∷ c.done) ([] ∷ [])) (sym w.1 ∙ none))
+    w.2 is (part ∙ none) (skipping ∙ takes) (ap next_line count)
+
+-- the line feed came of one that was too long, and refused
+pub goes-past : (hinting : Hinting) (s t : KeptTalk) → s.is_skipping ≡ true → t.session ≡ s.session → t.part ≡ s.part → t.is_skipping ≡ false → t.lines ≡ s.lines →
+    GoesOn hinting (10 ∷ []) [] s (counted t)
+goes-past hinting s t skips session part takes count text ps h =
+    let c = h.says in
+    let w = is_long hinting c.last s.part c.more s.is_skipping skips h.kept c.awaited in
+    let line : List ℕ = c.last in
+    subst (λ (l : List Piece). Heard hinting (text ++ 10 ∷ []) l (counted t)) (sym (append-nil ps)) (record {
+      says = record {
+        done = line ∷ c.done;
+        last = [];
+        lines_are = lines-fed text [] c.done c.last c.lines_are refl ∙ ap (λ (l : List ℕ). with_earlier (l ∷ c.done) ([] ∷ [])) (append-nil c.last);
+        now = c.now;
+        first = c.first ++ c.more;
+        more = [];
+        replied = (c.first, c.more, c.now, refl, c.replied, (Some TooLong, inl (w.0, refl), (w.2, refl)));
+        awaited = inl (omega arith, refl);
+        said_is = c.said_is ∙ sym (append-nil (c.first ++ c.more));
+      };
+      now = session ∙ h.now;
+      counted = ap next_line (count ∙ h.counted);
+      kept = kept_short t.is_skipping [] t.part takes (omega arith) (part ∙ w.1);
+      heard = λ mine plain. absurd (never s.is_skipping skips (h.takes plain));
+      takes = λ plain. takes;
+    })
+
+-- nothing was heard yet
+begins : (before : List Entry) → Say [] before → TellsAll (experiments before) [] nobody
+begins [] say = record { stands = []; experiments_are = refl; text_is = refl; opened_are = refl; each = tt; last = refl }
+begins (e ∷ before) say = absurd say
+
+pub heard-none : (hinting : Hinting) (t : KeptTalk) → t ≡ record { session = nobody; part = []; out = []; is_skipping = false; lines = 0 } → Heard hinting [] [] t
+heard-none hinting t is = subst (Heard hinting [] []) (sym is) (record {
+  says = record {
+    done = [];
+    last = [];
+    lines_are = refl;
+    now = nobody;
+    first = [];
+    more = [];
+    replied = (refl, refl);
+    awaited = inl (omega arith, refl);
+    said_is = refl;
+  };
+  now = refl;
+  counted = refl;
+  kept = (omega arith, refl);
+  heard = λ mine all before say. begins before say;
+  takes = λ plain. refl;
+})
+
+-- what isn't written yet is no matter
+pub heard-free : (hinting : Hinting) (text : List ℕ) (ps : List Piece) (t u : KeptTalk) → u ≡ record t { out = [] } → Heard hinting text ps t → Heard hinting text ps u
+heard-free hinting text ps t u is h =
+    subst (Heard hinting text ps) (sym is) (record { says = h.says; now = h.now; counted = h.counted; kept = h.kept; heard = h.heard; takes = h.takes })
+
+-- ---- what the calls answer
 -- a line that isn't taken isn't plain
 pub takes-refusal : (line hint : List ℕ) (cause : Cause) (s t : KeptSession) → Takes line (refusal hint cause) s t
 takes-refusal line hint cause s t = record { hears = λ plain. absurd (plain.1.0 tt) }
 
--- a whole line came at once
-pub goes-line : (line after : List ℕ) (qs : List Piece) (s t : KeptTalk) → lines line ≡ line ∷ [] → s.part ≡ [] → Takes line qs s.session t.session →
-    t.part ≡ s.part → t.is_skipping ≡ s.is_skipping → GoesOn (line ++ 10 ∷ after) after qs s t
-goes-line line after qs s t no_feed none takes part skipping text ps h plain =
-    let was = h (first_half IsPlain ps qs plain) in
-    record {
-      done = line ∷ was.done;
-      lines_are = was.lines_are
-          ∙ ap (λ (l : List ℕ). with_earlier was.done (lines (l ++ (line ++ 10 ∷ after)))) none
-          ∙ ap (with_earlier was.done) (onto-lines line (10 ∷ after) no_feed ∙ ap (λ (l : List ℕ). l ∷ lines after) (append-nil line))
-          ∙ ap (λ (l : List ℕ). with_earlier (line ∷ was.done) (lines (l ++ after))) (sym (part ∙ none));
-      part_is = subst (λ (l : List ℕ). lines l ≡ l ∷ []) (sym part) was.part_is;
-      short = subst (λ (l : List ℕ). length l ≤ 512) (sym part) was.short;
-      takes = skipping ∙ was.takes;
-      heard = heard-line line was.done ps qs s.session t.session was.heard takes;
-    }
+pub taken-replies : (hinting : Hinting) (line before after : List ℕ) (f : Option Cause) (old new : KeptSession) → f ≡ None → IsFaultOf line old f →
+    (f ≡ None → (ps : List Piece) × (after ≡ before ++ flat_map written ps) × Takes line ps old new) →
+    (f ≡ None → (said : List ℕ) × (after ≡ before ++ said) × LineDoes line said old new) →
+    (qs : List Piece) × (after ≡ before ++ flat_map written qs) × IsReplied hinting line qs old new
+taken-replies hinting line before after f old new none is takes does =
+    let t = takes none in
+    let d = does none in
+    let said : d.0 ≡ flat_map written t.0 = append_cancel_left before d.0 (flat_map written t.0) (sym d.1 ∙ t.1) in
+    (t.0, t.1, (t.2, (None, subst (IsFaultOf line old) none is, subst (λ (l : List ℕ). LineDoes line l old new) said d.2)))
 
-begins : (before : List Entry) → Say [] before → TellsAll (experiments before) [] (record { opened = []; current = 0 })
-begins [] say = record { stands = []; experiments_are = refl; text_is = refl; opened_are = refl; each = tt; last = refl }
-begins (e ∷ before) say = absurd say
+pub refused-replies : (hinting : Hinting) (line before after out : List ℕ) (f : Option Cause) (cause : Cause) (old new : KeptSession) (r : Result (Unit {0}) RunFault) → f ≡ Some cause → IsFaultOf line old f →
+    (IsSome f → (new ≡ old) × (after ≡ before)) → OnOk r ((hint : List ℕ) × hinting (seen_of line cause) cause hint × (out ≡ after ++ flat_map written (refusal hint cause))) →
+    OnOk r ((qs : List Piece) × (out ≡ before ++ flat_map written qs) × IsReplied hinting line qs old new)
+refused-replies hinting line before after out f cause old new (Ok x) some is same (hint, may, wrote) =
+    let stays = same (subst IsSome (sym some) refl) in
+    let said = ap (λ (l : List ℕ). comment_of hint ++ l) (append-nil (answer_line (answers.Fault cause))) in (
+      refusal hint cause,
+      wrote ∙ ap (λ (l : List ℕ). l ++ flat_map written (refusal hint cause)) stays.1,
+      (takes-refusal line hint cause old new, (Some cause, subst (IsFaultOf line old) some is, ((hint, may, said), stays.0))),
+    )
+refused-replies hinting line before after out f cause old new (Err e) some is same said = said
 
--- nothing was heard yet
-pub hears-none : (text : List ℕ) (t : KeptTalk) → t ≡ record { session = record { opened = []; current = 0 }; part = []; out = []; is_skipping = false } → Hears text text [] t
-hears-none text t is plain = subst (HasHeard text text []) (sym is) (record {
-  done = [];
-  lines_are = refl;
-  part_is = refl;
-  short = omega arith;
-  takes = refl;
-  heard = λ mine all before say. begins before say;
-})
+pub said-long : (hinting : Hinting) (bytes : List ℕ) (s t : KeptTalk) (r : Result (Unit {0}) RunFault) → s.is_skipping ≡ false → lines bytes ≡ bytes ∷ [] → 512 < length s.part + length bytes →
+    OnOk r ((hint : List ℕ) × hinting (s.part ++ take (513 - length s.part) bytes) TooLong hint × (t.out ≡ s.out ++ flat_map written (refusal hint TooLong))) →
+    OnOk r (t ≡ record s { part = []; out = t.out; is_skipping = true }) →
+    OnOk r ((qs : List Piece) × (t.out ≡ s.out ++ flat_map written qs) × GoesOn hinting bytes qs s t)
+said-long hinting bytes s t (Ok x) takes no_feed many (hint, may, wrote) is = (
+  refusal hint TooLong,
+  wrote,
+  goes-long hinting hint bytes s t takes no_feed many may (ap (λ (k : KeptTalk). k.session) is) (ap (λ (k : KeptTalk). k.lines) is) (ap (λ (k : KeptTalk). k.part) is)
+      (ap (λ (k : KeptTalk). k.is_skipping) is),
+)
+said-long hinting bytes s t (Err e) takes no_feed many says is = says
 
--- ---- at the end
--- what the lines of a scenario say, one after the other
-spelled : (done : List (List ℕ)) (l : List ℕ) (ls : List (List ℕ)) (es : List Script) → AreSpelled [] (with_earlier done (l ∷ ls)) es →
-    (before : List Entry) × Say done before × AreSpelled before (l ∷ ls) es
-spelled [] l ls es h = ([], tt, h)
-spelled (line ∷ done) l ls es h =
-    let k = spelled done line (l ∷ ls) es h in
-    let e = k.2 in
-    (e.0 ∷ k.0, (e.2, k.1), e.3)
+pub said-line : (hinting : Hinting) (line : List ℕ) (s t : KeptTalk) (r : Result (Unit {0}) RunFault) → lines line ≡ line ∷ [] → s.part ≡ [] → s.is_skipping ≡ false →
+    OnOk r ((qs : List Piece) × (t.out ≡ s.out ++ flat_map written qs) × IsReplied hinting line qs s.session t.session) →
+    OnOk r ((t.part ≡ s.part) × (t.is_skipping ≡ s.is_skipping) × (t.lines ≡ s.lines)) →
+    OnOk r ((qs : List Piece) × (t.out ≡ s.out ++ flat_map written qs) × GoesOn hinting (line ++ 10 ∷ []) qs s (counted t))
+said-line hinting line s t (Ok x) no_feed none takes (qs, wrote, is) same =
+    (qs, wrote, goes-line hinting line qs s t no_feed none takes is same.0 same.1 same.2)
+said-line hinting line s t (Err e) no_feed none takes h same = h
 
-spelled_done : (before : List Entry) (es : List Script) → AreSpelled before ([] ∷ []) es → experiments before ≡ es
-spelled_done before es h = h.2
-
-by-phase : (x : Stand) (p : Phase) → x.kept.phase ≡ p → IsSoFar x → x.kept.is_closed ≡ true → IsToldIn p x.experiment.commands x.text x.kept → x.text ≡ report_alone x.experiment
-by-phase x Going is h closed t = absurd (never x.kept.is_closed closed t.unclosed)
-by-phase x Over is h closed t =
-    t [] closed
-    ∙ ap (λ (n : List ℕ). report_of_commands n x.kept.run.experiment.spec (x.experiment.commands ++ [])) h.name
-    ∙ ap (λ (s : Spec). report_of_commands x.experiment.name s (x.experiment.commands ++ [])) h.spec
-    ∙ ap (λ (cs : List Timed). report_of_commands x.experiment.name x.experiment.spec cs) (append-nil x.experiment.commands)
-by-phase x Lost is h closed t = absurd t
-
-closed-report : (x : Stand) → IsSoFar x → x.kept.is_closed ≡ true → x.text ≡ report_alone x.experiment
-closed-report x h closed = by-phase x x.kept.phase refl h closed h.told
-
-whole-reports : (xs : List Stand) → AllByRecursion IsSoFar xs → AllByRecursion (λ (o : KeptOpen). o.is_closed ≡ true) (map (λ (x : Stand). x.kept) xs) →
-    flat_map (λ (x : Stand). x.text) xs ≡ reports (map (λ (x : Stand). x.experiment) xs)
-whole-reports [] h closed = refl
-whole-reports (x ∷ xs) h closed =
-    ap (λ (l : List ℕ). l ++ flat_map (λ (y : Stand). y.text) xs) (closed-report x h.0 closed.0)
-    ∙ ap (λ (l : List ℕ). report_alone x.experiment ++ l) (whole-reports xs h.1 closed.1)
-
-mine_first : (done ls : List (List ℕ)) → AsksForAll (with_earlier done ls) → AsksForAll done × AsksForAll ls
-mine_first [] ls h = (tt, h)
-mine_first (line ∷ done) ls h = let k = mine_first done (line ∷ ls) h in ((k.1.0, k.0), k.1.1)
-
--- of a whole text the reports were told
-pub told-reports : (text : List ℕ) (ps : List Piece) (t : KeptTalk) → Hears text [] ps t → t.part ≡ [] → All (λ (o : KeptOpen). o.is_closed ≡ true) t.session.opened →
-    (es : List Script) → Spells text es → AsksForAll (lines text) → AllByRecursion IsPlain ps → flat_map told ps ≡ reports es
-told-reports text ps t hears none closed es spells mine plain =
-    let h = hears plain in
-    let all : lines text ≡ with_earlier h.done ([] ∷ []) =
-    h.lines_are ∙ ap (λ (l : List ℕ). with_earlier h.done (lines (l ++ []))) none in
-    let said = spelled h.done [] [] es (subst (λ (ls : List (List ℕ)). AreSpelled [] ls es) all spells.1) in
-    let asks = mine_first h.done ([] ∷ []) (subst AsksForAll all mine) in
-    let tells : TellsAll (experiments said.0) (flat_map told ps) t.session = h.heard asks.0 plain said.0 said.1 in
-    let ended : AllByRecursion (λ (o : KeptOpen). o.is_closed ≡ true) (map (λ (x : Stand). x.kept) tells.stands) =
-    subst (AllByRecursion (λ (o : KeptOpen). o.is_closed ≡ true)) tells.opened_are (recursion_from_All (λ (o : KeptOpen). o.is_closed ≡ true) t.session.opened closed) in
-    tells.text_is ∙ whole-reports tells.stands tells.each ended
-    ∙ ap reports (sym tells.experiments_are ∙ spelled_done said.0 es said.2)
-
--- ---- what the calls answer
-pub said-line : (line : List ℕ) (s t : KeptTalk) (r : Result (Unit {0}) RunFault) → lines line ≡ line ∷ [] → s.part ≡ [] →
-    OnOk r ((qs : List Piece) × (t.out ≡ s.out ++ flat_map written qs) × Takes line qs s.session t.session) →
-    OnOk r ((t.part ≡ s.part) × (t.is_skipping ≡ s.is_skipping)) →
-    OnOk r ((qs : List Piece) × (t.out ≡ s.out ++ flat_map written qs) × ((after : List ℕ) → GoesOn (line ++ 10 ∷ after) after qs s t))
-said-line line s t (Ok x) no_feed none (qs, wrote, takes) same =
-    (qs, wrote, λ after. goes-line line after qs s t no_feed none takes same.0 same.1)
-said-line line s t (Err e) no_feed none h same = h
-
-pub said-part : (rest : List ℕ) (ps : List Piece) (s t u : KeptTalk) (r : Result (Unit {0}) RunFault) →
-    t.out ≡ s.out ++ flat_map written ps → ((after : List ℕ) → GoesOn (rest ++ after) after ps s t) →
-    OnOk r ((qs : List Piece) × (u.out ≡ t.out ++ flat_map written qs) × Takes t.part qs t.session u.session) →
-    OnOk r (u.part ≡ []) → OnOk r (u.is_skipping ≡ t.is_skipping) →
-    OnOk r ((qs : List Piece) × (u.out ≡ s.out ++ flat_map written qs) × ((after : List ℕ) → GoesOn (rest ++ 10 ∷ after) after qs s u))
-said-part rest ps s t u (Ok x) wrote goes (qs, more, takes) part same = (
+pub said-part : (hinting : Hinting) (rest : List ℕ) (ps : List Piece) (s t u : KeptTalk) (r : Result (Unit {0}) RunFault) →
+    t.out ≡ s.out ++ flat_map written ps → GoesOn hinting rest ps s t → t.is_skipping ≡ false →
+    OnOk r ((qs : List Piece) × (u.out ≡ t.out ++ flat_map written qs) × IsReplied hinting t.part qs t.session u.session) →
+    OnOk r (u.part ≡ []) → OnOk r ((u.is_skipping ≡ t.is_skipping) × (u.lines ≡ t.lines)) →
+    OnOk r ((qs : List Piece) × (u.out ≡ s.out ++ flat_map written qs) × GoesOn hinting (rest ++ 10 ∷ []) qs s (counted u))
+said-part hinting rest ps s t u (Ok x) wrote goes takes (qs, more, is) part same = (
   ps ++ qs,
   more ∙ ap (λ (l : List ℕ). l ++ flat_map written qs) wrote ∙ append_assoc s.out (flat_map written ps) (flat_map written qs)
       ∙ ap (λ (l : List ℕ). s.out ++ l) (sym (flat_map-append written ps qs)),
-  λ after. goes-both (rest ++ 10 ∷ after) (10 ∷ after) after ps qs s t u (goes (10 ∷ after)) (goes-answered after qs t u takes part same),
+  goes-both hinting rest (10 ∷ []) ps qs s t (counted u) goes (goes-answered hinting qs t u takes is part same.0 same.1),
 )
-said-part rest ps s t u (Err e) wrote goes h part same = h
+said-part hinting rest ps s t u (Err e) wrote goes takes h part same = h
 
-pub said-skipped : (rest : List ℕ) (ps : List Piece) (s t u : KeptTalk) → ((after : List ℕ) → GoesOn (rest ++ after) after ps s t) → t.is_skipping ≡ true →
-    (after : List ℕ) → GoesOn (rest ++ 10 ∷ after) after ps s u
-said-skipped rest ps s t u goes skips after text first h plain =
-    absurd (never t.is_skipping skips (goes (10 ∷ after) text first h plain).takes)
+pub said-past : (hinting : Hinting) (rest : List ℕ) (ps : List Piece) (s t u : KeptTalk) → GoesOn hinting rest ps s t → t.is_skipping ≡ true →
+    u ≡ record t { is_skipping = false } → GoesOn hinting (rest ++ 10 ∷ []) ps s (counted u)
+said-past hinting rest ps s t u goes skips is =
+    subst (λ (l : List Piece). GoesOn hinting (rest ++ 10 ∷ []) l s (counted u)) (append-nil ps)
+    (goes-both hinting rest (10 ∷ []) ps [] s t (counted u) goes (goes-past hinting t u skips
+    (ap (λ (k : KeptTalk). k.session) is) (ap (λ (k : KeptTalk). k.part) is) (ap (λ (k : KeptTalk). k.is_skipping) is) (ap (λ (k : KeptTalk). k.lines) is)))
 
--- ---- what was taken of some bytes
-abbrev pub IsTaken : Option (List ℕ) → Option (List ℕ) → KeptTalk → KeptTalk → List ℕ → List ℕ → Type 0
-IsTaken v w s t bytes rest = (qs : List Piece) × Puts v s.out w t.out (flat_map written qs) × ((after : List ℕ) → GoesOn (bytes ++ after) (rest ++ after) qs s t)
-
-goes-none : (a : List ℕ) (s : KeptTalk) → GoesOn a a [] s s
-goes-none a s text ps h = subst (λ (l : List Piece). Hears text a l s) (sym (append-nil ps)) h
-
-pub taken-none : (v : Option (List ℕ)) (s : KeptTalk) (bytes : List ℕ) → IsTaken v v s s bytes bytes
-taken-none v s bytes = ([], puts_none v s.out, λ after. goes-none (bytes ++ after) s)
-
-puts-more : (v w : Option (List ℕ)) (s t u : KeptTalk) (qs rs : List Piece) → Puts v s.out w t.out (flat_map written qs) → u.out ≡ t.out ++ flat_map written rs →
-    Puts v s.out w u.out (flat_map written (qs ++ rs))
-puts-more v w s t u qs rs puts wrote =
-    subst (λ (l : List ℕ). Puts v s.out w u.out l) (sym (flat_map-append written qs rs))
-    (puts_both v w w s.out t.out u.out (flat_map written qs) (flat_map written rs) puts
-    (subst (λ (l : List ℕ). Puts w t.out w l (flat_map written rs)) (sym wrote) (puts_kept w t.out (flat_map written rs))))
-
-pub taken-line : (v w : Option (List ℕ)) (s t u : KeptTalk) (bytes rest line after : List ℕ) → IsTaken v w s t bytes rest → rest ≡ line ++ 10 ∷ after →
-    ((rs : List Piece) × (u.out ≡ t.out ++ flat_map written rs) × ((more : List ℕ) → GoesOn (line ++ 10 ∷ more) more rs t u)) → IsTaken v w s u bytes after
-taken-line v w s t u bytes rest line after (qs, puts, goes) is (rs, wrote, more) = (
-  qs ++ rs,
-  puts-more v w s t u qs rs puts wrote,
-  λ end. goes-both (bytes ++ end) (rest ++ end) (after ++ end) qs rs s t u (goes end)
-      (subst (λ (l : List ℕ). GoesOn l (after ++ end) rs t u) (sym (ap (λ (l : List ℕ). l ++ end) is ∙ append_assoc line (10 ∷ after) end)) (more (after ++ end))),
-)
-
-pub taken-rest : (v w : Option (List ℕ)) (s t u : KeptTalk) (bytes rest : List ℕ) (r : Result (Unit {0}) RunFault) → IsTaken v w s t bytes rest →
-    OnOk r ((rs : List Piece) × (u.out ≡ t.out ++ flat_map written rs) × ((after : List ℕ) → GoesOn (rest ++ after) after rs t u)) →
-    OnOk r ((qs : List Piece) × Puts v s.out w u.out (flat_map written qs) × ((after : List ℕ) → GoesOn (bytes ++ after) after qs s u))
-taken-rest v w s t u bytes rest (Ok x) (qs, puts, goes) (rs, wrote, more) =
-    (qs ++ rs, puts-more v w s t u qs rs puts wrote, λ after. goes-both (bytes ++ after) (rest ++ after) after qs rs s t u (goes after) (more after))
-taken-rest v w s t u bytes rest (Err e) taken h = h
-
-out-free : (text rest : List ℕ) (ps : List Piece) (t u : KeptTalk) → u ≡ record t { out = [] } → Hears text rest ps t → Hears text rest ps u
-out-free text rest ps t u is h plain =
-    let was = h plain in
-    subst (HasHeard text rest ps) (sym is) (record { done = was.done; lines_are = was.lines_are; part_is = was.part_is; short = was.short; takes = was.takes; heard = was.heard })
-
-puts-handed : (v w x : Option (List ℕ)) (k l bytes now : List ℕ) → Puts v k w l bytes → Puts w l x [] [] → now ≡ [] → Puts v k x now bytes
-puts-handed v w x k l bytes now puts out none =
-    subst (λ (m : List ℕ). Puts v k x m bytes) (sym none)
-    (subst (λ (m : List ℕ). Puts v k x [] m) (append-nil bytes) (puts_both v w x k l [] bytes [] puts out))
-
-pub taken-handed : (v w x : Option (List ℕ)) (s t u : KeptTalk) (bytes rest : List ℕ) → IsTaken v w s t bytes rest → Puts w t.out x [] [] → u ≡ record t { out = [] } →
-    IsTaken v x s u bytes rest
-taken-handed v w x s t u bytes rest (qs, puts, goes) out is = (
-  qs,
-  puts-handed v w x s.out t.out (flat_map written qs) u.out puts out (ap (λ (k : KeptTalk). k.out) is),
-  λ after text ps h. out-free text (rest ++ after) (ps ++ qs) t u is (goes after text ps h),
-)
-
--- ---- what was heard of all that is read
-pub record HasRead (text : List ℕ) (read : Option (List ℕ)) (v w : Option (List ℕ)) (t : KeptTalk) : Type 0 where
-  pub rest : List ℕ
-  pub ps : List Piece
-  pub left : read ≡ Some rest
-  pub puts : Puts v [] w [] (flat_map written ps)
-  pub none : t.out ≡ []
-  pub hears : Hears text rest ps t
-
-pub read-none : (text : List ℕ) (read v : Option (List ℕ)) (t : KeptTalk) → read ≡ Some text →
-    t ≡ record { session = record { opened = []; current = 0 }; part = []; out = []; is_skipping = false } → HasRead text read v v t
-read-none text read v t left is = record { rest = text; ps = []; left = left; puts = puts_none v []; none = ap (λ (k : KeptTalk). k.out) is; hears = hears-none text t is }
-
-of_some : Option (List ℕ) → List ℕ
-of_some None = []
-of_some (Some xs) = xs
-
-same : (xs ys : List ℕ) → Some xs ≡ Some ys → ys ≡ xs
-unfolding of_some
-same xs ys e = sym (ap (of_some) e)
-
-left_of : (read now : Option (List ℕ)) (rest bytes : List ℕ) → read ≡ Some rest → Consumes read now bytes → (more : List ℕ) × (now ≡ Some more) × (rest ≡ bytes ++ more)
-left_of None now rest bytes e h = absurd (cc)
-left_of (Some xs) None rest bytes e h = absurd h
-left_of (Some xs) (Some ys) rest bytes e h = (ys, refl, same xs rest e ∙ h)
-
-pub read-more : (text : List ℕ) (read now v w x y z : Option (List ℕ)) (s t u : KeptTalk) (bytes : List ℕ) → HasRead text read v w s → Consumes read now bytes →
-    ((qs : List Piece) × Puts w s.out x t.out (flat_map written qs) × ((after : List ℕ) → GoesOn (bytes ++ after) after qs s t)) →
-    Puts x t.out y [] [] → u ≡ record t { out = [] } → Keeps y z → HasRead text now v z u
-read-more text read now v w x y z s t u bytes h consumes (qs, puts, goes) out is keeps =
-    let l = left_of read now h.rest bytes h.left consumes in
-    let first : Puts v [] x t.out (flat_map written h.ps ++ flat_map written qs) =
-    puts_both v w x [] [] t.out (flat_map written h.ps) (flat_map written qs) h.puts (subst (λ (k : List ℕ). Puts w k x t.out (flat_map written qs)) h.none puts) in
-    record {
-      rest = l.0;
-      ps = h.ps ++ qs;
-      left = l.1;
-      puts = puts_flushed v y z [] [] (flat_map written (h.ps ++ qs))
-          (subst (λ (k : List ℕ). Puts v [] y [] k) (sym (flat_map-append written h.ps qs))
-          (puts-handed v x y [] t.out (flat_map written h.ps ++ flat_map written qs) [] first out refl)) keeps;
-      none = ap (λ (k : KeptTalk). k.out) is;
-      hears = out-free text l.0 (h.ps ++ qs) t u is (goes l.0 text h.ps (subst (λ (k : List ℕ). Hears text k h.ps s) l.2 h.hears));
-    }
-
-at_end : (now : Option (List ℕ)) (more : List ℕ) → now ≡ Some more → IsAtEnd now → more ≡ []
-at_end None more e h = absurd (cc)
-at_end (Some xs) more e h = same xs more e ∙ h
-
--- all was read
-pub read-all : (text : List ℕ) (read now v w : Option (List ℕ)) (t : KeptTalk) (bytes : List ℕ) → HasRead text read v w t → Consumes read now bytes → bytes ≡ [] → IsAtEnd now →
-    t.part ≡ [] → All (λ (o : KeptOpen). o.is_closed ≡ true) t.session.opened →
-    (ps : List Piece) × Appends v w (flat_map written ps) × ((es : List Script) → Spells text es → AsksForAll (lines text) → AllByRecursion IsPlain ps → flat_map told ps ≡ reports es)
-unfolding Puts
-read-all text read now v w t bytes h consumes empty end part closed =
-    let l = left_of read now h.rest bytes h.left consumes in
-    let none : h.rest ≡ [] = l.2 ∙ ap (λ (k : List ℕ). k ++ l.0) empty ∙ at_end now l.0 l.1 end in (
-      h.ps,
-      writing_done v w (flat_map written h.ps) (h.puts v [] (writing_none v)),
-      told-reports text h.ps t (subst (λ (k : List ℕ). Hears text k h.ps t) none h.hears) part closed,
-    )
+-- an experiment has no end
+pub ends-open : (t s : KeptTalk) (whole : Bool) (line : ℕ) → s ≡ t → line ≡ next_line s.lines → s.part ≡ [] → s.is_skipping ≡ false → (IsTrue whole ↔ AreClosed s.session) → whole ≡ false →
+    IsEnding t (Err (Scenario (record { line = line; cause = NoEnd })))
+ends-open t s whole line is at none takes closes lacks =
+    subst (λ (u : KeptTalk). IsEnding u (Err (Scenario (record { line = line; cause = NoEnd })))) is (at, inr (refl, none, takes, λ closed. absurd (never whole (closes.1 closed) lacks)))

@@ -3,5 +3,7 @@ pub mod JoiningLaw
 pub mod Troubles
 pub mod Runs
 pub mod Reports
+pub mod Conversations
 pub mod Talks
 pub mod Within
+pub mod FaultLines

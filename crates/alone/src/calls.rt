@@ -1,9 +1,8 @@
 //! `run_alone` and `check`: all is read before any step, and all steps are made before anything is written.
 
-ghost use Rattle.std.specs.Prelude.{◌≡◌, ◌≢◌, List, IfOk, IfErr, OnOk};
-ghost use Rattle.alone.specs.Bytes.{IsRead, TakesFew};
-ghost use Rattle.control.specs.declared.scenario.Experiment.{Experiment as Script};
-ghost use Rattle.alone.specs.Reports.{reports, tally, tally_of, Calls, Ends, IsOwnFault, Reads, ReadsFault, reader_failed};
+ghost use Rattle.std.specs.Prelude.{◌≡◌, ◌≢◌, ℕ, List, Some, false, IfErr, OnOk};
+ghost use Rattle.alone.specs.Bytes.{IsRead};
+ghost use Rattle.alone.specs.Reports.{reports, tally, Calls, Ends, IsOwnFault, reader_failed, writer_failed};
 ghost use Rattle.alone.specs.Within.{IsUnlimited, done_of, leaves};
 
 use crate::ends::{Inlet, Outlet, flush_all, write_all};
@@ -11,7 +10,7 @@ use crate::fault::RunFault;
 use crate::input::read_text;
 use crate::limits::{Limits, Stop};
 use crate::progress::{Progress, Silent};
-use crate::whole::{Tally, check_of};
+use crate::whole::check_of;
 use crate::within::{Made, run_alone_within};
 use std::alloc::Global;
 
@@ -27,25 +26,26 @@ pub fn unlimited_outcome(outcome: Result<Made, Stop>) -> Result<(), RunFault>
     }
 }
 
-// How many experiments and commands the scenario has that is read, whose text it keeps.
-#[tactic(auto, using(crate::proofs::ReadFacts::read_tally, crate::proofs::ReadFacts::read_text_fault))]
-fn tally_read<R: Inlet>(
-    alloc: Global,
-    reader: &mut R,
-    text: &mut Vec<u8>,
-) -> Result<Tally, RunFault>
-    ensures made { IfOk result (λ t.
-        (es : List Script) × Reads (R.remaining reader.old) es × (t ≡ tally_of es)) }
-    ensures taken { TakesFew (R.remaining reader.old) (R.remaining reader.new) }
-    ensures fault { IfErr result (λ e. ReadsFault (R.remaining reader.old) e) }
-    ensures text { OnOk result (IsRead (R.remaining reader.old) (R.remaining reader.new)
-        text.new.items) }
-    ensures kept { IfErr result (λ e. e ≢ RunFault.Read → e ≢ RunFault.Memory →
-        IsRead (R.remaining reader.old) (R.remaining reader.new) text.new.items) }
-    ensures failed { R.failed reader.new ≡ reader_failed result }
+// Writes how many experiments and commands the scenario has that a text spells.
+#[tactic(auto, using(crate::proofs::Stopping::text_calls, crate::proofs::Stopping::text_fault_unread, crate::proofs::Stopping::text_fault_own, crate::proofs::Endings::written, crate::proofs::Endings::cut, crate::proofs::Endings::cut_after))]
+fn write_tally<W: Outlet>(alloc: Global, text: &[u8], writer: &mut W) -> Result<(), RunFault>
+    ensures calls { Calls tally (Some text.now) (W.contents writer.old) (W.contents writer.new) result }
+    ensures own { IfErr result IsOwnFault }
+    ensures unread { reader_failed result ≡ false }
+    ensures failed { W.failed writer.new ≡ writer_failed (W.failed writer.old) result }
+    ensures untouched { IfErr result (λ e. e ≢ RunFault.Write → writer.new ≡ writer.old) }
 {
-    *text = read_text(alloc, reader)?;
-    check_of(alloc, text.as_slice())
+    let tally = check_of(alloc, text)?;
+    let Ok(line) = tally.line(alloc) else {
+        return Err(RunFault::Memory);
+    };
+    let Ok(()) = write_all(writer, line.as_slice()) else {
+        return Err(RunFault::Write);
+    };
+    let Ok(()) = flush_all(writer) else {
+        return Err(RunFault::Write);
+    };
+    Ok(())
 }
 
 /// Reads a scenario and runs each of its experiments by itself; then writes their reports in its order.
@@ -102,8 +102,9 @@ pub fn check<R: Inlet, W: Outlet>(
     check_kept(alloc, reader, writer, &mut text)
 }
 
-/// `check`, which leaves the text that it read in `text`, unless reading failed or memory was refused.
-#[tactic(auto, using(crate::proofs::Endings::written, crate::proofs::Endings::cut, crate::proofs::Endings::cut_after))]
+/// `check`, which leaves the text that it read in `text`, unless the reader failed or memory ran out. `on_text` speaks of this
+/// text, and `given` of the bytes that the calls of the reader gave.
+#[tactic(auto, using(crate::proofs::Stopping::input_calls, crate::proofs::Stopping::input_own_fault, crate::proofs::Stopping::read_calls_of))]
 pub fn check_kept<R: Inlet, W: Outlet>(
     alloc: Global,
     reader: &mut R,
@@ -112,6 +113,10 @@ pub fn check_kept<R: Inlet, W: Outlet>(
 ) -> Result<(), RunFault>
     ensures calls { Calls tally (R.remaining reader.old) (W.contents writer.old)
         (W.contents writer.new) result }
+    ensures on_text { Calls tally (Some text.new.items) (W.contents writer.old)
+        (W.contents writer.new) result }
+    ensures given { (bytes : List ℕ) × R.gives reader.old bytes reader.new
+        × Calls tally (Some bytes) (W.contents writer.old) (W.contents writer.new) result }
     ensures ends { Ends result (R.remaining reader.old) (R.remaining reader.new)
         (R.failed reader.new) (W.failed writer.old) (W.failed writer.new) writer.old writer.new }
     ensures own { IfErr result IsOwnFault }
@@ -120,15 +125,6 @@ pub fn check_kept<R: Inlet, W: Outlet>(
     ensures kept { IfErr result (λ e. e ≢ RunFault.Read → e ≢ RunFault.Memory →
         IsRead (R.remaining reader.old) (R.remaining reader.new) text.new.items) }
 {
-    let tally = tally_read(alloc, reader, text)?;
-    let Ok(line) = tally.line(alloc) else {
-        return Err(RunFault::Memory);
-    };
-    let Ok(()) = write_all(writer, line.as_slice()) else {
-        return Err(RunFault::Write);
-    };
-    let Ok(()) = flush_all(writer) else {
-        return Err(RunFault::Write);
-    };
-    Ok(())
+    *text = read_text(alloc, reader)?;
+    write_tally(alloc, text.as_slice(), writer)
 }

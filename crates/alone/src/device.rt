@@ -1,7 +1,9 @@
 //! Readers and writers of std as ends of ours. Here alone std's errors are seen.
 
 ghost use Rattle.std.specs.Prelude.{◌≡◌, ◌<◌, ◌+◌, ◌↔◌, true, false};
+ghost use Rattle.std.specs.Io.KnownBytes.{Consumes};
 ghost use Rattle.std.specs.IoError.{error_kind};
+ghost use Rattle.std.proofs.KnownBytes.{Consumes-nil, Consumes-trans};
 
 use crate::ends::{Inlet, Outlet, Trouble};
 use std::io::{Error, ErrorKind, Read, Write};
@@ -86,9 +88,15 @@ impl<T: Drop> Device<T> {
 impl<R: Read + Drop> Inlet for Device<R> {
     ghost remaining = { λ d. R.remaining d.inner };
 
+    ghost gives = { λ d bytes e. Consumes (R.remaining d.inner) (R.remaining e.inner) bytes };
+
     ghost failed = { λ d. d.failed };
 
     ghost patience = { λ d. d.patience };
+
+    ghost gives_none = { λ d. Consumes-nil (R.remaining d.inner) };
+
+    ghost gives_both = { λ a b c. Consumes-trans (R.remaining a.inner) (R.remaining b.inner) (R.remaining c.inner) };
 
     fn read(&mut self, room: &mut [u8]) -> Result<usize, Trouble> {
         if self.failed {

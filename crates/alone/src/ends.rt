@@ -1,9 +1,9 @@
 //! Where bytes come from and where they go: what a call asks of a reader and of a writer, and what it learns of them.
 
-ghost use Rattle.std.specs.Prelude.{◌≡◌, ◌<◌, ◌≤◌, ℕ, List, Option, Err, Bool, true, length, drop, is_err, OnOk, OnErr, IfOk};
+ghost use Rattle.std.specs.Prelude.{◌≡◌, ◌<◌, ◌≤◌, ◌++◌, [], ℕ, List, Option, Err, Bool, true, false, length, drop, is_err, OnOk, OnErr, IfOk};
 ghost use Rattle.std.specs.Io.KnownBytes.{Appends, Keeps, ReadConsumes, WriteAppends};
 ghost use Rattle.alone.specs.Bytes.{IsCut};
-ghost use Rattle.alone.specs.Troubles.{has_failed};
+ghost use Rattle.alone.specs.Troubles.{bytes_given, has_failed};
 
 /// Why a call did nothing.
 #[derive(Clone, Copy, Debug, Drop, PartialEq)]
@@ -23,6 +23,9 @@ pub trait Inlet: Drop {
     /// The bytes that it will give, where they are known.
     ghost remaining: { Self → Option (List ℕ) };
 
+    /// Whether calls of `read` can have given these bytes, one after the other, between two of its states.
+    ghost gives: { Self → List ℕ → Self → Type 0 };
+
     /// Whether it has failed.
     ghost failed: { Self → Bool };
 
@@ -34,10 +37,18 @@ pub trait Inlet: Drop {
     fn read(&mut self, room: &mut [u8]) -> Result<usize, Trouble>
         ensures bound { IfOk result (λ n. n ≤ length room.new) }
         ensures bytes { ReadConsumes (remaining self.old) (remaining self.new) result room.new }
+        ensures gives { gives self.old (bytes_given result room.new) self.new }
         ensures failed { failed self.new ≡ has_failed result }
         ensures stays { failed self.old ≡ true → result ≡ Err Trouble.Failed }
         ensures patience { result ≡ Err Trouble.Interrupted →
             patience self.new < patience self.old };
+
+    /// No call gives no byte.
+    ghost gives_none: { (r : Self) → gives r [] r };
+
+    /// Calls one after the other give their bytes one after the other.
+    ghost gives_both: { (a b c : Self) (xs ys : List ℕ) → gives a xs b → gives b ys c →
+        gives a (xs ++ ys) c };
 }
 
 /// Takes bytes.
@@ -74,6 +85,7 @@ pub trait Outlet: Drop {
 pub(crate) fn read_some<R: Inlet>(reader: &mut R, room: &mut [u8]) -> Result<usize, Failed>
     ensures bound { IfOk result (λ n. n ≤ length room.new) }
     ensures bytes { ReadConsumes (R.remaining reader.old) (R.remaining reader.new) result room.new }
+    ensures gives { R.gives reader.old (bytes_given result room.new) reader.new }
     ensures failed { R.failed reader.new ≡ is_err result }
 {
     loop {
@@ -116,6 +128,7 @@ pub(crate) fn write_all<W: Outlet>(writer: &mut W, bytes: &[u8]) -> Result<(), F
         (Appends (W.contents writer.old) (W.contents writer.new) bytes.now) }
     ensures cut { OnErr result (IsCut (W.contents writer.old) (W.contents writer.new) bytes.now) }
     ensures failed { OnErr result (W.failed writer.new ≡ true) }
+    ensures sound { W.failed writer.old ≡ false → W.failed writer.new ≡ is_err result }
 {
     let mut rest = bytes;
     while !rest.is_empty() {

@@ -1,6 +1,6 @@
 //! Reading all of a scenario's text.
 
-ghost use Rattle.std.specs.Prelude.{◌≡◌, IfOk, IfErr};
+ghost use Rattle.std.specs.Prelude.{◌≡◌, ℕ, List, IfOk, IfErr};
 ghost use Rattle.alone.specs.Bytes.{IsRead, TakesFew};
 ghost use Rattle.alone.specs.Reports.{IsInputFault, reader_failed};
 
@@ -18,6 +18,8 @@ const CHUNK: usize = 65_536;
 pub fn read_text<R: Inlet>(alloc: Global, reader: &mut R) -> Result<Vec<u8>, RunFault>
     ensures text { IfOk result
         (λ text. IsRead (R.remaining reader.old) (R.remaining reader.new) text.items) }
+    ensures gives { (bytes : List ℕ) × R.gives reader.old bytes reader.new
+        × IfOk result (λ text. text.items ≡ bytes) }
     ensures taken { TakesFew (R.remaining reader.old) (R.remaining reader.new) }
     ensures fault { IfErr result IsInputFault }
     ensures failed { R.failed reader.new ≡ reader_failed result }

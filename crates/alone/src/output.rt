@@ -16,7 +16,7 @@ const CAPACITY: usize = 65_536;
 /// So many bytes are written by themselves: to copy them would cost more than a call.
 const LONG: usize = 16_384;
 
-/// So many bytes are enough for the lines that are made at once.
+/// The bytes that suffice for the lines that are made at once.
 const PAGE: usize = 4_624;
 
 /// What was not handed to the writer yet, at most 65536 bytes.

@@ -1,15 +1,16 @@
 //! `live`: each line of a session is answered before more is read.
 
-ghost use Rattle.std.specs.Prelude.{◌≡◌, ◌++◌, ◌∷◌, [], ℕ, List, Some, Ok, All, true, false, flat_map, OnOk, IfErr};
+ghost use Rattle.std.specs.Prelude.{◌≡◌, ◌-◌, ◌++◌, ◌∷◌, [], ℕ, List, Some, Ok, Err, false, flat_map, is_err, length, take, true, OnOk, OnErr, IfErr};
 ghost use Rattle.std.specs.List.{AllByRecursion};
-ghost use Rattle.std.specs.Io.KnownBytes.{Appends};
+ghost use Rattle.std.specs.Io.KnownBytes.{Appends, Consumes};
 ghost use Rattle.control.specs.Scenario.{Spells};
 ghost use Rattle.control.specs.declared.scenario.Experiment.{Experiment as Script};
 ghost use Rattle.control_words.specs.Text.{lines};
-ghost use Rattle.live.specs.Sessions.{Piece, IsPlain, Takes, told, written};
-ghost use Rattle.alone.specs.Bytes.{Puts};
-ghost use Rattle.alone.specs.Reports.{reports, IsOwnFault};
-ghost use Rattle.alone.specs.Talks.{AsksForAll, GoesOn, refusal};
+ghost use Rattle.live.specs.Sessions.{Piece, IsPlain, told, written};
+ghost use Rattle.alone.specs.Bytes.{IsCut, Puts};
+ghost use Rattle.alone.specs.Conversations.{Converses, Leaves, next_line, seen_of};
+ghost use Rattle.alone.specs.Reports.{reports, writer_failed, IsOwnFault};
+ghost use Rattle.alone.specs.Talks.{AsksForAll, GoesOn, IsEnding, IsHalfHeard, IsReplied, counted, refusal};
 
 use crate::ends::{Inlet, Outlet, flush_all, read_some, write_all};
 use crate::fault::RunFault;
@@ -19,6 +20,9 @@ use control_words::first_line;
 use live::{Answer, MAX_LINE, Session, put_answer, put_comment};
 use std::alloc::Global;
 use std::marker::Model;
+
+/// So many bytes of a line show that it is too long.
+const LONG: usize = MAX_LINE + 1;
 
 /// How many bytes are read at a time, and after how many bytes of answers these are written.
 const CHUNK: usize = 65_536;
@@ -46,7 +50,19 @@ impl Model for Talk {
       part = t.part.items;
       out = t.out.items;
       is_skipping = t.is_skipping;
+      lines = t.lines;
     } };
+}
+
+// What a hint sees of a line: of one that is too long so much that this shows, since no more of it is kept.
+#[tactic(auto, using(std::proofs::lemmas::List::take_min))]
+fn seen_of(line: &[u8], cause: Cause) -> &[u8]
+    ensures { result.now ≡ seen_of line.now cause }
+{
+    match cause {
+        Cause::TooLong => &line[..LONG.min(line.len())],
+        _ => line,
+    }
 }
 
 // Says that a line isn't taken, behind the hint for it. By itself, since it is rare: so others have a small frame.
@@ -58,9 +74,9 @@ fn refuse<H: Hints>(
     cause: Cause,
     out: &mut Vec<u8>,
 ) -> Result<(), RunFault>
-    ensures own { IfErr result IsOwnFault }
-    ensures says { OnOk result ((text : List ℕ) × (out.new.items
-        ≡ out.old.items ++ flat_map written (refusal text cause))) }
+    ensures memory { OnErr result (result ≡ Err RunFault.Memory) }
+    ensures says { OnOk result ((hint : List ℕ) × H.may_say hints.now line.now cause hint
+        × (out.new.items ≡ out.old.items ++ flat_map written (refusal hint cause))) }
 {
     let Ok(text) = hints.hint(alloc, line, cause) else {
         return Err(RunFault::Memory);
@@ -82,17 +98,17 @@ fn answer_line<H: Hints>(
     line: &[u8],
     out: &mut Vec<u8>,
 ) -> Result<(), RunFault>
-    ensures own { IfErr result IsOwnFault }
-    ensures takes { OnOk result ((qs : List Piece)
+    ensures memory { OnErr result (result ≡ Err RunFault.Memory) }
+    ensures replies { OnOk result ((qs : List Piece)
         × (out.new.items ≡ out.old.items ++ flat_map written qs)
-        × Takes line.now qs session.old session.new) }
+        × IsReplied (H.may_say hints.now) line.now qs session.old session.new) }
 {
     let Ok(fault) = session.take(line, out) else {
         return Err(RunFault::Memory);
     };
     match fault {
         None => Ok(()),
-        Some(cause) => refuse(alloc, hints, line, cause, out),
+        Some(cause) => refuse(alloc, hints, seen_of(line, cause), cause, out),
     }
 }
 
@@ -103,6 +119,7 @@ impl Talk {
           part = [];
           out = [];
           is_skipping = false;
+          lines = 0;
         } }
     {
         Talk {
@@ -117,10 +134,13 @@ impl Talk {
 
     // Writes what was said, and keeps its room.
     fn hand_on<W: Outlet>(&mut self, writer: &mut W) -> Result<(), RunFault>
-        ensures own { IfErr result IsOwnFault }
+        ensures write { OnErr result (result ≡ Err RunFault.Write) }
         ensures puts { OnOk result
             (Puts (W.contents writer.old) self.old.out (W.contents writer.new) [] []) }
+        ensures cut { OnErr result
+            (IsCut (W.contents writer.old) (W.contents writer.new) self.old.out) }
         ensures same { OnOk result (self.new ≡ record self.old { out = [] }) }
+        ensures failed { W.failed writer.old ≡ false → W.failed writer.new ≡ is_err result }
     {
         let Ok(()) = write_all(writer, self.out.as_slice()) else {
             return Err(RunFault::Write);
@@ -131,12 +151,13 @@ impl Talk {
 
     // Has the session answer the line that came in parts.
     fn answer_part<H: Hints>(&mut self, hints: &H) -> Result<(), RunFault>
-        ensures own { IfErr result IsOwnFault }
-        ensures takes { OnOk result ((qs : List Piece)
+        ensures memory { OnErr result (result ≡ Err RunFault.Memory) }
+        ensures replies { OnOk result ((qs : List Piece)
             × (self.new.out ≡ self.old.out ++ flat_map written qs)
-            × Takes self.old.part qs self.old.session self.new.session) }
+            × IsReplied (H.may_say hints.now) self.old.part qs self.old.session self.new.session) }
         ensures part { OnOk result (self.new.part ≡ []) }
-        ensures same { OnOk result (self.new.is_skipping ≡ self.old.is_skipping) }
+        ensures same { OnOk result ((self.new.is_skipping ≡ self.old.is_skipping)
+            × (self.new.lines ≡ self.old.lines)) }
     {
         let line = self.part.as_slice();
         answer_line(self.alloc, &mut self.session, hints, line, &mut self.out)?;
@@ -146,32 +167,50 @@ impl Talk {
 
     // Has the session answer a line.
     fn answer<H: Hints>(&mut self, hints: &H, line: &[u8]) -> Result<(), RunFault>
-        ensures own { IfErr result IsOwnFault }
-        ensures takes { OnOk result ((qs : List Piece)
+        ensures memory { OnErr result (result ≡ Err RunFault.Memory) }
+        ensures replies { OnOk result ((qs : List Piece)
             × (self.new.out ≡ self.old.out ++ flat_map written qs)
-            × Takes line.now qs self.old.session self.new.session) }
+            × IsReplied (H.may_say hints.now) line.now qs self.old.session self.new.session) }
         ensures same { OnOk result ((self.new.part ≡ self.old.part)
-            × (self.new.is_skipping ≡ self.old.is_skipping)) }
+            × (self.new.is_skipping ≡ self.old.is_skipping)
+            × (self.new.lines ≡ self.old.lines)) }
     {
         answer_line(self.alloc, &mut self.session, hints, line, &mut self.out)
+    }
+
+    // Refuses the line, which these bytes make too long, and keeps nothing of it.
+    fn refuse_long<H: Hints>(&mut self, hints: &H, bytes: &[u8]) -> Result<(), RunFault>
+        ensures memory { OnErr result (result ≡ Err RunFault.Memory) }
+        ensures says { OnOk result ((hint : List ℕ) × H.may_say hints.now
+            (self.old.part ++ take (513 - length self.old.part) bytes.now) Cause.TooLong hint
+            × (self.new.out ≡ self.old.out ++ flat_map written (refusal hint Cause.TooLong))) }
+        ensures same { OnOk result (self.new
+            ≡ record self.old { part = []; out = self.new.out; is_skipping = true }) }
+    {
+        let room = LONG.saturating_sub(self.part.len()).min(bytes.len());
+        let Ok(()) = self.part.extend_from_slice(&bytes[..room]) else {
+            return Err(RunFault::Memory);
+        };
+        let seen = self.part.as_slice();
+        refuse(self.alloc, hints, seen, Cause::TooLong, &mut self.out)?;
+        self.part.clear();
+        self.is_skipping = true;
+        Ok(())
     }
 
     // Adds to the line that isn't whole. One that has too many bytes is answered at once, and not kept.
     fn add<H: Hints>(&mut self, hints: &H, bytes: &[u8]) -> Result<(), RunFault>
         requires { lines bytes.now ≡ bytes.now ∷ [] }
-        ensures own { IfErr result IsOwnFault }
+        ensures memory { OnErr result (result ≡ Err RunFault.Memory) }
         ensures hears { OnOk result ((qs : List Piece)
             × (self.new.out ≡ self.old.out ++ flat_map written qs)
-            × ((after : List ℕ) → GoesOn (bytes.now ++ after) after qs self.old self.new)) }
+            × GoesOn (H.may_say hints.now) bytes.now qs self.old self.new) }
     {
         if self.is_skipping {
             return Ok(());
         }
         if self.part.len().saturating_add(bytes.len()) > MAX_LINE {
-            refuse(self.alloc, hints, b"", Cause::TooLong, &mut self.out)?;
-            self.part.clear();
-            self.is_skipping = true;
-            return Ok(());
+            return self.refuse_long(hints, bytes);
         }
         let Ok(()) = self.part.extend_from_slice(bytes) else {
             return Err(RunFault::Memory);
@@ -182,10 +221,10 @@ impl Talk {
     // The rest of a line came, of which there is a part.
     fn end_part<H: Hints>(&mut self, hints: &H, rest: &[u8]) -> Result<(), RunFault>
         requires { lines rest.now ≡ rest.now ∷ [] }
-        ensures own { IfErr result IsOwnFault }
+        ensures memory { OnErr result (result ≡ Err RunFault.Memory) }
         ensures hears { OnOk result ((qs : List Piece)
             × (self.new.out ≡ self.old.out ++ flat_map written qs)
-            × ((after : List ℕ) → GoesOn (rest.now ++ 10 ∷ after) after qs self.old self.new)) }
+            × GoesOn (H.may_say hints.now) (rest.now ++ 10 ∷ []) qs self.old (counted self.new)) }
     {
         self.add(hints, rest)?;
         if self.is_skipping {
@@ -195,19 +234,31 @@ impl Talk {
         self.answer_part(hints)
     }
 
-    // The rest of a line came.
-    fn end_line<H: Hints>(&mut self, hints: &H, rest: &[u8]) -> Result<(), RunFault>
+    // The rest of a line came, which isn't counted yet.
+    fn end_uncounted<H: Hints>(&mut self, hints: &H, rest: &[u8]) -> Result<(), RunFault>
         requires { lines rest.now ≡ rest.now ∷ [] }
-        ensures own { IfErr result IsOwnFault }
+        ensures memory { OnErr result (result ≡ Err RunFault.Memory) }
         ensures hears { OnOk result ((qs : List Piece)
             × (self.new.out ≡ self.old.out ++ flat_map written qs)
-            × ((after : List ℕ) → GoesOn (rest.now ++ 10 ∷ after) after qs self.old self.new)) }
+            × GoesOn (H.may_say hints.now) (rest.now ++ 10 ∷ []) qs self.old (counted self.new)) }
     {
-        self.lines = self.lines.saturating_add(1);
         if self.part.is_empty() && !self.is_skipping {
             return self.answer(hints, rest);
         }
         self.end_part(hints, rest)
+    }
+
+    // The rest of a line came.
+    fn end_line<H: Hints>(&mut self, hints: &H, rest: &[u8]) -> Result<(), RunFault>
+        requires { lines rest.now ≡ rest.now ∷ [] }
+        ensures memory { OnErr result (result ≡ Err RunFault.Memory) }
+        ensures hears { OnOk result ((qs : List Piece)
+            × (self.new.out ≡ self.old.out ++ flat_map written qs)
+            × GoesOn (H.may_say hints.now) (rest.now ++ 10 ∷ []) qs self.old self.new) }
+    {
+        self.end_uncounted(hints, rest)?;
+        self.lines = self.lines.saturating_add(1);
+        Ok(())
     }
 
     // Takes bytes that were read: each line that they end is answered.
@@ -217,11 +268,13 @@ impl Talk {
         hints: &H,
         bytes: &[u8],
     ) -> Result<(), RunFault>
-        ensures own { IfErr result IsOwnFault }
         ensures hears { OnOk result ((qs : List Piece)
             × Puts (W.contents writer.old) self.old.out (W.contents writer.new) self.new.out
             (flat_map written qs)
-            × ((after : List ℕ) → GoesOn (bytes.now ++ after) after qs self.old self.new)) }
+            × GoesOn (H.may_say hints.now) bytes.now qs self.old self.new) }
+        ensures stops { IfErr result (IsHalfHeard (H.may_say hints.now) bytes.now self.old
+            (W.contents writer.old) (W.contents writer.new)) }
+        ensures failed { W.failed writer.old ≡ false → W.failed writer.new ≡ writer_failed false result }
     {
         let mut rest = bytes;
         while let Some((line, after)) = first_line(rest) {
@@ -236,9 +289,7 @@ impl Talk {
 
     // How it ends where no more comes: each experiment has its end, and the last line is whole.
     fn end(&self) -> Result<(), RunFault>
-        ensures own { IfErr result IsOwnFault }
-        ensures whole { result ≡ Ok tt → (self.now.part ≡ [])
-            × All (λ o. o.is_closed ≡ true) self.now.session.opened }
+        ensures { IsEnding self.now result }
     {
         let line = self.lines.saturating_add(1);
         if !self.part.is_empty() || self.is_skipping {
@@ -254,11 +305,13 @@ impl Talk {
 }
 
 /// A session: reads lines of a scenario as they come, with requests among them, and answers each before more is read.
-/// A line that isn't taken has the lines of `hints` in front of its answer, each behind `# `.
+/// A line that isn't taken has the lines of `hints` in front of its answer, each behind `# `. `converses` speaks of the text
+/// that the calls of `reader` gave, whether or not a contract can name the bytes that it has: `Ok` and `Scenario` come at its
+/// end, and what was written is its whole conversation. `Scenario` is the fault of the line behind the last line feed: it is
+/// cut, or an experiment has no end. `Read` comes where the reader failed, and the conversation of what it gave was written;
+/// `Write` where the writer did, and `Memory` where memory was refused: then some first bytes of it were.
 /// Where the text spells a scenario, to which requests are comments, no answer is a fault, and neither `use` nor `show mine`
-/// was asked, what is written is what `run_alone` writes for it, with lines that begin with `#` in between. A `Scenario` fault comes at the end of what is read alone: the last line is cut, or an experiment has no end. `Read`
-/// comes where the reader failed, `Write` where the writer did, `Memory` where memory was refused; what was written is
-/// then the beginning of what would have been.
+/// was asked, what is written is what `run_alone` writes for it, with lines that begin with `#` in between.
 pub fn live<R: Inlet, W: Outlet, H: Hints>(
     alloc: Global,
     reader: &mut R,
@@ -266,6 +319,11 @@ pub fn live<R: Inlet, W: Outlet, H: Hints>(
     hints: &H,
 ) -> Result<(), RunFault>
     ensures own { IfErr result IsOwnFault }
+    ensures converses { (text : List ℕ) × R.gives reader.old text reader.new
+        × Consumes (R.remaining reader.old) (R.remaining reader.new) text
+        × Converses (H.may_say hints.now) text (W.contents writer.old) (W.contents writer.new) result
+        × Leaves text (R.remaining reader.new) (R.failed reader.new) result }
+    ensures failed { W.failed writer.old ≡ false → W.failed writer.new ≡ writer_failed false result }
     ensures tells { (text : List ℕ) → R.remaining reader.old ≡ Some text → result ≡ Ok tt →
         (ps : List Piece) × Appends (W.contents writer.old) (W.contents writer.new)
         (flat_map written ps)
@@ -274,7 +332,7 @@ pub fn live<R: Inlet, W: Outlet, H: Hints>(
 {
     let mut talk = Talk::new(alloc);
     let mut chunk = [0u8; CHUNK];
-    for _ in 0..u64::MAX {
+    for reads in 0..u64::MAX {
         let Ok(count) = read_some(reader, &mut chunk) else {
             return Err(RunFault::Read);
         };

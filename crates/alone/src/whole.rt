@@ -1,5 +1,5 @@
-//! The pure core: a scenario's bytes go in, the bytes of its reports come out, or how many experiments and commands it
-//! has. What reads and writes is built round it.
+//! The pure core without limits: a text goes in, the bytes of its reports come out, or how many experiments and commands it
+//! has.
 
 ghost use Rattle.std.specs.Prelude.{◌≡◌, ◌≤◌, length, map, sum, flat_map, List, IfOk, IfErr};
 ghost use Rattle.control.specs.declared.scenario.Experiment.{Experiment as Script};
@@ -8,7 +8,7 @@ ghost use Rattle.alone.specs.Reports.{reports, tally_of, tally_line, IsTextFault
 
 use crate::alone::run_all;
 use crate::fault::RunFault;
-use crate::progress::{Progress, Silent};
+use crate::progress::Silent;
 use control::{Experiment, ParseError, Scenario, parse_scenario};
 use experiment::Report;
 use itoa::Buffer as Digits;
@@ -38,8 +38,8 @@ impl Reports {
     }
 }
 
-// The scenario that a text spells.
-fn scenario_of(alloc: Global, text: &[u8]) -> Result<Scenario, RunFault>
+/// Returns the scenario that a text spells. `Scenario` if it spells none, with its first fault; `Memory` if memory ran out.
+pub fn scenario_of(alloc: Global, text: &[u8]) -> Result<Scenario, RunFault>
     ensures spells { IfOk result (λ es. Spells text.now es) }
     ensures few { IfOk result (λ es. sum (map (λ e. length e.commands) es) ≤ 16777216) }
     ensures fault { IfErr result (IsTextFault text.now) }
@@ -58,21 +58,8 @@ pub fn reports_of(alloc: Global, text: &[u8]) -> Result<Reports, RunFault>
         (λ r. (es : List Script) × Spells text.now es × (r ≡ reports es)) }
     ensures fault { IfErr result (IsTextFault text.now) }
 {
-    reports_told(alloc, text, &Silent)
-}
-
-/// `reports_of`, with somebody who is told how far it is.
-pub fn reports_told<P: Progress>(
-    alloc: Global,
-    text: &[u8],
-    progress: &P,
-) -> Result<Reports, RunFault>
-    ensures ok { IfOk result
-        (λ r. (es : List Script) × Spells text.now es × (r ≡ reports es)) }
-    ensures fault { IfErr result (IsTextFault text.now) }
-{
     let scenario = scenario_of(alloc, text)?;
-    let Ok(reports) = run_all(alloc, scenario.experiments(), progress) else {
+    let Ok(reports) = run_all(alloc, scenario.experiments(), &Silent) else {
         return Err(RunFault::Memory);
     };
     Ok(Reports { reports })

@@ -1,10 +1,10 @@
-//! `run_alone` within limits: all is read before any step, all steps are made before anything is written, and what goes
-//! past a limit stops it before either.
+//! `run_alone` within limits: all is read before any step, all steps are made before anything is written, and a scenario
+//! that exceeds a limit stops before either.
 
-ghost use Rattle.std.specs.Prelude.{◌≡◌, ◌≢◌, ◌≤◌, flat_map, length, map, sum, IfOk, IfErr, OnOk};
+ghost use Rattle.std.specs.Prelude.{◌≡◌, ◌≢◌, ℕ, List, flat_map, Some, false, IfOk, IfErr, OnOk};
 ghost use Rattle.alone.specs.declared.limits.Stop.TheVariants as stops;
-ghost use Rattle.alone.specs.Bytes.{IsRead, TakesFew};
-ghost use Rattle.alone.specs.Reports.{Ends, Reads, ReadsFault, reader_failed, writer_failed};
+ghost use Rattle.alone.specs.Bytes.{IsRead};
+ghost use Rattle.alone.specs.Reports.{Ends, reader_failed, writer_failed};
 ghost use Rattle.alone.specs.Within.{CallsWithin, IsMade, IsOwnStop, MakesWithin, StopsUnwritten, WritesOut, done_of, leaves};
 
 use crate::alone::run_all;
@@ -14,7 +14,8 @@ use crate::input::read_text;
 use crate::limits::{Limits, Stop};
 use crate::output::Buffer;
 use crate::progress::Progress;
-use control::{ParseError, Scenario, parse_scenario};
+use crate::whole::scenario_of;
+use control::Scenario;
 use experiment::Report;
 use std::alloc::Global;
 
@@ -25,55 +26,23 @@ pub struct Made {
     pub reports: Vec<Report>,
 }
 
-/// Reads a scenario, and keeps its text in `text`, unless reading failed or memory was refused. `Scenario` where it spells
-/// none, with its first fault; `Read` where the reader failed, `Memory` where memory was refused.
-#[tactic(auto, using(crate::proofs::ReadFacts::read_spells, crate::proofs::ReadFacts::read_faults))]
-pub fn read_scenario<R: Inlet>(
+/// Runs each experiment of a text by itself and returns its report. Stops before the first step if the steps exceed their
+/// limit, and by `Output` if the reports do. A text that spells no scenario is the fault `Scenario`, with its first fault.
+#[tactic(auto, using(crate::proofs::Stopping::text_stop, crate::proofs::Stopping::text_own, crate::proofs::Stopping::text_unread, crate::proofs::Stopping::steps_stop, crate::proofs::Stopping::steps_own, crate::proofs::Stopping::steps_unread, crate::proofs::Stopping::output_stop, crate::proofs::Stopping::output_own, crate::proofs::Stopping::output_unread, crate::proofs::Stopping::made_within))]
+pub fn made_of<P: Progress>(
     alloc: Global,
-    reader: &mut R,
-    text: &mut Vec<u8>,
-) -> Result<Scenario, RunFault>
-    ensures read { IfOk result (λ es. Reads (R.remaining reader.old) es) }
-    ensures few { IfOk result (λ es. sum (map (λ e. length e.commands) es) ≤ 16777216) }
-    ensures text { OnOk result (IsRead (R.remaining reader.old) (R.remaining reader.new)
-        text.new.items) }
-    ensures kept { IfErr result (λ e. e ≢ RunFault.Read → e ≢ RunFault.Memory →
-        IsRead (R.remaining reader.old) (R.remaining reader.new) text.new.items) }
-    ensures taken { TakesFew (R.remaining reader.old) (R.remaining reader.new) }
-    ensures fault { IfErr result (λ e. ReadsFault (R.remaining reader.old) e) }
-    ensures failed { R.failed reader.new ≡ reader_failed result }
-{
-    *text = read_text(alloc, reader)?;
-    match parse_scenario(alloc, text.as_slice()) {
-        Ok(scenario) => Ok(scenario),
-        Err(ParseError::Fault(fault)) => Err(RunFault::Scenario(fault)),
-        Err(ParseError::NoMemory) => Err(RunFault::Memory),
-    }
-}
-
-// The reports of the scenario that is read, each experiment run by itself.
-#[tactic(auto, using(crate::proofs::Stopping::read_stop, crate::proofs::Stopping::read_own, crate::proofs::Stopping::steps_stop, crate::proofs::Stopping::steps_own, crate::proofs::Stopping::output_stop, crate::proofs::Stopping::output_own, crate::proofs::Stopping::made_within))]
-fn reports_read<R: Inlet, P: Progress>(
-    alloc: Global,
-    reader: &mut R,
-    text: &mut Vec<u8>,
+    text: &[u8],
     limits: &Limits,
     progress: &P,
 ) -> Result<Made, Stop>
-    ensures within { IfOk result (λ m. MakesWithin limits.now (R.remaining reader.old)
+    ensures within { IfOk result (λ m. MakesWithin limits.now (Some text.now)
         (flat_map (λ r. r) m.reports.items)) }
-    ensures made { IfOk result (IsMade (R.remaining reader.old)) }
-    ensures text { OnOk result (IsRead (R.remaining reader.old) (R.remaining reader.new)
-        text.new.items) }
-    ensures kept { IfErr result (λ s. s ≢ stops.Fault RunFault.Read →
-        s ≢ stops.Fault RunFault.Memory →
-        IsRead (R.remaining reader.old) (R.remaining reader.new) text.new.items) }
-    ensures taken { TakesFew (R.remaining reader.old) (R.remaining reader.new) }
-    ensures stop { IfErr result (StopsUnwritten limits.now (R.remaining reader.old)) }
+    ensures made { IfOk result (IsMade (Some text.now)) }
+    ensures stop { IfErr result (StopsUnwritten limits.now (Some text.now)) }
     ensures own { IfErr result IsOwnStop }
-    ensures failed { R.failed reader.new ≡ reader_failed (leaves result) }
+    ensures unread { reader_failed (leaves result) ≡ false }
 {
-    let scenario = match read_scenario(alloc, reader, text) {
+    let scenario = match scenario_of(alloc, text) {
         Ok(scenario) => scenario,
         Err(fault) => return Err(Stop::Fault(fault)),
     };
@@ -111,10 +80,11 @@ pub fn write_reports<W: Outlet>(
     Ok(())
 }
 
-/// `run_alone_told` within limits. `Steps` comes before the first step and `Output` before the first byte, just where what
-/// was read goes past that limit. Its faults are those of `run_alone`. The text that was read stands in `text` then, unless
-/// reading failed or memory was refused; what it made and wrote is the answer.
-#[tactic(auto, using(crate::proofs::Stopping::stop_calls, crate::proofs::Stopping::out_calls, crate::proofs::Endings::out_own))]
+/// `run_alone_told` within limits. `Steps` comes before the first step and `Output` before the first byte, exactly if the
+/// scenario exceeds that limit. Its faults are those of `run_alone`. `text` becomes the text that was read, unless the reader
+/// failed or memory ran out. `on_text` and `made` speak of this text, and `given` of the bytes that the calls of the reader
+/// gave, for every reader, whether or not a contract can name the bytes that it has. Returns what it made and wrote.
+#[tactic(auto, using(crate::proofs::Stopping::read_calls, crate::proofs::Stopping::stop_calls, crate::proofs::Stopping::out_calls, crate::proofs::Stopping::stop_calls_read, crate::proofs::Stopping::out_calls_read, crate::proofs::Stopping::input_own, crate::proofs::Endings::out_own))]
 pub fn run_alone_within<R: Inlet, W: Outlet, P: Progress>(
     alloc: Global,
     reader: &mut R,
@@ -125,17 +95,26 @@ pub fn run_alone_within<R: Inlet, W: Outlet, P: Progress>(
 ) -> Result<Made, Stop>
     ensures calls { CallsWithin limits.now (R.remaining reader.old) (W.contents writer.old)
         (W.contents writer.new) (done_of result) }
+    ensures on_text { CallsWithin limits.now (Some text.new.items) (W.contents writer.old)
+        (W.contents writer.new) (done_of result) }
+    ensures given { (bytes : List ℕ) × R.gives reader.old bytes reader.new
+        × CallsWithin limits.now (Some bytes) (W.contents writer.old) (W.contents writer.new)
+        (done_of result) }
     ensures ends { Ends (leaves (done_of result)) (R.remaining reader.old) (R.remaining reader.new)
         (R.failed reader.new) (W.failed writer.old) (W.failed writer.new) writer.old writer.new }
     ensures own { IfErr result IsOwnStop }
-    ensures made { IfOk result (IsMade (R.remaining reader.old)) }
+    ensures made { IfOk result (IsMade (Some text.new.items)) }
     ensures text { OnOk result (IsRead (R.remaining reader.old) (R.remaining reader.new)
         text.new.items) }
     ensures kept { IfErr result (λ s. s ≢ stops.Fault RunFault.Read →
         s ≢ stops.Fault RunFault.Memory →
         IsRead (R.remaining reader.old) (R.remaining reader.new) text.new.items) }
 {
-    let made = reports_read(alloc, reader, text, limits, progress)?;
+    *text = match read_text(alloc, reader) {
+        Ok(text) => text,
+        Err(fault) => return Err(Stop::Fault(fault)),
+    };
+    let made = made_of(alloc, text.as_slice(), limits, progress)?;
     write_reports(alloc, writer, made.reports.as_slice())?;
     Ok(made)
 }

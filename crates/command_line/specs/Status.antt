@@ -1,9 +1,22 @@
 -- The exit statuses.
-use Rattle.std.specs.Prelude.{◌≡◌, ◌⊎◌, ℕ, Result, Ok, Err}
+use Rattle.std.specs.Prelude.{◌≡◌, ◌⊎◌, ◌==◌, ◌&&◌, ℕ, Bool, true, false, not, if◌then◌else◌, List, [], Option, Some, length, count_by, Result, Ok, Err, IfOk, IfErr, IfSome, None}
+use Rattle.clap.specs.Words.{IsAmong, Text, fault_of}
+use Rattle.clap.specs.declared.error.kind.ErrorKind.{ErrorKind}
+use Rattle.clap.specs.declared.error.kind.ErrorKind.TheVariants as kinds
+use Rattle.explain.specs.Account.{Told}
+use Rattle.explain.specs.declared.notes.Subject.{Subject}
+use Rattle.explain.specs.declared.notes.Subject.TheVariants.{Spent}
+use Rattle.command_line.specs.declared.words.Task.{Task}
+use Rattle.command_line.specs.Tasks.{Does, explains, is_strict}
+use Rattle.command_line.specs.Words.{dnlab, plan_of}
 use Rattle.alone.specs.declared.fault.RunFault.{RunFault}
 use Rattle.alone.specs.declared.fault.RunFault.TheVariants as faults
 use Rattle.alone.specs.declared.limits.Stop.{Stop}
+use Rattle.alone.specs.declared.within.Made.{Made}
+use Rattle.alone.specs.Within.{IsMade, done_of}
+use Rattle.explain_text.specs.Accounts.{IsAccountOf}
 use Rattle.alone.specs.declared.limits.Stop.TheVariants as stops
+use Rattle.alone.specs.FaultLines.{fault_line}
 
 -- a fault of the scenario, a device or memory that failed, and workers that did
 abbrev pub status_of_fault : RunFault → ℕ
@@ -21,10 +34,81 @@ status_after (Err (stops.Fault e)) = status_of_fault e
 status_after (Err (stops.Steps number total)) = 3
 status_after (Err (stops.Output bytes)) = 3
 
--- help or the version was asked for; the words are wrong; they or what is said of them can't be had
-abbrev pub IsStatusOfWords : ℕ → Type 0
-IsStatusOfWords n = (n ≡ 0) ⊎ (n ≡ 2) ⊎ (n ≡ 3)
+-- the fault for which a call gave no answer, and its line
+abbrev pub fault_after : Result (Unit {0}) Stop → Option RunFault
+fault_after (Ok _) = None
+fault_after (Err (stops.Fault e)) = Some e
+fault_after (Err (stops.Steps number total)) = None
+fault_after (Err (stops.Output bytes)) = None
+
+abbrev pub line_of : Option RunFault → List ℕ
+line_of None = []
+line_of (Some e) = fault_line e
+
+-- help or the version was asked for; memory was refused; the words are wrong
+abbrev pub status_of_kind : ErrorKind → ℕ
+status_of_kind kinds.DisplayHelp = 0
+status_of_kind kinds.DisplayVersion = 0
+status_of_kind kinds.OutOfMemory = 3
+status_of_kind _ = 2
+
+-- the same; or what is to be said can't be printed
+abbrev pub IsStatusOf : ErrorKind → ℕ → Type 0
+IsStatusOf kind n = (n ≡ status_of_kind kind) ⊎ (n ≡ 3)
+
+-- the status of words that are no command: that of a fault that they have; or of refused memory and a failed write
+abbrev pub EndsWords : List Text → ℕ → Type 0
+EndsWords words n = ((kind : ErrorKind) × IsAmong kind (fault_of dnlab words) × (n ≡ status_of_kind kind)) ⊎ (n ≡ 3)
 
 -- the status after a call; or that of refused memory, for what is to be said of it
 abbrev pub IsStatusAfter : Result (Unit {0}) Stop → ℕ → Type 0
 IsStatusAfter r n = (n ≡ status_after r) ⊎ (n ≡ 3)
+
+-- an experiment spent its steps
+abbrev pub is_spent : Subject → Bool
+is_spent Spent = true
+is_spent _ = false
+
+-- no command was refused, and no experiment spent its steps
+abbrev pub is_clean : Told → Bool
+is_clean told = (length told.refusals == 0) && (count_by (λ n. is_spent n.subject) told.notes == 0)
+
+-- the status after a run that went well, of which this was told
+abbrev pub status_told : Task → Told → ℕ
+status_told task told = if is_strict task && not (is_clean told) then 5 else 0
+
+-- a strict run that went well ends by what its reports hold; or memory for that was refused
+abbrev pub EndsStrictly : Made → ℕ → Type 0
+EndsStrictly made n = ((told : Told) × IsAccountOf made.reports.items told × (n ≡ (if is_clean told then 0 else 5))) ⊎ (n ≡ 3)
+
+-- a strict call that went well: a run; or a check, of which no clause says which commands will be refused
+abbrev pub EndsWell : Option Made → ℕ → Type 0
+EndsWell (Some made) n = EndsStrictly made n
+EndsWell None n = (n ≡ 0) ⊎ ((n ≡ 5) ⊎ (n ≡ 3))
+
+-- what a call made, if it made reports, is of the text that was left to read
+abbrev pub IsMadeOf : Option (List ℕ) → Option Made → Type 0
+IsMadeOf read made = IfSome made (IsMade read)
+
+-- the status after a call; what is to be explained may want memory, and a strict call may fail besides
+pub record EndsCall (task : Task) (outcome : Result (Option Made) Stop) (n : ℕ) : Type 0 where
+  pub plain : explains task ≡ false → is_strict task ≡ false → n ≡ status_after (done_of outcome)
+  pub lax : is_strict task ≡ false → IsStatusAfter (done_of outcome) n
+  pub stopped : IfErr outcome (λ stop. IsStatusAfter (Err stop) n)
+  pub strict : is_strict task ≡ true → IfOk outcome (λ made. EndsWell made n)
+
+-- a task was planned and done, and ended so
+pub record Runs (words : List Text) (given says : List ℕ → Type 0) (read old new : Option (List ℕ)) (n : ℕ) : Type 0 where
+  pub task : Task
+  pub outcome : Result (Option Made) Stop
+  pub planned : plan_of words ≡ Some task
+  pub taken : fault_of dnlab words ≡ []
+  pub done : Does task given read old new (done_of outcome)
+  pub made : IfOk outcome (IsMadeOf read)
+  pub ended : EndsCall task outcome n
+  pub said : says (line_of (fault_after (done_of outcome)))
+
+-- what the program answers to its words: these bytes were given by its reader's calls, this line was said of a fault,
+-- `read` was left to read, `old` was written before it and `new` is after it
+abbrev pub Answers : List Text → (List ℕ → Type 0) → (List ℕ → Type 0) → Option (List ℕ) → Option (List ℕ) → Option (List ℕ) → ℕ → Type 0
+Answers words given says read old new n = Runs words given says read old new n ⊎ (EndsWords words n × (new ≡ old) × says [])

@@ -1,6 +1,18 @@
 -- What the words of the command line ask for.
-use Rattle.std.specs.Prelude.{Bool, false, None}
+use Rattle.std.specs.Prelude.{◌≡◌, ℕ, Bool, false, List, [], ◌++◌, Option, Some, None, Result, Ok, IfErr, flat_map}
+use Rattle.std.specs.List.{AllByRecursion}
+use Rattle.std.specs.Io.KnownBytes.{Appends}
+use Rattle.control.specs.Scenario.{Spells}
+use Rattle.control.specs.declared.scenario.Experiment.{Experiment as Script}
+use Rattle.control_words.specs.Text.{lines}
+use Rattle.live.specs.Sessions.{Piece, IsPlain, told, written}
+use Rattle.alone.specs.declared.fault.RunFault.{RunFault}
 use Rattle.alone.specs.declared.limits.Limits.{Limits}
+use Rattle.alone.specs.declared.limits.Stop.{Stop}
+use Rattle.alone.specs.Reports.{Calls, IsOwnFault, reports, tally}
+use Rattle.alone.specs.Conversations.{Converses, IsEnded}
+use Rattle.alone.specs.Talks.{AsksForAll}
+use Rattle.alone.specs.Within.{CallsWithin, leaves}
 use Rattle.command_line.specs.declared.words.Task.{Task}
 use Rattle.command_line.specs.declared.words.Task.TheVariants.{Run, Alone, Check, Live}
 
@@ -8,32 +20,46 @@ use Rattle.command_line.specs.declared.words.Task.TheVariants.{Run, Alone, Check
 abbrev pub explains : Task → Bool
 explains (Run workers moves limits progress explain strict) = explain
 explains (Alone limits progress explain strict) = explain
-explains (Check explain) = explain
+explains (Check explain strict) = explain
 explains (Live explain) = false
 
--- a refused command or spent steps are a failure
+-- a refused command is a failure, and spent steps are one
 abbrev pub is_strict : Task → Bool
 is_strict (Run workers moves limits progress explain strict) = strict
 is_strict (Alone limits progress explain strict) = strict
-is_strict (Check explain) = false
+is_strict (Check explain strict) = strict
 is_strict (Live explain) = false
 
 abbrev pub limits_of : Task → Limits
 limits_of (Run workers moves limits progress explain strict) = limits
 limits_of (Alone limits progress explain strict) = limits
-limits_of (Check explain) = record { steps = None; output = None }
+limits_of (Check explain strict) = record { steps = None; output = None }
 limits_of (Live explain) = record { steps = None; output = None }
 
--- to read a scenario and write its reports
-abbrev pub MakesReports : Task → Type 0
-MakesReports (Run workers moves limits progress explain strict) = Unit {0}
-MakesReports (Alone limits progress explain strict) = Unit {0}
-MakesReports (Check explain) = ⊥
-MakesReports (Live explain) = ⊥
+-- the text was read from the beginning of what was left; all of it, where no more came
+abbrev pub IsReadOf : Option (List ℕ) → List ℕ → Result (Unit {0}) RunFault → Type 0
+IsReadOf None text r = Unit {0}
+IsReadOf (Some all) text r = (rest : List ℕ) × (all ≡ text ++ rest) × (IsEnded r → rest ≡ [])
 
--- to say whether a text is a scenario
-abbrev pub Checks : Task → Type 0
-Checks (Check explain) = Unit {0}
-Checks (Run workers moves limits progress explain strict) = ⊥
-Checks (Alone limits progress explain strict) = ⊥
-Checks (Live explain) = ⊥
+-- a session that read this text, and hints only if it is to explain
+pub record Talks (explain : Bool) (given : List ℕ → Type 0) (read old new : Option (List ℕ)) (r : Result (Unit {0}) RunFault) : Type 0 where
+  pub own : IfErr r IsOwnFault
+  pub text : List ℕ
+  pub given_is : given text
+  pub read_is : IsReadOf read text r
+  pub converses : Converses (λ line cause hint. explain ≡ false → hint ≡ []) text old new r
+  -- where the text spells a scenario, asks for nothing else, and no answer is a fault, what is told is the reports
+  pub tells : (all : List ℕ) → read ≡ Some all → r ≡ Ok tt → (ps : List Piece) × Appends old new (flat_map written ps)
+      × ((es : List Script) → Spells all es → AsksForAll (lines all) → AllByRecursion IsPlain ps → flat_map told ps ≡ reports es)
+
+-- of the text that the reader gave
+abbrev pub OfGiven : (List ℕ → Type 0) → (Option (List ℕ) → Type 0) → Type 0
+OfGiven given P = (text : List ℕ) × given text × P (Some text)
+
+-- what a task does: these bytes were given by the reader's calls, `read` was left to read, `old` was written before it and
+-- `new` is after it
+abbrev pub Does : Task → (List ℕ → Type 0) → Option (List ℕ) → Option (List ℕ) → Option (List ℕ) → Result (Unit {0}) Stop → Type 0
+Does (Run workers moves limits progress explain strict) given read old new r = CallsWithin limits read old new r
+Does (Alone limits progress explain strict) given read old new r = CallsWithin limits read old new r × OfGiven given (λ text. CallsWithin limits text old new r)
+Does (Check explain strict) given read old new r = Calls tally read old new (leaves r) × OfGiven given (λ text. Calls tally text old new (leaves r))
+Does (Live explain) given read old new r = Talks explain given read old new (leaves r)

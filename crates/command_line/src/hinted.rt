@@ -1,5 +1,7 @@
 //! What `--explain` says of a line of a session that isn't taken.
 
+ghost use Rattle.std.specs.Prelude.{◌≡◌, [], false};
+
 use alone::Hints;
 use control::{Cause, Fault};
 use explain_text::faults_text;
@@ -29,6 +31,8 @@ fn hint_for_request(line: &[u8], cause: Cause) -> Option<&'static [u8]> {
 }
 
 impl Hints for LineHints {
+    ghost may_say = { λ hints _ _ hint. hints.wanted ≡ false → hint ≡ [] };
+
     fn hint(&self, alloc: Global, line: &[u8], cause: Cause) -> Result<Vec<u8>, AllocError> {
         if !self.wanted {
             return Ok(Vec::new(alloc));

@@ -7,18 +7,25 @@ mod meter;
 mod tell;
 mod words;
 
-ghost use Rattle.std.specs.Prelude.{◌≡◌, ◌⊎◌, Some, Ok, Err, false, true, IsOk, IfOk, IfErr, OnOk, MatchResult};
+ghost use Rattle.std.specs.Prelude.{◌≡◌, ◌⊎◌, [], ℕ, List, Option, Some, Ok, Err, Bool, false, true, IsOk, IfOk, IfErr, OnOk, MatchResult};
+ghost use Rattle.std.specs.Prelude.{if◌then◌else◌, ◌==◌, count_by, length, map};
 ghost use Rattle.std.specs.Process.{exit_status};
-ghost use Rattle.alone.specs.Reports.{Calls, tally};
-ghost use Rattle.alone.specs.Within.{CallsWithin, done_of, leaves};
-ghost use Rattle.command_line.specs.Status.{status_after, status_of_fault, IsStatusAfter, IsStatusOfWords};
-ghost use Rattle.command_line.specs.Tasks.{explains, is_strict, limits_of, MakesReports, Checks};
+ghost use Rattle.std.specs.String.{string_bytes};
+ghost use Rattle.clap.specs.Words.{fault_of, kind_of};
+ghost use Rattle.alone.specs.Bytes.{IsRead};
+ghost use Rattle.alone.specs.FaultLines.{IsSaid};
+ghost use Rattle.alone.specs.Within.{IsMade, done_of, leaves};
+ghost use Rattle.command_line.specs.Status.{EndsCall, EndsStrictly, EndsWell, EndsWords, IsStatusAfter, IsStatusOf};
+ghost use Rattle.command_line.specs.Status.{fault_after, is_clean, is_spent, line_of, status_after};
+ghost use Rattle.command_line.specs.Status.{IsMadeOf, status_of_fault, status_of_kind, status_told};
+ghost use Rattle.command_line.specs.Tasks.{Does, explains, is_strict, limits_of};
+ghost use Rattle.command_line.specs.Words.{dnlab, plan_of};
 
-use alone::{Inlet, Made, Outlet, RunFault, Stop, check_kept, live, run_alone_within};
+use alone::{Inlet, Made, Outlet, RunFault, Stop, check_kept, live, run_alone_within, write_fault};
 use clap::Error;
 use clap::error::ErrorKind;
-use explain::{Account, Note, Subject};
-use explain_text::{account_of, explanation, faults_text, scenario_explained};
+use explain::{Account, Note, RefusedCommand, Subject};
+use explain_text::{Run, account_of, explanation, faults_text, refusals_of, scenario_explained};
 use hinted::LineHints;
 pub use meter::Meter;
 use std::alloc::{AllocError, Global};
@@ -45,27 +52,48 @@ fn status_of(outcome: &Result<(), Stop>) -> u8
     }
 }
 
-// Says of what fault a call gave no answer, if of one, and how the program ends.
-fn end(rt: &impl Eprint, outcome: Result<(), Stop>) -> ExitCode
+// How the program ends after a call, if there is no more to say of it.
+fn end(outcome: Result<(), Stop>) -> ExitCode
     ensures { exit_status result ≡ status_after outcome }
 {
-    let status = status_of(&outcome);
-    if let Err(Stop::Fault(fault)) = outcome {
-        // There is nowhere else to say that this can't be printed.
-        let _ = eprintln!(rt; "{fault}");
-    }
-    ExitCode::from(status)
+    ExitCode::from(status_of(&outcome))
 }
 
+// Prints a fault of the program's own words, or of what is to be explained, and how the program ends.
 fn fail(rt: &impl Eprint, fault: RunFault) -> ExitCode
     ensures { exit_status result ≡ status_of_fault fault }
 {
-    end(rt, Err(Stop::Fault(fault)))
+    // There is nowhere else to say that this can't be printed.
+    let _ = eprintln!(rt; "{fault}");
+    end(Err(Stop::Fault(fault)))
+}
+
+// Returns the fault for which a call gave no answer, if there is one.
+fn said_fault<T: Drop>(outcome: &Result<T, Stop>) -> Option<RunFault>
+    ensures { result ≡ fault_after (done_of outcome.now) }
+{
+    match outcome {
+        Ok(_) => None,
+        Err(Stop::Fault(fault)) => Some(*fault),
+        Err(Stop::Steps { .. } | Stop::Output(_)) => None,
+    }
+}
+
+/// Writes the line of the fault for which a call gave no answer, if there is one.
+pub fn say_fault<T: Drop, E: Outlet>(console: &mut E, outcome: &Result<T, Stop>)
+    ensures { IsSaid (line_of (fault_after (done_of outcome.now))) (E.contents console.old)
+        (E.contents console.new) (E.failed console.new) }
+{
+    match said_fault(outcome) {
+        Some(fault) => write_fault(console, &fault),
+        None => {}
+    }
 }
 
 // What a call without limits answers that makes no reports.
 fn unlimited_outcome(outcome: Result<(), RunFault>) -> Result<Option<Made>, Stop>
-    ensures { leaves (done_of result) ≡ outcome }
+    ensures leaves { leaves (done_of result) ≡ outcome }
+    ensures made { (read : Option (List ℕ)) → IfOk result (IsMadeOf read) }
 {
     match outcome {
         Ok(()) => Ok(None),
@@ -74,9 +102,13 @@ fn unlimited_outcome(outcome: Result<(), RunFault>) -> Result<Option<Made>, Stop
 }
 
 /// What a call answers that makes reports.
+#[tactic(auto, using(crate::proofs::MadeFacts::made_read))]
 pub fn with_reports(outcome: Result<Made, Stop>) -> Result<Option<Made>, Stop>
     ensures result { MatchResult outcome (λ made. result ≡ Ok (Some made)) (λ stop. result ≡ Err stop) }
     ensures done { done_of result ≡ done_of outcome }
+    ensures made { (read rest : Option (List ℕ)) (text : List ℕ) →
+        IfOk outcome (IsMade (Some text)) → OnOk outcome (IsRead read rest text) →
+        IfOk result (IsMadeOf read) }
 {
     match outcome {
         Ok(made) => Ok(Some(made)),
@@ -84,17 +116,26 @@ pub fn with_reports(outcome: Result<Made, Stop>) -> Result<Option<Made>, Stop>
     }
 }
 
-// How many experiments spent their steps.
-fn count_spent(notes: &[Note]) -> usize {
-    notes
-        .iter()
-        .filter(|note| note.subject == Subject::Spent)
-        .count()
+fn is_spent(note: &Note) -> bool
+    ensures { result ≡ is_spent note.now.subject }
+{
+    match note.subject {
+        Subject::Spent => true,
+        Subject::OverBudget | Subject::NoPipe | Subject::DeniedPlain => false,
+        Subject::DeniedData(_) | Subject::DeniedAck(_) => false,
+    }
 }
 
-// Says of a strict run that commands were refused or steps were spent, if so, and how the program ends.
+// How many experiments spent their steps.
+fn count_spent(notes: &[Note]) -> usize
+    ensures { result ≡ count_by (λ n. is_spent n.subject) notes.now }
+{
+    notes.iter().filter(|note| is_spent(note)).count()
+}
+
+// Says of a strict call that commands are refused or steps were spent, if so, and how the program ends.
 fn end_strictly(rt: &impl Eprint, account: &Account) -> ExitCode
-    ensures { (exit_status result ≡ 0) ⊎ (exit_status result ≡ 5) }
+    ensures { exit_status result ≡ (if is_clean account.now then 0 else 5) }
 {
     let refused = account.refusals().len();
     let spent = count_spent(account.notes());
@@ -107,8 +148,52 @@ fn end_strictly(rt: &impl Eprint, account: &Account) -> ExitCode
     ExitCode::from(NOT_STRICT)
 }
 
-// Says of a run that went well what is asked for: which commands were refused and what is silently wrong, and whether that
-// is a failure.
+// Says of a strict check that commands will be refused, if so, and how the program ends.
+fn end_checked(rt: &impl Eprint, expected: &[RefusedCommand]) -> ExitCode
+    ensures { exit_status result ≡ (if length expected.now == 0 then 0 else 5) }
+{
+    let refused = expected.len();
+    if refused == 0 {
+        return ExitCode::from(0);
+    }
+    let _ = eprintln!(rt;
+        "dnlab: --strict: commands that will be refused: {refused} (--explain says which)"
+    );
+    ExitCode::from(NOT_STRICT)
+}
+
+// Says of a run that went well what is asked for, by what its reports say: which commands were refused and what is silently
+// wrong, and whether that is a failure.
+fn end_told(
+    rt: &impl Eprint,
+    alloc: Global,
+    text: &[u8],
+    made: &Made,
+    account: &Account,
+    task: &Task,
+) -> Result<ExitCode, AllocError>
+    ensures plain { explains task.now ≡ false → IsOk result }
+    ensures told { IfOk result (λ code. exit_status code ≡ status_told task.now account.now) }
+    ensures strict { is_strict task.now ≡ true →
+        IfOk result (λ code. exit_status code ≡ (if is_clean account.now then 0 else 5)) }
+{
+    if task.explains() {
+        let experiments = made.scenario.experiments();
+        let run = Run {
+            account,
+            reports: made.reports.as_slice(),
+        };
+        let said = scenario_explained(alloc, text, experiments, Some(&run))?;
+        print(rt, said.as_slice());
+    }
+    if task.is_strict() {
+        return Ok(end_strictly(rt, account));
+    }
+    Ok(ExitCode::from(0))
+}
+
+// The same, if anything is asked for.
+#[tactic(auto, using(crate::proofs::MadeFacts::ends_strictly))]
 fn end_run(
     rt: &impl Eprint,
     alloc: Global,
@@ -119,41 +204,56 @@ fn end_run(
     ensures plain { explains task.now ≡ false → is_strict task.now ≡ false →
         IsOk result × IfOk result (λ code. exit_status code ≡ 0) }
     ensures lax { is_strict task.now ≡ false → IfOk result (λ code. exit_status code ≡ 0) }
-    ensures strict { IfOk result (λ code. (exit_status code ≡ 0) ⊎ (exit_status code ≡ 5)) }
+    ensures strict { is_strict task.now ≡ true →
+        IfOk result (λ code. EndsStrictly made.now (exit_status code)) }
 {
     if !task.explains() && !task.is_strict() {
         return Ok(ExitCode::from(0));
     }
     let account = account_of(alloc, made.reports.as_slice())?;
-    if task.explains() {
-        let experiments = made.scenario.experiments();
-        let said = scenario_explained(alloc, text, experiments, Some(&account))?;
-        print(rt, said.as_slice());
-    }
-    if task.is_strict() {
-        return Ok(end_strictly(rt, &account));
-    }
-    Ok(ExitCode::from(0))
+    end_told(rt, alloc, text, made, &account, task)
 }
 
-// The same of a call that ran nothing.
+// Says what is asked for of a text that was checked, and how the program ends.
+fn end_text(
+    rt: &impl Eprint,
+    alloc: Global,
+    text: &[u8],
+    task: &Task,
+) -> Result<ExitCode, AllocError>
+    ensures lax { is_strict task.now ≡ false → IfOk result (λ code. exit_status code ≡ 0) }
+    ensures strict { IfOk result (λ code. (exit_status code ≡ 0) ⊎ (exit_status code ≡ 5)) }
+{
+    if task.explains() {
+        let said = explanation(alloc, text, None)?;
+        print(rt, said.as_slice());
+    }
+    if !task.is_strict() {
+        return Ok(ExitCode::from(0));
+    }
+    let expected = refusals_of(alloc, text)?;
+    Ok(end_checked(rt, expected.as_slice()))
+}
+
+// The same, if anything is asked for.
 fn end_unrun(
     rt: &impl Eprint,
     alloc: Global,
     text: &[u8],
     task: &Task,
 ) -> Result<ExitCode, AllocError>
-    ensures plain { explains task.now ≡ false → IsOk result }
-    ensures done { IfOk result (λ code. exit_status code ≡ 0) }
+    ensures plain { explains task.now ≡ false → is_strict task.now ≡ false → IsOk result }
+    ensures lax { is_strict task.now ≡ false → IfOk result (λ code. exit_status code ≡ 0) }
+    ensures strict { IfOk result (λ code. (exit_status code ≡ 0) ⊎ (exit_status code ≡ 5)) }
 {
-    if task.explains() {
-        let said = explanation(alloc, text, None)?;
-        print(rt, said.as_slice());
+    if !task.explains() && !task.is_strict() {
+        return Ok(ExitCode::from(0));
     }
-    Ok(ExitCode::from(0))
+    end_text(rt, alloc, text, task)
 }
 
-// Says why a call stopped, and where it is asked for what is wrong with the text.
+// Says which limit stopped a call, and where it is asked for what is wrong with the text. The line of its fault has been
+// said before.
 fn end_stopped(
     rt: &impl Eprint,
     alloc: Global,
@@ -167,18 +267,18 @@ fn end_stopped(
     match stop {
         Stop::Fault(RunFault::Scenario(fault)) if task.explains() => {
             let shown = faults_text(alloc, text, &fault)?;
-            let code = end(rt, Err(stop));
             print(rt, shown.as_slice());
-            return Ok(code);
         }
         Stop::Steps { number, total } => tell_steps(rt, text, number, total, &task.limits()),
         Stop::Output(bytes) => tell_output(rt, bytes, &task.limits()),
         Stop::Fault(_) => {}
     }
-    Ok(end(rt, Err(stop)))
+    Ok(end(Err(stop)))
 }
 
-/// Says what is to be said behind a call, and how the program ends. Where memory for that is refused the program says so.
+/// Says what is to be said behind a call and behind the line of its fault, and how the program ends. Where memory for that
+/// is refused the program says so.
+#[tactic(auto, using(crate::proofs::MadeFacts::ends_early))]
 pub fn end_with(
     rt: &impl Eprint,
     alloc: Global,
@@ -190,8 +290,9 @@ pub fn end_with(
         exit_status result ≡ status_after (done_of outcome) }
     ensures lax { is_strict task.now ≡ false → IsStatusAfter (done_of outcome) (exit_status result) }
     ensures stopped { IfErr outcome (λ stop. IsStatusAfter (Err stop) (exit_status result)) }
-    ensures strict { OnOk outcome (IsStatusAfter (done_of outcome) (exit_status result)
-        ⊎ (exit_status result ≡ 5)) }
+    ensures strict { is_strict task.now ≡ true →
+        IfOk outcome (λ made. EndsWell made (exit_status result)) }
+    ensures ends { EndsCall task.now outcome (exit_status result) }
 {
     let code = match outcome {
         Ok(Some(made)) => end_run(rt, alloc, text, &made, task),
@@ -204,30 +305,38 @@ pub fn end_with(
     }
 }
 
-// Prints what `clap` has to say: a mistake in the words, help or the version; of a word too many also how a text is given.
-fn say<R: Print + Eprint>(rt: &R, error: &Error, words: &[String]) -> ExitCode
-    ensures { IsStatusOfWords (exit_status result) }
+// How the program ends where the words are no command, and what is to be said of them was printed or wasn't.
+fn end_words(rt: &impl Eprint, kind: ErrorKind, is_printed: bool) -> ExitCode
+    ensures { exit_status result ≡ (if is_printed then status_of_kind kind else 3) }
 {
-    if error.kind() == ErrorKind::OutOfMemory {
-        return fail(rt, RunFault::Memory);
-    }
-    if error.print(rt).is_err() {
+    if !is_printed {
         return fail(rt, RunFault::Write);
     }
-    if error.kind() == ErrorKind::UnknownArgument && words.len() > 1 {
-        hint_at(rt, words[1].as_str(), stray_word(words));
+    match kind {
+        ErrorKind::DisplayHelp | ErrorKind::DisplayVersion => ExitCode::from(0),
+        ErrorKind::OutOfMemory => fail(rt, RunFault::Memory),
+        _ => ExitCode::from(2),
     }
-    ExitCode::from(if error.use_stderr() { 2 } else { 0 })
 }
 
-/// What the program's words ask for; else what is to be said of them has been said, and how the program ends. `version` is
-/// what it says of itself.
-pub fn asked<H: Alloc<A = Global> + Env + Eprint + Print>(
-    rt: &H,
-    alloc: Global,
-    version: &str,
-) -> Result<Task, ExitCode>
-    ensures { IfErr result (λ code. IsStatusOfWords (exit_status code)) }
+// Prints what `clap` has to say: a mistake in the words, help or the version; of a word too many also how a text is given.
+fn say<R: Print + Eprint>(rt: &R, error: &Error, words: &[String]) -> ExitCode
+    ensures { IsStatusOf (kind_of error.now) (exit_status result) }
+{
+    let kind = error.kind();
+    if kind == ErrorKind::OutOfMemory {
+        return fail(rt, RunFault::Memory);
+    }
+    let is_printed = error.print(rt).is_ok();
+    if is_printed && kind == ErrorKind::UnknownArgument && words.len() > 1 {
+        hint_at(rt, words[1].as_str(), stray_word(words));
+    }
+    end_words(rt, kind, is_printed)
+}
+
+/// The program's words, its name first; else how the program ends, and it has been said why.
+pub fn words_given<H: Alloc<A = Global> + Env + Eprint>(rt: &H) -> Result<Vec<String>, ExitCode>
+    ensures { IfErr result (λ code. (exit_status code ≡ 2) ⊎ (exit_status code ≡ 3)) }
 {
     let words = match env::args(rt) {
         Ok(words) => words,
@@ -239,17 +348,33 @@ pub fn asked<H: Alloc<A = Global> + Env + Eprint + Print>(
             return Err(ExitCode::from(2));
         }
     };
-    let Ok(words) = words.collect::<Vec<String>>(alloc) else {
-        return Err(fail(rt, RunFault::Memory));
-    };
-    match task_of(alloc, version, words.as_slice()) {
+    match words.collect::<Vec<String>>(rt.alloc()) {
+        Ok(words) => Ok(words),
+        Err(_) => Err(fail(rt, RunFault::Memory)),
+    }
+}
+
+/// What the words ask for, the program's name first; else what is to be said of them has been said, and how the program
+/// ends. `version` is what the program says of itself.
+pub fn asked<R: Eprint + Print>(
+    rt: &R,
+    alloc: Global,
+    version: &str,
+    words: &[String],
+) -> Result<Task, ExitCode>
+    ensures plan { IfOk result (λ task. plan_of (map string_bytes words.now) ≡ Some task) }
+    ensures taken { OnOk result (fault_of dnlab (map string_bytes words.now) ≡ []) }
+    ensures ends { IfErr result (λ code. EndsWords (map string_bytes words.now) (exit_status code)) }
+{
+    match task_of(alloc, version, words) {
         Ok(task) => Ok(task),
-        Err(error) => Err(say(rt, &error, words.as_slice())),
+        Err(error) => Err(say(rt, &error, words)),
     }
 }
 
 /// Does by one thread what is asked for. A run by workers is made so too, and writes the same; who has workers makes it by
 /// them.
+#[tactic(auto, using(crate::proofs::TalkFacts::talks))]
 pub fn by_one_thread<H: Clock + Eprint + Sync, R: Inlet, W: Outlet>(
     rt: &H,
     alloc: Global,
@@ -258,10 +383,9 @@ pub fn by_one_thread<H: Clock + Eprint + Sync, R: Inlet, W: Outlet>(
     writer: &mut W,
     text: &mut Vec<u8>,
 ) -> Result<Option<Made>, Stop>
-    ensures runs { MakesReports task.now → CallsWithin (limits_of task.now) (R.remaining reader.old)
-        (W.contents writer.old) (W.contents writer.new) (done_of result) }
-    ensures checks { Checks task.now → Calls tally (R.remaining reader.old)
-        (W.contents writer.old) (W.contents writer.new) (leaves (done_of result)) }
+    ensures does { Does task.now (λ text. R.gives reader.old text reader.new)
+        (R.remaining reader.old) (W.contents writer.old) (W.contents writer.new) (done_of result) }
+    ensures made { IfOk result (IsMadeOf (R.remaining reader.old)) }
 {
     match *task {
         Task::Run {

@@ -1,9 +1,18 @@
 //! The words of the command line.
 
-ghost use Rattle.std.specs.Prelude.{◌≡◌};
+ghost use Rattle.std.specs.Prelude.{◌≡◌, [], Some, IfOk, IfErr, MatchResult, true, false, codes, map, option_map};
+ghost use Rattle.std.specs.String.{string_bytes};
+ghost use Rattle.clap.specs.Words.{FailsBy, app_of, fault_of, found_of, has_subcommand};
+ghost use Rattle.clap.specs.Words.{kind_of, rows_of, subcommand_rows_of, takes};
+ghost use Rattle.clap.specs.declared.error.kind.ErrorKind.TheVariants.{OutOfMemory};
+ghost use Rattle.clap.specs.declared.builder.command.Command.TheViews.{out-Command};
 ghost use Rattle.command_line.specs.Tasks.{explains, is_strict, limits_of};
+ghost use Rattle.command_line.specs.Words.{IsArg, IsCommand, alone_in, alone_shape, check_shape, dnlab, flag, flag_in};
+ghost use Rattle.command_line.specs.Words.{limits_in, live_shape, max_output_rule, max_steps_rule, moves_rule, number};
+ghost use Rattle.command_line.specs.Words.{plan_of, program_shape, run_in, run_shape, task_in, workers_rule};
 
 use alone::Limits;
+use clap::builder::ValueParser;
 use clap::{Arg, ArgAction, ArgMatches, Command, Error};
 use std::alloc::Global;
 
@@ -30,6 +39,7 @@ pub enum Task {
     /// To say whether a text is a scenario.
     Check {
         explain: bool,
+        strict: bool,
     },
     /// To answer each line of a session as it comes, one at fault with a hint if that is wanted.
     Live {
@@ -45,19 +55,20 @@ impl Task {
         match self {
             Task::Run { explain, .. } => *explain,
             Task::Alone { explain, .. } => *explain,
-            Task::Check { explain } => *explain,
+            Task::Check { explain, .. } => *explain,
             Task::Live { .. } => false,
         }
     }
 
-    /// Whether a run in which a command was refused or steps were spent has a status of its own.
+    /// Whether refused commands, and after a run spent steps, have a status of their own.
     pub fn is_strict(&self) -> bool
         ensures { result ≡ is_strict self.now }
     {
         match self {
             Task::Run { strict, .. } => *strict,
             Task::Alone { strict, .. } => *strict,
-            Task::Check { .. } | Task::Live { .. } => false,
+            Task::Check { strict, .. } => *strict,
+            Task::Live { .. } => false,
         }
     }
 
@@ -97,7 +108,8 @@ Exit status:
   2  words that are no command
   3  memory was refused, a read or write failed, or a limit was passed
   4  the workers lost an experiment (never, unless the program is wrong)
-  5  `--strict` found a refused command or spent steps";
+  5  `--strict` found a refused command or spent steps; of `check`, a
+     command that will be refused";
 
 // How many workers there are where nothing is said.
 const WORKERS: usize = 2;
@@ -105,137 +117,264 @@ const WORKERS: usize = 2;
 // After how many turns one is offered where nothing is said.
 const MOVES: u32 = 64;
 
-fn progress_word<'a>(alloc: Global) -> Arg<'a> {
-    Arg::new(alloc, "progress")
-        .long("progress")
+fn flag<'a>(alloc: Global, name: &'a str, help: &'a str) -> Arg<'a>
+    ensures { IsArg (flag name.entry.now) result }
+{
+    Arg::new(alloc, name)
+        .long(name)
         .action(ArgAction::SetTrue)
-        .help("Says on standard error how far it is")
+        .help(help)
 }
 
-fn explain_word<'a>(alloc: Global) -> Arg<'a> {
-    Arg::new(alloc, "explain")
-        .long("explain")
-        .action(ArgAction::SetTrue)
-        .help("Says what is at fault, refused or likely wrong")
+fn number<'a>(
+    alloc: Global,
+    name: &'a str,
+    value: &'a str,
+    help: &'a str,
+    range: ValueParser<'a>,
+) -> Arg<'a>
+    ensures { IsArg (number name.entry.now range.entry) result }
+{
+    Arg::new(alloc, name)
+        .long(name)
+        .value_name(value)
+        .help(help)
+        .value_parser(range)
 }
 
-fn strict_word<'a>(alloc: Global) -> Arg<'a> {
-    Arg::new(alloc, "strict")
-        .long("strict")
-        .action(ArgAction::SetTrue)
-        .help("Status 5 if a command is refused or steps run out")
+fn workers<'a>(alloc: Global) -> Arg<'a>
+    ensures { IsArg workers_rule result }
+{
+    let range = clap::value_parser!(u64).range(1..=16);
+    number(
+        alloc,
+        "workers",
+        "N",
+        "Threads that run them, 1 to 16 [default: 2]",
+        range,
+    )
 }
 
-// The words for limits, behind those of a command that runs experiments.
-fn with_limits<'a>(alloc: Global, command: Command<'a>) -> Result<Command<'a>, Error> {
-    let steps = Arg::new(alloc, "max-steps")
-        .long("max-steps")
-        .value_name("N")
-        .help("Runs nothing that may take more steps in all")
-        .value_parser(clap::value_parser!(u64));
-    let output = Arg::new(alloc, "max-output")
-        .long("max-output")
-        .value_name("BYTES")
-        .help("Writes nothing if the reports are longer in all")
-        .value_parser(clap::value_parser!(u64));
-    Ok(command.arg(steps)?.arg(output)?)
+fn moves<'a>(alloc: Global) -> Arg<'a>
+    ensures { IsArg moves_rule result }
+{
+    let range = clap::value_parser!(u32).range(..=1_000_000);
+    number(
+        alloc,
+        "moves",
+        "M",
+        "Turns between offers, 0: never [default: 64]",
+        range,
+    )
 }
 
-fn limits_in(given: &ArgMatches<'_>) -> Limits {
-    Limits {
-        steps: given.get_one::<u64>("max-steps"),
-        output: given.get_one::<u64>("max-output"),
-    }
+fn progress<'a>(alloc: Global) -> Arg<'a>
+    ensures { IsArg (flag (codes "progress")) result }
+{
+    flag(alloc, "progress", "Says on standard error how far it is")
 }
 
-fn run_command<'a>(alloc: Global) -> Result<Command<'a>, Error> {
-    let workers = Arg::new(alloc, "workers")
-        .long("workers")
-        .value_name("N")
-        .help("Threads that run them, 1 to 16 [default: 2]")
-        .value_parser(clap::value_parser!(u64).range(1..=16));
-    let moves = Arg::new(alloc, "moves")
-        .long("moves")
-        .value_name("M")
-        .help("Turns between offers, 0: never [default: 64]")
-        .value_parser(clap::value_parser!(u32).range(..=1_000_000));
+fn explain<'a>(alloc: Global) -> Arg<'a>
+    ensures { IsArg (flag (codes "explain")) result }
+{
+    flag(
+        alloc,
+        "explain",
+        "Says what is at fault, refused or likely wrong",
+    )
+}
+
+fn strict<'a>(alloc: Global) -> Arg<'a>
+    ensures { IsArg (flag (codes "strict")) result }
+{
+    flag(
+        alloc,
+        "strict",
+        "Status 5 if a command is refused or steps run out",
+    )
+}
+
+fn max_steps<'a>(alloc: Global) -> Arg<'a>
+    ensures { IsArg max_steps_rule result }
+{
+    let help = "Runs nothing that may take more steps in all";
+    number(alloc, "max-steps", "N", help, clap::value_parser!(u64))
+}
+
+fn max_output<'a>(alloc: Global) -> Arg<'a>
+    ensures { IsArg max_output_rule result }
+{
+    let help = "Writes nothing if the reports are longer in all";
+    number(alloc, "max-output", "BYTES", help, clap::value_parser!(u64))
+}
+
+fn run_command<'a>(alloc: Global) -> Result<Command<'a>, Error>
+    ensures { MatchResult result (IsCommand run_shape) (λ error. kind_of error ≡ OutOfMemory) }
+{
     let run = Command::new(alloc, "run")
         .about("Runs the experiments by many threads: the same bytes as `alone`")
-        .arg(workers)?
-        .arg(moves)?
-        .arg(progress_word(alloc))?
-        .arg(explain_word(alloc))?
-        .arg(strict_word(alloc))?;
-    with_limits(alloc, run)
+        .arg(workers(alloc))?
+        .arg(moves(alloc))?
+        .arg(progress(alloc))?
+        .arg(explain(alloc))?
+        .arg(strict(alloc))?
+        .arg(max_steps(alloc))?
+        .arg(max_output(alloc))?;
+    Ok(run)
 }
 
-fn alone_command<'a>(alloc: Global) -> Result<Command<'a>, Error> {
+fn alone_command<'a>(alloc: Global) -> Result<Command<'a>, Error>
+    ensures { MatchResult result (IsCommand alone_shape) (λ error. kind_of error ≡ OutOfMemory) }
+{
     let alone = Command::new(alloc, "alone")
         .about("Reads a scenario on standard input and prints its reports")
-        .arg(progress_word(alloc))?
-        .arg(explain_word(alloc))?
-        .arg(strict_word(alloc))?;
-    with_limits(alloc, alone)
+        .arg(progress(alloc))?
+        .arg(explain(alloc))?
+        .arg(strict(alloc))?
+        .arg(max_steps(alloc))?
+        .arg(max_output(alloc))?;
+    Ok(alone)
 }
 
-fn check_command<'a>(alloc: Global) -> Result<Command<'a>, Error> {
+fn check_command<'a>(alloc: Global) -> Result<Command<'a>, Error>
+    ensures { MatchResult result (IsCommand check_shape) (λ error. kind_of error ≡ OutOfMemory) }
+{
     let check = Command::new(alloc, "check")
         .about("Says `ok`, how many experiments and commands, or the fault")
-        .arg(explain_word(alloc))?;
+        .arg(explain(alloc))?
+        .arg(strict(alloc))?;
     Ok(check)
 }
 
-fn live_command<'a>(alloc: Global) -> Result<Command<'a>, Error> {
-    let explain = Arg::new(alloc, "explain")
-        .long("explain")
-        .action(ArgAction::SetTrue)
-        .help("Says, behind #, what is wrong with a line at fault");
+fn live_command<'a>(alloc: Global) -> Result<Command<'a>, Error>
+    ensures { MatchResult result (IsCommand live_shape) (λ error. kind_of error ≡ OutOfMemory) }
+{
+    let explain = flag(
+        alloc,
+        "explain",
+        "Says, behind #, what is wrong with a line at fault",
+    );
     let live = Command::new(alloc, "live")
         .about("Answers lines of a scenario as they come (`#> help`: what to ask)")
         .arg(explain)?;
     Ok(live)
 }
 
-fn command<'a>(alloc: Global, version: &'a str) -> Result<Command<'a>, Error> {
-    let program = Command::new(alloc, "dnlab")
+// The program itself, without its commands.
+fn program<'a>(alloc: Global, version: &'a str) -> Command<'a>
+    ensures app { app_of result ≡ record { top = program_shape; subs = [] } }
+    ensures local { (out-Command result).has_globals ≡ false }
+{
+    Command::new(alloc, "dnlab")
         .about(ABOUT)
         .version(version)
         .after_help(EXAMPLE)
         .subcommand_required(true)
         .arg_required_else_help(true)
-        .subcommand(run_command(alloc)?)?
-        .subcommand(alone_command(alloc)?)?
-        .subcommand(check_command(alloc)?)?
-        .subcommand(live_command(alloc)?)?;
+}
+
+fn command<'a>(alloc: Global, version: &'a str) -> Result<Command<'a>, Error>
+    ensures { MatchResult result (λ command. (app_of command ≡ dnlab)
+        × ((out-Command command).has_globals ≡ false)) (λ error. kind_of error ≡ OutOfMemory) }
+{
+    let run = run_command(alloc)?;
+    let alone = alone_command(alloc)?;
+    let check = check_command(alloc)?;
+    let live = live_command(alloc)?;
+    let program = program(alloc, version)
+        .subcommand(run)?
+        .subcommand(alone)?
+        .subcommand(check)?
+        .subcommand(live)?;
     Ok(program)
+}
+
+// As `get_flag`, which says nothing of a value that is no `bool`.
+fn flag_in(given: &ArgMatches<'_>, name: &str) -> bool
+    ensures { result ≡ flag_in name.now (rows_of (found_of given.now)) }
+{
+    given.get_one::<bool>(name).unwrap_or(false)
+}
+
+fn limits_in(given: &ArgMatches<'_>) -> Limits
+    ensures { result ≡ limits_in (rows_of (found_of given.now)) }
+{
+    Limits {
+        steps: given.get_one::<u64>("max-steps"),
+        output: given.get_one::<u64>("max-output"),
+    }
+}
+
+fn run_in(given: &ArgMatches<'_>) -> Task
+    ensures { result ≡ run_in (rows_of (found_of given.now)) }
+{
+    Task::Run {
+        workers: given.get_one::<usize>("workers").unwrap_or(WORKERS),
+        moves: given.get_one::<u32>("moves").unwrap_or(MOVES),
+        limits: limits_in(given),
+        progress: flag_in(given, "progress"),
+        explain: flag_in(given, "explain"),
+        strict: flag_in(given, "strict"),
+    }
+}
+
+fn alone_in(given: &ArgMatches<'_>) -> Task
+    ensures { result ≡ alone_in (rows_of (found_of given.now)) }
+{
+    Task::Alone {
+        limits: limits_in(given),
+        progress: flag_in(given, "progress"),
+        explain: flag_in(given, "explain"),
+        strict: flag_in(given, "strict"),
+    }
+}
+
+// `clap` takes four names, so that the last one is `check`.
+fn task_in(name: &str, given: &ArgMatches<'_>) -> Task
+    ensures { result ≡ task_in (name.now, rows_of (found_of given.now)) }
+{
+    if name == "run" {
+        run_in(given)
+    } else if name == "alone" {
+        alone_in(given)
+    } else if name == "live" {
+        Task::Live {
+            explain: flag_in(given, "explain"),
+        }
+    } else {
+        Task::Check {
+            explain: flag_in(given, "explain"),
+            strict: flag_in(given, "strict"),
+        }
+    }
+}
+
+// What the words that `clap` took want.
+fn task_met(matches: &ArgMatches<'_>) -> Task
+    requires { has_subcommand matches.now ≡ true }
+    ensures { option_map task_in (subcommand_rows_of matches.now) ≡ Some result }
+{
+    match matches.subcommand() {
+        Some((name, given)) => task_in(name, given),
+        None => Task::Check {
+            explain: false,
+            strict: false,
+        },
+    }
 }
 
 /// What the words want, the program's name first; else what is to be said of them: a mistake, help, the
 /// version or want of memory.
-pub fn task_of(alloc: Global, version: &str, words: &[String]) -> Result<Task, Error> {
-    let matches = command(alloc, version)?.try_get_matches_from(words)?;
-    match matches.subcommand() {
-        Some(("run", given)) => Ok(Task::Run {
-            workers: given.get_one::<usize>("workers").unwrap_or(WORKERS),
-            moves: given.get_one::<u32>("moves").unwrap_or(MOVES),
-            limits: limits_in(given),
-            progress: given.get_flag("progress"),
-            explain: given.get_flag("explain"),
-            strict: given.get_flag("strict"),
-        }),
-        Some(("alone", given)) => Ok(Task::Alone {
-            limits: limits_in(given),
-            progress: given.get_flag("progress"),
-            explain: given.get_flag("explain"),
-            strict: given.get_flag("strict"),
-        }),
-        Some(("live", given)) => Ok(Task::Live {
-            explain: given.get_flag("explain"),
-        }),
-        Some((_, given)) => Ok(Task::Check {
-            explain: given.get_flag("explain"),
-        }),
-        None => Ok(Task::Check { explain: false }),
+pub fn task_of(alloc: Global, version: &str, words: &[String]) -> Result<Task, Error>
+    ensures plan { IfOk result (λ task. plan_of (map string_bytes words.now) ≡ Some task) }
+    ensures taken { IfErr result (λ error. takes dnlab (map string_bytes words.now) ≡ true
+        → kind_of error ≡ OutOfMemory) }
+    ensures kinds { FailsBy (fault_of dnlab (map string_bytes words.now)) result }
+{
+    let command = command(alloc, version)?;
+    match command.try_get_matches_from(words) {
+        Ok(matches) => Ok(task_met(&matches)),
+        Err(error) => Err(error),
     }
 }
 

@@ -1,5 +1,5 @@
 -- What a session says to a caller that is not Rattle.
-use Rattle.std.specs.Prelude.{◌≡◌, ℕ, ◌+◌, ◌-◌, ◌^◌, ◌<◌, ◌⊎◌, Bool, true, false, All, List, [], ◌++◌, length, take, flat_map, Option, Some, None, min}
+use Rattle.std.specs.Prelude.{◌≡◌, ℕ, ◌+◌, ◌-◌, ◌^◌, ◌<◌, ◌≤◌, ◌⊎◌, Bool, true, false, All, List, [], ◌++◌, length, flat_map, Option, Some, None, min}
 use Rattle.control.specs.declared.fault.Cause.{Cause}
 use Rattle.control.specs.declared.fault.Cause.TheVariants.{NoEnd}
 use Rattle.live.specs.declared.answer.Answer.TheVariants as answers
@@ -8,7 +8,7 @@ use Rattle.live.specs.Faults.{IsFaultOf}
 use Rattle.live.specs.Effects.{LineDoes}
 use Rattle.live.specs.Sessions.{KeptSession, Piece, Takes, written}
 use Rattle.dnlab_c.specs.declared.answer.Answer.{Answer}
-use Rattle.dnlab_c.specs.Answers.{cause_number}
+use Rattle.dnlab_c.specs.Answers.{IsPut, plain, no_memory, faulty}
 
 -- the session, what it has said that isn't handed over yet, how many lines it heard, and whether memory was refused to it
 pub record KeptGuest : Type 0 where
@@ -36,11 +36,11 @@ pub record IsSaidTo (line said : List ℕ) (old new : KeptSession) : Type 0 wher
   pub is_fault : IsFaultOf line old fault
   pub is_said : IsSaidBy fault line said old new
 
--- 0: a text stands at the room's beginning, and nothing of it stays; 5: it is longer than the room, and all of it stays
+-- a text was put, and nothing of it stays; or the room is too small, nothing was put and all of it stays
 pub record HandsOver (text before room stays : List ℕ) (a : Answer) : Type 0 where
-  pub done : a.status ≡ 0 → (take a.length room ≡ text) × (a.length ≡ length text) × (stays ≡ [])
-  pub little : a.status ≡ 5 → (a.length ≡ length text) × (length before < a.length) × (stays ≡ text)
-  pub one_of : (a.status ≡ 0) ⊎ (a.status ≡ 5)
+  pub put : IsPut text before room a
+  pub none : length text ≤ length before → stays ≡ []
+  pub all : length before < length text → (stays ≡ text) × (room ≡ before)
 
 -- a line was heard, and what is said to it is handed over, behind what a smaller room before left
 pub record IsHeard (line before room : List ℕ) (old new : KeptGuest) (a : Answer) : Type 0 where
@@ -52,27 +52,27 @@ pub record IsHeard (line before room : List ℕ) (old new : KeptGuest) (a : Answ
 
 -- the line was heard; or, 3, memory was refused now or before, and will be
 abbrev pub HearsIn : Bool → List ℕ → List ℕ → List ℕ → KeptGuest → KeptGuest → Answer → Type 0
-HearsIn true line before room old new a = (a.status ≡ 3) × (new ≡ old)
-HearsIn false line before room old new a = IsHeard line before room old new a ⊎ ((a.status ≡ 3) × (new.is_lost ≡ true))
+HearsIn true line before room old new a = (a ≡ no_memory) × (new ≡ old) × (room ≡ before)
+HearsIn false line before room old new a = IsHeard line before room old new a ⊎ ((a ≡ no_memory) × (new.is_lost ≡ true) × (room ≡ before))
 
 abbrev pub Hears : List ℕ → List ℕ → List ℕ → KeptGuest → KeptGuest → Answer → Type 0
 Hears line before room old new a = HearsIn old.is_lost line before room old new a
 
--- 0: each experiment has its end; 1: there is one that has none, as is found behind the last line; 3: memory was refused
+-- 3: an allocation was refused; else 0 if each experiment has its end, and 1 with the line behind the last if one has none
 pub record Ends (g : KeptGuest) (a : Answer) : Type 0 where
-  pub done : a.status ≡ 0 → (g.is_lost ≡ false) × All (λ o. o.is_closed ≡ true) g.session.opened
-  pub fault : a.status ≡ 1 → (a.cause ≡ cause_number NoEnd) × (a.line ≡ next_line g.lines)
-  pub memory : a.status ≡ 3 → g.is_lost ≡ true
-  pub one_of : (a.status ≡ 0) ⊎ (a.status ≡ 1) ⊎ (a.status ≡ 3)
+  pub lost : g.is_lost ≡ true → a ≡ no_memory
+  pub whole : g.is_lost ≡ false → All (λ o. o.is_closed ≡ true) g.session.opened → a ≡ plain 0 0
+  pub open_one : g.is_lost ≡ false → (¬ All (λ o. o.is_closed ≡ true) g.session.opened) →
+      a ≡ faulty (record { line = next_line g.lines; cause = NoEnd })
 
 -- ---- the calls: of a session where there is one, and 2 where there is none
 abbrev pub Opens : Option KeptGuest → Answer → Type 0
-Opens new a = ((a.status ≡ 0) × (new ≡ Some fresh)) ⊎ ((a.status ≡ 3) × (new ≡ None))
+Opens new a = ((a ≡ plain 0 0) × (new ≡ Some fresh)) ⊎ ((a ≡ no_memory) × (new ≡ None))
 
 abbrev pub TakesAt : List ℕ → List ℕ → List ℕ → Option KeptGuest → Option KeptGuest → Answer → Type 0
-TakesAt line before room None new a = (a.status ≡ 2) × (new ≡ None)
+TakesAt line before room None new a = (a ≡ plain 2 0) × (new ≡ None) × (room ≡ before)
 TakesAt line before room (Some g) new a = (h : KeptGuest) × (new ≡ Some h) × Hears line before room g h a
 
 abbrev pub ClosesAt : Option KeptGuest → Option KeptGuest → Answer → Type 0
-ClosesAt None new a = (a.status ≡ 2) × (new ≡ None)
+ClosesAt None new a = (a ≡ plain 2 0) × (new ≡ None)
 ClosesAt (Some g) new a = Ends g a × (new ≡ None)

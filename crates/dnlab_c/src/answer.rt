@@ -1,8 +1,9 @@
 //! What a call answers to a caller that is not Rattle.
 
-ghost use Rattle.std.specs.Prelude.{◌≡◌, flat_map, length, nat_le, if◌then◌else◌};
+ghost use Rattle.std.specs.Prelude.{◌≡◌, ◌<◌, ◌⊎◌, flat_map, length};
 ghost use Rattle.control.specs.declared.fault.Cause.TheVariants.{NoEnd};
-ghost use Rattle.dnlab_c.specs.Answers.{cause_number, IsPut};
+ghost use Rattle.dnlab_c.specs.Answers as specs;
+ghost use Rattle.dnlab_c.specs.Answers.{cause_number, faulty, plain, IsPut};
 
 use control::{Cause, Fault};
 use experiment::{Report, put_reports};
@@ -49,10 +50,9 @@ fn cause_number(cause: Cause) -> u32
     }
 }
 
-// The answer of a text that has no fault.
+// Returns the answer of a text that has no fault.
 fn answer_of(status: u32, length: usize) -> Answer
-    ensures status { result.status ≡ status }
-    ensures length { result.length ≡ length }
+    ensures { result ≡ plain status length }
 {
     Answer {
         status,
@@ -62,32 +62,30 @@ fn answer_of(status: u32, length: usize) -> Answer
     }
 }
 
-/// The answer where memory was refused.
+/// Returns the answer after a refused allocation.
 pub fn no_memory() -> Answer
-    ensures { result.status ≡ 3 }
+    ensures { result ≡ specs.no_memory }
 {
     answer_of(MEMORY, 0)
 }
 
-/// The answer where there is no session.
+/// Returns the answer of a call that finds no session.
 pub fn no_session() -> Answer
-    ensures { result.status ≡ 2 }
+    ensures { result ≡ plain 2 0 }
 {
     answer_of(CLOSED, 0)
 }
 
-/// The answer where all is well, and nothing is put into a room.
+/// Returns the answer of a call that succeeds and puts nothing into a room.
 pub fn all_well() -> Answer
-    ensures { result.status ≡ 0 }
+    ensures { result ≡ plain 0 0 }
 {
     answer_of(DONE, 0)
 }
 
-/// The answer where an experiment has no end, as is found at a line.
+/// Returns the answer if an experiment has no end, which shows at this line.
 pub fn no_end(line: u64) -> Answer
-    ensures status { result.status ≡ 1 }
-    ensures line { result.line ≡ line }
-    ensures cause { result.cause ≡ cause_number NoEnd }
+    ensures { result ≡ faulty (record { line = line; cause = NoEnd }) }
 {
     fault_answer(&Fault {
         line,
@@ -95,11 +93,9 @@ pub fn no_end(line: u64) -> Answer
     })
 }
 
-/// The answer where the text has a fault.
+/// Returns the answer if the text has a fault.
 pub fn fault_answer(fault: &Fault) -> Answer
-    ensures status { result.status ≡ 1 }
-    ensures line { result.line ≡ fault.now.line }
-    ensures cause { result.cause ≡ cause_number fault.now.cause }
+    ensures { result ≡ faulty fault.now }
 {
     Answer {
         status: FAULT,
@@ -109,10 +105,10 @@ pub fn fault_answer(fault: &Fault) -> Answer
     }
 }
 
-/// Puts a text into the room, where it has room for all of it.
+/// Puts a text at the beginning of the room if all of it fits, else nothing.
 pub fn put(text: &[u8], room: &mut [u8]) -> Answer
     ensures is { IsPut text.now room.old room.new result }
-    ensures fits { result.status ≡ (if nat_le (length text.now) (length room.old) then 0 else 5) }
+    ensures stays { length room.old < length text.now → room.new ≡ room.old }
 {
     let length = text.len();
     if length > room.len() {
@@ -122,9 +118,11 @@ pub fn put(text: &[u8], room: &mut [u8]) -> Answer
     answer_of(DONE, length)
 }
 
-/// Puts reports into the room, one after the other, where it has room for all of them; else the first that fit.
+/// Puts reports into the room, one after the other, if all of them fit; else those that do.
+#[tactic(auto, using(crate::proofs::Answering::put_whole))]
 pub fn put_all(alloc: Global, reports: &[Report], room: &mut [u8]) -> Answer
-    ensures { IsPut (flat_map (λ r. r) reports.now) room.old room.new result }
+    ensures { (result ≡ specs.no_memory)
+        ⊎ IsPut (flat_map (λ r. r) reports.now) room.old room.new result }
 {
     let Ok(length) = put_reports(alloc, reports, room) else {
         return no_memory();

@@ -84,7 +84,8 @@ impl Guest {
         self.hand_over(room)
     }
 
-    /// How it ends where no more comes: whether each experiment has its end.
+    /// Returns how it ends if no more comes: whether each experiment has its end.
+    #[tactic(auto, using(crate::proofs::Answering::end_open))]
     pub fn end(&self) -> Answer
         ensures { Ends self.now result }
     {

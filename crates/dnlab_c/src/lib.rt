@@ -9,11 +9,14 @@ mod loose;
 mod place;
 mod version;
 
-ghost use Rattle.alone.specs.Reports.{reports, tally};
-ghost use Rattle.dnlab_c.specs.Answers.{Answers};
+ghost use Rattle.std.specs.Prelude.{◌≡◌, List, IfOk, IfErr};
+ghost use Rattle.control.specs.Scenario.{Spells};
+ghost use Rattle.control.specs.declared.scenario.Experiment.{Experiment as Script};
+ghost use Rattle.alone.specs.Reports.{reports, tally, IsTextFault};
+ghost use Rattle.dnlab_c.specs.Answers.{Answers, IsPut, PutsSome};
 ghost use Rattle.dnlab_c.specs.Guests.{Opens, TakesAt, ClosesAt};
 
-use alone::{Device, RunFault, check, reports_of};
+use alone::{RunFault, check_of, reports_of};
 pub use answer::Answer;
 use answer::{all_well, fault_answer, no_memory, no_session, put, put_all};
 use explain_text::{explanation, faults_text};
@@ -25,7 +28,8 @@ use std::mem;
 use version::VERSION;
 
 /// Runs the experiments of a scenario, each by itself. Status 0: their reports are the first `length` bytes of the room.
-/// 1: `line` and `cause` of the text's fault. 3: memory was refused. 5: the room is too small, `length` bytes are wanted.
+/// 1: `line` and `cause` of the text's fault. 3: an allocation was refused. 5: the room is too small, it takes `length` bytes.
+#[tactic(auto, using(crate::proofs::Answering::answers_put_all, crate::proofs::Answering::answers_fault, crate::proofs::Answering::answers_memory))]
 #[unsafe(no_mangle)]
 pub extern "C" fn dnlab_alone(alloc: Global, text: &[u8], room: &mut [u8], answer: &mut Answer)
     ensures { Answers reports text.now room.old room.new answer.new }
@@ -37,17 +41,27 @@ pub extern "C" fn dnlab_alone(alloc: Global, text: &[u8], room: &mut [u8], answe
     };
 }
 
+// Returns what `check` writes of a text.
+fn tally_of(alloc: Global, text: &[u8]) -> Result<Vec<u8>, RunFault>
+    ensures ok { IfOk result
+        (λ line. (es : List Script) × Spells text.now es × (line.items ≡ tally es)) }
+    ensures fault { IfErr result (IsTextFault text.now) }
+{
+    let tally = check_of(alloc, text)?;
+    match tally.line(alloc) {
+        Ok(line) => Ok(line),
+        Err(_) => Err(RunFault::Memory),
+    }
+}
+
 /// Says whether a text is a scenario, and how many experiments and commands it has.
+#[tactic(auto, using(crate::proofs::Answering::answers_put, crate::proofs::Answering::answers_fault, crate::proofs::Answering::answers_memory))]
 #[unsafe(no_mangle)]
 pub extern "C" fn dnlab_check(alloc: Global, text: &[u8], room: &mut [u8], answer: &mut Answer)
     ensures { Answers tally text.now room.old room.new answer.new }
 {
-    let mut reader = Device::new(text);
-    let mut writer = Device::new(Vec::new(alloc));
-    let outcome = check(alloc, &mut reader, &mut writer);
-    let line = writer.into_inner();
-    *answer = match outcome {
-        Ok(()) => put(line.as_slice(), room),
+    *answer = match tally_of(alloc, text) {
+        Ok(line) => put(line.as_slice(), room),
         Err(RunFault::Scenario(fault)) => fault_answer(&fault),
         Err(_) => no_memory(),
     };
@@ -74,7 +88,9 @@ pub extern "C" fn dnlab_explain(
     runs: bool,
     room: &mut [u8],
     answer: &mut Answer,
-) {
+)
+    ensures { PutsSome room.old room.new answer.new }
+{
     *answer = match said_of(alloc, text, runs) {
         Ok(said) => put(said.as_slice(), room),
         Err(_) => no_memory(),
@@ -83,25 +99,31 @@ pub extern "C" fn dnlab_explain(
 
 /// What the library says of itself: its version, the commit of its sources, and by which kit it is proved.
 #[unsafe(no_mangle)]
-pub extern "C" fn dnlab_version(room: &mut [u8], answer: &mut Answer) {
+pub extern "C" fn dnlab_version(room: &mut [u8], answer: &mut Answer)
+    ensures { IsPut VERSION.now room.old room.new answer.new }
+{
     *answer = put(VERSION.as_bytes(), room);
 }
 
-/// Opens a session at a place; one that is open there is closed before. Status 0: it is open. 3: memory was refused, and
-/// there is none.
+// Frees the session of a place.
+fn free(alloc: Global, place: Place) {
+    if let Some(loose) = place.into_loose(alloc) {
+        let _gone = loose.into_box();
+    }
+}
+
+/// Opens a session at a place; one that is open there is closed before. Status 0: it is open. 3: an allocation was refused,
+/// and there is none.
 #[unsafe(no_mangle)]
 pub extern "C" fn dnlab_open(alloc: Global, session: &mut Place, answer: &mut Answer)
     ensures { Opens session.new.guest answer.new }
 {
-    let before = mem::replace(session, Place::empty());
-    if let Some(loose) = before.into_loose(alloc) {
-        let _gone = loose.into_box();
-    }
+    free(alloc, mem::replace(session, Place::empty()));
     let Ok(guest) = Box::new(alloc, Guest::new(alloc)) else {
         *answer = no_memory();
         return;
     };
-    *session = Place::of(Loose::of(guest));
+    free(alloc, mem::replace(session, Place::of(Loose::of(guest))));
     *answer = all_well();
 }
 
@@ -125,7 +147,7 @@ pub extern "C" fn dnlab_take(
     };
     let mut guest = loose.into_box();
     *answer = guest.take(line, room);
-    *session = Place::of(Loose::of(guest));
+    free(alloc, mem::replace(session, Place::of(Loose::of(guest))));
 }
 
 /// Closes the session at a place. Status 0: each of its experiments has its end. 1: one has none, as `live` says it of the

@@ -19,10 +19,9 @@ pub struct Hidden {
     hidden: u8,
 }
 
-/// Where a session is, or null where there is none. A place that is let go forgets its session, so each call empties it
-/// before.
+/// Where a session is, or null if there is none. A place is not `Drop`: code that loses one, and its session's memory with
+/// it, does not compile.
 #[repr(C)]
-#[derive(Drop)]
 pub struct Place {
     at: *mut Hidden,
     pub ghost guest: { Option KeptGuest } by { coded_option the_row.coded },

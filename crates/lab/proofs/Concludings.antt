@@ -2,7 +2,6 @@
 use Rattle.std.proofs.Common.{◌≡◌, ℕ, zero, suc, ◌<◌, inl, inr, ◌⊎◌, refl, sym, ap, subst, ◌∙◌, List, [], ◌∷◌, length, Option, Some, None, Result, Ok, Err, IfErr, true, Bool, arith}
 use Rattle.std.specs.Prelude.{Contains, slice_index_or, All}
 use Rattle.std.proofs.lemmas.List.Elements.{All-tail}
-use Rattle.control.specs.declared.scenario.Experiment.{Experiment}
 use Rattle.shard.specs.Stand.{Final}
 use Rattle.bench.specs.declared.closing.Closing.{Closing}
 use Rattle.bench.specs.declared.mail.RingMail.{RingMail}
@@ -13,9 +12,8 @@ use Rattle.alone.specs.declared.fault.RunFault.{RunFault}
 use Rattle.alone.specs.declared.fault.RunFault.TheVariants.{Memory, Gate, Strange, Scenario, Read, Write}
 use Rattle.lab.specs.declared.worker.Given.{Given}
 use Rattle.lab.specs.Plans.{IsTogetherFault, IsWorkers, fault_of, is_honest}
-use Rattle.alone.specs.Reports.{Reads, ReadsFault}
 use Rattle.lab.specs.Joins.{HasTooMany, HasTooFew, HasMisfit, IsStrange, AreSeated, Unfit, SettlesNot, Concludes, dossier_at, how_many, faults_of}
-use Rattle.lab.specs.Gathers.{HoldsBy, IsConclusion, IsConcluded, Follows, IsFollowed}
+use Rattle.lab.specs.Gathers.{HoldsBy}
 
 -- the gravest fault is answered
 pub fault_concludes : (ts : List Tenant) (f : RunFault) (places : List (Option (Final RingMail))) (closings cs : List Closing) (ds : List (Final RingMail)) (fs : List (Option RunFault)) →
@@ -71,41 +69,7 @@ together_fault may_refuse ts cs ds fs (Scenario f) gate h = absurd h
 together_fault may_refuse ts cs ds fs Read gate h = absurd h
 together_fault may_refuse ts cs ds fs Write gate h = absurd h
 
--- the answer of the workers, told by a run that read their experiments
-fault-follows : (read : Option (List ℕ)) (workers : ℕ) (es : List Experiment) (e : RunFault) → Reads read es → IsConclusion es workers (Some e) → IsFollowed read workers (Some e)
-fault-follows read workers es Memory reads c = tt
-fault-follows read workers es Gate reads c = (es, reads, c)
-fault-follows read workers es Strange reads c = (es, reads, c)
-fault-follows read workers es (Scenario f) reads c = tt
-fault-follows read workers es Read reads c = tt
-fault-follows read workers es Write reads c = absurd c.concludes
-
-memory-follows : (read : Option (List ℕ)) (workers : ℕ) (e : RunFault) → e ≡ Memory → IsFollowed read workers (Some e)
-memory-follows read workers e is = subst (λ (x : RunFault). IsFollowed read workers (Some x)) (sym is) tt
-
-some-is : {X : Type 0} (a b : X) → Some a ≡ Some b → a ≡ b
-some-is a b is = cc
-
-pub fault_followed : (read : Option (List ℕ)) (workers : ℕ) (es plans : List Experiment) (e : RunFault) → Reads read es → plans ≡ es → IsConcluded plans workers (Some e) → IsFollowed read workers (Some e)
-fault_followed read workers es plans e reads are (inl is) = memory-follows read workers e (some-is e Memory is)
-fault_followed read workers es plans e reads are (inr c) = fault-follows read workers plans e (subst (Reads read) (sym are) reads) c
-
-none-is : {X : Type 0} (x : X) → None ≡ Some x → ⊥
-none-is x is = cc
-
-pub run_follows : (read : Option (List ℕ)) (workers : ℕ) (es plans : List Experiment) → Reads read es → plans ≡ es → IsConcluded plans workers None → Follows read workers None
-run_follows read workers es plans reads are (inl is) = absurd (none-is Memory is)
-run_follows read workers es plans reads are (inr c) = (plans, subst (Reads read) (sym are) reads, c)
-
--- reading fails by itself
-pub read_followed : (read before : Option (List ℕ)) (workers : ℕ) (e : RunFault) → ReadsFault before e → IsFollowed read workers (Some e)
-read_followed read before workers Memory fault = tt
-read_followed read before workers Gate fault = absurd fault
-read_followed read before workers Strange fault = absurd fault
-read_followed read before workers (Scenario f) fault = tt
-read_followed read before workers Read fault = tt
-read_followed read before workers Write fault = absurd fault
-
+-- whatever a run answers
 pub together_err : {T : Type 0} (may_refuse : Bool) (ts : List Tenant) (cs : List Closing) (ds : List (Final RingMail)) (fs : List (Option RunFault)) (r : Result T RunFault) →
     (Contains fs (Some Gate) → may_refuse ≡ true) → Concludes ts cs ds fs (fault_of r) → IfErr r (IsTogetherFault may_refuse)
 together_err may_refuse ts cs ds fs (Ok x) gate h = tt

@@ -1,36 +1,61 @@
 -- Why a run within limits stops, and what that is to a run without them.
-use Rattle.std.proofs.Common.{◌≡◌, ℕ, List, Bool, true, Option, None, Result, Ok, Err, ap, subst}
+use Rattle.std.proofs.Common.{◌≡◌, ℕ, List, Bool, true, false, Option, Some, Result, Ok, Err, refl, ap, subst}
+use Rattle.control.specs.declared.scenario.Experiment.{Experiment}
 use Rattle.alone.specs.declared.fault.RunFault.{RunFault}
 use Rattle.alone.specs.declared.fault.RunFault.TheVariants.{Scenario, Read, Write, Memory, Strange, Gate}
 use Rattle.alone.specs.declared.limits.Stop.{Stop}
 use Rattle.alone.specs.declared.limits.Stop.TheVariants.{Fault, Steps, Output}
-use Rattle.alone.specs.Within.{WritesOut, done_of, leaves}
-use Rattle.lab.specs.Gathers.{Follows, IsFollowed, IsStopped}
-use Rattle.lab.specs.Plans.{fault_of}
+use Rattle.alone.specs.declared.limits.Limits.{Limits}
+use Rattle.alone.specs.Reports.{IsInputFault, IsTextFault, reader_failed}
+use Rattle.alone.specs.Within.{IsOutputStop, IsStepsStop, StopsUnwritten, WritesOut, done_of, leaves}
+use Rattle.lab.specs.Plans.{IsTogetherFault}
 
--- how a run ends that writes out reports
-pub out_stopped : (a b read : Option (List ℕ)) (text : List ℕ) (workers : ℕ) (result : Result (Unit {0}) Stop) → WritesOut a b text result →
-    Follows read workers None → IsStopped read workers result
-out_stopped a b read text workers (Ok x) out follows = follows
-out_stopped a b read text workers (Err (Fault (Scenario f))) out follows = absurd out
-out_stopped a b read text workers (Err (Fault Read)) out follows = absurd out
-out_stopped a b read text workers (Err (Fault Write)) out follows = follows
-out_stopped a b read text workers (Err (Fault Memory)) out follows = tt
-out_stopped a b read text workers (Err (Fault Strange)) out follows = absurd out
-out_stopped a b read text workers (Err (Fault Gate)) out follows = absurd out
-out_stopped a b read text workers (Err (Steps number total)) out follows = absurd out
-out_stopped a b read text workers (Err (Output bytes)) out follows = absurd out
-
+-- a gate alone has a run end by it
 pub out_not_gate : (a b : Option (List ℕ)) (text : List ℕ) (s : Stop) → WritesOut a b text (Err s) → s ≡ Fault Gate → ⊥
 out_not_gate a b text s out is = subst (λ (x : Stop). WritesOut a b text (Err x)) is out
 
--- without limits
-pub stopped_same : (read : Option (List ℕ)) (workers : ℕ) (r : Result (Unit {0}) Stop) → IsStopped read workers r → IsFollowed read workers (fault_of (leaves r))
-stopped_same read workers (Ok x) stopped = stopped
-stopped_same read workers (Err (Fault e)) stopped = stopped
-stopped_same read workers (Err (Steps number total)) stopped = tt
-stopped_same read workers (Err (Output bytes)) stopped = tt
+pub input_not_gate : (e : RunFault) → IsInputFault e → ◌≡◌ {A = Stop} (Fault e) (Fault Gate) → ⊥
+input_not_gate (Scenario f) fault is = cc
+input_not_gate Read fault is = cc
+input_not_gate Write fault is = cc
+input_not_gate Memory fault is = cc
+input_not_gate Strange fault is = cc
+input_not_gate Gate fault is = fault
 
+pub text_not_gate : (text : List ℕ) (e : RunFault) → IsTextFault text e → ◌≡◌ {A = Stop} (Fault e) (Fault Gate) → ⊥
+text_not_gate text (Scenario f) fault is = cc
+text_not_gate text Read fault is = cc
+text_not_gate text Write fault is = cc
+text_not_gate text Memory fault is = cc
+text_not_gate text Strange fault is = cc
+text_not_gate text Gate fault is = fault
+
+pub steps_not_gate : (limits : Limits) (es : List Experiment) (s : Stop) → IsStepsStop limits es s → s ≡ Fault Gate → ⊥
+steps_not_gate limits es s stop is = subst (λ (x : Stop). IsStepsStop limits es x) is stop
+
+pub output_not_gate : (limit : Option ℕ) (n : ℕ) (s : Stop) → IsOutputStop limit n s → s ≡ Fault Gate → ⊥
+output_not_gate limit n (Fault e) stop is = cc
+output_not_gate limit n (Steps number total) stop is = cc
+output_not_gate limit n (Output bytes) stop is = cc
+
+-- a fault of the workers
+pub together_stop : (may_refuse : Bool) (limits : Limits) (text : List ℕ) (e : RunFault) → IsTogetherFault may_refuse e → StopsUnwritten limits (Some text) (Fault e)
+together_stop may_refuse limits text (Scenario f) fault = absurd (cc)
+together_stop may_refuse limits text Read fault = tt
+together_stop may_refuse limits text Write fault = absurd (cc)
+together_stop may_refuse limits text Memory fault = tt
+together_stop may_refuse limits text Strange fault = tt
+together_stop may_refuse limits text Gate fault = tt
+
+pub together_unread : (T : Type 0) (may_refuse : Bool) (e : RunFault) → IsTogetherFault may_refuse e → reader_failed (leaves {T = T} (Err (Fault e))) ≡ false
+together_unread T may_refuse (Scenario f) fault = refl
+together_unread T may_refuse Read fault = absurd (cc)
+together_unread T may_refuse Write fault = refl
+together_unread T may_refuse Memory fault = refl
+together_unread T may_refuse Strange fault = refl
+together_unread T may_refuse Gate fault = refl
+
+-- without limits
 err-is : (a b : RunFault) → ◌≡◌ {A = Result (Unit {0}) RunFault} (Err a) (Err b) → a ≡ b
 err-is a b is = cc
 

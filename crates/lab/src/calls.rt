@@ -2,8 +2,6 @@
 
 ghost use Rattle.std.specs.Prelude.{◌≡◌, Err, true};
 ghost use Rattle.alone.specs.Reports.{reports, Calls, Ends};
-ghost use Rattle.lab.specs.Gathers.{IsFollowed};
-ghost use Rattle.lab.specs.Plans.{fault_of};
 
 use crate::plan::{Gate, Plan};
 use crate::within::run_within;
@@ -29,13 +27,12 @@ pub fn run<H: Threads + Wait + Sync, R: Inlet, W: Outlet, G: Gate>(
     ensures ends { Ends result (R.remaining reader.old) (R.remaining reader.new)
         (R.failed reader.new) (W.failed writer.old) (W.failed writer.new) writer.old writer.new }
     ensures gate { result ≡ Err RunFault.Gate → G.may_refuse ≡ true }
-    ensures joins { IsFollowed (R.remaining reader.old) plan.workers (fault_of result) }
 {
     run_told(rt, alloc, reader, writer, plan, gate, &Silent)
 }
 
 /// `run`, with somebody who is told how many experiments have ended.
-#[tactic(auto, using(alone::proofs::Stopping::unlimited_calls, alone::proofs::Stopping::calls_same, crate::proofs::Stopping::stopped_same, crate::proofs::Stopping::gate_same))]
+#[tactic(auto, using(alone::proofs::Stopping::unlimited_calls, alone::proofs::Stopping::calls_same, crate::proofs::Stopping::gate_same))]
 pub fn run_told<H: Threads + Wait + Sync, R: Inlet, W: Outlet, G: Gate, P: Progress + Sync>(
     rt: &H,
     alloc: Global,
@@ -50,7 +47,6 @@ pub fn run_told<H: Threads + Wait + Sync, R: Inlet, W: Outlet, G: Gate, P: Progr
     ensures ends { Ends result (R.remaining reader.old) (R.remaining reader.new)
         (R.failed reader.new) (W.failed writer.old) (W.failed writer.new) writer.old writer.new }
     ensures gate { result ≡ Err RunFault.Gate → G.may_refuse ≡ true }
-    ensures joins { IsFollowed (R.remaining reader.old) plan.workers (fault_of result) }
 {
     let limits = Limits::none();
     let mut text = Vec::new(alloc);

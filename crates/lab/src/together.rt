@@ -5,7 +5,7 @@ ghost use Rattle.shard.specs.Stand.{Final};
 ghost use Rattle.bench.specs.declared.closing.Closing.{Closing as ClosedBench};
 ghost use Rattle.bench.specs.declared.mail.RingMail.{RingMail as Rings};
 ghost use Rattle.alone.specs.declared.fault.RunFault.{RunFault as Fault};
-ghost use Rattle.lab.specs.Gathers.{Holds, IsConcluded};
+ghost use Rattle.lab.specs.Gathers.{Holds};
 ghost use Rattle.lab.specs.Joins.{closings_of, dossiers_of, faults_of, AreEnded, Concludes};
 ghost use Rattle.lab.specs.Plans.{IsTogetherFault, IsMemory, IsWorkers, fault_of, is_honest};
 ghost use Rattle.alone.specs.Reports.{trace_alone};
@@ -135,7 +135,6 @@ pub(crate) fn run_together<G: Gate, R: Threads + Wait + Sync, P: Progress + Sync
 ) -> Result<Vec<Outcome>, RunFault>
     ensures ok { IfOk result (λ os. os.items ≡ map trace_alone scenario.now) }
     ensures err { IfErr result (IsTogetherFault G.may_refuse) }
-    ensures joined { IsConcluded scenario.now plan.workers (fault_of result) }
 {
     let (benches, peers) = benches_and_peers(alloc, plan.workers)?;
     let mut waiting = empty_lists(alloc, plan.workers)?;

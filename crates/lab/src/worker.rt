@@ -1,7 +1,7 @@
 //! What one worker does: it turns the residents of its bench, offers one of them now and then, and fetches others
 //! where it has nothing to do.
 
-ghost use Rattle.std.specs.Prelude.{◌≡◌, None, true, OnOk, IfErr, IsTrue};
+ghost use Rattle.std.specs.Prelude.{◌≡◌, ◌||◌, not, None, true, OnOk, IfErr, IsTrue};
 ghost use Rattle.lab.specs.Desks.{LosesNone, Readmits, HandsOver, parcel_of};
 ghost use Rattle.lab.specs.Plans.{IsWorkFault, IsMemory, is_honest};
 
@@ -97,7 +97,8 @@ struct Watching<'a, G: Gate> {
 impl<G: Gate> Watch for Watching<'_, G> {
     ghost may_refuse = { G.may_refuse };
 
-    ghost hears = { λ _ _ _ _. Unit {0} };
+    ghost hears = { λ name answer old new. G.may_return old.gate.now old.bench name answer
+        × (new.refused ≡ (old.refused || not answer)) };
 
     fn ran(&mut self, name: u32) -> bool {
         self.turns = self.turns.wrapping_add(1);

@@ -1,5 +1,5 @@
 -- What was told by a session, from one line to the next.
-use Rattle.std.proofs.Common.{◌≡◌, ◌⊎◌, inl, inr, ℕ, ◌+◌, ◌<◌, cond, eqb, Bool, true, false, List, [], ◌∷◌, ◌++◌, length, length-append, map, refl, sym, ap, ◌∙◌, subst, append_assoc, append-nil, arith}
+use Rattle.std.proofs.Common.{◌≡◌, ◌⊎◌, inl, inr, ℕ, ◌+◌, ◌<◌, ◌≤◌, cond, eqb, Bool, true, false, List, [], ◌∷◌, ◌++◌, length, length-append, map, refl, sym, ap, ◌∙◌, subst, append_assoc, append-nil, arith}
 use Rattle.std.specs.Prelude.{flat_map, set, get_or, slice_get, codes, Option, Some, None, IsSome, Result, Ok, Err, IfOk}
 use Rattle.std.specs.declared.alloc.AllocError.{AllocError}
 use Rattle.std.specs.List.{AllByRecursion, filter, onto_first}
@@ -17,15 +17,15 @@ use Rattle.control_lines.specs.Entries.{Entry, Nothing, Begins, Does, IsEntry, i
 use Rattle.control_lines.specs.LinesSayOne.{LinesSayOne}
 use Rattle.control_words.specs.Text.{parts, words, is_word}
 use Rattle.live.specs.Requests.{Show, request_of}
-use Rattle.live.specs.Effects.{Moves, IsSaid}
+use Rattle.live.specs.Effects.{Moves, IsSaid, IsAdded}
 use Rattle.live.specs.Faults.{Answers, of_current, current_of}
 use Rattle.live.specs.declared.answer.Answer.{Answer}
 use Rattle.live.specs.declared.answer.Answer.TheVariants as answers
 use Rattle.live.specs.declared.open.Phase.{Phase}
 use Rattle.live.specs.declared.open.Phase.TheVariants.{Going, Over, Lost}
-use Rattle.live.specs.Lines.{answer_line, help_lines, fault_of, said_of}
+use Rattle.live.specs.Lines.{answer_with, help_lines, fault_of}
 use Rattle.live.specs.Opens.{KeptOpen, IsTold, IsToldIn, MayCome, IsFault, IsSame, Tells}
-use Rattle.live.specs.Sessions.{KeptSession, Stand, IsSoFar, TellsAll, Grows, Hears, Takes, Piece, Told, Answered, Helped, IsPlain, written, told}
+use Rattle.live.specs.Sessions.{KeptSession, Stand, IsSoFar, TellsAll, Grows, Hears, Takes, Piece, Told, Answered, AnsweredBoth, Helped, IsPlain, written, told}
 
 abbrev its : Stand → Experiment
 its x = x.experiment
@@ -162,9 +162,18 @@ pub shows-all : (all : Bool) → (all ≡ false → ⊥) → all ≡ true
 shows-all true other = refl
 shows-all false other = absurd (other refl)
 
-comes : (o : KeptOpen) (rest : List Timed) → MayCome (record o { run = record o.run { shows_all = true } }) rest → MayCome o rest
-comes o [] may = may
-comes o (c ∷ cs) may = may
+-- what was told of an experiment stays so where something of it is set
+pub grows-set : (old new : KeptSession) (o p q : KeptOpen) → p ≡ q → IsSame o q → ((came : List Timed) (text : List ℕ) → IsTold came text o → IsTold came text q) →
+    new.opened ≡ set old.opened old.current p → new.current ≡ old.current → old.current < length old.opened → get_or old.opened old.current o ≡ o →
+    Grows (λ es. es) [] old new
+grows-set old new o p q is same stays opened current within found =
+    grows-time old new o q [] (opened ∙ ap (λ (k : KeptOpen). set old.opened old.current k) is) current within found same
+    (λ came text h. subst (λ (l : List ℕ). IsTold (came ++ []) l q) (sym (append-nil text))
+    (subst (λ (cs : List Timed). IsTold cs text q) (sym (append-nil came)) (stays came text h)))
+
+comes : (o q : KeptOpen) (rest : List Timed) → q.is_closed ≡ o.is_closed → q.reached ≡ o.reached → MayCome q rest → MayCome o rest
+comes o q [] closed reached may = sym closed ∙ may
+comes o q (c ∷ cs) closed reached may = subst (λ t. t ≤ c.moment) reached may
 
 -- all is told again of an experiment
 shown : (p : Phase) (came : List Timed) (text : List ℕ) (o : KeptOpen) → IsToldIn p came text o → IsToldIn p came text (record o { run = record o.run { shows_all = true } })
@@ -176,30 +185,47 @@ shown Going came text o h = record {
   at = record { housed = h.at.housed; counts = h.at.counts; waits = h.at.waits; latest = h.at.latest; proper = h.at.proper };
   lines = h.lines;
 }
-shown Over came text o h = λ rest may. h rest (comes o rest may)
+shown Over came text o h = λ rest may. h rest (comes o (record o { run = record o.run { shows_all = true } }) rest refl refl may)
 shown Lost came text o h = h
 
 pub grows-shown : (old new : KeptSession) (o p : KeptOpen) (all : Bool) → p ≡ record o { run = record o.run { shows_all = all } } → all ≡ true →
     new.opened ≡ set old.opened old.current p → new.current ≡ old.current → old.current < length old.opened → get_or old.opened old.current o ≡ o →
     Grows (λ es. es) [] old new
 grows-shown old new o p all is every opened current within found =
-    let q : KeptOpen = record o { run = record o.run { shows_all = true } } in
-    let same : p ≡ q = is ∙ ap (λ b. record o { run = record o.run { shows_all = b } }) every in
-    grows-time old new o q [] (opened ∙ ap (λ (k : KeptOpen). set old.opened old.current k) same) current within found
-    (record { name = refl; spec = refl })
-    (λ came text h. subst (λ (l : List ℕ). IsTold (came ++ []) l q) (sym (append-nil text))
-    (subst (λ (cs : List Timed). IsTold cs text q) (sym (append-nil came)) (shown o.phase came text o h)))
+    grows-set old new o p (record o { run = record o.run { shows_all = true } }) (is ∙ ap (λ b. record o { run = record o.run { shows_all = b } }) every)
+    (record { name = refl; spec = refl }) (λ came text h. shown o.phase came text o h) opened current within found
+
+-- the answer to `next` is added to others, or no longer
+added : (p : Phase) (came : List Timed) (text : List ℕ) (o : KeptOpen) (on : Bool) → IsToldIn p came text o → IsToldIn p came text (record o { adds_next = on })
+added Going came text o on h =
+    record { shows = h.shows; unclosed = h.unclosed; consumed = h.consumed; earlier = h.earlier; at = h.at; lines = h.lines }
+added Over came text o on h = λ rest may. h rest (comes o (record o { adds_next = on }) rest refl refl may)
+added Lost came text o on h = h
+
+pub grows-added : (old new : KeptSession) (o p : KeptOpen) (on : Bool) → p ≡ record o { adds_next = on } →
+    new.opened ≡ set old.opened old.current p → new.current ≡ old.current → old.current < length old.opened → get_or old.opened old.current o ≡ o →
+    Grows (λ es. es) [] old new
+grows-added old new o p on is opened current within found =
+    grows-set old new o p (record o { adds_next = on }) is (record { name = refl; spec = refl }) (λ came text h. added o.phase came text o on h)
+    opened current within found
+
+-- what was told, and a line that tells nothing of a report
+answered-by : (old new : KeptSession) (p : Piece) → told p ≡ [] → (more : List Experiment → List Experiment) (first mid last : List ℕ) →
+    ((bytes : List ℕ) × (mid ≡ first ++ bytes) × Grows more bytes old new) → last ≡ mid ++ written p →
+    (ps : List Piece) × (last ≡ first ++ flat_map written ps) × (AllByRecursion IsPlain ps → Grows more (flat_map told ps) old new)
+answered-by old new p silent more first mid last (bytes, is, grows) e = (
+  Told bytes ∷ p ∷ [],
+  e ∙ ap (λ (l : List ℕ). l ++ written p) is ∙ append_assoc first bytes (written p)
+      ∙ ap (λ (l : List ℕ). first ++ (bytes ++ l)) (sym (append-nil (written p))),
+  λ plain. subst (λ (l : List ℕ). Grows more l old new) (sym (append-nil bytes) ∙ ap (λ (l : List ℕ). bytes ++ (l ++ [])) (sym silent)) grows,
+)
 
 -- what was told, and the line that answers
-pub answered-grows : (old new : KeptSession) (a : Answer) (more : List Experiment → List Experiment) (first mid last : List ℕ) →
-    ((bytes : List ℕ) × (mid ≡ first ++ bytes) × ((¬ IsFault a) → Grows more bytes old new)) → last ≡ mid ++ answer_line a → (IsFault a → ⊥) →
+pub answered-grows : (old new : KeptSession) (a : Answer) (add : Option Answer) (more : List Experiment → List Experiment) (first mid last : List ℕ) →
+    ((bytes : List ℕ) × (mid ≡ first ++ bytes) × ((¬ IsFault a) → Grows more bytes old new)) → last ≡ mid ++ answer_with a add → (IsFault a → ⊥) →
     (ps : List Piece) × (last ≡ first ++ flat_map written ps) × (AllByRecursion IsPlain ps → Grows more (flat_map told ps) old new)
-answered-grows old new a more first mid last (bytes, is, grows) e fine = (
-  Told bytes ∷ Answered a ∷ [],
-  e ∙ ap (λ (l : List ℕ). l ++ answer_line a) is ∙ append_assoc first bytes (answer_line a)
-      ∙ ap (λ (l : List ℕ). first ++ (bytes ++ l)) (sym (append-nil (answer_line a))),
-  λ plain. subst (λ (l : List ℕ). Grows more l old new) (sym (append-nil bytes)) (grows fine),
-)
+answered-grows old new a None more first mid last (bytes, is, grows) e fine = answered-by old new (Answered a) refl more first mid last (bytes, is, grows fine) e
+answered-grows old new a (Some b) more first mid last (bytes, is, grows) e fine = answered-by old new (AnsweredBoth a b) refl more first mid last (bytes, is, grows fine) e
 
 -- what can be asked is told
 pub helped : (old : KeptSession) (first last : List ℕ) → last ≡ first ++ help_lines → (ps : List Piece) × (last ≡ first ++ flat_map written ps) × Grows (λ es. es) (flat_map told ps) old old
@@ -216,22 +242,32 @@ asked-told P old new first last (Ok a) (bytes, is, grows) = (
 )
 asked-told P old new first last (Err e) h = h
 
--- a request's line that answers
-pub requested : (old new : KeptSession) (a : Answer) (asked first mid last : List ℕ) →
-    ((ps : List Piece) × (mid ≡ first ++ flat_map written ps) × ((IsFault a → ⊥) → AllByRecursion IsPlain ps →
+requested-by : (old new : KeptSession) (p : Piece) → told p ≡ [] → (asked first mid last : List ℕ) →
+    ((ps : List Piece) × (mid ≡ first ++ flat_map written ps) × (AllByRecursion IsPlain ps →
     (request_of asked ≡ Ok (Show false) → ⊥) → Grows (λ es. es) (flat_map told ps) old new)) →
-    last ≡ mid ++ answer_line a → (IsFault a → ⊥) →
+    last ≡ mid ++ written p →
     (ps : List Piece) × (last ≡ first ++ flat_map written ps) × (AllByRecursion IsPlain ps →
     (request_of asked ≡ Ok (Show false) → ⊥) → Grows (λ es. es) (flat_map told ps) old new)
-requested old new a asked first mid last (ps, is, grows) e fine = (
-  ps ++ Answered a ∷ [],
-  e ∙ ap (λ (l : List ℕ). l ++ answer_line a) is ∙ append_assoc first (flat_map written ps) (answer_line a)
-      ∙ ap (λ (l : List ℕ). first ++ (flat_map written ps ++ l)) (sym (append-nil (answer_line a)))
-      ∙ ap (λ (l : List ℕ). first ++ l) (sym (flat_map-append written ps (Answered a ∷ []))),
+requested-by old new p silent asked first mid last (ps, is, grows) e = (
+  ps ++ p ∷ [],
+  e ∙ ap (λ (l : List ℕ). l ++ written p) is ∙ append_assoc first (flat_map written ps) (written p)
+      ∙ ap (λ (l : List ℕ). first ++ (flat_map written ps ++ l)) (sym (append-nil (written p)))
+      ∙ ap (λ (l : List ℕ). first ++ l) (sym (flat_map-append written ps (p ∷ []))),
   λ plain other.
-      subst (λ (l : List ℕ). Grows (λ es. es) l old new) (sym (append-nil (flat_map told ps)) ∙ sym (flat_map-append told ps (Answered a ∷ [])))
-      (grows fine (first_all IsPlain ps (Answered a) plain) other),
+      subst (λ (l : List ℕ). Grows (λ es. es) l old new)
+      (sym (append-nil (flat_map told ps)) ∙ ap (λ (l : List ℕ). flat_map told ps ++ (l ++ [])) (sym silent) ∙ sym (flat_map-append told ps (p ∷ [])))
+      (grows (first_all IsPlain ps p plain) other),
 )
+
+-- a request's line that answers
+pub requested : (old new : KeptSession) (a : Answer) (add : Option Answer) (asked first mid last : List ℕ) →
+    ((ps : List Piece) × (mid ≡ first ++ flat_map written ps) × ((IsFault a → ⊥) → AllByRecursion IsPlain ps →
+    (request_of asked ≡ Ok (Show false) → ⊥) → Grows (λ es. es) (flat_map told ps) old new)) →
+    last ≡ mid ++ answer_with a add → (IsFault a → ⊥) →
+    (ps : List Piece) × (last ≡ first ++ flat_map written ps) × (AllByRecursion IsPlain ps →
+    (request_of asked ≡ Ok (Show false) → ⊥) → Grows (λ es. es) (flat_map told ps) old new)
+requested old new a None asked first mid last (ps, is, grows) e fine = requested-by old new (Answered a) refl asked first mid last (ps, is, grows fine) e
+requested old new a (Some b) asked first mid last (ps, is, grows) e fine = requested-by old new (AnsweredBoth a b) refl asked first mid last (ps, is, grows fine) e
 
 -- ---- faults
 pub if_ok : {T E : Type 0} (P Q : T → Type 0) (r : Result T E) → ((x : T) → P x → Q x) → IfOk r P → IfOk r Q
@@ -261,23 +297,14 @@ fault-none (answers.Next n) fine = refl
 fault-none (answers.Over n) fine = refl
 fault-none (answers.Fault c) fine = absurd (fine tt)
 
-pub said-all : (a : Answer) → fault_of a ≡ None → said_of a ≡ answer_line a
-said-all (answers.Fault c) none = absurd (cc)
-said-all answers.Done none = refl
-said-all (answers.Packet n) none = refl
-said-all (answers.Refused n) none = refl
-said-all (answers.Now n) none = refl
-said-all (answers.Next n) none = refl
-said-all (answers.Over n) none = refl
-
 -- a fault is handed back where there is one
 pub fault-said : (fault f : Option Cause) (a : Answer) (old new : KeptSession) (first mid last : List ℕ) → Answers fault a ((new ≡ old) × (mid ≡ first)) →
-    f ≡ fault_of a → last ≡ mid ++ said_of a → (f ≡ fault) × (IsSome f → (new ≡ old) × (last ≡ first))
-fault-said None f a old new first mid last fine is said =
+    f ≡ fault_of a → (IsFault a → last ≡ mid) → (f ≡ fault) × (IsSome f → (new ≡ old) × (last ≡ first))
+fault-said None f a old new first mid last fine is silent =
     let none : f ≡ None = is ∙ fault-none a fine in (none, λ some. absurd (let h = subst IsSome none some in cc))
-fault-said (Some c) f a old new first mid last (is_fault, (same, kept)) is said = (
+fault-said (Some c) f a old new first mid last (is_fault, (same, kept)) is silent = (
   is ∙ ap fault_of is_fault,
-  λ some. (same, said ∙ ap (λ b. mid ++ said_of b) is_fault ∙ append-nil mid ∙ kept),
+  λ some. (same, silent (subst IsFault (sym is_fault) tt) ∙ kept),
 )
 
 -- ---- what a line does
@@ -311,16 +338,21 @@ current-fault f a old o p kept within found h =
     (sym (get-some old.opened old.current o within found))
     (same-by (f o) a ((p ≡ o) × kept) ((record { opened = set old.opened old.current p; current = old.current } ≡ old) × kept) (λ (x : (p ≡ o) × kept). (back x.0, x.1)) h)
 
+-- what is said where a line is taken
+abbrev pub Says : Answer → KeptSession → List ℕ → List ℕ → Type 0
+Says a s mid last = (more : Option Answer) × (last ≡ mid ++ answer_with a more) × IsAdded (current_of s) a more
+
 -- what was said of a line that was taken
-pub does-said : (f : Option Cause) (a : Answer) (first mid last : List ℕ) (P : List ℕ → Answer → Type 0) →
-    ((IsFault a → ⊥) → (bytes : List ℕ) × (mid ≡ first ++ bytes) × P bytes a) → f ≡ fault_of a → last ≡ mid ++ said_of a → f ≡ None →
-    (said : List ℕ) × (last ≡ first ++ said) × IsSaid said P
-does-said f a first mid last P did is said none =
-    let fine : fault_of a ≡ None = sym is ∙ none in
-    let h = did (no-fault a fine) in (
-      h.0 ++ answer_line a,
-      said ∙ ap (λ (l : List ℕ). mid ++ l) (said-all a fine) ∙ ap (λ (l : List ℕ). l ++ answer_line a) h.1 ∙ append_assoc first h.0 (answer_line a),
-      (h.0, a, refl, h.2),
+pub does-said : (f : Option Cause) (a : Answer) (s : KeptSession) (first mid last : List ℕ) (P : List ℕ → Answer → Type 0) →
+    ((IsFault a → ⊥) → (bytes : List ℕ) × (mid ≡ first ++ bytes) × P bytes a) → f ≡ fault_of a → ((IsFault a → ⊥) → Says a s mid last) → f ≡ None →
+    (said : List ℕ) × (last ≡ first ++ said) × IsSaid said s P
+does-said f a s first mid last P did is says none =
+    let fine : IsFault a → ⊥ = no-fault a (sym is ∙ none) in
+    let h = did fine in
+    let m = says fine in (
+      h.0 ++ answer_with a m.0,
+      m.1 ∙ ap (λ (l : List ℕ). l ++ answer_with a m.0) h.1 ∙ append_assoc first h.0 (answer_with a m.0),
+      (h.0, a, m.0, refl, m.2, h.2),
     )
 
 -- ---- what a line says

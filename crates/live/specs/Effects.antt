@@ -1,5 +1,5 @@
 -- What a line does in a session that takes it (our choice).
-use Rattle.std.specs.Prelude.{◌≡◌, ℕ, ◌<◌, ◌*◌, ◌^◌, Bool, true, false, List, [], ◌∷◌, ◌++◌, length, Option, Some, None, Ok, set, slice_get, codes, MatchOption, ◌⊎◌}
+use Rattle.std.specs.Prelude.{◌≡◌, ℕ, ◌<◌, ◌*◌, ◌^◌, Bool, true, false, List, [], ◌∷◌, ◌++◌, length, ◌&&◌, Option, Some, None, Ok, set, slice_get, codes, MatchOption, ◌⊎◌}
 use Rattle.emu_model.specs.declared.commands.Spec.{Spec}
 use Rattle.emu_model.specs.declared.commands.Timed.{Timed}
 use Rattle.emu_model.specs.declared.records.Ending.{Ending}
@@ -21,8 +21,8 @@ use Rattle.live.specs.Fates.{refusal_in, taken_by, MarkedBy}
 use Rattle.live.specs.Runs.{KeptRun, Forgets, Takes, IsQuiet, state_of, made_of, closing_of, first_moment}
 use Rattle.live.specs.Stops.{StopsAt}
 use Rattle.live.specs.Opens.{KeptOpen, stand_of}
-use Rattle.live.specs.Lines.{answer_line, help_lines}
-use Rattle.live.specs.Requests.{Asked, Until, UntilMine, UntilAny, Next, Use, Show, Help, asked_of, request_of}
+use Rattle.live.specs.Lines.{answer_with, help_lines}
+use Rattle.live.specs.Requests.{Asked, Until, UntilMine, UntilAny, Next, AddNext, Use, Show, Help, asked_of, request_of}
 use Rattle.live.specs.Sessions.{KeptSession}
 use Rattle.live.specs.Faults.{current_of, place_named}
 
@@ -123,6 +123,26 @@ NextIn phases.Going a o = (m : Option ℕ) × (a ≡ answers.Next m) × IsNext o
 NextIn phases.Over a o = a ≡ answers.Over o.reached
 NextIn phases.Lost a o = a ≡ answers.Over o.reached
 
+-- the answer to `next` can be added to this one; the others say themselves how the experiment stands
+abbrev pub can_add : Answer → Bool
+can_add answers.Done = true
+can_add (answers.Packet number) = true
+can_add (answers.Refused code) = true
+can_add (answers.Now moment) = true
+can_add (answers.Next moment) = false
+can_add (answers.Over moment) = false
+can_add (answers.Fault cause) = false
+
+-- the answer to `next` is added, or nothing is
+abbrev pub IsAddedIf : Bool → KeptOpen → Option Answer → Type 0
+IsAddedIf true o more = (b : Answer) × (more ≡ Some b) × NextIn o.phase b o
+IsAddedIf false o more = more ≡ None
+
+-- it is added if the experiment that lines are for behind the line wants it
+abbrev pub IsAdded : Option KeptOpen → Answer → Option Answer → Type 0
+IsAdded (Some o) a more = IsAddedIf (o.adds_next && can_add a) o more
+IsAdded None a more = more ≡ None
+
 -- ---- the session
 -- the experiment that lines are for becomes another
 pub record Moves (P : Answer → KeptOpen → KeptOpen → Type 0) (a : Answer) (old new : KeptSession) : Type 0 where
@@ -138,6 +158,7 @@ Obeys (Until limit) bytes a old new = Moves (λ a o p. PassesIn o.phase limit st
 Obeys (UntilMine limit hold) bytes a old new = Moves (λ a o p. PassesIn o.phase limit (stops.Mine hold) bytes a o p) a old new
 Obeys (UntilAny limit hold) bytes a old new = Moves (λ a o p. PassesIn o.phase limit (stops.Any hold) bytes a o p) a old new
 Obeys Next bytes a old new = (o : KeptOpen) × (current_of old ≡ Some o) × (new ≡ old) × (bytes ≡ []) × NextIn o.phase a o
+Obeys (AddNext on) bytes a old new = (bytes ≡ []) × Moves (λ a o p. (p ≡ record o { adds_next = on }) × (a ≡ answers.Done)) a old new
 Obeys (Show all) bytes a old new = (bytes ≡ []) × Moves (λ a o p. (p ≡ record o { run = record o.run { shows_all = all } }) × (a ≡ answers.Done)) a old new
 Obeys (Use name) bytes a old new = (place : ℕ) × (place_named name old.opened ≡ Some place) × (new ≡ record old { current = place }) × (bytes ≡ codes "#: " ++ name ++ codes "\n") × (a ≡ answers.Done)
 Obeys Help bytes a old new = (new ≡ old) × (bytes ≡ help_lines) × (a ≡ answers.Done)
@@ -152,6 +173,7 @@ pub record IsBegun (name : List ℕ) (spec : Spec) (bytes : List ℕ) (a : Answe
   pub shows : opened.run.shows_all ≡ true
   pub mine : opened.run.mine ≡ []
   pub unclosed : opened.is_closed ≡ false
+  pub adds_not : opened.adds_next ≡ false
   pub reached : opened.reached ≡ 0
   pub phase : opened.phase ≡ phases.Going
   pub told : bytes ≡ heading_of name
@@ -164,14 +186,16 @@ Follows (Begins name spec) bytes a old new = IsBegun name spec bytes a old new
 Follows (Does c) bytes a old new = Moves (λ a o p. ObeysIn o.phase c bytes a o p) a old new
 
 -- what is written for a line that is taken: what happened, and then the answer; nothing for one that says nothing
-abbrev pub IsSaid : List ℕ → (List ℕ → Answer → Type 0) → Type 0
-IsSaid said P = (bytes : List ℕ) × (a : Answer) × (said ≡ bytes ++ answer_line a) × P bytes a
+abbrev pub IsSaid : List ℕ → KeptSession → (List ℕ → Answer → Type 0) → Type 0
+IsSaid said new P =
+    (bytes : List ℕ) × (a : Answer) × (more : Option Answer) × (said ≡ bytes ++ answer_with a more)
+    × IsAdded (current_of new) a more × P bytes a
 
 abbrev pub DoesBy : Option (List ℕ) → List ℕ → List ℕ → KeptSession → KeptSession → Type 0
-DoesBy (Some asked) line said old new = IsSaid said (λ bytes a. (q : Asked) × (request_of asked ≡ Ok q) × Obeys q bytes a old new)
+DoesBy (Some asked) line said old new = IsSaid said new (λ bytes a. (q : Asked) × (request_of asked ≡ Ok q) × Obeys q bytes a old new)
 DoesBy None line said old new =
     (IsEntry line Nothing × (said ≡ []) × (new ≡ old))
-    ⊎ IsSaid said (λ bytes a. (e : Entry) × IsEntry line e × Follows e bytes a old new)
+    ⊎ IsSaid said new (λ bytes a. (e : Entry) × IsEntry line e × Follows e bytes a old new)
 
 abbrev pub LineDoes : List ℕ → List ℕ → KeptSession → KeptSession → Type 0
 LineDoes line said old new = DoesBy (asked_of line) line said old new

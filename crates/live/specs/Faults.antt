@@ -11,7 +11,7 @@ use Rattle.live.specs.declared.answer.Answer.TheVariants as answers
 use Rattle.live.specs.declared.open.Phase.{Phase}
 use Rattle.live.specs.declared.open.Phase.TheVariants.{Going, Over, Lost}
 use Rattle.live.specs.Opens.{KeptOpen, IsFault}
-use Rattle.live.specs.Requests.{Asked, Until, UntilMine, UntilAny, Next, Use, Show, Help, asked_of, request_of}
+use Rattle.live.specs.Requests.{Asked, Until, UntilMine, UntilAny, Next, AddNext, Use, Show, Help, asked_of, request_of}
 use Rattle.live.specs.Sessions.{KeptSession}
 
 -- a line's own fault
@@ -56,6 +56,7 @@ request_fault s (Until limit) = of_current (λ o. time_fault o limit) (current_o
 request_fault s (UntilMine limit hold) = of_current (λ o. time_fault o limit) (current_of s)
 request_fault s (UntilAny limit hold) = of_current (λ o. time_fault o limit) (current_of s)
 request_fault s Next = of_current (λ o. None) (current_of s)
+request_fault s (AddNext on) = of_current (λ o. None) (current_of s)
 request_fault s (Show all) = of_current (λ o. None) (current_of s)
 request_fault s (Use name) = if is_some (place_named name s.opened) then None else Some NoExperiment
 request_fault s Help = None

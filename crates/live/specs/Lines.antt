@@ -21,25 +21,31 @@ cause_word causes.NoExperiment = codes "noexperiment"
 cause_word causes.AfterEnd = codes "afterend"
 cause_word causes.Backwards = codes "backwards"
 
+abbrev pub answer_words : Answer → List ℕ
+answer_words answers.Done = codes "ok"
+answer_words (answers.Packet n) = codes "packet " ++ decimal n
+answer_words (answers.Refused n) = codes "refused " ++ decimal n
+answer_words (answers.Now n) = codes "now " ++ decimal n
+answer_words (answers.Next (Some n)) = codes "next " ++ decimal n
+answer_words (answers.Next None) = codes "next none"
+answer_words (answers.Over n) = codes "over " ++ decimal n
+answer_words (answers.Fault c) = codes "fault " ++ cause_word c
+
 abbrev pub answer_line : Answer → List ℕ
-answer_line answers.Done = codes "#< ok\n"
-answer_line (answers.Packet n) = codes "#< packet " ++ decimal n ++ codes "\n"
-answer_line (answers.Refused n) = codes "#< refused " ++ decimal n ++ codes "\n"
-answer_line (answers.Now n) = codes "#< now " ++ decimal n ++ codes "\n"
-answer_line (answers.Next (Some n)) = codes "#< next " ++ decimal n ++ codes "\n"
-answer_line (answers.Next None) = codes "#< next none\n"
-answer_line (answers.Over n) = codes "#< over " ++ decimal n ++ codes "\n"
-answer_line (answers.Fault c) = codes "#< fault " ++ cause_word c ++ codes "\n"
+answer_line a = codes "#< " ++ (answer_words a ++ codes "\n")
+
+-- two answers in one line
+abbrev pub answer_both : Answer → Answer → List ℕ
+answer_both a b = codes "#< " ++ (answer_words a ++ (codes " " ++ (answer_words b ++ codes "\n")))
+
+abbrev pub answer_with : Answer → Option Answer → List ℕ
+answer_with a None = answer_line a
+answer_with a (Some b) = answer_both a b
 
 -- the fault that an answer names, if it is one
 abbrev pub fault_of : Answer → Option Cause
 fault_of (answers.Fault cause) = Some cause
 fault_of _ = None
-
--- what is said where the line was taken
-abbrev pub said_of : Answer → List ℕ
-said_of (answers.Fault c) = []
-said_of a = answer_line a
 
 -- a text as comments, one for each of its lines
 abbrev pub comment_line : List ℕ → List ℕ
@@ -61,6 +67,7 @@ help_lines =
     ++ codes "# #> until @M first [G]      the same, but at most G ns (1) past the first delivery or drop of an injected packet\n"
     ++ codes "# #> until @M first any [G]  the same, of any packet\n"
     ++ codes "# #> next                    when the next event is due\n"
+    ++ codes "# #> next on|off             other answers also say when the next event is due, or not\n"
     ++ codes "# #> show mine|all           tell what concerns injected packets, or all\n"
     ++ codes "# #> use NAME                the lines that follow are for this experiment\n"
     ++ codes "# other lines are those of a scenario: experiment NAME seed S budget B [steps N], @M COMMAND, @M end\n"

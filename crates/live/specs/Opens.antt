@@ -10,13 +10,15 @@ use Rattle.live.specs.declared.open.Phase.TheVariants.{Going, Over, Lost}
 use Rattle.live.specs.Runs.{KeptRun, IsAt, Forgets, closing_of}
 use Rattle.live.specs.RunLaws.{report_of_commands}
 
--- its name, its run, the moment to which time has come, how it stands, and whether its `end` came
+-- its name, its run, the moment to which time has come, how it stands, whether its `end` came, and whether the answer to
+-- `next` is added to others
 pub record KeptOpen : Type 0 where
   pub name : List ℕ
   pub run : KeptRun
   pub reached : ℕ
   pub phase : Phase
   pub is_closed : Bool
+  pub adds_next : Bool
 
 -- one that goes on waits at that moment, and all that it told was handed out
 abbrev pub IsOpen : Phase → ℕ → KeptRun → Bool → Type 0

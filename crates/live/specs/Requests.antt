@@ -18,6 +18,7 @@ pub data Asked : Type 0 where
   UntilMine : ℕ → ℕ → Asked
   UntilAny : ℕ → ℕ → Asked
   Next : Asked
+  AddNext : Bool → Asked
   Use : List ℕ → Asked
   Show : Bool → Asked
   Help : Asked
@@ -27,6 +28,7 @@ view_request (code.Until limit) = Until limit
 view_request (code.UntilMine limit hold) = UntilMine limit hold
 view_request (code.UntilAny limit hold) = UntilAny limit hold
 view_request code.Next = Next
+view_request (code.AddNext on) = AddNext on
 view_request (code.Use name) = Use name.now
 view_request (code.Show all) = Show all
 view_request code.Help = Help
@@ -36,6 +38,7 @@ view_raw (raw.Until limit) = Until limit
 view_raw (raw.UntilMine limit hold) = UntilMine limit hold
 view_raw (raw.UntilAny limit hold) = UntilAny limit hold
 view_raw raw.Next = Next
+view_raw (raw.AddNext on) = AddNext on
 view_raw (raw.Use name) = Use name.now
 view_raw (raw.Show all) = Show all
 view_raw raw.Help = Help
@@ -92,6 +95,14 @@ ended_of a ws = do
   end ← none_left ws
   Some a
 
+-- nothing, or on, or off
+unfoldable pub next_of : Words → Option Asked
+next_of [] = Some Next
+next_of (word ∷ ws) =
+    if bytes_eq word (codes "on") then ended_of (AddNext true) ws
+    else if bytes_eq word (codes "off") then ended_of (AddNext false) ws
+    else None
+
 -- all, or mine
 unfoldable pub shown_of : Words → Option Asked
 shown_of ws = do
@@ -104,7 +115,7 @@ unfoldable pub shape_of : Words → Option Asked
 shape_of ws = do
   word ← next ws
   if bytes_eq word.0 (codes "until") then until_of word.1
-      else if bytes_eq word.0 (codes "next") then ended_of Next word.1
+      else if bytes_eq word.0 (codes "next") then next_of word.1
       else if bytes_eq word.0 (codes "use") then used_of word.1
       else if bytes_eq word.0 (codes "show") then shown_of word.1
       else if bytes_eq word.0 (codes "help") then ended_of Help word.1
@@ -128,6 +139,7 @@ asked_within (UntilAny limit hold) = do
   h ← time_within 1 hold
   Some (UntilAny m h)
 asked_within Next = Some Next
+asked_within (AddNext on) = Some (AddNext on)
 asked_within (Use name) = Some (Use name)
 asked_within (Show all) = Some (Show all)
 asked_within Help = Some Help

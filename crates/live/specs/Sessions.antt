@@ -5,7 +5,7 @@ use Rattle.control.specs.declared.scenario.Experiment.{Experiment}
 use Rattle.control.specs.Scenario.{experiments}
 use Rattle.control_lines.specs.Entries.{Entry, Says}
 use Rattle.live.specs.declared.answer.Answer.{Answer}
-use Rattle.live.specs.Lines.{answer_line, help_lines, comment_of}
+use Rattle.live.specs.Lines.{answer_line, answer_both, help_lines, comment_of}
 use Rattle.live.specs.Opens.{KeptOpen, IsTold, IsFault}
 use Rattle.live.specs.Requests.{Show, request_of}
 
@@ -14,10 +14,11 @@ pub record KeptSession : Type 0 where
   pub opened : List KeptOpen
   pub current : ℕ
 
--- what is written: bytes of reports, and lines that begin with `#`: an answer, the name of the experiment that lines are for from now on, what can be asked, and a hint
+-- what is written: bytes of reports, and lines that begin with `#`: an answer, one with the answer to `next`, the name of the experiment that lines are for from now on, what can be asked, and a hint
 pub data Piece : Type 0 where
   Told : List ℕ → Piece
   Answered : Answer → Piece
+  AnsweredBoth : Answer → Answer → Piece
   Turned : List ℕ → Piece
   Helped : Piece
   Hinted : List ℕ → Piece
@@ -25,6 +26,7 @@ pub data Piece : Type 0 where
 abbrev pub written : Piece → List ℕ
 written (Told bytes) = bytes
 written (Answered a) = answer_line a
+written (AnsweredBoth a b) = answer_both a b
 written (Turned name) = codes "#: " ++ name ++ codes "\n"
 written Helped = help_lines
 written (Hinted text) = comment_of text
@@ -37,6 +39,7 @@ told _ = []
 -- no line was refused, and none turned to another experiment
 abbrev pub IsPlain : Piece → Type 0
 IsPlain (Answered a) = ¬ IsFault a
+IsPlain (AnsweredBoth a b) = ¬ IsFault a
 IsPlain (Turned name) = ⊥
 IsPlain _ = Unit {0}
 

@@ -1,7 +1,8 @@
 //! The line that answers.
 
 ghost use Rattle.std.specs.Prelude.{◌≡◌, ◌++◌, OnOk, codes, decimal};
-ghost use Rattle.live.specs.Lines.{answer_line, cause_word, comment_line, comment_of};
+ghost use Rattle.live.specs.Effects.{can_add};
+ghost use Rattle.live.specs.Lines.{answer_line, answer_words, answer_with, cause_word, comment_line, comment_of};
 
 use control::Cause;
 use control_words::first_line;
@@ -28,6 +29,18 @@ pub enum Answer {
     Fault(Cause),
 }
 
+impl Answer {
+    /// Returns true if the answer to `next` can be added: the other answers say themselves how the experiment stands.
+    pub fn can_add(self) -> bool
+        ensures { result ≡ can_add self }
+    {
+        match self {
+            Answer::Done | Answer::Packet(_) | Answer::Refused(_) | Answer::Now(_) => true,
+            Answer::Next(_) | Answer::Over(_) | Answer::Fault(_) => false,
+        }
+    }
+}
+
 // The word of a cause, as in a fault of a scenario.
 fn word_of(cause: Cause) -> &'static [u8]
     ensures { result.now ≡ cause_word cause }
@@ -51,24 +64,21 @@ fn word_of(cause: Cause) -> &'static [u8]
 // Appends words and a number.
 fn put_number(out: &mut Vec<u8>, words: &[u8], number: u64) -> Result<(), AllocError>
     ensures { OnOk result
-        (out.new.items ≡ out.old.items ++ (words.now ++ decimal number ++ codes "\n")) }
+        (out.new.items ≡ out.old.items ++ (words.now ++ decimal number)) }
 {
     let mut digits = Digits::new();
     out.extend_from_slice(words)?;
     out.extend_from_slice(digits.format(number).as_bytes())?;
-    out.push(b'\n')?;
     Ok(())
 }
 
-// Appends the line of a fault.
+// Appends the words of a fault.
 fn put_fault(out: &mut Vec<u8>, cause: Cause) -> Result<(), AllocError>
     ensures { OnOk result
-        (out.new.items
-        ≡ out.old.items ++ (codes "#< fault " ++ cause_word cause ++ codes "\n")) }
+        (out.new.items ≡ out.old.items ++ (codes "fault " ++ cause_word cause)) }
 {
-    out.extend_from_slice(b"#< fault ")?;
+    out.extend_from_slice(b"fault ")?;
     out.extend_from_slice(word_of(cause))?;
-    out.extend_from_slice(b"\n")?;
     Ok(())
 }
 
@@ -80,20 +90,46 @@ fn put_words(out: &mut Vec<u8>, words: &[u8]) -> Result<(), AllocError>
     Ok(())
 }
 
+// Appends the words of an answer.
+fn put_answer_words(out: &mut Vec<u8>, answer: Answer) -> Result<(), AllocError>
+    ensures { OnOk result (out.new.items ≡ out.old.items ++ answer_words answer) }
+{
+    match answer {
+        Answer::Done => put_words(out, b"ok"),
+        Answer::Packet(number) => put_number(out, b"packet ", number),
+        Answer::Refused(code) => put_number(out, b"refused ", code),
+        Answer::Now(moment) => put_number(out, b"now ", moment),
+        Answer::Next(Some(moment)) => put_number(out, b"next ", moment),
+        Answer::Next(None) => put_words(out, b"next none"),
+        Answer::Over(moment) => put_number(out, b"over ", moment),
+        Answer::Fault(cause) => put_fault(out, cause),
+    }
+}
+
+/// Appends the line that answers, with a second answer in it if there is one; `AllocError` leaves what was appended by
+/// then.
+pub fn put_answer_with(
+    out: &mut Vec<u8>,
+    answer: Answer,
+    more: Option<Answer>,
+) -> Result<(), AllocError>
+    ensures { OnOk result (out.new.items ≡ out.old.items ++ answer_with answer more) }
+{
+    out.extend_from_slice(b"#< ")?;
+    put_answer_words(out, answer)?;
+    if let Some(more) = more {
+        out.push(b' ')?;
+        put_answer_words(out, more)?;
+    }
+    out.push(b'\n')?;
+    Ok(())
+}
+
 /// Appends the line that answers; `AllocError` leaves what was appended by then.
 pub fn put_answer(out: &mut Vec<u8>, answer: Answer) -> Result<(), AllocError>
     ensures { OnOk result (out.new.items ≡ out.old.items ++ answer_line answer) }
 {
-    match answer {
-        Answer::Done => put_words(out, b"#< ok\n"),
-        Answer::Packet(number) => put_number(out, b"#< packet ", number),
-        Answer::Refused(code) => put_number(out, b"#< refused ", code),
-        Answer::Now(moment) => put_number(out, b"#< now ", moment),
-        Answer::Next(Some(moment)) => put_number(out, b"#< next ", moment),
-        Answer::Next(None) => put_words(out, b"#< next none\n"),
-        Answer::Over(moment) => put_number(out, b"#< over ", moment),
-        Answer::Fault(cause) => put_fault(out, cause),
-    }
+    put_answer_with(out, answer, None)
 }
 
 // Appends a line as a comment.

@@ -1,8 +1,8 @@
 //! One experiment of a session: how far its time has come, and how it stands.
 
-ghost use Rattle.std.specs.Prelude.{◌≡◌, ◌^◌, ◌≤◌, ◌<◌, ◌++◌, ◌∷◌, [], ℕ, List, true, false, None, Ok, OnOk, IfOk, IfNone, IfSome, MatchOption};
+ghost use Rattle.std.specs.Prelude.{◌≡◌, ◌^◌, ◌≤◌, ◌<◌, ◌++◌, ◌∷◌, [], ℕ, List, true, false, Some, None, Ok, OnOk, IfOk, IfNone, IfSome, MatchOption};
 ghost use Rattle.emu_model.specs.Commands.{is_end};
-ghost use Rattle.live.specs.Effects.{Commanded, ObeysIn, IsPassed, PassesIn, NextIn, answer_of};
+ghost use Rattle.live.specs.Effects.{Commanded, ObeysIn, IsPassed, PassesIn, NextIn, IsAdded, answer_of};
 ghost use Rattle.live.specs.declared.fates.Stop.TheVariants.{Moment};
 ghost use Rattle.emu_model.specs.declared.records.Record.{Record};
 ghost use Rattle.packet_store.specs.Own.{own_pocket};
@@ -46,6 +46,8 @@ pub struct Open {
     phase: Phase,
     // Whether its last command came.
     is_closed: bool,
+    // Whether the answer to `next` is added to others.
+    adds_next: bool,
 }
 
 impl Model for Open {
@@ -59,6 +61,7 @@ impl Model for Open {
       reached = o.reached;
       phase = o.phase;
       is_closed = o.is_closed;
+      adds_next = o.adds_next;
     } };
 
     ghost invariant = { λ o. IsOpen o.phase o.reached o.run o.is_closed };
@@ -97,7 +100,7 @@ impl Open {
         ensures told { IfOk result (λ o. (out.new.items ≡ out.old.items ++ heading_of name.now)
             × IsTold [] (heading_of name.now) o) }
         ensures given { IfOk result (λ o. (o.name ≡ name.now) × (o.run.experiment.spec ≡ spec)
-            × (o.reached ≡ 0) × (o.phase ≡ Going) × (o.is_closed ≡ false)) }
+            × (o.reached ≡ 0) × (o.phase ≡ Going) × (o.is_closed ≡ false) × (o.adds_next ≡ false)) }
         ensures begins { IfOk result (λ o. (state_of o.run ≡ initial_state spec [])
             × Counts [] o.run.report × (o.run.shows_all ≡ true) × (o.run.mine ≡ [])) }
     {
@@ -109,6 +112,7 @@ impl Open {
             reached: 0,
             phase: Phase::Going,
             is_closed: false,
+            adds_next: false,
         })
     }
 
@@ -131,6 +135,13 @@ impl Open {
         ensures { self.new ≡ record self.old { run = record self.old.run { shows_all = all } } }
     {
         self.run.show(all);
+    }
+
+    /// Sets whether the answer to `next` is added to others from now on.
+    pub fn add_next(&mut self, on: bool)
+        ensures { self.new ≡ record self.old { adds_next = on } }
+    {
+        self.adds_next = on;
     }
 
     // What was recorded is written, and the counters where it has ended; all that was written is handed out.
@@ -254,6 +265,16 @@ impl Open {
             Phase::Going => Answer::Next(self.run.next_moment()),
             _ => Answer::Over(self.reached),
         }
+    }
+
+    /// Returns the answer to `next`, if it is to be added to this answer.
+    pub fn added(&self, answer: Answer) -> Option<Answer>
+        ensures { IsAdded (Some self.now) answer result }
+    {
+        if !self.adds_next || !answer.can_add() {
+            return None;
+        }
+        Some(self.next())
     }
 
     // A command comes to one that is over: it is never reached.

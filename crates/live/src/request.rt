@@ -2,7 +2,7 @@
 
 ghost use Rattle.std.specs.Prelude.{◌≡◌, ◌≤◌, ◌^◌, ◌++◌, IfOk, IfSome, MatchResult, codes, option_map};
 ghost use Rattle.control_words.specs.Text.{words as words_of};
-ghost use Rattle.live.specs.Requests.{IsInRange, asked_of, hold_of, first_of, until_of, used_of, shown_of, ended_of, shape_of, asked_within, time_within, request_of, view_request, view_raw};
+ghost use Rattle.live.specs.Requests.{IsInRange, asked_of, hold_of, first_of, until_of, used_of, shown_of, next_of, ended_of, shape_of, asked_within, time_within, request_of, view_request, view_raw};
 
 use control::Cause;
 use control_words::addresses::name as name_in;
@@ -22,6 +22,8 @@ pub enum Request<'a> {
     UntilAny { limit: u64, hold: u64 },
     /// `next`: when is the next event due?
     Next,
+    /// `next on`, `next off`: whether the answer to `next` is to be added to others from now on.
+    AddNext { on: bool },
     /// `use NAME`: the lines that follow are for this experiment.
     Use { name: &'a [u8] },
     /// `show all`, `show mine`: which records are to be told from now on.
@@ -37,6 +39,7 @@ enum RawRequest<'a> {
     UntilMine { limit: u128, hold: u128 },
     UntilAny { limit: u128, hold: u128 },
     Next,
+    AddNext { on: bool },
     Use { name: &'a [u8] },
     Show { all: bool },
     Help,
@@ -96,6 +99,22 @@ fn until_request<'a>(words: &mut Words<'a>) -> Option<RawRequest<'a>>
     first_request(words, limit)
 }
 
+// What stands after `next`.
+#[tactic(auto, unfolding(crate::specs::Requests::next_of))]
+fn next_request<'a>(words: &mut Words<'a>) -> Option<RawRequest<'a>>
+    ensures { option_map view_raw result ≡ next_of (words_of words.old.rest.now) }
+{
+    let Some(word) = words.next_word() else {
+        return Some(RawRequest::Next);
+    };
+    let on = is(word, "on");
+    if !on && !is(word, "off") {
+        return None;
+    }
+    words.expect_end()?;
+    Some(RawRequest::AddNext { on })
+}
+
 // What stands after `use`.
 #[tactic(auto, unfolding(crate::specs::Requests::used_of))]
 fn use_request<'a>(words: &mut Words<'a>) -> Option<RawRequest<'a>>
@@ -139,7 +158,7 @@ fn shape<'a>(words: &mut Words<'a>) -> Option<RawRequest<'a>>
     if is(word, "until") {
         until_request(words)
     } else if is(word, "next") {
-        word_request(words, RawRequest::Next)
+        next_request(words)
     } else if is(word, "use") {
         use_request(words)
     } else if is(word, "show") {
@@ -185,6 +204,7 @@ fn in_ranges(request: RawRequest) -> Option<Request>
             Some(Request::UntilAny { limit, hold })
         }
         RawRequest::Next => Some(Request::Next),
+        RawRequest::AddNext { on } => Some(Request::AddNext { on }),
         RawRequest::Use { name } => Some(Request::Use { name }),
         RawRequest::Show { all } => Some(Request::Show { all }),
         RawRequest::Help => Some(Request::Help),

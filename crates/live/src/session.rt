@@ -1,17 +1,17 @@
 //! What is said to each line.
 
-ghost use Rattle.std.specs.Prelude.{◌≡◌, ◌≤◌, ◌<◌, ◌^◌, ◌++◌, ◌∷◌, [], ℕ, List, flat_map, None, Ok, IfOk, IsSome, ⊤, IsTrue, All, true, false};
+ghost use Rattle.std.specs.Prelude.{◌↔◌, ◌≡◌, ◌≤◌, ◌<◌, ◌^◌, ◌++◌, ◌∷◌, [], ℕ, List, flat_map, Option, None, Ok, IfOk, IsSome, ⊤, IsTrue, All, true, false};
 ghost use Rattle.std.specs.List.{AllByRecursion};
 ghost use Rattle.control.specs.Scenario.{begun, with_last};
-ghost use Rattle.live.specs.Lines.{fault_of, said_of};
+ghost use Rattle.live.specs.Lines.{fault_of, answer_with};
 ghost use Rattle.live.specs.Opens.{IsFault};
-ghost use Rattle.live.specs.Requests.{IsInRange, Asked, Next, Show, Use, request_of, view_request};
+ghost use Rattle.live.specs.Requests.{IsInRange, Asked, Next, AddNext, Show, Use, request_of, view_request};
 ghost use Rattle.control_lines.specs.Entries.{Does};
-ghost use Rattle.live.specs.Effects.{PassesIn, Moves, Obeys, Follows, IsBegun, IsSaid, DoesBy, LineDoes};
+ghost use Rattle.live.specs.Effects.{PassesIn, Moves, Obeys, Follows, IsAdded, IsBegun, IsSaid, DoesBy, LineDoes};
 ghost use Rattle.live.specs.Faults.{Answers, IsFaultAlone, IsFaultOf, cause_of, place_named, current_of, of_current, begin_fault, command_fault, time_fault, request_fault, asked_fault};
 ghost use Rattle.live.specs.Sessions.{Piece, IsPlain, Grows, Hears, Takes, written, told};
 
-use crate::answer::{Answer, put_answer};
+use crate::answer::{Answer, put_answer_with};
 use crate::fates::Stop;
 use crate::open::Open;
 use crate::request::{Request, asked_in, read_request};
@@ -30,6 +30,7 @@ const HELP: &[u8] = b"\
 # #> until @M first [G]      the same, but at most G ns (1) past the first delivery or drop of an injected packet\n\
 # #> until @M first any [G]  the same, of any packet\n\
 # #> next                    when the next event is due\n\
+# #> next on|off             other answers also say when the next event is due, or not\n\
 # #> show mine|all           tell what concerns injected packets, or all\n\
 # #> use NAME                the lines that follow are for this experiment\n\
 # other lines are those of a scenario: experiment NAME seed S budget B [steps N], @M COMMAND, @M end\n";
@@ -62,18 +63,6 @@ fn cause_of(fault: LineFault) -> Cause
     }
 }
 
-// Says an answer, but for a fault, which is handed back.
-fn say(answer: Answer, out: &mut Vec<u8>) -> Result<Option<Cause>, AllocError>
-    ensures { IfOk result (λ f. (f ≡ fault_of answer)
-        × (out.new.items ≡ out.old.items ++ said_of answer)) }
-{
-    if let Answer::Fault(cause) = answer {
-        return Ok(Some(cause));
-    }
-    put_answer(out, answer)?;
-    Ok(None)
-}
-
 impl Session {
     /// No experiments. Takes no memory.
     pub fn new(alloc: Global) -> Self
@@ -86,9 +75,9 @@ impl Session {
         }
     }
 
-    /// Whether each experiment has its end.
+    /// Returns true if each experiment has its end.
     pub fn is_whole(&self) -> bool
-        ensures { IsTrue result → All (λ o. o.is_closed ≡ true) self.now.opened }
+        ensures { IsTrue result ↔ All (λ o. o.is_closed ≡ true) self.now.opened }
     {
         self.open.iter().all(|it| it.is_closed())
     }
@@ -98,6 +87,28 @@ impl Session {
         ensures { result ≡ place_named name.now self.now.opened }
     {
         self.open.iter().position(|it| it.name() == name)
+    }
+
+    // Returns the answer to `next`, if it is to be added to this answer.
+    fn added(&self, answer: Answer) -> Option<Answer>
+        ensures { IsAdded (current_of self.now) answer result }
+    {
+        self.open.get(self.current)?.added(answer)
+    }
+
+    // Says an answer, but for a fault, which is handed back.
+    fn say(&self, answer: Answer, out: &mut Vec<u8>) -> Result<Option<Cause>, AllocError>
+        ensures { IfOk result (λ f. (f ≡ fault_of answer)
+            × (IsFault answer → out.new.items ≡ out.old.items)
+            × (¬ IsFault answer → (more : Option Answer)
+            × (out.new.items ≡ out.old.items ++ answer_with answer more)
+            × IsAdded (current_of self.now) answer more)) }
+    {
+        if let Answer::Fault(cause) = answer {
+            return Ok(Some(cause));
+        }
+        put_answer_with(out, answer, self.added(answer))?;
+        Ok(None)
     }
 
     // An experiment begins.
@@ -198,6 +209,21 @@ impl Session {
         Answer::Done
     }
 
+    // Whether the answer to `next` is added to others from now on, of the experiment that lines are for.
+    fn add_next(&mut self, on: bool) -> Answer
+        ensures grows { Grows (λ es. es) [] self.old self.new }
+        ensures fault { Answers (of_current (λ _. None) (current_of self.old)) result
+            (self.new ≡ self.old) }
+        ensures adds { ¬ IsFault result → Obeys (AddNext on) [] result self.old self.new }
+    {
+        let place = self.current;
+        if place >= self.open.len() {
+            return Answer::Fault(Cause::NoExperiment);
+        }
+        self.open[place].add_next(on);
+        Answer::Done
+    }
+
     // When the next event is due in the experiment that lines are for.
     fn next(&self) -> Answer
         ensures fault { Answers (of_current (λ _. None) (current_of self.now)) result ⊤ }
@@ -229,6 +255,7 @@ impl Session {
             Request::UntilMine { limit, hold } => self.until(limit, Stop::Mine(hold), out),
             Request::UntilAny { limit, hold } => self.until(limit, Stop::Any(hold), out),
             Request::Next => Ok(self.next()),
+            Request::AddNext { on } => Ok(self.add_next(on)),
             Request::Use { name } => self.turn_to(name, out),
             Request::Show { all } => Ok(self.show(all)),
             Request::Help => {
@@ -270,11 +297,11 @@ impl Session {
             × (IsSome f → (self.new ≡ self.old) × (out.new.items ≡ out.old.items))) }
         ensures does { IfOk result (λ f. f ≡ None → (said : List ℕ)
             × (out.new.items ≡ out.old.items ++ said)
-            × IsSaid said (λ bytes a. (q : Asked) × (request_of asked.now ≡ Ok q)
+            × IsSaid said self.new (λ bytes a. (q : Asked) × (request_of asked.now ≡ Ok q)
             × Obeys q bytes a self.old self.new)) }
     {
         let answer = self.answer(asked, out)?;
-        say(answer, out)
+        self.say(answer, out)
     }
 
     // Takes an experiment's line.
@@ -292,10 +319,10 @@ impl Session {
             × (IsSome f → (self.new ≡ self.old) × (out.new.items ≡ out.old.items))) }
         ensures does { IfOk result (λ f. f ≡ None → (said : List ℕ)
             × (out.new.items ≡ out.old.items ++ said)
-            × IsSaid said (λ bytes a. IsBegun name.now spec bytes a self.old self.new)) }
+            × IsSaid said self.new (λ bytes a. IsBegun name.now spec bytes a self.old self.new)) }
     {
         let answer = self.begin(name, spec, out)?;
-        say(answer, out)
+        self.say(answer, out)
     }
 
     // Takes a command's line.
@@ -314,10 +341,10 @@ impl Session {
             × (IsSome f → (self.new ≡ self.old) × (out.new.items ≡ out.old.items))) }
         ensures does { IfOk result (λ f. f ≡ None → (said : List ℕ)
             × (out.new.items ≡ out.old.items ++ said)
-            × IsSaid said (λ bytes a. Follows (Does command.now) bytes a self.old self.new)) }
+            × IsSaid said self.new (λ bytes a. Follows (Does command.now) bytes a self.old self.new)) }
     {
         let answer = self.command(command, out)?;
-        say(answer, out)
+        self.say(answer, out)
     }
 
     // Takes a line of a scenario.

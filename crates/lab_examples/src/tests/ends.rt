@@ -17,13 +17,21 @@ struct Drip<'a> {
 }
 
 impl Inlet for Drip<'_> {
-    ghost use Rattle.std.specs.Prelude.{None};
+    ghost use Rattle.std.specs.Prelude.{None, Some};
+    ghost use Rattle.std.specs.Io.KnownBytes.{Consumes};
+    ghost use Rattle.std.proofs.KnownBytes.{Consumes-nil, Consumes-trans};
 
     ghost remaining = { λ _. None };
+
+    ghost gives = { λ d bytes e. Consumes (Some d.left.now) (Some e.left.now) bytes };
 
     ghost failed = { λ d. d.failed };
 
     ghost patience = { λ d. d.patience };
+
+    ghost gives_none = { λ d. Consumes-nil (Some d.left.now) };
+
+    ghost gives_both = { λ a b c. Consumes-trans (Some a.left.now) (Some b.left.now) (Some c.left.now) };
 
     fn read(&mut self, room: &mut [u8]) -> Result<usize, Trouble> {
         if self.failed {

@@ -53,6 +53,63 @@ fn reacts_by_hand(rt: HostRuntime) {
     assert!(rt; written.as_slice() == ANSWERED.as_bytes());
 }
 
+/// The same link. The packet finishes at 8 ms; nothing is due after its delivery. Each answer that says nothing of time
+/// itself has the next due, from `next on` to `next off`.
+const ADDED: &str = "#> next on\n\
+    experiment by-hand seed 1 budget 10\n\
+    @0 pipe 1 config bw 1Mbit/s delay 10\n\
+    @0 add 100 pipe 1 ip from any to any\n\
+    #> next on\n\
+    @0 inject udp 10.0.0.1 1000 10.0.0.2 2000 1000\n\
+    #> next\n\
+    #> until @8000001\n\
+    @8000001 delete 7\n\
+    #> until @1000000000 first\n\
+    experiment other seed 1 budget 10\n\
+    #> use by-hand\n\
+    #> next of\n\
+    #> next off\n\
+    #> until @18000002\n\
+    #> next on\n\
+    @18000002 end\n\
+    #> show all\n";
+
+const ADDED_ANSWERED: &str = "#< fault noexperiment\n\
+    experiment by-hand\n\
+    #< ok\n\
+    0 ok 0\n\
+    #< ok\n\
+    0 ok 1\n\
+    #< ok\n\
+    #< ok next none\n\
+    0 ok 2\n\
+    #< packet 0 next 8000000\n\
+    #< next 8000000\n\
+    8000000 finish 0 1.0\n\
+    #< now 8000001 next 18000000\n\
+    8000001 refused 3 13\n\
+    #< refused 13 next 18000000\n\
+    18000000 deliver 0 plain\n\
+    #< now 18000001 next none\n\
+    experiment other\n\
+    #< ok\n\
+    #: by-hand\n\
+    #< ok next none\n\
+    #< fault badword\n\
+    #< ok\n\
+    #< now 18000002\n\
+    #< ok next none\n\
+    18000002 ok 4\n\
+    counters 1 1 0 0 0 0 0 0 0 0 0\n\
+    #< over 18000002\n\
+    #< ok over 18000002\n";
+
+#[test]
+fn adds_the_next_due_by_hand(rt: HostRuntime) {
+    let (_outcome, written) = talk(rt.alloc(), ADDED);
+    assert!(rt; written.as_slice() == ADDED_ANSWERED.as_bytes());
+}
+
 #[test]
 fn ends_as_a_text_does(rt: HostRuntime) {
     let (outcome, written) = talk(rt.alloc(), "experiment a seed 1 budget 1\n@0 end");

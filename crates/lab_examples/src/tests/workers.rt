@@ -15,6 +15,8 @@ impl Gate for Meeting {
 
     ghost may_refuse = { true };
 
+    ghost may_return = { λ _ _ _ _. Unit {0} };
+
     fn ran(&self, bench: u32, _name: u32) -> bool {
         let (mine, other) = if bench == 0 {
             (&self.left, &self.right)
@@ -131,6 +133,8 @@ impl Gate for Watch {
 
     ghost may_refuse = { false };
 
+    ghost may_return = { λ _ _ _ _. Unit {0} };
+
     fn ran(&self, bench: u32, name: u32) -> bool {
         if bench != name % 2 {
             self.adopted.fetch_add(1, Ordering::SeqCst);
@@ -185,6 +189,8 @@ impl Gate for ShutGate {
 
     ghost may_refuse = { true };
 
+    ghost may_return = { λ _ _ _ _. Unit {0} };
+
     fn ran(&self, _bench: u32, _name: u32) -> bool {
         false
     }
@@ -233,6 +239,8 @@ impl Gate for HalfShut {
     ghost use Rattle.std.specs.Prelude.{true};
 
     ghost may_refuse = { true };
+
+    ghost may_return = { λ _ _ _ _. Unit {0} };
 
     fn ran(&self, bench: u32, _name: u32) -> bool {
         bench != 0

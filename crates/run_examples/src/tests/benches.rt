@@ -120,7 +120,7 @@ fn open_error<K: Kit>(
 }
 
 fn the_last_name_of<K: Kit>(rt: &(impl Abort + AllocGlobal)) {
-    let mut registry = Registry::with_first_name(999_999);
+    let mut registry = Registry::starting(999_999);
     let (tenant, parcel) = open_tenant::<K>(rt, &mut registry);
     assert_same(rt, K::name(&tenant), 999_999);
     assert_same(rt, K::shape(&parcel).name, 999_999);

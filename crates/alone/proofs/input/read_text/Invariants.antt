@@ -6,6 +6,7 @@ use Rattle.alone.proofs.input.read_text.Given as goal
 abbrev pub invariant-loop-chunk : goal.invariant-loop-chunk
 invariant-loop-chunk g l = record {
   first : Consumes (g.R.Inlet.remaining l.initial.reader) (g.R.Inlet.remaining l.reader) l.text.items;
+  gives : g.R.Inlet.gives l.initial.reader l.text.items l.reader;
   few : vec_len l.text ≤ 16777217;
   fine : 0 < vec_len l.text → g.R.Inlet.failed l.reader ≡ false;
 }

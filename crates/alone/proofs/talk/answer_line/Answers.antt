@@ -1,20 +1,18 @@
-use Rattle.std.proofs.Common.{ℕ, List, ◌++◌, sym, ap, ◌∙◌, refl, subst}
-use Rattle.std.specs.Prelude.{flat_map, IsSome}
+use Rattle.std.proofs.Common.{◌≡◌, ℕ, List, ◌++◌, subst}
+use Rattle.std.specs.Prelude.{flat_map, OnOk}
 use Rattle.live.specs.Sessions.{written}
 use Rattle.alone.specs.Talks.{refusal}
-use Rattle.alone.proofs.Talking.{takes-refusal, on_ok}
+use Rattle.alone.proofs.Talking.{taken-replies, refused-replies}
 use Rattle.alone.proofs.talk.answer_line.Goals as goal
 
-pub returns-in-None-clause-takes : goal.returns-in-None-clause-takes
-returns-in-None-clause-takes g c = c.in-Ok.ensures.takes c.in-None.is
+pub returns-in-None-clause-replies : goal.returns-in-None-clause-replies
+returns-in-None-clause-replies g c =
+    taken-replies (g.H.Hints.may_say c.args.hints.now) c.args.line.now c.args.out.now.items c.take.new.out.items c.in-Ok.fault c.args.session.now c.take.new.self
+    c.in-None.is c.in-Ok.ensures.fault c.in-Ok.ensures.takes c.in-Ok.ensures.does
 
-pub returns-in-Some-clause-takes : goal.returns-in-Some-clause-takes
-returns-in-Some-clause-takes g c =
-    let same = c.in-Ok.ensures.same (subst IsSome (sym c.in-Some.is) refl) in
-    on_ok _ _ c.refuse.result
-    (λ h. (
-      refusal h.0 c.in-Some.cause,
-      h.1 ∙ ap (λ (l : List ℕ). l ++ flat_map written (refusal h.0 c.in-Some.cause)) same.1,
-      takes-refusal c.args.line.now h.0 c.in-Some.cause c.args.session.now c.take.new.self,
-    ))
-    c.refuse.ensures.says
+pub returns-in-Some-clause-replies : goal.returns-in-Some-clause-replies
+returns-in-Some-clause-replies g c =
+    refused-replies (g.H.Hints.may_say c.args.hints.now) c.args.line.now c.args.out.now.items c.take.new.out.items c.refuse.new.out.items c.in-Ok.fault c.in-Some.cause
+    c.args.session.now c.take.new.self c.refuse.result c.in-Some.is c.in-Ok.ensures.fault c.in-Ok.ensures.same
+    (subst (λ (l : List ℕ). OnOk c.refuse.result ((hint : List ℕ) × g.H.Hints.may_say c.args.hints.now l c.in-Some.cause hint × (c.refuse.new.out.items ≡ c.take.new.out.items ++ flat_map written (refusal hint c.in-Some.cause))))
+    c.seen_of.ensures c.refuse.ensures.says)

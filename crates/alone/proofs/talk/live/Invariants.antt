@@ -1,10 +1,11 @@
-use Rattle.std.proofs.Common.{◌≡◌, ℕ, List, Some, length}
-use Rattle.alone.proofs.Talking.{HasRead}
+use Rattle.std.proofs.Common.{◌≡◌, false, length}
+use Rattle.alone.proofs.Hearing.{HasRead}
 use Rattle.alone.proofs.talk.live.Given as goal
 
-abbrev pub invariant-loop : goal.invariant-loop
-invariant-loop g l = record {
+abbrev pub invariant-loop-reads : goal.invariant-loop-reads
+invariant-loop-reads g l = record {
   room : length l.chunk ≡ 65536;
-  hears : (text : List ℕ) → g.R.Inlet.remaining l.initial.reader ≡ Some text →
-      HasRead text (g.R.Inlet.remaining l.reader) (g.W.Outlet.contents l.initial.writer) (g.W.Outlet.contents l.writer) l.talk;
+  sound : g.W.Outlet.failed l.initial.writer ≡ false → g.W.Outlet.failed l.writer ≡ false;
+  read : HasRead g.R.Inlet.gives (g.H.Hints.may_say l.hints) l.initial.reader l.reader (g.R.Inlet.remaining l.initial.reader) (g.R.Inlet.remaining l.reader)
+      (g.W.Outlet.contents l.initial.writer) (g.W.Outlet.contents l.writer) l.talk l.reads;
 }

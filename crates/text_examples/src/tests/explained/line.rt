@@ -101,5 +101,5 @@ fn hints(rt: HostRuntime) {
         range_hint(ports, b"9-3") == Some("the first port is above the last: turn them round")
     );
     assert!(rt; range_hint(ports, b"1-70000").is_none());
-    assert!(rt; byte_hint(b'\t', false) == "it is a tab: put spaces between words");
+    assert!(rt; byte_hint(b"\tshow") == "it is a tab: put spaces between words");
 }

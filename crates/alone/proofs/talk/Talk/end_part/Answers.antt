@@ -1,16 +1,23 @@
-use Rattle.std.proofs.Common.{◌≡◌, true, sym, ap, ◌∙◌}
-use Rattle.alone.specs.Talks.{KeptTalk}
-use Rattle.alone.proofs.Talking.{said-part, said-skipped}
+use Rattle.std.proofs.Common.{◌≡◌, ℕ, List, [], ◌∷◌, ◌++◌, true, false, sym, ap, ◌∙◌, refl, subst}
+use Rattle.alone.specs.Talks.{KeptTalk, GoesOn, counted}
+use Rattle.alone.specs.contracts.talk.Talk.{the_view}
+use Rattle.alone.proofs.Talking.{said-part, said-past}
 use Rattle.alone.proofs.talk.Talk.end_part.Goals as goal
 
 pub returns-then-self-clause-hears : goal.returns-then-self-clause-hears
 returns-then-self-clause-hears g c =
     let h = c.in_ok-add.ensures.hears in
-    let skips : c.add.new.self.is_skipping ≡ true = sym (ap (λ (t : KeptTalk). t.is_skipping) c.self.view_is) ∙ c.if-self.true in
-    (h.0, ap (λ (t : KeptTalk). t.out) c.self.view_is ∙ h.1, said-skipped c.args.rest.now h.0 c.args.self.now c.add.new.self _ h.2 skips)
+    let hinting = g.H.Hints.may_say c.args.hints.now in
+    let rest : List ℕ = c.args.rest.now in
+    let t : KeptTalk = the_view c.self.inside in (
+      h.0,
+      ap (λ (t : KeptTalk). t.out) c.self.view_is ∙ h.1,
+      said-past hinting rest h.0 c.args.self.now t (record t { is_skipping = false }) (subst (λ (u : KeptTalk). GoesOn hinting rest h.0 c.args.self.now u) (sym c.self.view_is) h.2) c.if-self.true refl,
+    )
 
 pub returns-clause-hears : goal.returns-clause-hears
 returns-clause-hears g c =
     let h = c.in_ok-add.ensures.hears in
-    said-part c.args.rest.now h.0 c.args.self.now c.add.new.self c.answer_part.new.self c.answer_part.result h.1 h.2
-    c.answer_part.ensures.takes c.answer_part.ensures.part c.answer_part.ensures.same
+    let takes : c.add.new.self.is_skipping ≡ false = sym (ap (λ (t : KeptTalk). t.is_skipping) c.self.view_is) ∙ c.if-self.false in
+    said-part (g.H.Hints.may_say c.args.hints.now) c.args.rest.now h.0 c.args.self.now c.add.new.self c.answer_part.new.self c.answer_part.result h.1 h.2 takes
+    c.answer_part.ensures.replies c.answer_part.ensures.part c.answer_part.ensures.same

@@ -40,6 +40,7 @@ returns-clause-begins c =
         shows = h.begins.2;
         mine = h.begins.3;
         unclosed = h.given.4;
+        adds_not = h.given.5;
         reached = h.given.2;
         phase = h.given.3;
         told = refl;

@@ -16,6 +16,9 @@ returns-in-UntilAny-clause-grows c = asked-told _ c.args.self.now c.until-in-Unt
 pub returns-in-Next-clause-grows : goal.returns-in-Next-clause-grows
 returns-in-Next-clause-grows c = ([], sym (append-nil _), λ fine plain other. grows-none c.args.self.now c.args.self.now refl)
 
+pub returns-in-AddNext-clause-grows : goal.returns-in-AddNext-clause-grows
+returns-in-AddNext-clause-grows c = ([], sym (append-nil _), λ fine plain other. c.add_next.ensures.grows)
+
 pub returns-in_ok-extend_from_slice-in-Help-clause-grows : goal.returns-in_ok-extend_from_slice-in-Help-clause-grows
 returns-in_ok-extend_from_slice-in-Help-clause-grows c =
     let h = helped c.args.self.now c.args.out.now.items _ c.in_ok-extend_from_slice-in-Help.ensures.items in

@@ -1,7 +1,7 @@
-use Rattle.std.proofs.Common.{ℕ, List, sym, ap, ◌∙◌, ◌++◌, ◌∷◌, []}
+use Rattle.std.proofs.Common.{sym, ◌∙◌, ◌++◌, ◌∷◌, []}
 use Rattle.control.specs.Scenario.{begun}
 use Rattle.live.specs.Faults.{begin_fault}
-use Rattle.live.proofs.SessionFacts.{answered-grows, fault-said, if_ok, said-all, no-fault}
+use Rattle.live.proofs.SessionFacts.{answered-grows, fault-said, if_ok, no-fault}
 use Rattle.live.proofs.SessionFacts.{does-said}
 use Rattle.live.specs.Effects.{IsBegun}
 use Rattle.live.proofs.session.Session.take_begin.Goals as goal
@@ -10,8 +10,9 @@ pub returns-clause-grows : goal.returns-clause-grows
 returns-clause-grows c =
     if_ok _ _ c.say.result
     (λ f h none.
-    answered-grows c.args.self.now c.begin.new.self c.in_ok-answer.answer (λ es. es ++ begun c.args.name.now c.args.spec ∷ []) _ _ _ c.in_ok-answer.ensures.grows (h.1 ∙ ap (λ (l : List ℕ). c.begin.new.out.items ++ l) (said-all c.in_ok-answer.answer (sym h.0 ∙ none)))
-    (no-fault c.in_ok-answer.answer (sym h.0 ∙ none)))
+    let fine = no-fault c.in_ok-answer.answer (sym h.0 ∙ none) in
+    let m = h.2 fine in
+    answered-grows c.args.self.now c.begin.new.self c.in_ok-answer.answer m.0 (λ es. es ++ begun c.args.name.now c.args.spec ∷ []) _ _ _ c.in_ok-answer.ensures.grows m.1 fine)
     c.say.ensures
 
 pub returns-clause-fault : goal.returns-clause-fault
@@ -23,5 +24,5 @@ returns-clause-fault c =
 pub returns-clause-does : goal.returns-clause-does
 returns-clause-does c =
     if_ok _ _ c.say.result
-    (λ f h. does-said f c.in_ok-answer.answer c.args.out.now.items c.begin.new.out.items _ (λ bytes a. IsBegun c.args.name.now c.args.spec bytes a c.args.self.now c.begin.new.self) c.in_ok-answer.ensures.begins h.0 h.1)
+    (λ f h. does-said f c.in_ok-answer.answer c.begin.new.self c.args.out.now.items c.begin.new.out.items _ (λ bytes a. IsBegun c.args.name.now c.args.spec bytes a c.args.self.now c.begin.new.self) c.in_ok-answer.ensures.begins h.0 h.2)
     c.say.ensures

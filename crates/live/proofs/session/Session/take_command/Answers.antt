@@ -1,7 +1,7 @@
-use Rattle.std.proofs.Common.{ℕ, List, sym, ap, ◌∙◌, ◌++◌}
+use Rattle.std.proofs.Common.{sym, ◌∙◌}
 use Rattle.control.specs.Scenario.{with_last}
 use Rattle.live.specs.Faults.{of_current, command_fault, current_of}
-use Rattle.live.proofs.SessionFacts.{answered-grows, fault-said, if_ok, said-all, no-fault}
+use Rattle.live.proofs.SessionFacts.{answered-grows, fault-said, if_ok, no-fault}
 use Rattle.live.proofs.SessionFacts.{does-said}
 use Rattle.control_lines.specs.Entries.{Does}
 use Rattle.live.specs.Effects.{Follows}
@@ -11,8 +11,9 @@ pub returns-clause-grows : goal.returns-clause-grows
 returns-clause-grows c =
     if_ok _ _ c.say.result
     (λ f h none.
-    answered-grows c.args.self.now c.command.new.self c.in_ok-answer.answer (λ es. with_last es c.args.command.now) _ _ _ c.in_ok-answer.ensures.grows (h.1 ∙ ap (λ (l : List ℕ). c.command.new.out.items ++ l) (said-all c.in_ok-answer.answer (sym h.0 ∙ none)))
-    (no-fault c.in_ok-answer.answer (sym h.0 ∙ none)))
+    let fine = no-fault c.in_ok-answer.answer (sym h.0 ∙ none) in
+    let m = h.2 fine in
+    answered-grows c.args.self.now c.command.new.self c.in_ok-answer.answer m.0 (λ es. with_last es c.args.command.now) _ _ _ c.in_ok-answer.ensures.grows m.1 fine)
     c.say.ensures
 
 pub returns-clause-fault : goal.returns-clause-fault
@@ -24,5 +25,5 @@ returns-clause-fault c =
 pub returns-clause-does : goal.returns-clause-does
 returns-clause-does c =
     if_ok _ _ c.say.result
-    (λ f h. does-said f c.in_ok-answer.answer c.args.out.now.items c.command.new.out.items _ (λ bytes a. Follows (Does c.args.command.now) bytes a c.args.self.now c.command.new.self) c.in_ok-answer.ensures.obeys h.0 h.1)
+    (λ f h. does-said f c.in_ok-answer.answer c.command.new.self c.args.out.now.items c.command.new.out.items _ (λ bytes a. Follows (Does c.args.command.now) bytes a c.args.self.now c.command.new.self) c.in_ok-answer.ensures.obeys h.0 h.2)
     c.say.ensures

@@ -52,12 +52,12 @@ pub returns-in-Ok-Begins-clause-does : goal.returns-in-Ok-Begins-clause-does
 returns-in-Ok-Begins-clause-does c =
     let is = subst (λ e. IsEntry c.args.line.now (view_entry e)) c.in-Ok-Begins.field-0-is c.in-Ok-Begins.ensures in
     if_ok _ _ c.take_begin.result
-    (λ f h none. let s = h none in (s.0, s.1, inr (s.2.0, s.2.1, s.2.2, (Begins c.in-Ok-Begins.name.now c.in-Ok-Begins.spec, is, s.2.3))))
+    (λ f h none. let s = h none in (s.0, s.1, inr (s.2.0, s.2.1, s.2.2, s.2.3, s.2.4, (Begins c.in-Ok-Begins.name.now c.in-Ok-Begins.spec, is, s.2.5))))
     c.take_begin.ensures.does
 
 pub returns-in-Ok-Does-clause-does : goal.returns-in-Ok-Does-clause-does
 returns-in-Ok-Does-clause-does c =
     let is = subst (λ e. IsEntry c.args.line.now (view_entry e)) c.in-Ok-Does.field-0-is c.in-Ok-Does.ensures in
     if_ok _ _ c.take_command.result
-    (λ f h none. let s = h none in (s.0, s.1, inr (s.2.0, s.2.1, s.2.2, (Does _, is, s.2.3))))
+    (λ f h none. let s = h none in (s.0, s.1, inr (s.2.0, s.2.1, s.2.2, s.2.3, s.2.4, (Does _, is, s.2.5))))
     c.take_command.ensures.does

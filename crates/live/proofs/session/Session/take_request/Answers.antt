@@ -1,7 +1,7 @@
-use Rattle.std.proofs.Common.{ℕ, List, sym, ap, ◌∙◌, ◌++◌}
+use Rattle.std.proofs.Common.{sym, ◌∙◌}
 use Rattle.live.specs.Faults.{asked_fault}
 use Rattle.live.specs.Requests.{request_of}
-use Rattle.live.proofs.SessionFacts.{requested, fault-said, if_ok, said-all, no-fault}
+use Rattle.live.proofs.SessionFacts.{requested, fault-said, if_ok, no-fault}
 use Rattle.live.proofs.SessionFacts.{does-said}
 use Rattle.std.proofs.Common.{◌≡◌}
 use Rattle.std.specs.Prelude.{Ok}
@@ -13,8 +13,9 @@ pub returns-clause-grows : goal.returns-clause-grows
 returns-clause-grows c =
     if_ok _ _ c.say.result
     (λ f h none.
-    requested c.args.self.now c.answer.new.self c.in_ok-answer.answer c.args.asked.now c.args.out.now.items c.answer.new.out.items _ c.in_ok-answer.ensures.grows (h.1 ∙ ap (λ (l : List ℕ). c.answer.new.out.items ++ l) (said-all c.in_ok-answer.answer (sym h.0 ∙ none)))
-    (no-fault c.in_ok-answer.answer (sym h.0 ∙ none)))
+    let fine = no-fault c.in_ok-answer.answer (sym h.0 ∙ none) in
+    let m = h.2 fine in
+    requested c.args.self.now c.answer.new.self c.in_ok-answer.answer m.0 c.args.asked.now c.args.out.now.items c.answer.new.out.items _ c.in_ok-answer.ensures.grows m.1 fine)
     c.say.ensures
 
 pub returns-clause-fault : goal.returns-clause-fault
@@ -26,5 +27,5 @@ returns-clause-fault c =
 pub returns-clause-does : goal.returns-clause-does
 returns-clause-does c =
     if_ok _ _ c.say.result
-    (λ f h. does-said f c.in_ok-answer.answer c.args.out.now.items c.answer.new.out.items _ (λ bytes a. (q : Asked) × (request_of c.args.asked.now ≡ Ok q) × Obeys q bytes a c.args.self.now c.answer.new.self) c.in_ok-answer.ensures.obeys h.0 h.1)
+    (λ f h. does-said f c.in_ok-answer.answer c.answer.new.self c.args.out.now.items c.answer.new.out.items _ (λ bytes a. (q : Asked) × (request_of c.args.asked.now ≡ Ok q) × Obeys q bytes a c.args.self.now c.answer.new.self) c.in_ok-answer.ensures.obeys h.0 h.2)
     c.say.ensures

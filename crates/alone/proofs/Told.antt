@@ -1,0 +1,102 @@
+-- What was told of a whole text is the reports of its scenario.
+use Rattle.std.proofs.Common.{◌≡◌, ℕ, map, Bool, true, false, List, [], ◌∷◌, ◌++◌, refl, sym, ap, ◌∙◌, subst, append-nil}
+use Rattle.std.specs.Prelude.{flat_map, All, Result, Ok, Option, Some, None}
+use Rattle.std.specs.List.{AllByRecursion}
+use Rattle.std.proofs.lemmas.List.Elements.{recursion_from_All}
+use Rattle.std.specs.Io.KnownBytes.{Appends, Consumes, IsAtEnd}
+use Rattle.std.proofs.KnownBytes.{Consumes-trans}
+use Rattle.emu_model.specs.declared.commands.Spec.{Spec}
+use Rattle.emu_model.specs.declared.commands.Timed.{Timed}
+use Rattle.control.specs.declared.scenario.Experiment.{Experiment as Script}
+use Rattle.control.specs.Scenario.{experiments, AreSpelled, Spells}
+use Rattle.control_lines.specs.Entries.{Entry}
+use Rattle.control_words.specs.Text.{lines}
+use Rattle.live.specs.declared.open.Phase.{Phase}
+use Rattle.live.specs.declared.open.Phase.TheVariants.{Going, Over, Lost}
+use Rattle.live.specs.RunLaws.{report_of_commands}
+use Rattle.live.specs.Opens.{KeptOpen, IsToldIn}
+use Rattle.live.specs.Sessions.{Piece, IsPlain, Stand, IsSoFar, TellsAll, told, written}
+use Rattle.alone.specs.declared.fault.RunFault.{RunFault}
+use Rattle.alone.specs.Conversations.{Hinting, with_earlier}
+use Rattle.alone.specs.Reports.{report_alone, reports}
+use Rattle.alone.specs.Talks.{KeptTalk, AsksForAll, Say, Heard, IsEnding, IsKept}
+use Rattle.alone.proofs.Talking.{never}
+use Rattle.alone.proofs.Hearing.{HasRead, all_written}
+
+-- what the lines of a scenario say, one after the other
+spelled : (done : List (List ℕ)) (l : List ℕ) (ls : List (List ℕ)) (es : List Script) → AreSpelled [] (with_earlier done (l ∷ ls)) es →
+    (before : List Entry) × Say done before × AreSpelled before (l ∷ ls) es
+spelled [] l ls es h = ([], tt, h)
+spelled (line ∷ done) l ls es h =
+    let k = spelled done line (l ∷ ls) es h in
+    let e = k.2 in
+    (e.0 ∷ k.0, (e.2, k.1), e.3)
+
+spelled_done : (before : List Entry) (es : List Script) → AreSpelled before ([] ∷ []) es → experiments before ≡ es
+spelled_done before es h = h.2
+
+by-phase : (x : Stand) (p : Phase) → x.kept.phase ≡ p → IsSoFar x → x.kept.is_closed ≡ true → IsToldIn p x.experiment.commands x.text x.kept → x.text ≡ report_alone x.experiment
+by-phase x Going is h closed t = absurd (never x.kept.is_closed closed t.unclosed)
+by-phase x Over is h closed t =
+    t [] closed
+    ∙ ap (λ (n : List ℕ). report_of_commands n x.kept.run.experiment.spec (x.experiment.commands ++ [])) h.name
+    ∙ ap (λ (s : Spec). report_of_commands x.experiment.name s (x.experiment.commands ++ [])) h.spec
+    ∙ ap (λ (cs : List Timed). report_of_commands x.experiment.name x.experiment.spec cs) (append-nil x.experiment.commands)
+by-phase x Lost is h closed t = absurd t
+
+closed-report : (x : Stand) → IsSoFar x → x.kept.is_closed ≡ true → x.text ≡ report_alone x.experiment
+closed-report x h closed = by-phase x x.kept.phase refl h closed h.told
+
+whole-reports : (xs : List Stand) → AllByRecursion IsSoFar xs → AllByRecursion (λ (o : KeptOpen). o.is_closed ≡ true) (map (λ (x : Stand). x.kept) xs) →
+    flat_map (λ (x : Stand). x.text) xs ≡ reports (map (λ (x : Stand). x.experiment) xs)
+whole-reports [] h closed = refl
+whole-reports (x ∷ xs) h closed =
+    ap (λ (l : List ℕ). l ++ flat_map (λ (y : Stand). y.text) xs) (closed-report x h.0 closed.0)
+    ∙ ap (λ (l : List ℕ). report_alone x.experiment ++ l) (whole-reports xs h.1 closed.1)
+
+mine_first : (done ls : List (List ℕ)) → AsksForAll (with_earlier done ls) → AsksForAll done × AsksForAll ls
+mine_first [] ls h = (tt, h)
+mine_first (line ∷ done) ls h = let k = mine_first done (line ∷ ls) h in ((k.1.0, k.0), k.1.1)
+
+-- of a whole text the reports were told
+told-reports : (hinting : Hinting) (text : List ℕ) (ps : List Piece) (t : KeptTalk) → Heard hinting text ps t → t.part ≡ [] → t.is_skipping ≡ false →
+    All (λ (o : KeptOpen). o.is_closed ≡ true) t.session.opened →
+    (es : List Script) → Spells text es → AsksForAll (lines text) → AllByRecursion IsPlain ps → flat_map told ps ≡ reports es
+told-reports hinting text ps t h none takes closed es spells mine plain =
+    let c = h.says in
+    let all : lines text ≡ with_earlier c.done ([] ∷ []) = c.lines_are ∙ ap (λ (l : List ℕ). with_earlier c.done (l ∷ [])) (last_none t.is_skipping c.last t.part h.kept takes none) in
+    let said = spelled c.done [] [] es (subst (λ (ls : List (List ℕ)). AreSpelled [] ls es) all spells.1) in
+    let asks = mine_first c.done ([] ∷ []) (subst AsksForAll all mine) in
+    let tells : TellsAll (experiments said.0) (flat_map told ps) t.session = h.heard asks.0 plain said.0 said.1 in
+    let ended : AllByRecursion (λ (o : KeptOpen). o.is_closed ≡ true) (map (λ (x : Stand). x.kept) tells.stands) =
+    subst (AllByRecursion (λ (o : KeptOpen). o.is_closed ≡ true)) tells.opened_are (recursion_from_All (λ (o : KeptOpen). o.is_closed ≡ true) t.session.opened closed) in
+    tells.text_is ∙ whole-reports tells.stands tells.each ended
+    ∙ ap reports (sym tells.experiments_are ∙ spelled_done said.0 es said.2)
+  where
+    last_none : (b : Bool) (last part : List ℕ) → IsKept b last part → b ≡ false → part ≡ [] → last ≡ []
+    last_none false last part kept takes none = sym kept.1 ∙ none
+    last_none true last part kept takes none = absurd (cc)
+
+of_some : Option (List ℕ) → List ℕ
+of_some None = []
+of_some (Some xs) = xs
+
+same : (xs ys : List ℕ) → Some xs ≡ Some ys → xs ≡ ys
+unfolding of_some
+same xs ys e = ap of_some e
+
+whole : (unread left : Option (List ℕ)) (text bytes : List ℕ) → unread ≡ Some text → Consumes unread left bytes → IsAtEnd left → bytes ≡ text
+whole None left text bytes is took end = absurd (cc)
+whole (Some xs) None text bytes is took end = absurd took
+whole (Some xs) (Some ys) text bytes is took end = sym (append-nil bytes) ∙ ap (λ (l : List ℕ). bytes ++ l) (sym end) ∙ sym took ∙ same xs text is
+
+-- all was read
+pub tells-all : {A : Type 0} (gives : A → List ℕ → A → Type 0) (hinting : Hinting) (first now : A) (unread rest left v w : Option (List ℕ)) (t : KeptTalk) (n : ℕ) (text : List ℕ) →
+    HasRead gives hinting first now unread rest v w t n → unread ≡ Some text → Consumes rest left [] → IsAtEnd left → IsEnding t (Ok tt) →
+    (ps : List Piece) × Appends v w (flat_map written ps) × ((es : List Script) → Spells text es → AsksForAll (lines text) → AllByRecursion IsPlain ps → flat_map told ps ≡ reports es)
+tells-all gives hinting first now unread rest left v w t n text h is took end ending =
+    let all : h.text ≡ text = whole unread left text h.text is (subst (Consumes unread left) (append-nil h.text) (Consumes-trans unread rest left h.text [] h.took took)) end in (
+      h.ps,
+      all_written gives hinting first unread v w h.ps h.puts,
+      told-reports hinting text h.ps t (subst (λ (l : List ℕ). Heard hinting l h.ps t) all h.heard) ending.0 ending.1 ending.2,
+    )

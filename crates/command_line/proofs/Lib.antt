@@ -1,0 +1,3 @@
+pub mod MadeFacts
+pub mod WordFacts
+pub mod TalkFacts

@@ -1,0 +1,14 @@
+use Rattle.std.proofs.Common.{rules, codes}
+use Rattle.clap.specs.Simple.{new_shape}
+use Rattle.command_line.specs.Words.{IsCommand}
+use Rattle.command_line.proofs.WordFacts.{adds}
+use Rattle.command_line.proofs.words.alone_command.Goals as goal
+
+pub returns : goal.returns
+returns c =
+    let start : IsCommand (new_shape (codes "alone")) c.about.result = search rules in
+    adds _ _ _ _ _ c.in_ok-alone.ensures c.max_output.ensures
+    (adds _ _ _ _ _ c.in_ok-arg-4.ensures c.max_steps.ensures
+    (adds _ _ _ _ _ c.in_ok-arg-3.ensures c.strict.ensures
+    (adds _ _ _ _ _ c.in_ok-arg-2.ensures c.explain.ensures
+    (adds _ _ _ _ _ c.in_ok-arg.ensures c.progress.ensures start))))

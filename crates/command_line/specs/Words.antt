@@ -1,0 +1,117 @@
+-- The words of the command line: what they are, and what they ask for. `clap` says which words a grammar takes.
+use Rattle.std.specs.Prelude.{◌≡◌, ◌^◌, ◌&&◌, ℕ, Bool, true, false, List, [], ◌∷◌, Option, Some, None, codes, nat_lt}
+use Rattle.std.specs.Prelude.{if◌then◌else◌, option_map, option_and_then, unwrap_or, pos}
+use Rattle.std.specs.Option.{option_map_or}
+use Rattle.std.specs.Str.{bytes_eq}
+use Rattle.std.specs.Str.Parse.{digits_value, without_leading_plus}
+use Rattle.clap.specs.ValueTests.{is_numeral}
+use Rattle.clap.specs.Words.{App, Row, Rule, Shape, Text, app_of, new_rule, one_of, rule_of, subcommand_of}
+use Rattle.clap.specs.Simple.{new_shape}
+use Rattle.clap.specs.declared.builder.action.ArgAction.TheVariants.{SetTrue}
+use Rattle.clap.specs.declared.builder.arg.Arg.{Arg}
+use Rattle.clap.specs.declared.builder.command.Command.{Command}
+use Rattle.clap.specs.declared.builder.command.Command.TheViews.{out-Command}
+use Rattle.clap.specs.declared.builder.value_parser.ValueParser.{ValueParser}
+use Rattle.clap.specs.declared.builder.value_parser.ValueParser.TheVariants.{Signed, Unsigned}
+use Rattle.alone.specs.declared.limits.Limits.{Limits}
+use Rattle.command_line.specs.declared.words.Task.{Task}
+use Rattle.command_line.specs.declared.words.Task.TheVariants.{Run, Alone, Check, Live}
+
+-- ---- the grammar
+
+-- `--name`
+abbrev pub flag : Text → Rule
+flag name = record (new_rule name) { long = Some name; action = Some SetTrue }
+
+-- `--name N`
+abbrev pub number : Text → ValueParser → Rule
+number name range = record (new_rule name) { long = Some name; value_names = 1; parser = Some range }
+
+abbrev pub workers_rule : Rule
+workers_rule = number (codes "workers") (Unsigned 1 16)
+
+abbrev pub moves_rule : Rule
+moves_rule = number (codes "moves") (Signed (pos 0) (pos 1000000))
+
+abbrev pub max_steps_rule : Rule
+max_steps_rule = number (codes "max-steps") (Unsigned 0 18446744073709551615)
+
+abbrev pub max_output_rule : Rule
+max_output_rule = number (codes "max-output") (Unsigned 0 18446744073709551615)
+
+abbrev pub command : Text → List Rule → Shape
+command name options = record (new_shape name) { rules = options }
+
+abbrev pub run_shape : Shape
+run_shape = command (codes "run") (workers_rule ∷ moves_rule ∷ flag (codes "progress") ∷ flag (codes "explain")
+    ∷ flag (codes "strict") ∷ max_steps_rule ∷ max_output_rule ∷ [])
+
+abbrev pub alone_shape : Shape
+alone_shape = command (codes "alone") (flag (codes "progress") ∷ flag (codes "explain") ∷ flag (codes "strict")
+    ∷ max_steps_rule ∷ max_output_rule ∷ [])
+
+abbrev pub check_shape : Shape
+check_shape = command (codes "check") (flag (codes "explain") ∷ flag (codes "strict") ∷ [])
+
+abbrev pub live_shape : Shape
+live_shape = command (codes "live") (flag (codes "explain") ∷ [])
+
+-- words without a command are wrong
+abbrev pub program_shape : Shape
+program_shape = record (new_shape (codes "dnlab")) {
+  has_version = true;
+  arg_required_else_help = true;
+  subcommand_required = true;
+}
+
+unfoldable pub dnlab : App
+dnlab = record {
+  top = record program_shape { is_leaf = false };
+  subs = run_shape ∷ alone_shape ∷ check_shape ∷ live_shape ∷ [];
+}
+
+-- the code's option and command are these
+abbrev pub IsArg : Rule → Arg → Type 0
+IsArg rule arg = (rule_of arg ≡ rule) × (arg.global ≡ false)
+
+abbrev pub IsCommand : Shape → Command → Type 0
+IsCommand shape c = (app_of c ≡ record { top = shape; subs = [] }) × ((out-Command c).has_globals ≡ false)
+
+-- ---- what is asked for
+
+-- the number below `end` that a text writes
+unfoldable pub number_below : ℕ → Text → Option ℕ
+number_below end text =
+    let digits = without_leading_plus text in
+    if is_numeral digits && nat_lt (digits_value 10 digits) end then Some (digits_value 10 digits) else None
+
+abbrev pub number_in : ℕ → Text → List Row → Option ℕ
+number_in end name rows = option_and_then (number_below end) (one_of name rows)
+
+abbrev pub flag_in : Text → List Row → Bool
+flag_in name rows = option_map_or (λ text. bytes_eq text (codes "true")) (one_of name rows) false
+
+abbrev pub limits_in : List Row → Limits
+limits_in rows = record {
+  steps = number_in (2 ^ 64) (codes "max-steps") rows;
+  output = number_in (2 ^ 64) (codes "max-output") rows;
+}
+
+abbrev pub run_in : List Row → Task
+run_in rows = Run (unwrap_or (number_in (2 ^ 64) (codes "workers") rows) 2)
+    (unwrap_or (number_in (2 ^ 32) (codes "moves") rows) 64) (limits_in rows)
+    (flag_in (codes "progress") rows) (flag_in (codes "explain") rows) (flag_in (codes "strict") rows)
+
+abbrev pub alone_in : List Row → Task
+alone_in rows = Alone (limits_in rows)
+    (flag_in (codes "progress") rows) (flag_in (codes "explain") rows) (flag_in (codes "strict") rows)
+
+-- a command's name and its options; the grammar has four names
+abbrev pub task_in : Text × List Row → Task
+task_in p = if bytes_eq p.0 (codes "run") then run_in p.1
+    else (if bytes_eq p.0 (codes "alone") then alone_in p.1
+    else (if bytes_eq p.0 (codes "live") then Live (flag_in (codes "explain") p.1)
+    else Check (flag_in (codes "explain") p.1) (flag_in (codes "strict") p.1)))
+
+abbrev pub plan_of : List Text → Option Task
+plan_of words = option_map task_in (subcommand_of dnlab words)
