@@ -21,8 +21,9 @@ function slidersOf(text) {
   });
   return {sliders, wrong};
 }
-// The text that is run: each `{{ name }}` is its slider's value.
-const filled = (text, sliders) => text.replace(HOLE, (whole, name) => sliders.find((one) => one.name === name)?.value ?? whole);
+// The text that is run: each `{{ name }}` is its slider's value, and the last line ends, as one that is typed need not.
+const filled = (text, sliders) => text.replace(HOLE, (whole, name) => sliders.find((one) => one.name === name)?.value ?? whole)
+  .replace(/[^\n]$/, "$&\n");
 // The text with another value of a slider.
 function moved(text, slider, value) {
   const lines = text.split("\n");

@@ -5,3 +5,4 @@ pub mod Notes
 pub mod Past
 pub mod Shown
 pub mod Sought
+pub mod Watch

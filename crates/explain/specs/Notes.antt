@@ -3,12 +3,12 @@ use Rattle.std.specs.Prelude.{ℕ, ◌+◌, List, [], ◌∷◌, ◌++◌, Optio
 use Rattle.emu_model.specs.declared.packets.Load.{Load}
 use Rattle.emu_model.specs.declared.packets.Load.TheVariants.{Plain, Seg, Ack}
 use Rattle.emu_model.specs.declared.records.DropCause.{DropCause}
-use Rattle.emu_model.specs.declared.records.DropCause.TheVariants.{Denied, Budget}
+use Rattle.emu_model.specs.declared.records.DropCause.TheVariants as causes
 use Rattle.emu_model.specs.declared.records.Record.{Record}
 use Rattle.emu_model.specs.declared.records.Record.TheVariants.{PacketDropped, StepsSpent}
 use Rattle.explain.specs.declared.notes.Note.{Note}
 use Rattle.explain.specs.declared.notes.Subject.{Subject}
-use Rattle.explain.specs.declared.notes.Subject.TheVariants.{Spent, OverBudget, DeniedPlain, DeniedData, DeniedAck}
+use Rattle.explain.specs.declared.notes.Subject.TheVariants.{Spent, OverBudget, NoPipe, DeniedPlain, DeniedData, DeniedAck}
 
 -- a packet with this load that the rules denied
 abbrev pub denied : Load → Subject
@@ -16,15 +16,17 @@ denied Plain = DeniedPlain
 denied (Seg flow first) = DeniedData flow
 denied (Ack flow upto) = DeniedAck flow
 
--- of drops, those by the rules and for the budget are counted
+-- of drops, those by the rules, for the budget and for want of a pipe are counted
 abbrev pub dropped : DropCause → Load → Option Subject
-dropped Denied load = Some (denied load)
-dropped Budget load = Some OverBudget
+dropped causes.Denied load = Some (denied load)
+dropped causes.Budget load = Some OverBudget
+dropped causes.NoPipe load = Some NoPipe
 dropped _ load = None
 
 abbrev pub is_same : Subject → Subject → Bool
 is_same Spent Spent = true
 is_same OverBudget OverBudget = true
+is_same NoPipe NoPipe = true
 is_same DeniedPlain DeniedPlain = true
 is_same (DeniedData f) (DeniedData g) = f == g
 is_same (DeniedAck f) (DeniedAck g) = f == g

@@ -82,7 +82,7 @@ fn bad_byte(line: &[u8]) -> Inside
                 place: Some(Span { start, width: 1 }),
                 expected,
                 example: None,
-                hint: Some(byte_hint(*byte, start + 1 == line.len())),
+                hint: Some(byte_hint(&line[start..])),
             };
         }
     }
@@ -120,6 +120,11 @@ fn bad_word(line: &[u8], check: Check) -> Inside
 fn cut_off(line: &[u8]) -> Inside
     ensures { IsWithin result.place line.now }
 {
+    let hint = if line.iter().any(|byte| *byte == b'\r') {
+        "lines end with LF, and these with CR, as on old Macs: `tr '\\r' '\\n'` replaces them"
+    } else {
+        "the text was cut off, or the editor left the last line feed out"
+    };
     Inside {
         place: Some(Span {
             start: line.len(),
@@ -127,7 +132,7 @@ fn cut_off(line: &[u8]) -> Inside
         }),
         expected: "a line feed at the end of the last line",
         example: None,
-        hint: Some("the text was cut off, or the editor left the last line feed out"),
+        hint: Some(hint),
     }
 }
 

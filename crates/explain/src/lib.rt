@@ -10,6 +10,7 @@ mod past;
 mod refused;
 mod show;
 mod span;
+mod watch;
 
 pub use account::{Account, RefusedCommand};
 pub use finding::{Finding, find};
@@ -19,3 +20,4 @@ pub use past::Earlier;
 pub use refused::{Refused, Stand, Text};
 pub use show::{put_row, show_finding, show_refused};
 pub use span::{Span, line_at, span_of_word};
+pub use watch::{Watch, watch_flows};

@@ -13,6 +13,8 @@ pub enum Subject {
     Spent,
     /// A packet was dropped for the budget.
     OverBudget,
+    /// A packet was dropped since its pipe wasn't there.
+    NoPipe,
     /// A packet of a train or of a single command was denied.
     DeniedPlain,
     /// A segment of this flow was denied.
@@ -47,6 +49,7 @@ fn subject_of_drop(cause: DropCause, load: Load) -> Option<Subject>
     match cause {
         DropCause::Denied => Some(subject_of_denial(load)),
         DropCause::Budget => Some(Subject::OverBudget),
+        DropCause::NoPipe => Some(Subject::NoPipe),
         _ => None,
     }
 }
@@ -57,6 +60,7 @@ fn is_same(one: Subject, other: Subject) -> bool
     match (one, other) {
         (Subject::Spent, Subject::Spent) => true,
         (Subject::OverBudget, Subject::OverBudget) => true,
+        (Subject::NoPipe, Subject::NoPipe) => true,
         (Subject::DeniedPlain, Subject::DeniedPlain) => true,
         (Subject::DeniedData(flow), Subject::DeniedData(other)) => flow == other,
         (Subject::DeniedAck(flow), Subject::DeniedAck(other)) => flow == other,

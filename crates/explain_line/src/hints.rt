@@ -1,10 +1,12 @@
 //! What people write where something else is wanted, and what to write instead.
 
 use crate::slips::{
-    ACTIONS, FIRSTS, FOR_NUMBERS, FOR_STEPS, MOMENT, OPTIONS, OWN_ACTIONS, OWN_FIRSTS,
-    OWN_FLOW_OPTIONS, OWN_OPTIONS, OWN_VERBS, VERBS, meant_by, said_of,
+    ACTIONS, FIRSTS, FOR_NUMBERS, FOR_STEPS, LINK, MOMENT, OPTIONS, OWN_ACTIONS, OWN_FIRSTS,
+    OWN_FLOW_OPTIONS, OWN_OPTIONS, OWN_SEEDS, OWN_VERBS, VERBS, meant_by, said_of,
 };
-use control::{Expected, FlowWord, Form, Keyword, PipeWord, RuleWord, stood_before, value_at};
+use control::{
+    Expected, FlowWord, Form, Keyword, PipeWord, RuleWord, TrainWord, stood_before, value_at,
+};
 use control_words::{addresses, is};
 
 fn has(word: &[u8], byte: u8) -> bool {
@@ -80,6 +82,14 @@ const NO_SEMICOLON: &str = "no semicolon: each command has a line of its own";
 
 const LOWER: &str = "words are in lower case";
 
+const COMMENT: &str = "a comment begins with #, and has a line of its own";
+
+const NO_VALUE: &str = "the value of the word before is missing: delay 20 queue 50";
+
+const TEMPLATE: &str = "this is a template: tools/sweep fills in its settings";
+
+const BOUNDS: &str = "bounds aren't part of a scenario: tools/expect judges a report by them";
+
 // What is wrong with any number, whatever its unit is.
 fn digits_hint(word: &[u8]) -> Option<&'static str> {
     if has_sign(word) {
@@ -137,6 +147,19 @@ fn is_code(word: &[u8]) -> bool {
     has(word, b'(') || has(word, b'{') || has(word, b'}') || has(word, b'"')
 }
 
+// Whether a word opens a place that a template of Jinja leaves open.
+fn is_of_a_template(word: &[u8]) -> bool {
+    match word {
+        [b'{', b'{' | b'%', ..] => true,
+        _ => false,
+    }
+}
+
+// Whether a word is written as the experiment and the row of a bound.
+fn is_of_bounds(word: &[u8]) -> bool {
+    has(word, b'/') && word.first().is_some_and(|b| b.is_ascii_lowercase())
+}
+
 // Whether a word of more than a unit's two letters directly follows digits.
 fn is_run_together(word: &[u8]) -> bool {
     let letters = word.iter().filter(|b| b.is_ascii_lowercase()).count();
@@ -169,12 +192,18 @@ fn moment_hint(word: &[u8]) -> Option<&'static str> {
         _ => {
             if said_of(&FIRSTS, word).is_some() {
                 said_of(&FIRSTS, word)
+            } else if word.first() == Some(&b'`') {
+                Some("Markdown's ``` isn't part of a scenario: copy the lines between")
+            } else if word.starts_with(b"mm-") {
+                Some(LINK)
+            } else if is_of_bounds(word) {
+                Some(BOUNDS)
             } else if is_of_ipfw(word) {
                 Some("leave `ipfw` out, and put the moment in front: @0 pipe 1 config bw 10Mbit/s")
             } else if is_code(word) {
                 Some(NO_CODE)
             } else if begins_with_digit(word) {
-                Some("a moment has @ in front of it: @0")
+                Some("a moment has @ in front of it: @0; a report's lines aren't commands")
             } else if is_foreign_comment(word) {
                 Some("a comment begins with #")
             } else if has_capital(word) {
@@ -207,6 +236,11 @@ fn rate_unit_hint(word: &[u8]) -> &'static str {
     }
 }
 
+// Whether an option's name stands where the value of the one before is wanted.
+fn is_option(word: &[u8]) -> bool {
+    OWN_OPTIONS.iter().any(|says| is(word, says.0))
+}
+
 fn rate_hint(word: &[u8]) -> Option<&'static str> {
     digits_hint(word).or(Some(rate_unit_hint(word)))
 }
@@ -224,20 +258,32 @@ fn delay_unit_hint(word: &[u8]) -> &'static str {
 }
 
 fn delay_hint(word: &[u8]) -> Option<&'static str> {
+    if is_option(word) {
+        return Some(NO_VALUE);
+    }
     digits_hint(word).or(Some(delay_unit_hint(word)))
 }
 
-fn time_hint(word: &[u8]) -> Option<&'static str> {
-    let whole = if has(word, b'.') {
+fn time_unit_hint(word: &[u8]) -> Option<&'static str> {
+    if has(word, b'.') {
         Some("whole numbers only: 0.5 ms is 500us")
+    } else if ends_with(word, "sec") {
+        Some("units of time are spelled s, ms and us: 5usec is 5us")
+    } else if ends_with(word, "ns") {
+        Some("microseconds are the finest here: 5000ns is 5us")
     } else {
         None
-    };
-    digits_hint(word).or(whole)
+    }
+}
+
+fn time_hint(word: &[u8]) -> Option<&'static str> {
+    digits_hint(word).or(time_unit_hint(word))
 }
 
 fn fraction_hint(word: &[u8]) -> Option<&'static str> {
-    if has_sign(word) {
+    if is_option(word) {
+        Some(NO_VALUE)
+    } else if has_sign(word) {
         Some(SIGN)
     } else if has(word, b'%') {
         Some("no percent sign: 5% is 0.05")
@@ -255,20 +301,25 @@ fn fraction_hint(word: &[u8]) -> Option<&'static str> {
 }
 
 fn queue_unit_hint(word: &[u8]) -> &'static str {
-    if has(word, b'.') {
-        "whole numbers only"
+    if has(word, b'.') || ends_with(word, "MB") {
+        "whole numbers of KB, at most 1024: 0.5MB is 512KB, and 1MB is 1024KB"
     } else {
         "nothing behind the number means packets; bytes are said in units of 1024: 50KB"
     }
 }
 
 fn queue_hint(word: &[u8]) -> Option<&'static str> {
+    if is_option(word) {
+        return Some(NO_VALUE);
+    }
     digits_hint(word).or(Some(queue_unit_hint(word)))
 }
 
 fn timing_hint(word: &[u8]) -> Option<&'static str> {
     if begins_with_digit(word) && has_letter(word) {
         Some("milliseconds without a unit: 200ms is 200, 1s is 1000")
+    } else if has(word, b'.') {
+        Some("whole milliseconds only: 0.2 s is 200")
     } else {
         number_hint(word)
     }
@@ -299,7 +350,7 @@ fn protocol_hint(word: &[u8]) -> Option<&'static str> {
         Some("there is no icmp here: packets are tcp or udp")
     } else if is_of_ipv6(word) {
         Some("there is no IPv6 here")
-    } else if is(word, "all") || is(word, "any") || is(word, "ip4") {
+    } else if is(word, "all") || is(word, "any") || is(word, "ip4") || is(word, "ipv4") {
         Some("ip is every packet")
     } else if is(word, "ip") {
         Some("a packet is either tcp or udp")
@@ -307,6 +358,14 @@ fn protocol_hint(word: &[u8]) -> Option<&'static str> {
         Some(LOWER)
     } else {
         None
+    }
+}
+
+fn packet_hint(word: &[u8]) -> Option<&'static str> {
+    if begins_with_digit(word) {
+        Some("the protocol stands first, and the size last: udp 10.0.0.1 1000 10.0.0.2 2000 1000")
+    } else {
+        protocol_hint(word)
     }
 }
 
@@ -337,8 +396,10 @@ fn prefix_hint(word: &[u8]) -> Option<&'static str> {
         Some("a prefix says its length: 10.0.0.* is 10.0.0.0/24")
     } else if begins_with_digit(word) && has(word, b'-') {
         Some("no ranges of addresses: write prefixes, as 10.0.0.0/28")
+    } else if colons(word) > 1 {
+        Some("there is no IPv6 here")
     } else if has(word, b':') {
-        Some("a mask is a length, 10.0.0.0/24, and a port is a word of its own; there is no IPv6")
+        Some("a mask is a length, 10.0.0.0/24, and a port is a word of its own")
     } else if has_letter(word) {
         Some("addresses are numbers: names aren't looked up")
     } else if has_zero_in_a_part(word) {
@@ -348,6 +409,10 @@ fn prefix_hint(word: &[u8]) -> Option<&'static str> {
     } else {
         None
     }
+}
+
+fn colons(word: &[u8]) -> usize {
+    word.iter().filter(|b| **b == b':').count()
 }
 
 // How many points a word has.
@@ -364,8 +429,10 @@ fn address_hint(word: &[u8]) -> Option<&'static str> {
         )
     } else if points(word) == 3 && has(word, b':') {
         Some("a port is a word of its own: 10.0.0.1 1000")
-    } else if is(word, "any") || has(word, b'/') {
+    } else if is(word, "any") || has(word, b'/') || has(word, b'*') {
         Some("a packet has one source and one destination: an address, neither `any` nor a prefix")
+    } else if begins_with_digit(word) && !has_letter(word) && points(word) < 3 {
+        Some("an address has four numbers: 10.0.0.1")
     } else {
         prefix_hint(word)
     }
@@ -384,6 +451,8 @@ fn ports_hint(word: &[u8]) -> Option<&'static str> {
         Some("the first port is above the last: turn them round")
     } else if has(word, b',') {
         Some("no lists: a rule has one port or one range; write a rule for each")
+    } else if addresses::address(word).is_some() {
+        Some("a mask is a length behind the address: 10.0.0.0 255.255.255.0 is 10.0.0.0/24")
     } else if is(word, "src-port") || is(word, "dst-port") || is(word, "port") {
         Some("leave that word out: a port directly follows its address, as in to any 80")
     } else if is(word, "setup") || is(word, "established") || is(word, "keep-state") {
@@ -411,7 +480,7 @@ fn name_hint(word: &[u8]) -> Option<&'static str> {
     } else if has(word, b'=') || has(word, b'.') || has(word, b':') {
         Some("neither = nor a point nor a colon stands in a name: q=10 is q-10 or q10")
     } else {
-        None
+        Some("a name has only letters, digits, - and _: q/10 is q-10 or q10")
     }
 }
 
@@ -455,7 +524,11 @@ fn option_hint(word: &[u8]) -> Option<&'static str> {
 }
 
 fn is_congestion_control(word: &[u8]) -> bool {
-    is(word, "cubic") || is(word, "bbr") || is(word, "reno") || is(word, "newreno")
+    is(word, "cubic")
+        || is(word, "bbr")
+        || is(word, "reno")
+        || is(word, "newreno")
+        || word.starts_with(b"Tcp")
 }
 
 fn flow_option_hint(word: &[u8]) -> Option<&'static str> {
@@ -479,7 +552,7 @@ fn end_hint(word: &[u8]) -> Option<&'static str> {
     } else if is(word, "rules") || is(word, "pipes") || is(word, "all") {
         Some("`show` lists all rules, and `pipe show` all pipes")
     } else if is_foreign_comment(word) {
-        Some("a comment begins with #, and has a line of its own")
+        Some(COMMENT)
     } else if word.first() == Some(&b'\\') {
         Some("a command stands on one line")
     } else if begins_with_digit(word) {
@@ -499,6 +572,9 @@ fn end_hint(word: &[u8]) -> Option<&'static str> {
 fn choice_hint(expected: Expected, word: &[u8]) -> Option<&'static str> {
     if stood_before(expected, word) {
         return None;
+    }
+    if word.starts_with(b"//") {
+        return Some(COMMENT);
     }
     let own = match expected {
         Expected::Verb => verb_hint(word),
@@ -529,8 +605,12 @@ fn seed_hint(word: &[u8]) -> Option<&'static str> {
         Some("the name is missing: experiment two-flows seed 1 budget 1000")
     } else if is(word, "budget") {
         Some("the seed stands before the budget: experiment two-flows seed 1 budget 1000")
+    } else if has_capital(word) {
+        Some(LOWER)
     } else {
-        None
+        meant_by(&OWN_SEEDS, word).or(Some(
+            "a name has no space in it, and `seed` follows: experiment drop-tail seed 1 budget 1000",
+        ))
     }
 }
 
@@ -573,7 +653,7 @@ fn form_hint(form: Form, word: &[u8]) -> Option<&'static str> {
         Form::Number(_, _) | Form::Segment | Form::Window => number_hint(word),
         Form::Moment => moment_hint(word),
         Form::Name => name_hint(word),
-        Form::Protocol => protocol_hint(word),
+        Form::Protocol => packet_hint(word),
         Form::ProtocolMatch => match_hint(word),
         Form::Address => address_hint(word),
         Form::Prefix => prefix_hint(word),
@@ -588,6 +668,17 @@ fn form_hint(form: Form, word: &[u8]) -> Option<&'static str> {
     }
 }
 
+// What is said of a train's gap with a unit.
+fn gap_hint(expected: Expected, word: &[u8]) -> Option<&'static str> {
+    let is_with_a_unit = begins_with_digit(word) && has_letter(word) && !is_base_16(word);
+    match expected {
+        Expected::Train(TrainWord::Gap) if is_with_a_unit => {
+            Some("a gap is a whole number of nanoseconds without a unit: 20ms is 20000000")
+        }
+        _ => None,
+    }
+}
+
 /// What to write in place of a word that hasn't the form that is wanted, where something is known of it. Own.
 pub fn hint(expected: Expected, word: &[u8]) -> Option<&'static str> {
     if word.first() == Some(&b'#') {
@@ -596,8 +687,11 @@ pub fn hint(expected: Expected, word: &[u8]) -> Option<&'static str> {
     if word.len() > 1 && word.last() == Some(&b';') {
         return Some(NO_SEMICOLON);
     }
+    if is_of_a_template(word) {
+        return Some(TEMPLATE);
+    }
     match value_at(expected) {
-        Some(value) => form_hint(value.form, word),
+        Some(value) => gap_hint(expected, word).or(form_hint(value.form, word)),
         None => choice_hint(expected, word),
     }
 }
@@ -613,6 +707,9 @@ pub fn range_hint(expected: Expected, word: &[u8]) -> Option<&'static str> {
         Form::Window if word.len() > 4 => Some(
             "there is no window scaling: several flows fill a path that one can't",
         ),
+        Form::Queue if word.len() > 3 => Some(
+            "a number alone is packets; bytes are said in units of 1024: 15000 bytes are 15KB",
+        ),
         Form::Queue if is(word, "0") => Some(
             "the packet in service isn't counted: with queue 1 one is in service and one waits",
         ),
@@ -620,16 +717,44 @@ pub fn range_hint(expected: Expected, word: &[u8]) -> Option<&'static str> {
     }
 }
 
-/// What to say of a byte that isn't one of 32 to 126. Own.
-pub fn byte_hint(byte: u8, is_last: bool) -> &'static str {
-    match byte {
-        b'\t' => "it is a tab: put spaces between words",
-        b'\r' if is_last =>
-            "the line ends with CR LF, as on Windows: lines end with LF alone (`tr -d '\\r'` takes the CRs away)",
-        b'\r' => "it is a carriage return: lines end with LF alone",
-        0 => "it is a zero byte: the text may be UTF-16, or no text",
-        128.. =>
-            "it isn't ASCII: perhaps a typographic quote or dash, a no-break space, or a byte order mark",
+const BYTE_ORDER_MARK: &str = "the file begins with a byte order mark: save it without one";
+
+const NO_ASCII: &str =
+    "it isn't ASCII: perhaps a typographic quote or dash, a no-break space, or a byte order mark";
+
+// What a character is that people paste or type, by the bytes of UTF-8 that begin with it.
+fn character_hint(bytes: &[u8]) -> &'static str {
+    match bytes {
+        [0xef, 0xbb, 0xbf, ..] => BYTE_ORDER_MARK,
+        [0xc2, 0xa0, ..] => "it is a no-break space: put a plain space there",
+        [0xc2, 0xb5, ..] | [0xce, 0xbc, ..] => "it is a Greek mu: microseconds are spelled us",
+        [0xe2, 0x80, 0x8b..=0x8d, ..] => "it is an invisible zero-width space: delete it",
+        [0xe2, 0x80, 0x90..=0x95, ..] => {
+            "it is a typographic dash: write the ASCII hyphen - in its place"
+        }
+        [0xe2, 0x80, 0x98..=0x9f, ..] | [0xc2, 0xab | 0xbb, ..] => {
+            "it is a typographic quote: a scenario has no quotes"
+        }
+        [0xe2, 0x86, 0x90..=0x93, ..] | [0xe2, 0x87, ..] => {
+            "it is an arrow: a rule says `from` and `to`, and a flow neither"
+        }
+        [0xe2, 0x88, 0x92, ..] => "it is a typographic minus sign: numbers have no sign here",
+        [0xef, 0xbc, 0x90..=0x99, ..] => "it is a full-width digit: write 0 to 9",
+        [0xc3, ..] => "it is a letter outside ASCII: names, words and comments are ASCII only",
+        _ => NO_ASCII,
+    }
+}
+
+/// What to say of a byte that isn't one of 32 to 126, by what stands from it on in its line. Own.
+pub fn byte_hint(bytes: &[u8]) -> &'static str {
+    match bytes {
+        [b'\t', ..] => "it is a tab: put spaces between words",
+        [b'\r'] => {
+            "the line ends with CR LF, as on Windows: lines end with LF alone (`tr -d '\\r'` takes the CRs away)"
+        }
+        [b'\r', ..] => "it is a carriage return: lines end with LF alone",
+        [0, ..] => "it is a zero byte: the text may be UTF-16, or no text",
+        [(128..), ..] => character_hint(bytes),
         _ => "it is a control byte",
     }
 }

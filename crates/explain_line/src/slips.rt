@@ -18,7 +18,8 @@ const ORDER: &str = "the action stands before the protocol: add 100 pipe 1 ip fr
 
 const NO_OPTION: &str = "this option of dummynet isn't here: leave it out";
 
-const LINK: &str =
+/// What stands for a link of other programs.
+pub const LINK: &str =
     "a link is a pipe, and a rule hands packets to it: @0 pipe 1 config bw 10Mbit/s delay 20";
 
 const LASTS: &str = "an experiment goes on to its last command: @5000000000 end";
@@ -32,10 +33,19 @@ pub const MOMENT: &str =
 const EXPERIMENT: &str =
     "an experiment begins so, without a moment: experiment two-flows seed 1 budget 1000";
 
+const SHELL: &str =
+    "this line is for the shell: leave it out; a scenario has experiments and their commands alone";
+
+const PROGRAM: &str =
+    "this line is of a program: a scenario has experiments and their commands alone";
+
+const NO_SUCH_DAMAGE: &str =
+    "packets are lost here, by `plr`, and never duplicated, reordered or corrupted: leave it out";
+
 const RULE: &str = "a rule begins with `add` and its number: add 100 allow ip from any to any";
 
 /// Where a line's first word is wanted.
-pub const FIRSTS: [Says; 11] = [
+pub const FIRSTS: [Says; 17] = [
     ("tc", LINK),
     ("$ns", LINK),
     ("netem", LINK),
@@ -47,10 +57,19 @@ pub const FIRSTS: [Says; 11] = [
     ("seed", EXPERIMENT),
     ("seed:", EXPERIMENT),
     ("name:", EXPERIMENT),
+    ("class", LINK),
+    ("$", SHELL),
+    ("dnlab", SHELL),
+    ("./dnlab", SHELL),
+    ("import", PROGRAM),
+    ("from", PROGRAM),
 ];
 
 /// The word that begins an experiment, for slips.
 pub const OWN_FIRSTS: [Says; 1] = [("experiment", "did you mean `experiment`?")];
+
+/// The word behind an experiment's name, for slips.
+pub const OWN_SEEDS: [Says; 1] = [("seed", "did you mean `seed`?")];
 
 /// Where `steps` is wanted, or the end of an experiment's line.
 pub const FOR_STEPS: [Says; 5] = [
@@ -62,7 +81,7 @@ pub const FOR_STEPS: [Says; 5] = [
 ];
 
 /// Where a command's first word is wanted.
-pub const VERBS: [Says; 39] = [
+pub const VERBS: [Says; 41] = [
     ("queue", "ipfw's queue, sched, table and nat aren't here"),
     ("sched", "ipfw's queue, sched, table and nat aren't here"),
     ("table", "ipfw's queue, sched, table and nat aren't here"),
@@ -120,6 +139,11 @@ pub const VERBS: [Says; 39] = [
     ("allow", RULE),
     ("deny", RULE),
     ("rule", RULE),
+    ("class", LINK),
+    (
+        "print",
+        "the report has every packet; rules are listed by `show`, and pipes by `pipe show`",
+    ),
 ];
 
 /// The verbs themselves, for slips.
@@ -201,7 +225,7 @@ pub const OWN_ACTIONS: [Says; 5] = [
 ];
 
 /// Where an option of a pipe is wanted.
-pub const OPTIONS: [Says; 30] = [
+pub const OPTIONS: [Says; 35] = [
     ("target", "`target` and `interval` directly follow `codel`"),
     (
         "interval",
@@ -238,6 +262,11 @@ pub const OPTIONS: [Says; 30] = [
     ("profile", NO_OPTION),
     ("flow-id", NO_OPTION),
     ("sched", NO_OPTION),
+    ("DataRate", "it is spelled `bw` here: bw 10Mbit/s"),
+    ("MaxSize", "it is spelled `queue` here: queue 50"),
+    ("duplicate", NO_SUCH_DAMAGE),
+    ("reorder", NO_SUCH_DAMAGE),
+    ("corrupt", NO_SUCH_DAMAGE),
 ];
 
 /// The options themselves, for slips.
@@ -289,7 +318,8 @@ pub fn said_of(table: &[Says], word: &[u8]) -> Option<&'static str> {
     None
 }
 
-/// What is said of a word that is one of these but for a slip: a letter wrong, missing or too much, or two turned round.
+/// What is said of a word that is one of these but for a slip: a letter wrong, missing or too much, two turned round, or
+/// another ending behind the first three letters.
 pub fn meant_by(table: &[Says], word: &[u8]) -> Option<&'static str> {
     if word.len() < 2 {
         return None;
@@ -340,7 +370,7 @@ fn rest_of(word: &[u8], from: usize) -> &[u8] {
     &word[start..]
 }
 
-// Whether two words differ by one slip, and are not the same.
+// Whether two words differ by one slip or in their endings, and are not the same.
 fn is_near(word: &[u8], known: &[u8]) -> bool {
     let front = same_front(word, known);
     let first = rest_of(word, front);
@@ -350,6 +380,9 @@ fn is_near(word: &[u8], known: &[u8]) -> bool {
     let right = second.len().saturating_sub(back);
     if wrong <= 1 && right <= 1 {
         return wrong + right > 0;
+    }
+    if front >= 3 && wrong <= 3 && right <= 2 {
+        return true;
     }
     wrong == 2 && right == 2 && are_turned(first, second)
 }

@@ -1,1 +1,4 @@
+mod Accounting
 pub mod Behind
+mod Sharing
+mod States

@@ -1,5 +1,11 @@
-pub mod Ways
-pub mod Walk
-pub mod Survey
-pub mod Warnings
+pub mod Accounts
+pub mod Flows
+pub mod Likely
+pub mod Pipes
+pub mod Shared
 pub mod Shown
+pub mod Sizes
+pub mod Survey
+pub mod Walk
+pub mod Warnings
+pub mod Ways

@@ -8,7 +8,7 @@ use Rattle.explain_text.specs.declared.ends.Ends.{Ends}
 use Rattle.explain_text.specs.declared.warning.Sent.{Sent}
 use Rattle.explain_text.specs.declared.warning.Sent.TheVariants.{Packets, Segments, Acks}
 use Rattle.explain_text.specs.declared.warning.Concern.{Concern}
-use Rattle.explain_text.specs.declared.warning.Concern.TheVariants.{Spent, OverBudget, Denied, UnusedSeed, NoPipe, NoWay}
+use Rattle.explain_text.specs.declared.warning.Concern.TheVariants.{Spent, OverBudget, PipeGone, Denied, UnusedSeed, NoPipe, NoWay}
 
 -- an address with its points
 abbrev pub with_address : List ℕ → ℕ → List ℕ
@@ -51,6 +51,7 @@ with_way out ends sent count = with_ends (with_count out count ++ sent_word sent
 abbrev pub with_meaning : List ℕ → Concern → List ℕ
 with_meaning out (Spent moment end) = with_spent out moment end
 with_meaning out (OverBudget first count) = with_dropped out (codes "packets dropped for the budget: ") count first
+with_meaning out (PipeGone first count) = with_dropped out (codes "packets dropped since a rule hands them to a pipe that isn't there: ") count first
 with_meaning out (Denied first count) = with_dropped out (codes "packets of trains and injects that the rules denied: ") count first
 with_meaning out UnusedSeed = out ++ codes "nothing uses its seed: no pipe has a `plr` above 0"
 with_meaning out (NoPipe pipe) = out ++ codes "no command of its experiment configures pipe " ++ decimal pipe
@@ -63,6 +64,7 @@ with_advice out advice ends = with_ends (out ++ advice ++ codes ": add R allow "
 abbrev pub with_hint : List ℕ → Concern → List ℕ
 with_hint out (Spent moment end) = out ++ codes "a greater `steps` behind `budget`, at most 10000000, goes further"
 with_hint out (OverBudget first count) = out ++ codes "`budget` is how many packets may be under way at once, at most 65535"
+with_hint out (PipeGone first count) = out ++ codes "configure that pipe before they come, or name another: `pipe show` lists the pipes"
 with_hint out (Denied first count) = out ++ codes "what no rule matches is denied too: `show` counts what each rule matched, `trace 1` names each packet"
 with_hint out UnusedSeed = out ++ codes "a seed draws losses alone: give a pipe a `plr`, or write `seed 0`"
 with_hint out (NoPipe pipe) = out ++ codes "what comes to it is dropped: configure that pipe, or name another"
@@ -72,6 +74,7 @@ with_hint out (NoWay ends sent count false) = with_advice out (codes "what no ru
 abbrev pub kind_word : Concern → List ℕ
 kind_word (Spent moment end) = codes ": spent\n"
 kind_word (OverBudget first count) = codes ": budget\n"
+kind_word (PipeGone first count) = codes ": nopipe\n"
 kind_word (Denied first count) = codes ": denied\n"
 kind_word UnusedSeed = codes ": seed\n"
 kind_word (NoPipe pipe) = codes ": nopipe\n"

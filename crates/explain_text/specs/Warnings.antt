@@ -1,5 +1,5 @@
 -- The warnings of an experiment.
-use Rattle.std.specs.Prelude.{ℕ, Bool, true, false, not, ◌==◌, if◌then◌else◌, List, [], ◌∷◌, ◌++◌, take, Option, Some, None, slice_get}
+use Rattle.std.specs.Prelude.{ℕ, Bool, true, false, not, ◌==◌, if◌then◌else◌, List, [], ◌∷◌, ◌++◌, take, Option, Some, None, nat_le, slice_get}
 use Rattle.emu_model.specs.declared.commands.Command.{Command}
 use Rattle.emu_model.specs.declared.commands.Command.TheVariants.{Flow}
 use Rattle.emu_model.specs.declared.commands.Timed.{Timed}
@@ -12,7 +12,7 @@ use Rattle.explain_text.specs.declared.warning.Warning.{Warning}
 use Rattle.explain_text.specs.declared.warning.Sent.{Sent}
 use Rattle.explain_text.specs.declared.warning.Sent.TheVariants.{Packets, Segments, Acks}
 use Rattle.explain_text.specs.declared.warning.Concern.{Concern}
-use Rattle.explain_text.specs.declared.warning.Concern.TheVariants.{Spent, OverBudget, Denied, UnusedSeed, NoWay}
+use Rattle.explain_text.specs.declared.warning.Concern.TheVariants.{Spent, OverBudget, PipeGone, Denied, UnusedSeed, NoWay}
 use Rattle.explain_text.specs.Ways.{segment_ends, turned, is_denied}
 use Rattle.explain_text.specs.Walk.{behind, start, denials}
 use Rattle.explain_text.specs.Survey.{has_loss, pipes_missing, flow_place, last_moment}
@@ -51,6 +51,7 @@ whole concern = record { command = None; concern = concern } ∷ []
 abbrev pub of_subject : List Timed → ℕ → ℕ → Subject → List Warning
 of_subject cs first count subjects.Spent = whole (Spent first (last_moment cs))
 of_subject cs first count subjects.OverBudget = whole (OverBudget first count)
+of_subject cs first count subjects.NoPipe = whole (PipeGone first count)
 of_subject cs first count subjects.DeniedPlain = whole (Denied first count)
 of_subject cs first count (subjects.DeniedData n) = flow_denied cs Segments count n
 of_subject cs first count (subjects.DeniedAck n) = flow_denied cs Acks count n
@@ -60,9 +61,9 @@ abbrev pub of_notes : ℕ → List Timed → List Note → List Warning
 of_notes number cs [] = []
 of_notes number cs (n ∷ ns) = (if n.experiment == number then of_subject cs n.first n.count n.subject else []) ++ of_notes number cs ns
 
--- a seed other than 0 where no pipe has losses
+-- a seed other than 0 and 1, which people write who need none, where no pipe has losses
 abbrev pub of_seed : ℕ → List Timed → List Warning
-of_seed seed cs = if seed == 0 then [] else (if has_loss cs then [] else whole UnusedSeed)
+of_seed seed cs = if nat_le seed 1 then [] else (if has_loss cs then [] else whole UnusedSeed)
 
 -- what is seen from the commands alone, of a kind the first ten; of flows only where no run has counted their packets
 abbrev pub of_commands : Bool → ℕ → List Timed → List Warning

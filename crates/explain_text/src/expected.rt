@@ -3,7 +3,7 @@
 ghost use Rattle.packet_store.specs.Own.{own_pocket};
 ghost use Rattle.experiment.specs.Kept.{IsHousedIn};
 
-use control::Experiment as Script;
+use control::{Experiment as Script, ParseError, parse_scenario};
 use emu_model::{Command, Record, Timed};
 use experiment::{ApplyError, Event, Experiment};
 use explain::RefusedCommand;
@@ -81,4 +81,13 @@ pub fn refusals_expected(
         expect_of(&mut out, alloc, (place as u64).saturating_add(1), script)?;
     }
     Ok(out)
+}
+
+/// Returns the commands that are refused whatever the packets do of a text that is a scenario; none of another.
+pub fn refusals_of(alloc: Global, text: &[u8]) -> Result<Vec<RefusedCommand>, AllocError> {
+    match parse_scenario(alloc, text) {
+        Ok(scenario) => refusals_expected(alloc, scenario.experiments()),
+        Err(ParseError::Fault(_)) => Ok(Vec::new(alloc)),
+        Err(ParseError::NoMemory) => Err(AllocError),
+    }
 }

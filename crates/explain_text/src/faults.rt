@@ -5,8 +5,8 @@ use explain::{faults_behind, find, line_at, put_row, show_finding, show_found, s
 use explain_line::wanted_at;
 use std::alloc::{AllocError, Global};
 
-/// So many further words of one line are told at most.
-const MOST_WORDS: usize = 8;
+/// A line with more words at fault than these has its words in another order, and only the first is told.
+const MOST_WORDS: usize = 5;
 
 // The word at fault that is told first, if the fault is one of a word.
 fn told_word(line: &[u8], cause: Cause) -> Option<usize> {
@@ -45,7 +45,7 @@ fn others_in(alloc: Global, line: &[u8], told: usize) -> Result<Vec<u8>, AllocEr
             Behind::Unsure => return Ok(Vec::new(alloc)),
         };
     }
-    Ok(out)
+    Ok(Vec::new(alloc))
 }
 
 // The other words at fault of the line of a fault.

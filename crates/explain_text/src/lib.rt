@@ -1,60 +1,52 @@
 //! What `--explain` says, as text: of the faults of a scenario, of the commands that were refused, and of what goes wrong
 //! without a refusal: steps that run out before an experiment's end, packets that the budget or the rules drop, rules that
-//! name no pipe, a seed that nothing uses. Our choice.
+//! name no pipe, units that are likely not meant, rules that nobody meets. Our choice.
 #![tactic(auto)]
 
+mod accounts;
+mod doubt;
 mod ends;
 mod expected;
 mod faults;
+mod flows;
+mod likely;
+mod pipes;
 mod rules;
+mod shared;
 mod show;
+mod sizes;
 mod survey;
 mod texts;
+mod unmet;
 mod walk;
 mod warning;
 
+pub use accounts::account_of;
 use control::{Experiment, ParseError, parse_scenario};
 pub use ends::Ends;
-pub use expected::refusals_expected;
+pub use expected::{refusals_expected, refusals_of};
 use experiment::Report;
-use explain::Account;
 pub use faults::faults_text;
 use std::alloc::{AllocError, Global};
-pub use texts::{refusals_text, warnings_text};
+pub use texts::{Run, refusals_text, warnings_text};
 pub use warning::{Concern, Sent, Warning, warnings};
 
-/// What the reports of a scenario say that is told. `AllocError` where memory was refused.
-pub fn account_of(alloc: Global, reports: &[Report]) -> Result<Account, AllocError> {
-    let mut account = Account::new(alloc);
-    let mut number = 1u64;
-    for report in reports {
-        let (_, records, _) = report.parts();
-        account.take(number, records)?;
-        number = number.saturating_add(1);
-    }
-    Ok(account)
-}
-
 /// What is said of a scenario, with its text: the commands that were refused, or without a run will be, and what is likely
-/// wrong. `account` is that of its reports, where it was run. `AllocError` where memory was refused.
+/// wrong. `run` is what a run of it has found. `AllocError` where memory was refused.
 pub fn scenario_explained(
     alloc: Global,
     text: &[u8],
     experiments: &[Experiment],
-    account: Option<&Account>,
+    run: Option<&Run>,
 ) -> Result<Vec<u8>, AllocError> {
-    let mut out = match account {
-        Some(account) => refusals_text(alloc, text, account.refusals())?,
+    let mut out = match run {
+        Some(run) => refusals_text(alloc, text, run.account.refusals())?,
         None => {
             let expected = refusals_expected(alloc, experiments)?;
             refusals_text(alloc, text, expected.as_slice())?
         }
     };
-    let notes = match account {
-        Some(account) => Some(account.notes()),
-        None => None,
-    };
-    let warned = warnings_text(alloc, text, experiments, notes)?;
+    let warned = warnings_text(alloc, text, experiments, run)?;
     out.extend_from_slice(warned.as_slice())?;
     Ok(out)
 }
@@ -75,5 +67,9 @@ pub fn explanation(
         return scenario_explained(alloc, text, scenario.experiments(), None);
     };
     let account = account_of(alloc, reports)?;
-    scenario_explained(alloc, text, scenario.experiments(), Some(&account))
+    let run = Run {
+        account: &account,
+        reports,
+    };
+    scenario_explained(alloc, text, scenario.experiments(), Some(&run))
 }

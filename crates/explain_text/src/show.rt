@@ -120,6 +120,12 @@ fn put_meaning(out: &mut Vec<u8>, concern: &Concern) -> Result<(), AllocError>
         Concern::OverBudget { first, count } => {
             put_dropped(out, "packets dropped for the budget: ", *count, *first)
         }
+        Concern::PipeGone { first, count } => put_dropped(
+            out,
+            "packets dropped since a rule hands them to a pipe that isn't there: ",
+            *count,
+            *first,
+        ),
         Concern::Denied { first, count } => put_dropped(
             out,
             "packets of trains and injects that the rules denied: ",
@@ -162,6 +168,10 @@ fn put_hint(out: &mut Vec<u8>, concern: &Concern) -> Result<(), AllocError>
             out,
             "`budget` is how many packets may be under way at once, at most 65535",
         ),
+        Concern::PipeGone { .. } => put(
+            out,
+            "configure that pipe before they come, or name another: `pipe show` lists the pipes",
+        ),
         Concern::Denied { .. } => put(
             out,
             "what no rule matches is denied too: `show` counts what each rule matched, `trace 1` names each packet",
@@ -199,7 +209,7 @@ fn kind_word(concern: &Concern) -> &'static str
         Concern::OverBudget { .. } => ": budget\n",
         Concern::Denied { .. } | Concern::NoWay { .. } => ": denied\n",
         Concern::UnusedSeed => ": seed\n",
-        Concern::NoPipe(_) => ": nopipe\n",
+        Concern::NoPipe(_) | Concern::PipeGone { .. } => ": nopipe\n",
     }
 }
 

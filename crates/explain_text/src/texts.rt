@@ -1,9 +1,18 @@
 //! What is said of a scenario: the commands that were refused, and what is silently wrong.
 
+use crate::doubt::{Doubtful, Setting, first_of_each, show_doubt};
+use crate::flows::of_flows;
+use crate::likely::likely;
+use crate::pipes::{forgets, loses_all};
+use crate::shared::shared;
 use crate::show::show_warning;
+use crate::sizes::long_listings;
+use crate::unmet::unmet;
 use crate::warning::{Warning, warnings};
 use control::Experiment;
-use explain::{Note, RefusedCommand, Text, show_refused};
+use emu_model::Timed;
+use experiment::Report;
+use explain::{Account, RefusedCommand, Stand, Subject, Text, show_refused, watch_flows};
 use std::alloc::{AllocError, Global};
 
 /// Says of each refused command where it stands, and what its code means.
@@ -23,25 +32,52 @@ pub fn refusals_text(
     Ok(out)
 }
 
-// Says of each warning what line it is about, from the beginning of its experiment on.
-fn put_each(
+/// What can be said of a command of an experiment, or of all of it.
+trait Said {
+    fn command(&self) -> Option<u64>;
+
+    fn show(&self, alloc: Global, stand: &Stand) -> Result<Vec<u8>, AllocError>;
+}
+
+impl Said for Warning {
+    fn command(&self) -> Option<u64> {
+        self.command
+    }
+
+    fn show(&self, alloc: Global, stand: &Stand) -> Result<Vec<u8>, AllocError> {
+        show_warning(alloc, &self.concern, stand)
+    }
+}
+
+impl Said for Doubtful {
+    fn command(&self) -> Option<u64> {
+        Some(self.command)
+    }
+
+    fn show(&self, alloc: Global, stand: &Stand) -> Result<Vec<u8>, AllocError> {
+        show_doubt(alloc, &self.doubt, stand)
+    }
+}
+
+// Says of each what line it is about, from the beginning of its experiment on.
+fn put_each<S: Said>(
     out: &mut Vec<u8>,
     alloc: Global,
     start: Text,
     number: u64,
-    warnings: &[Warning],
+    all: &[S],
 ) -> Result<(), AllocError> {
     let mut text = start;
-    for warning in warnings {
+    for said in all {
         let mut next = text;
-        let mut stand = next.seek(number, warning.command);
+        let mut stand = next.seek(number, said.command());
         if stand.is_none() {
-            // Its line stands before that of the warning before.
+            // Its line stands before that of the one before.
             next = start;
-            stand = next.seek(number, warning.command);
+            stand = next.seek(number, said.command());
         }
         if let Some(stand) = stand {
-            let shown = show_warning(alloc, &warning.concern, &stand)?;
+            let shown = said.show(alloc, &stand)?;
             out.extend_from_slice(shown.as_slice())?;
             text = next;
         }
@@ -49,29 +85,86 @@ fn put_each(
     Ok(())
 }
 
+/// The results of a run: the facts that are printed, and the reports that they are from.
+#[derive(Clone, Copy)]
+pub struct Run<'a> {
+    pub account: &'a Account,
+    pub reports: &'a [Report],
+}
+
 fn warnings_of(
     alloc: Global,
     number: u64,
     experiment: &Experiment,
-    notes: Option<&[Note]>,
+    run: Option<&Run>,
 ) -> Result<Vec<Warning>, AllocError> {
     let commands = experiment.commands.as_slice();
+    let notes = match run {
+        Some(run) => Some(run.account.notes()),
+        None => None,
+    };
     warnings(alloc, number, experiment.spec.seed, commands, notes)
 }
 
-/// Says what is silently wrong in each experiment of the text; behind a run also what was noted of the report.
+fn is_spent(run: &Run, number: u64) -> bool {
+    let notes = run.account.notes();
+    notes.iter().any(|note| note.experiment == number && note.subject == Subject::Spent)
+}
+
+// What the records of the experiment with this number say of its flows.
+fn doubts_of_run(
+    alloc: Global,
+    number: u64,
+    commands: &[Timed],
+    run: &Run,
+) -> Result<Vec<Doubtful>, AllocError> {
+    let place = number.saturating_sub(1) as usize;
+    let Some(report) = run.reports.get(place) else {
+        return Ok(Vec::new(alloc));
+    };
+    let (_, records, _) = report.parts();
+    let watches = watch_flows(alloc, commands, records)?;
+    of_flows(alloc, watches.as_slice(), is_spent(run, number))
+}
+
+// What is likely not meant in an experiment, kind by kind.
+fn doubts_of(
+    alloc: Global,
+    number: u64,
+    commands: &[Timed],
+    run: Option<&Run>,
+) -> Result<Vec<Doubtful>, AllocError> {
+    let mut out = likely(alloc, commands)?;
+    out.extend_from_slice(loses_all(alloc, commands)?.as_slice())?;
+    for setting in [Setting::Bw, Setting::Delay, Setting::Queue, Setting::Plr] {
+        out.extend_from_slice(forgets(alloc, setting, commands)?.as_slice())?;
+    }
+    out.extend_from_slice(shared(alloc, commands)?.as_slice())?;
+    out.extend_from_slice(unmet(alloc, commands)?.as_slice())?;
+    if let Some(long) = long_listings(commands) {
+        out.push(long)?;
+    }
+    if let Some(run) = run {
+        out.extend_from_slice(doubts_of_run(alloc, number, commands, run)?.as_slice())?;
+    }
+    first_of_each(alloc, out.as_slice())
+}
+
+/// Says what is silently wrong in each experiment of the text, and what is likely not meant; behind a run also what it found.
 pub fn warnings_text(
     alloc: Global,
     text: &[u8],
     experiments: &[Experiment],
-    notes: Option<&[Note]>,
+    run: Option<&Run>,
 ) -> Result<Vec<u8>, AllocError> {
     let mut out = Vec::new(alloc);
     let mut start = Text::new(text);
     let mut number = 1u64;
     for experiment in experiments {
-        let warnings = warnings_of(alloc, number, experiment, notes)?;
+        let warnings = warnings_of(alloc, number, experiment, run)?;
         put_each(&mut out, alloc, start, number, warnings.as_slice())?;
+        let doubts = doubts_of(alloc, number, experiment.commands.as_slice(), run)?;
+        put_each(&mut out, alloc, start, number, doubts.as_slice())?;
         let _ = start.seek(number, None);
         number = number.saturating_add(1);
     }

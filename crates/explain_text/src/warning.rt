@@ -41,7 +41,12 @@ pub enum Concern {
         first: u64,
         count: u64,
     },
-    /// The seed isn't 0, and no pipe has losses.
+    /// Packets were dropped since their pipe wasn't there: the first moment (ns), and how many.
+    PipeGone {
+        first: u64,
+        count: u64,
+    },
+    /// The seed is above 1, and no pipe has losses.
     UnusedSeed,
     /// A rule names a pipe that no command configures.
     NoPipe(PipeNumber),
@@ -156,6 +161,7 @@ fn put_note(
             },
         ),
         Subject::OverBudget => put_whole(out, Concern::OverBudget { first, count }),
+        Subject::NoPipe => put_whole(out, Concern::PipeGone { first, count }),
         Subject::DeniedPlain => put_whole(out, Concern::Denied { first, count }),
         Subject::DeniedData(flow) => put_flow(alloc, out, commands, Sent::Segments, count, flow),
         Subject::DeniedAck(flow) => put_flow(alloc, out, commands, Sent::Acks, count, flow),
@@ -183,7 +189,7 @@ fn put_notes(
 fn put_seed(out: &mut Vec<Warning>, seed: u64, commands: &[Timed]) -> Result<(), AllocError>
     ensures { OnOk result (out.new.items ≡ out.old.items ++ of_seed seed commands.now) }
 {
-    if seed == 0 || has_loss(commands) {
+    if seed <= 1 || has_loss(commands) {
         return Ok(());
     }
     put_whole(out, Concern::UnusedSeed)
