@@ -36,6 +36,11 @@ fn put<A: Agenda>(
     agenda.set(owner, source, due)
 }
 
+// A set that is refused memory is made again, and is made then.
+fn puts<A: Agenda>(agenda: &mut A, owner: Owner, source: Source, due: u64) -> bool {
+    put(agenda, owner, source, due).is_ok() || put(agenda, owner, source, due).is_ok()
+}
+
 // The due, owner, class and number of what is popped, which is where the clock moved before.
 fn pop<A: Agenda>(agenda: &mut A) -> Option<(u64, Owner, u8, u32)> {
     let least = agenda.move_to_least()?;
@@ -58,7 +63,7 @@ fn pop<A: Agenda>(agenda: &mut A) -> Option<(u64, Owner, u8, u32)> {
 fn falls_and_rises<A: Agenda>(agenda: &mut A) -> bool {
     let mut number = 0;
     for due in DUES.iter().rev() {
-        if put(agenda, 0, expiry(number), *due).is_err() {
+        if !puts(agenda, 0, expiry(number), *due) {
             return false;
         }
         number = 7u32.min(number.saturating_add(1));
@@ -86,7 +91,7 @@ fn ties<A: Agenda>(agenda: &mut A) -> bool {
         (1, expiry(5)),
         (1, finish),
     ] {
-        if put(agenda, owner, source, 256).is_err() {
+        if !puts(agenda, owner, source, 256) {
             return false;
         }
     }
@@ -108,7 +113,7 @@ fn ties<A: Agenda>(agenda: &mut A) -> bool {
 // A due takes another's place; an owner's dues, one, and all are taken away.
 fn replaces_and_clears<A: Agenda>(agenda: &mut A) -> bool {
     for (owner, number, due) in [(0, 1, 900), (0, 1, 70), (0, 2, 60), (1, 2, 50), (1, 3, 40)] {
-        if put(agenda, owner, expiry(number), due).is_err() {
+        if !puts(agenda, owner, expiry(number), due) {
             return false;
         }
     }
@@ -117,7 +122,7 @@ fn replaces_and_clears<A: Agenda>(agenda: &mut A) -> bool {
     agenda.clear(0, expiry(9));
     let first = pop(agenda) == Some((70, 0, 3, 1)) && pop(agenda) == None;
     let clock = agenda.clock();
-    let again = put(agenda, 3, expiry(1), 300).is_ok() && put(agenda, 2, expiry(1), 80).is_ok();
+    let again = puts(agenda, 3, expiry(1), 300) && puts(agenda, 2, expiry(1), 80);
     agenda.rewind();
     let rewound = agenda.clock() == 0 && pop(agenda) == Some((80, 2, 3, 1));
     agenda.restart();
@@ -125,16 +130,11 @@ fn replaces_and_clears<A: Agenda>(agenda: &mut A) -> bool {
     first && clock == 70 && again && rewound && empty
 }
 
-// A set that is refused memory is made again, and is made then.
-fn puts_twice<A: Agenda>(agenda: &mut A, owner: Owner, source: Source, due: u64) -> bool {
-    put(agenda, owner, source, due).is_ok() || put(agenda, owner, source, due).is_ok()
-}
-
 // Passes with ample memory, and where any one allocation of it is refused: a refused call left all as
 // it was.
 fn refused_changes_nothing<A: Agenda>(agenda: &mut A) -> bool {
     for number in 0..40 {
-        if !puts_twice(agenda, 0, expiry(number), 300) {
+        if !puts(agenda, 0, expiry(number), 300) {
             return false;
         }
     }
@@ -148,7 +148,7 @@ fn refused_changes_nothing<A: Agenda>(agenda: &mut A) -> bool {
 
 // The same of a source's new due: refused, it keeps the one that it had.
 fn refused_keeps_the_due<A: Agenda>(agenda: &mut A) -> bool {
-    if !puts_twice(agenda, 4, expiry(6), 65_536) {
+    if !puts(agenda, 4, expiry(6), 65_536) {
         return false;
     }
     let due = match put(agenda, 4, expiry(6), 255) {
