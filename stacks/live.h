@@ -83,7 +83,7 @@ typedef struct live {
   uint64_t dropped_at, dropped_number; /* a packet that was dropped as it came: this is told before its number */
   char dropped_cause[12];
   uint64_t next;
-  int has_next, is_wrong;
+  int adds_next, has_next, is_wrong; /* whether answers say when the next event is due, and whether one is */
   char *said;           /* what was read of lines that aren't whole */
   size_t said_bytes, said_room;
 } live;
@@ -211,6 +211,7 @@ static inline int live_name(live *l, uint64_t number) {
 /* What is said to the line that was posted first of those without an answer. */
 static inline int live_answered(live *l, const char *answer) {
   char *line = l->posted + l->answered_bytes, *end = strchr(line, '\n');
+  const char *next = strstr(answer, "next ");
   size_t bytes = end ? (size_t)(end - line) : 0;
   int status = 0;
   if (end == NULL) return live_fail(l, "an answer to nothing", answer);
@@ -222,8 +223,8 @@ static inline int live_answered(live *l, const char *answer) {
   if (strncmp(answer, "now ", 4) == 0) l->now = strtoull(answer + 4, NULL, 10);
   else if (strncmp(answer, "packet ", 7) == 0) status = live_name(l, strtoull(answer + 7, NULL, 10));
   else if (strstr(line, " inject ")) live_payload(l); /* it isn't on the link: a fault, or all is over */
-  if (strncmp(answer, "over ", 5) == 0) { l->is_over = 1; l->now = strtoull(answer + 5, NULL, 10); }
-  else if (strncmp(answer, "next ", 5) == 0) { l->has_next = answer[5] != 'n'; l->next = strtoull(answer + 5, NULL, 10); }
+  if (strncmp(answer, "over ", 5) == 0) { l->is_over = 1; l->has_next = 0; l->now = strtoull(answer + 5, NULL, 10); }
+  if (next) { l->has_next = next[5] != 'n'; l->next = strtoull(next + 5, NULL, 10); }
   if (l->transcript && line[0] != '#' && strncmp(answer, "fault ", 6) && fprintf(l->transcript, "%s\n", line) < 0)
     status = live_fail(l, "the transcript can't be written", strerror(errno));
   l->dropped_number = UINT64_MAX;
@@ -382,9 +383,12 @@ static inline int live_until_mine(live *l, uint64_t moment, uint64_t hold) {
   return live_post(l, begin, "", rest) ? -1 : live_exchange(l);
 }
 
-/* When the next event of the link is due; *moment is UINT64_MAX where nothing is. */
+/* Gets when the next event of the link is due; *moment is UINT64_MAX if nothing is. After the first call the answers to other
+   lines say it too, so a call costs no round trip unless packets were sent since the last exchange. */
 static inline int live_next(live *l, uint64_t *moment) {
-  if (live_post(l, "#> next", "", "") || live_exchange(l)) return -1;
+  if (!l->adds_next && live_post(l, "#> next on", "", "")) return -1;
+  l->adds_next = 1;
+  if (live_exchange(l)) return -1;
   *moment = l->has_next ? l->next : UINT64_MAX;
   return 0;
 }

@@ -1,0 +1,162 @@
+"""Runs unmodified programs over Linux's TCP and a link, in simulated time."""
+import argparse
+import importlib.util
+import os
+import re
+import sys
+from pathlib import Path
+from typing import Sequence
+
+from dnlab.cli.words import count_of, parser_of, time_of
+from dnlab.emulation import guest_plan, hosts_file, kernel_cache, network_check, run, shell
+from dnlab.emulation.experiment import Experiment
+from dnlab.emulation.terminal import Terminal
+from dnlab.emulation.verdict import Options
+from dnlab.errors import Failed, Faulty, Lacking, status_of
+from dnlab.processes import ending
+from dnlab.processes.rooms import Room
+from dnlab.programs import say
+
+EXAMPLE = """FILE (YAML) follows Shadow's configuration: general (stop_time, seed), hosts
+(ip_addr, processes: path, args, start_time, expected_final_state). `network`
+has lines of a scenario. docs/reference/hosts_file.md explains all keys.
+
+The first run builds the guest's kernel, in about five minutes. It needs these
+packages of Debian: linux-source-6.1 build-essential flex bison bc python3-yaml.
+
+RUN gets transcript.txt (a scenario that `dnlab alone` repeats), report.txt,
+summary.json, and hosts/NAME with a capture and the output of each process.
+
+Example:
+  tools/hosts hosts/examples/iperf3.yaml --out run
+  tools/hosts --table run
+  tools/hosts --shell 'bw 10Mbit/s delay 20'
+
+Exit status: 0 all processes ended as expected; 1 one did not, or packets were
+late by the wall clock; 2 wrong usage or a faulty file; 3 something is missing,
+the limit of real time was reached, or the guest or the link ended early."""
+
+
+def parser_of_words() -> argparse.ArgumentParser:
+    parser = parser_of("hosts", __doc__ or "", EXAMPLE)
+    parser.add_argument("file", nargs="?", metavar="FILE",
+                        help="the hosts, their programs and the network (YAML), or - for standard input")
+    parser.add_argument("--out", metavar="RUN", type=Path,
+                        help="the folder for everything that the run writes; it must be empty")
+    parser.add_argument("--force", action="store_true", help="overwrite the run that RUN has")
+    parser.add_argument("--clock", choices=run.CLOCKS, default="simulated",
+                        help="simulated time, or the wall clock of this machine [simulated]")
+    parser.add_argument("--limit", type=count_of, metavar="SECONDS",
+                        help="end the run after so much real time [600, or the file's]")
+    parser.add_argument("--late-bound", type=time_of, default=10**6, metavar="TIME",
+                        help="by the wall clock: the greatest 99th percentile of lateness [1ms]")
+    parser.add_argument("--verify", action=argparse.BooleanOptionalAction, default=True,
+                        help="run the transcript by `dnlab alone` and compare the reports")
+    other = parser.add_mutually_exclusive_group()
+    other.add_argument("--check", action="store_true", help="check FILE and run nothing")
+    other.add_argument("--table", metavar="RUN", type=Path,
+                       help="print a table of a run's traffic, by host and port")
+    other.add_argument("--shell", metavar="WORDS",
+                       help="by the wall clock: open a shell behind a link with these words of `pipe config`")
+    other.add_argument("--kernel", action="store_true",
+                       help="build the guest's kernel if need be, and print its folder")
+    return parser
+
+
+def words(given: Sequence[str]) -> argparse.Namespace:
+    parser = parser_of_words()
+    found = parser.parse_args(list(given))
+    needs_file = found.table is None and found.shell is None and not found.kernel
+    if needs_file and found.file is None:
+        parser.error("the following arguments are required: FILE")
+    if not needs_file and found.file is not None:
+        parser.error("--table, --shell and --kernel take no FILE")
+    if needs_file and not found.check and found.out is None:
+        parser.error("the following arguments are required: --out RUN")
+    return found
+
+
+def read_file(name: str) -> Experiment:
+    """Returns the experiment of a file, its network checked, after its warnings were printed."""
+    try:
+        experiment = (hosts_file.experiment_of(sys.stdin.buffer.read(), "standard input", Path("."))
+                      if name == "-" else hosts_file.read(Path(name)))
+    except OSError as fault:
+        raise Faulty(f"{name}: {fault.strerror}") from None
+    for warning in network_check.check(experiment):
+        say("hosts", warning)
+    return experiment
+
+
+def run_file(given: argparse.Namespace) -> int:
+    """Checks a file and runs it."""
+    experiment = read_file(given.file)
+    if given.check:
+        count = sum(len(it.processes) for it in experiment.hosts)
+        print(f"{given.file}: hosts: {len(experiment.hosts)}, processes: {count}")
+        return 0
+    ending.tells(lambda: "nothing was run")
+    kernel = kernel_cache.kernel()
+    out = Path(os.path.abspath(given.out))
+    guest_plan.empty_folder(out, given.force)
+    ending.tells(lambda: f"what {given.out} has is incomplete")
+    limit = given.limit or experiment.settings.limit_s
+    options = Options(str(given.out), given.clock, limit, given.late_bound, given.verify)
+    return run.run(experiment, kernel, out, options)
+
+
+def open_shell(link: str) -> int:
+    """Opens a shell behind a link, by the wall clock."""
+    if not re.fullmatch(r"[ -~]+", link):
+        raise Faulty(f"--shell {link!r}: expected words of `pipe config`, as 'bw 10Mbit/s delay 20'")
+    ending.tells(lambda: "the shell was ended")
+    with Room() as room, Terminal() as terminal:
+        experiment = shell.experiment_of(link, os.environ.get("SHELL") or "/bin/sh", terminal.path)
+        return shell.run(experiment, kernel_cache.kernel(), room.path, terminal)
+
+
+def print_table(folder: Path) -> int:
+    """Prints the table of a run's traffic."""
+    for module in "numpy", "dpkt":
+        if importlib.util.find_spec(module) is None:
+            raise Lacking(f"{module} is missing (Debian: apt-get install python3-{module})")
+    from dnlab.cli.layout import lines_of, milliseconds
+    from dnlab.emulation.traffic import PERCENTILES, rows
+
+    found = rows(folder)
+    if not found:
+        raise Faulty(f"{folder}: no host sent a packet")
+    cells = [["traffic", "protocol", "packets", "lost", *(f"delay p{it} ms" for it in PERCENTILES),
+              "throughput Mbit/s", "goodput Mbit/s"]]
+    for row in found:
+        rates = ("-" if rate is None else f"{rate / 10**6:.3f}" for rate in (row.throughput, row.goodput))
+        cells.append([str(row.pair), row.pair.protocol, str(row.packets), str(row.lost),
+                      *(milliseconds(it, exact=False) for it in row.delays), *rates])
+    sys.stdout.write(lines_of(cells, [0, 1]))
+    return 0
+
+
+def hosts(given: argparse.Namespace) -> int:
+    if given.table is not None:
+        return print_table(given.table)
+    if given.shell is not None:
+        return open_shell(given.shell)
+    if given.kernel:
+        print(kernel_cache.kernel().folder)
+        return 0
+    return run_file(given)
+
+
+def main(words_given: Sequence[str]) -> int:
+    ending.watch("hosts")
+    given = words(words_given)
+    try:
+        return hosts(given)
+    except (Faulty, OSError) as fault:
+        said, status = str(fault), status_of(fault)
+        if isinstance(fault, OSError) and fault.filename:
+            said = f"{fault.filename}: {fault.strerror}"
+    except Failed as failed:
+        said, status = failed.said, failed.status
+    say("hosts", said)
+    return status

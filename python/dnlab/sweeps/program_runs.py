@@ -1,0 +1,142 @@
+"""Sweeps of programs: a hosts file, or a command that leaves transcript.txt and report.txt."""
+import json
+import os
+import sys
+import tempfile
+from pathlib import Path
+from typing import Any, Iterable, Mapping, NamedTuple, Optional, Sequence
+
+from dnlab.analysis.asking import USUAL, Ask, Found, answer
+from dnlab.analysis.naming import source_of, with_names
+from dnlab.analysis.spans import Span
+from dnlab.analysis.view import View
+from dnlab.errors import Failed, Faulty, Refused
+from dnlab.io import report, scenario
+from dnlab.io.scenario_parts import Plan
+from dnlab.processes import children
+from dnlab.processes.crew import Crew
+from dnlab.processes.rooms import Room
+from dnlab.programs import program as program_of
+from dnlab.sweeps.batches import Waiting
+from dnlab.sweeps.grids import Case
+from dnlab.sweeps.sweeping import Sweep
+
+TRANSCRIPT, REPORT, SUMMARY = "transcript.txt", "report.txt", "summary.json"
+# So many steps that no two runs share a job.
+_STEPS = 10**7
+_PACKAGE = Path(__file__).resolve().parents[2]
+
+
+class Kind(NamedTuple):
+    """What the texts of a sweep are: command lines, or hosts files with names relative to `folder`."""
+    is_command: bool
+    folder: str
+
+
+class ProgramSweep(Sweep):
+    """As `Sweep`, of programs. Their answers are not cached, since what the programs do may change.
+
+    source      a command line as a template (`is_command`), which is run in an empty folder and leaves
+                transcript.txt and report.txt there; or the path of a hosts file as a template
+    """
+
+    def __init__(self, source: str, grid: Mapping[str, Sequence[Any]], seeds: Iterable[int] = (1,),
+                 asks: Sequence[Ask] = (), is_command: bool = False, workers: Optional[int] = None,
+                 allow: Sequence[str] = (), span: Span = Span()) -> None:
+        super().__init__(f"{source}\n" if is_command else source, grid, seeds,
+                         asks or [Ask("injected", USUAL)], None, workers, allow=allow, span=span)
+        self.kind = Kind(is_command, os.path.dirname(os.path.abspath("." if is_command else source)))
+
+    def text(self, case: Case) -> str:
+        """Returns the command line or the hosts file of a case."""
+        return self._maker.made(case.name, case.seed, case.settings, case.told())
+
+    def prepare(self) -> list[Waiting]:
+        """Returns all cases that were not run; the first hosts file of each setting is checked."""
+        waiting = [Waiting(case, case.name, _STEPS) for case in self.cases if case.name not in self.found]
+        first = {tuple(map(str, one.case.settings.values())): one.case for one in reversed(waiting)}
+        for case in first.values() if not self.kind.is_command else ():
+            done = _hosts(["-", "--check"], self.text(case), self.kind.folder, program_of(self._named))
+            if done.status == 2:
+                raise Faulty(f"{case.told()}: {done.said().removeprefix('hosts: ')}")
+            if done.status:
+                raise Failed(done.status, f"{case.told()}: {done.said()}")
+        return waiting
+
+    def give(self, crew: "Crew[tuple[Waiting, ...]]", batch: Sequence[Waiting], program: str) -> None:
+        """Has a process run a case."""
+        texts = [self.text(one.case) for one in batch]
+        crew.give(tuple(batch), ran, texts, self.kind, self.asks, program, self.span)
+
+    def changeless(self) -> Optional[str]:
+        """Returns the warning if the texts of two seeds are equal, None otherwise."""
+        seeds = {case.seed: case for case in reversed(self.cases)}
+        texts = {self.text(Case(case.name, seed, self.cases[0].settings))
+                 for seed, case in list(seeds.items())[:2]}
+        is_same = len(seeds) > 1 and len(texts) == 1
+        return "the seeds change nothing: there is no {{ seed }} in it" if is_same else None
+
+
+def ran(texts: Sequence[str], kind: Kind, asks: Sequence[Ask], program: str, span: Span) -> list[Found]:
+    """Runs some programs, one after the other; returns what their reports answer, in order. `Failed` with
+    what a program said if its status is not 0."""
+    found = []
+    for text in texts:
+        with Room() as room:
+            out = room.path / "run"
+            if kind.is_command:
+                out.mkdir()
+                done = _run(["sh", "-c", text], "", str(out), program)
+            else:
+                done = _hosts(["-", "--out", str(out), "--no-verify"], text, kind.folder, program)
+            if done.status:
+                raise Failed(3, done.said() or f"the program ended with status {done.status}")
+            found.append(answer(view_of(out), asks, span))
+    return found
+
+
+def _hosts(words: Sequence[str], text: str, folder: str, program: str) -> children.Done:
+    return _run([sys.executable, "-B", "-m", "dnlab", "hosts", *words], text, folder, program)
+
+
+def _run(words: Sequence[str], text: str, folder: str, program: str) -> children.Done:
+    path = os.pathsep.join(filter(None, (str(_PACKAGE), os.environ.get("PYTHONPATH"))))
+    with (tempfile.TemporaryFile() as given, tempfile.TemporaryFile() as out,
+          tempfile.TemporaryFile() as errors):
+        given.write(text.encode())
+        given.seek(0)
+        with children.child(words, cwd=folder, stdin=given, stdout=out, stderr=errors,
+                            env={**os.environ, "DNLAB": program, "PYTHONPATH": path}) as process:
+            status = children.wait(process)
+        for file in out, errors:
+            file.seek(0)
+        return children.Done(status, out.read(), errors.read())
+
+
+def view_of(folder: Path) -> View:
+    """Returns the experiment of a run's folder; packets have their hosts' names, if summary.json has them."""
+    name = TRANSCRIPT
+    try:
+        plans = scenario.read((folder / name).read_bytes())
+        if len(plans) != 1:
+            raise Failed(3, f"{name} has {len(plans)} experiments where one is expected")
+        plans = with_names(plans, _names(folder, next(iter(plans.values())))) or plans
+        name = REPORT
+        view = View(next(report.read(folder / name)), next(iter(plans.values())))
+    except OSError as fault:
+        raise Failed(3, f"the program left no {name}: {fault.strerror}") from None
+    except (Refused, Faulty, StopIteration) as fault:
+        raise Failed(3, f"{name}: {str(fault) or 'it is empty'}") from None
+    view.folder = folder
+    return view
+
+
+def _names(folder: Path, plan: Plan) -> dict[str, str]:
+    """Returns the names of the hosts that send, by address."""
+    try:
+        hosts = json.loads((folder / SUMMARY).read_text())["hosts"]
+        names = {str(host["address"]): str(name) for name, host in hosts.items()}
+    except (OSError, ValueError, KeyError, TypeError, AttributeError):
+        return {}
+    sources = {found[0] for found in map(source_of, plan.commands) if found is not None}
+    return {address: name for address, name in names.items() if address in sources}
