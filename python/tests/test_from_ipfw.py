@@ -2,11 +2,8 @@
 
 The expected commands beside the scripts (tests/ipfw/NAME.txt) were worked out by hand from ipfw(8) and docs/reference/scenario.md.
 """
-import os
-import stat
-import tempfile
 from pathlib import Path
-from typing import Callable, Iterator
+from typing import Callable
 
 import pytest
 from conftest import tool
@@ -26,7 +23,7 @@ LINES = {"wanem": (9, 3, 0), "handbook-stateful": (23, 3, 4), "hotel-per-host": 
 
 def imported(*lines: str, **more: object) -> list[Became]:
     """What lines of ipfw become."""
-    one = Import({"em1": "10.0.1.0/24"}, **more)  # type: ignore[arg-type]
+    one = Import(**{"behind": {"em1": "10.0.1.0/24"}, **more})  # type: ignore[arg-type]
     one.take_all([Line((("sysctl",) if line.startswith("net.") else ("ipfw",)) + tuple(line.split())) for line in lines])
     return one.became
 
@@ -141,7 +138,8 @@ def test_what_the_rules_do(tmp_path: Path, alone: Callable[[bytes], bytes]) -> N
     ("add 100 skipto 50 ip from any to any", REFUSED, []),
     ("add 65535 allow ip from any to any", REFUSED, []),
     ("add 100 prob 0.5 allow ip from any to any", REFUSED, []),
-    ("add 100 prob 0.5 deny ip from any to any", REFUSED, []),
+    ("add 100 prob 0.5 deny ip from any to any", APPROXIMATED,
+     ["one_pass 0", "pipe 65535 config plr 0.5 queue 1000", "add 100 pipe 65535 ip from any to any"]),
     ("add 100 divert 8668 ip from any to any", REFUSED, []),
     ("add 100 allow icmp from any to any", REFUSED, []),
     ("net.inet.ip.fw.one_pass=0", REWRITTEN, ["one_pass 0"]),
@@ -153,11 +151,89 @@ def test_lines(line: str, kind: str, commands: list[str]) -> None:
     assert became(line) == (kind, tuple(commands))
 
 
+# What matches packets of tcp or udp: by ipfw(8) a body left out is any, `not` turns a protocol, and options may stand alone.
+@pytest.mark.parametrize("line, command", [
+    ("add 100 deny not icmp from any to any", "deny ip from any to any"),
+    ("add 100 deny not tcp from any to any", "deny udp from any to any"),
+    ("add 100 pipe 1 out", "pipe 1 ip from any to any"), ("add 100 pipe 1 in", "pipe 1 ip from any to any"),
+    ("add 100 count", "count ip from any to any"),
+    ("add 100 allow proto tcp from any to any", "allow tcp from any to any"), ("add 100 allow proto udp", "allow udp from any to any"),
+    ("add 100 allow src-ip 10.0.0.0/8 dst-port 80", "allow ip from 10.0.0.0/8 to any 80"),
+    ("add 100 allow { tcp or icmp } from any to any", "allow tcp from any to any"),
+    ("add 100 allow not { tcp or icmp } from any to any", "allow udp from any to any"),
+    ("add 100 allow { not icmp } from any to any", "allow ip from any to any"),
+    ("add 100 allow ip from any to any dst-ip 10.0.0.1 proto 17", "allow udp from any to 10.0.0.1"),
+    ("add 100 pipe 1 ip from any to any not layer2", "pipe 1 ip from any to any"),
+    ("add 100 tee 4000 ip from any to any", "count ip from any to any"),
+])
+def test_rules_that_match_stay(line: str, command: str) -> None:
+    assert became(line, drop_unmatchable=True)[1] == (f"add 100 {command}",)
+
+
+@pytest.mark.parametrize("body", ["icmp from any to any", "not ip from any to any", "{ icmp or 47 } from any to any", "proto ospf from any to any",
+                                  "tcp from any to any proto udp", "ip from any to any icmptypes 8", "ip6 from any to any"])
+def test_rules_that_match_nothing(body: str) -> None:
+    assert became(f"add 100 allow {body}", drop_unmatchable=True) == (DROPPED, ())
+    assert imported(f"add 100 allow {body}")[0].said[0].endswith("--drop-unmatchable leaves it out")
+
+
+@pytest.mark.parametrize("body", ["tpc from any to any", "ip from any to any established", "ip from any to any bogus", "ip from any 0.0.0.0"])
+def test_what_isnt_read_is_never_dropped(body: str) -> None:
+    assert became(f"add 100 deny {body}", drop_unmatchable=True) == (REFUSED, ())
+
+
+def test_directions_of_a_host() -> None:
+    """With --me and no --if what goes out has the host's address as its source, and what comes in as its destination."""
+    rules = imported("add 1 pipe 1 out", "add 2 pipe 2 in", "add 3 allow ip from 10.0.0.1 to any out", behind={}, me="10.0.0.9")
+    assert [one.commands[0] for one in rules] == ["add 1 pipe 1 ip from 10.0.0.9 to any", "add 2 pipe 2 ip from any to 10.0.0.9",
+                                                  "add 3 allow ip from 10.0.0.1 to any"]
+
+
+def test_any_address_behind_an_interface() -> None:
+    """Nothing narrows the rule, so the note says that the direction is lost."""
+    deny, via = imported("add 1 deny tcp from any to any 113 in via em0", "add 2 deny udp from any to any via em0", behind={"em0": "any"})
+    assert deny.commands == ("add 1 deny tcp from any to any 113",) and via.commands == ("add 2 deny udp from any to any",)
+    assert "left out" in deny.said[0] and "packets the other way now match too" in deny.said[0] and "left out" in via.said[0]
+
+
+@pytest.mark.parametrize("word, kind, said", [("0.5s", APPROXIMATED, "500ms"), ("2s", APPROXIMATED, "2000ms"), ("1.5ms", REFUSED, "1ms or 2ms"),
+                                              ("1.5", REFUSED, "1ms or 2ms"), ("70s", REFUSED, "60000 ms"), ("soon", REFUSED, "as 20ms")])
+def test_times(word: str, kind: str, said: str) -> None:
+    one = imported(f"pipe 1 config delay {word}")[0]
+    assert one.kind == kind and said in one.said[0]
+
+
+@pytest.mark.parametrize("word", ["1,5Mbit/s", "1e6", "0x100"])
+def test_rates_that_arent_read(word: str) -> None:
+    assert "interface" not in imported(f"pipe 1 config bw {word}")[0].said[0]
+
+
+def test_denied_by_chance(alone: Callable[[bytes], bytes]) -> None:
+    """By hand: under one_pass 1 a packet that leaves pipe 1 is through (100 bytes at 1 Mbit/s: 0.8 ms, 1 ns of a delay of 0, and 1 ns of
+    `allow`), though rule 300 would deny it; one to port 9 goes by the pipe that loses nothing (1 ns) and is denied by rule 300."""
+    lines = ["pipe 1 config bw 1Mbit/s", "add 100 pipe 1 udp from any to any 7", "add 200 prob 0 deny ip from any to any",
+             "add 300 deny udp from any to any"]
+    one = [command for each in imported(*lines) for command in each.commands]
+    text = "experiment e seed 1 budget 9\n" + "".join(f"@0 {command}\n" for command in one)
+    text += "@1 inject udp 10.0.0.1 1 10.0.0.2 7 100\n@2 inject udp 10.0.0.1 1 10.0.0.2 9 100\n@9000000 end\n"
+    report = alone(text.encode()).decode()
+    assert "800003 deliver 0 plain" in report and "drop 1 plain denied" in report
+
+
+def test_dummynets_own_examples() -> None:
+    """Of the 29 lines of ipfw(8)'s and dummynet's examples four are refused: two that route by chance, a rate by an interface, and `call`."""
+    status, said, told = tool("from-ipfw", FOLDER / "dummynet-examples.sh", "--flatten", "--me", "10.9.9.9", "--lenient")
+    assert status == 0 and "29 lines: " in told and " 4 refused" in told
+    assert [line.split(": add ")[-1].split(": pipe ")[-1] for line in told.splitlines() if line.startswith("refused: ")] == [
+        "prob 0.333 pipe 5 ip from any to 10.1.0.0/16", "prob 0.5 pipe 6 ip from any to 10.1.0.0/16", "13 config bw tun0",
+        "60000 call 100 ip from any to any"]
+
+
 def test_refusals_have_a_way_out() -> None:
     """Each names the word, and says what to do instead."""
     for line, *wanted in (("add 1 allow ip from any to any in via em7", "em7", "--if em7="), ("add 1 allow ip from me to any", "me", "--me"),
                           ("pipe 1 config plr 1%", "1%", "0.01"), ("pipe 1 config bw em0", "em0", "10Mbit/s"),
-                          ("add 1 prob 0.5 deny ip from any to any", "prob", "one_pass 0")):
+                          ("add 1 prob 0.5 allow ip from any to any", "prob", "addresses and ports")):
         said = imported(line)[-1].said[0]
         assert all(word in said for word in wanted), said
 
@@ -174,8 +250,9 @@ def test_a_direction_left_out() -> None:
 def test_numbers_of_rules() -> None:
     """ipfw(8): by itself a rule's number is the greatest so far and 100."""
     rules = imported("add allow ip from any to any", "add 250 allow ip from any to any", "add allow ip from any to any",
-                     "add 60 allow ip from any to any", "add allow ip from any to any")
-    assert [one.commands[0].split()[1] for one in rules] == ["100", "250", "350", "60", "450"]
+                     "add 60 allow ip from any to any", "add allow ip from any to any", "add fwd 1.2.3.4 ip from any to any",
+                     "add allow ip from any to any")
+    assert [one.commands[0].split()[1] for one in rules if one.kind != REFUSED] == ["100", "250", "350", "60", "450", "650"]
 
 
 def test_tables() -> None:
@@ -226,37 +303,6 @@ def test_time_passes_in_a_script() -> None:
     one.take_all(lines_of("#!/bin/sh\nfor rate in 1 2; do /sbin/ipfw pipe 1 config bw ${rate}Mbit/s; sleep 5; done\n", "script"))
     assert [(each.moment, each.commands) for each in one.became] == [
         (0, ("pipe 1 config bw 1Mbit/s",)), (5 * 10**9, ("pipe 1 config bw 2Mbit/s",))]
-
-
-@pytest.fixture
-def open_folder() -> Iterator[Path]:
-    """A folder that everybody may write to."""
-    with tempfile.TemporaryDirectory() as name:
-        os.chmod(name, stat.S_IRWXU | stat.S_IRWXG | stat.S_IRWXO)
-        yield Path(name)
-
-
-def test_a_script_can_do_nothing_else(open_folder: Path) -> None:
-    """It writes nothing, though with --trust it would; and neither its PATH nor its environment has anything of ours."""
-    script = open_folder / "script.sh"
-    script.write_text(f"#!/bin/sh\necho x > {open_folder}/made\nipfw add 1 allow ip from any to any // $(env | wc -l) $DNLAB\ntrue\n")
-    status, _, _ = tool("from-ipfw", script)
-    assert status == 0 and not (open_folder / "made").exists()
-    status, _, _ = tool("from-ipfw", script, "--trust")
-    assert status == 0 and (open_folder / "made").exists()
-
-
-def test_a_script_ends_in_time(tmp_path: Path, monkeypatch: pytest.MonkeyPatch) -> None:
-    from dnlab.io import ipfw_script
-    from dnlab.errors import Faulty
-    monkeypatch.setattr(ipfw_script, "SECONDS", 1)
-    with pytest.raises(Faulty, match="didn't end within 1 s"):
-        lines_of("#!/bin/sh\ntail -f /dev/null & ipfw flush; tail -f /dev/null\n", "script")
-
-
-def test_a_script_that_fails() -> None:
-    status, said, told = tool("from-ipfw", "-", text=b"#!/bin/sh\nipfw flush\npython3 -c pass\nexit 4\n")
-    assert (status, said) == (2, "") and "status 4" in told and "Traceback" not in told
 
 
 def test_wrong_input(tmp_path: Path) -> None:

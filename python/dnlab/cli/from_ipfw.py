@@ -1,28 +1,28 @@
 """Makes a scenario of a configuration of ipfw(8) and dummynet."""
 import argparse
 import ipaddress
+import re
 import sys
 from pathlib import Path
 from typing import Sequence
 
 from dnlab.cli.words import moment_of, parser_of
-from dnlab.errors import Faulty, Refused, status_of
+from dnlab.errors import Faulty, Refused, cause_of, status_of
 from dnlab.io.ipfw_became import Became, scenario_of
 from dnlab.io.ipfw_import import Import
-from dnlab.io.ipfw_script import SECONDS, lines_of
+from dnlab.io.ipfw_script import lines_of
 from dnlab.io.ipfw_words import APPROXIMATED, REFUSED
 from dnlab.io.outputs import whole_file
 from dnlab.io.scenario import Judged, read
+from dnlab.programs import say
 
-EXAMPLE = f"""FILE is a script that calls ipfw, a file for `ipfw FILE`, or what `ipfw list` or
+EXAMPLE = """FILE is a script that calls ipfw, a file for `ipfw FILE`, or what `ipfw list` or
 `ipfw pipe show` prints (both may follow each other); - is standard input.
 
-A script is somebody's code. sh runs it for at most {SECONDS} s: in an empty
-folder of memory, without network, with all files read-only. Stand-ins for ipfw
-and sysctl write down their words; else only text tools are on its PATH. If the
-machine gives no namespaces for that, it isn't run without --trust. `sleep 5` in
-it lets 5 s of the scenario pass. Standard error has each line of ipfw that
-isn't the same here:
+A script is somebody's code, so it is read and never run: variables, `for`,
+`while read`, `case`, `if`, functions, arithmetic. What isn't understood is
+refused with its line. `sleep 5` in it lets 5 s of the scenario pass. Standard
+error has each line of ipfw that isn't the same here:
 
   rewritten     other words, the same meaning; with --all alone
   approximated  something of its meaning is lost, and what
@@ -36,8 +36,8 @@ Example:
   tools/from-ipfw rules.sh --me 203.0.113.10 --traffic senders.txt \\
     --out scenario.txt && ./dnlab alone < scenario.txt > report.txt
 
-Exit status: 0 written, 2 wrong usage, a script that fails or lines that are
-refused, 3 what this machine lacks."""
+Exit status: 0 written, 2 wrong usage, a script that isn't understood or lines
+that are refused, 3 what this machine lacks."""
 
 
 def behind_of(text: str) -> tuple[str, str]:
@@ -48,7 +48,8 @@ def behind_of(text: str) -> tuple[str, str]:
     """
     name, _, prefix = text.partition("=")
     try:
-        if not name or (prefix != "any" and not ipaddress.IPv4Network(prefix, strict=False)):
+        # The name may go into a script.
+        if not re.fullmatch(r"[A-Za-z][A-Za-z0-9_.:-]{0,31}", name) or (prefix != "any" and not ipaddress.IPv4Network(prefix, strict=False)):
             raise ValueError
     except ValueError:
         raise argparse.ArgumentTypeError(f"{text!r}: an interface and the addresses behind it, as em1=10.0.1.0/24 or em1=any") from None
@@ -78,7 +79,6 @@ def words(given: Sequence[str]) -> argparse.Namespace:
     parser.add_argument("--name", default="imported", help="the experiment's [imported]")
     parser.add_argument("--seed", type=int, default=1, help="the experiment's [1]")
     parser.add_argument("--budget", type=int, default=1000, help="how many packets may be under way [1000]")
-    parser.add_argument("--trust", action="store_true", help="run the script though it can't be kept from the rest of the machine")
     parser.add_argument("--out", metavar="FILE", help="what is written [standard output]")
     return parser.parse_args(list(given))
 
@@ -139,14 +139,13 @@ def main(words_given: Sequence[str]) -> int:
     given = words(words_given)
     try:
         imported = Import(dict(given.behind), given.me, given.flatten, given.drop_unmatchable, given.moment)
-        imported.take_all(lines_of(text_of(given.file), given.file, given.trust))
+        imported.take_all(lines_of(text_of(given.file), given.file))
         if not imported.became:
             raise Faulty(f"{given.file}: no line of ipfw came of it")
         text = made(given, imported)
         tell(imported.became, given.all)
         counts = imported.tally()
-        print(f"from-ipfw: {given.file}: {len(imported.became)} lines: " + ", ".join(f"{count} {kind}" for kind, count in counts.items()),
-              file=sys.stderr)
+        say("from-ipfw", f"{given.file}: {len(imported.became)} lines: " + ", ".join(f"{count} {kind}" for kind, count in counts.items()))
         if counts[REFUSED] and not given.lenient:
             raise Faulty("nothing was written, since lines were refused: --lenient writes the rest, with these as comments")
         if given.out in (None, "-"):
@@ -155,7 +154,6 @@ def main(words_given: Sequence[str]) -> int:
             with whole_file(given.out) as file:
                 file.write(text.encode("ascii"))
     except (Faulty, OSError) as fault:
-        said = f"{fault.filename}: {fault.strerror}" if isinstance(fault, OSError) else str(fault)
-        print(f"from-ipfw: {said}", file=sys.stderr)
+        say("from-ipfw", cause_of(fault))
         return status_of(fault)
     return 0

@@ -1,13 +1,14 @@
 """Lines of ipfw(8) as commands of a scenario, each with what became of it."""
 import re
 from collections import Counter
+from decimal import Decimal
 from typing import Mapping, Optional, Sequence
 
-from dnlab.io import ipfw_rules, ipfw_words
+from dnlab.io import ipfw_rules, ipfw_spread, ipfw_words
 from dnlab.io.ipfw_became import Became
 from dnlab.io.ipfw_rules import Known
 from dnlab.io.ipfw_script import Line
-from dnlab.io.ipfw_words import APPROXIMATED, DROPPED, KINDS, REFUSED, REWRITTEN, SAME, Cannot, How
+from dnlab.io.ipfw_words import APPROXIMATED, DROPPED, KINDS, REFUSED, REWRITTEN, SAME, Cannot, How, Unmatchable
 
 _LAST = 65534
 _MOST_RULES, _MOST_PIPES = 256, 64
@@ -34,27 +35,35 @@ class Import:
         self._around: set[int] = set()
         self._step = 100
         self._one_pass = True
+        # Pipes that a later line configures, and whether packets go on after a pipe although one_pass is 1 (for `prob .. deny`).
+        self._later: set[int] = set()
+        self._goes_on = False
         self._off: set[str] = set()
 
     def take_all(self, lines: Sequence[Line]) -> None:
-        """Takes all lines; sets that are disabled anywhere are known from the beginning."""
-        for line in lines:
-            words = _bare(line)
+        """Takes all lines; sets that are disabled anywhere, pipes and what is denied by chance are known from the beginning."""
+        bare = [line.bare() for line in lines]
+        for words in bare:
             if words[:2] == ["set", "disable"]:
                 self._off |= set(words[2:words.index("enable") if "enable" in words else None])
+            if words[:1] == ["pipe"] and "config" in words[1:3]:
+                self._later |= {int(word) for word in words[1:3] if word.isdigit()}
+        zeros = (["net.inet.ip.fw.one_pass=0"], ["disable", "one_pass"])
+        self._goes_on = any(words[:1] == ["add"] and {"prob", "deny"} <= set(words) for words in bare) and not any(
+            words[-len(zero):] == zero for words in bare for zero in zeros)
         for line in lines:
             self.take(line)
 
     def take(self, line: Line) -> None:
         """Takes one line."""
-        words = _bare(line)
-        if line.words[0] == "sleep":
-            self._sleep(words)
-            return
+        words = line.bare()
         if line.words[0] == "sysctl" and not re.match(r"net\.inet\.ip\.(fw|dummynet)\.|kern\.hz", " ".join(words)):
             return
         self._costs: list[str] = []
         try:
+            if line.words[0] == "sleep":
+                self._sleep(words)
+                return
             commands = self._sysctl(words) if line.words[0] == "sysctl" else self._ipfw(words)
         except Cannot as cannot:
             self.became.append(Became(line.text(), REFUSED, self.moment, (), (str(cannot),)))
@@ -74,10 +83,9 @@ class Import:
 
     def _sleep(self, words: list[str]) -> None:
         """What comes later in a script comes later in time."""
-        try:
-            self.moment += int(float(words[0]) * 10**9)
-        except (IndexError, ValueError):
-            pass
+        if len(words) != 1 or not re.fullmatch(r"[0-9]{1,6}(\.[0-9]{1,9})?s?", words[0]):
+            raise Cannot(f"`sleep {' '.join(words)}`: seconds stand behind it, as 0.5")
+        self.moment += int(Decimal(words[0].rstrip("s")) * 10**9)
 
     def _say(self, how: How) -> str:
         if how.cost:
@@ -96,6 +104,8 @@ class Import:
 
     def _one_pass_is(self, value: str) -> list[str]:
         self._one_pass = value == "1"
+        if self._goes_on:
+            return []
         return [f"one_pass {value}"]
 
     def _ipfw(self, words: list[str]) -> Optional[list[str]]:
@@ -125,16 +135,18 @@ class Import:
         if is_late:
             raise Cannot(f"`flush` behind {what}: a scenario begins empty: leave out what stands before")
 
-    def _delete(self, words: list[str]) -> list[str]:
+    def _delete(self, words: list[str]) -> Optional[list[str]]:
         numbers = [int(word) for word in words if word.isdigit()]
         if len(numbers) != len(words) or not numbers:
             raise Cannot("`delete`: rules' numbers stand behind it")
         for number in numbers:
             if number not in self._rules:
                 raise Cannot(f"`delete {number}`: no rule has this number")
-            del self._rules[number]
+        given = [number for number in numbers if self._rules[number]]
+        for number in numbers:
+            self._rules.pop(number, None)
             self._around.discard(number)
-        return [f"delete {number}" for number in numbers]
+        return [f"delete {number}" for number in given] or None
 
     def _table(self, words: list[str]) -> Optional[list[str]]:
         name, *rest = words if words else [""]
@@ -188,6 +200,8 @@ class Import:
                 options.append(self._say(ipfw_words.codel(words)))
             elif name == "droptail":
                 options.append(name)
+            elif name in ("red", "gred") and self.flatten and words:
+                self._costs.append(f"`{name} {words.pop(0)}` left out: the queue drops at its end alone")
             elif name in ("noerror", "buckets"):
                 del words[:name == "buckets"]
             elif name in ("bw", "bandwidth", "delay", "plr", "queue") and words:
@@ -205,7 +219,7 @@ class Import:
                          " pipe instead")
         named = {name: int(value) for name, value in zip(words, words[1:]) if name in ("pipe", "sched") and value.isdigit()}
         pipe = named.get("pipe", number if what == "sched" else self._schedulers.get(named.get("sched", -1), -1))
-        if pipe not in self._pipes:
+        if pipe not in self._pipes and (pipe not in self._later or {"fq_codel", "codel"} & set(words)):
             raise Cannot(f"`{what} {number}`: its pipe isn't configured before it")
         if what == "queue":
             self._queues[number] = pipe
@@ -234,21 +248,24 @@ class Import:
     def _add(self, words: list[str]) -> Optional[list[str]]:
         number = self._number(words)
         known = Known(self.behind, self.me, self._tables, self._queues)
+        # A rule that is refused takes its number too, as it does in ipfw.
+        self._rules[number] += 0
         try:
             rule = ipfw_rules.read(words, known)
-        except Cannot as cannot:
-            if self.drop_unmatchable and "--drop-unmatchable" in str(cannot):
-                self._rules[number] += 0
+        except Unmatchable:
+            if self.drop_unmatchable:
                 return None
             raise
-        self._rules[number] += 0
         if rule.is_void or rule.group in self._off:
             return None
         self._costs += rule.costs
         before: list[str] = []
         if rule.share:
             before = self._by_chance(rule)
-        commands = ipfw_rules.commands_of(rule, number, known)
+        commands = ipfw_spread.commands_of(rule, number, known)
+        if self._goes_on and rule.action.startswith("pipe ") and not rule.share:
+            # What leaves the pipe is allowed by a rule of its own, as one_pass 1 would have it.
+            commands = [each for one in commands for each in dict.fromkeys((one, re.sub(r"^(add \d+) pipe \d+", r"\1 allow", one)))]
         if number in self._around or (rule.excluded and self._rules[number]):
             raise Cannot(f"rule {number}: `not` goes around all rules of this number: give one of them a number of its own")
         if sum(self._rules.values()) + len(commands) > _MOST_RULES:
@@ -272,18 +289,10 @@ class Import:
         if rule.action != "deny":
             raise Cannot(f"`prob {rule.share}`: only `deny` by chance is here, by a pipe that loses: route by addresses and ports instead")
         if self._one_pass:
-            raise Cannot(f"`prob {rule.share} deny`: a pipe that loses says it, which ends the search: set one_pass 0 before it")
+            self._costs.append("one_pass 0 from here, and an `allow` behind each rule to a pipe in place of one_pass 1: 1 ns more")
         pipe = next(number for number in range(65535, 0, -1) if number not in self._pipes)
         share = self._say(ipfw_words.loss(rule.share))
         self._pipes[pipe] = [f"plr {share}", "queue 1000"]
         rule.action = f"pipe {pipe}"
         self._costs.append(f"`prob` by pipe {pipe}, which loses so many: it draws words of its own, and takes 1 ns")
-        return [f"pipe {pipe} config plr {share} queue 1000"]
-
-
-def _bare(line: Line) -> list[str]:
-    """The words behind the program's name and its options."""
-    words = list(line.words[1:])
-    while words and words[0].startswith("-"):
-        words.pop(0)
-    return words
+        return [*(["one_pass 0"] if self._one_pass else []), f"pipe {pipe} config plr {share} queue 1000"]

@@ -1,25 +1,27 @@
-"""Rules of ipfw(8) as rules of a scenario: what behind `add` is read, and spread out to one address and one range of ports each."""
-import itertools
+"""Rules of ipfw(8): what behind `add` is read. `ipfw_spread` writes them as rules of a scenario."""
 import re
+import socket
 from dataclasses import dataclass, field
 from typing import Mapping, Optional, Sequence
 
-from dnlab.io.ipfw_words import Cannot, address, narrowed, network, ports
+from dnlab.io.ipfw_words import Cannot, Unmatchable, address, narrowed, network, ports
 
 ACTIONS = {"allow": "allow", "accept": "allow", "pass": "allow", "permit": "allow", "deny": "deny", "drop": "deny", "count": "count"}
 _ANSWERS = {"reset": 0, "reset6": 0, "reject": 0, "unreach": 1, "unreach6": 1}
 _NUMBERED = ("skipto", "pipe", "queue")
-_PROTOCOLS = {"ip": "ip", "all": "ip", "ip4": "ip", "ipv4": "ip", "tcp": "tcp", "6": "tcp", "udp": "udp", "17": "udp"}
+_BOTH = {"tcp", "udp"}
+_PROTOCOLS = {"ip": _BOTH, "all": _BOTH, "ip4": _BOTH, "ipv4": _BOTH, "tcp": {"tcp"}, "6": {"tcp"}, "udp": {"udp"}, "17": {"udp"}}
+_OTHERS = {"icmp", "ip6", "ipv6", "icmp6", "ipv6-icmp", "igmp", "esp", "ah", "gre", "ospf", "pim", "sctp", "carp", "vrrp", "ipencap"}
+# What no packet here has, so that its opposite always matches.
+_NEVER = {"layer2", "frag"}
 _NO_FLAGS = "packets here have no flags, no fragments and no owners"
 _LACKING = {"established": _NO_FLAGS, "frag": _NO_FLAGS, "tcpflags": _NO_FLAGS, "iptos": _NO_FLAGS, "ipttl": _NO_FLAGS, "uid": _NO_FLAGS,
             "gid": _NO_FLAGS, "mac": _NO_FLAGS, "MAC": _NO_FLAGS, "layer2": _NO_FLAGS, "ipoptions": _NO_FLAGS, "tcpoptions": _NO_FLAGS}
-_MOST = 256
 
 
 @dataclass(frozen=True)
 class Known:
-    """What is known besides the rule: what is behind each interface (a prefix, or `any`), the machine's own address, the entries
-    of tables with their values, and whether queues hand to pipes (`queues`, by number)."""
+    """What is known besides the rule: what is behind each interface, the machine's own address, tables, and the pipes of queues."""
     behind: Mapping[str, str] = field(default_factory=dict)
     me: Optional[str] = None
     tables: Mapping[str, "Mapping[str, str]"] = field(default_factory=dict)
@@ -65,11 +67,14 @@ def read(words: Sequence[str], known: Known) -> Rule:
     _action(rule, left, known)
     if rule.is_void:
         return rule
-    _protocol(rule, left)
-    for side, word in enumerate(("from", "to")):
-        if _take(left, f"`{word}`") != word:
-            raise Cannot(f"`{word}` is missing: write `from any to any`")
-        _side(rule, left, side, known)
+    # Options alone are a rule's body too: without addresses they are any.
+    rule.protocols = ["ip"]
+    if "from" in left:
+        _protocol(rule, left)
+        for side, word in enumerate(("from", "to")):
+            if _take(left, f"`{word}`") != word:
+                raise Cannot(f"`{word}` is missing: write `from any to any`")
+            _side(rule, left, side, known)
     while left:
         _option(rule, left, known)
     return rule
@@ -81,6 +86,10 @@ def _action(rule: Rule, words: list[str], known: Known) -> None:
         rule.is_void = True
     elif action in ACTIONS:
         rule.action = ACTIONS[action]
+    elif action == "tee":
+        _take(words, "a port")
+        rule.action = "count"
+        rule.costs.append("`tee` is count: nobody gets the copy")
     elif action in _ANSWERS:
         del words[:_ANSWERS[action]]
         rule.action = "deny"
@@ -103,22 +112,44 @@ def _action(rule: Rule, words: list[str], known: Known) -> None:
 
 
 def _protocol(rule: Rule, words: list[str]) -> None:
+    """Reads a protocol, its opposite, or a group of them, and keeps the part that tcp and udp can match."""
+    if words[:1] == ["proto"]:
+        words.pop(0)
+    is_not = words[:1] == ["not"]
+    del words[:is_not]
     first = _take(words, "a protocol")
-    names = _group(words) if first in ("{", "(") else [first]
-    for name in names:
-        if name not in _PROTOCOLS:
-            raise Cannot(f"`{name}`: packets here are tcp or udp, so the rule matches nothing: --drop-unmatchable leaves it out")
-        rule.protocols.append(_PROTOCOLS[name])
-    if "ip" in rule.protocols:
-        rule.protocols = ["ip"]
+    names = _group(words) if first in ("{", "(") else first.split(",")
+    matched = {one for name in names for one in _matched(name)}
+    matched = _BOTH - matched if is_not else matched
+    left = matched & (_BOTH if rule.protocols == ["ip"] else {*rule.protocols})
+    if not left:
+        raise Unmatchable(f"`{'not ' * is_not}{' or '.join(names)}`: packets here are tcp or udp, so the rule matches nothing:"
+                          " --drop-unmatchable leaves it out")
+    rule.protocols = ["ip"] if left == _BOTH else sorted(left)
+
+
+def _matched(name: str) -> set[str]:
+    """Which of tcp and udp a protocol of a group is."""
+    if name.startswith("not "):
+        return _BOTH - _matched(name[4:])
+    if name in _PROTOCOLS:
+        return _PROTOCOLS[name]
+    if name not in _OTHERS and not re.fullmatch(r"1?[0-9]{1,2}|2[0-4][0-9]|25[0-5]", name):
+        try:
+            socket.getprotobyname(name)
+        except OSError:
+            raise Cannot(f"`{name}` isn't a protocol") from None
+    return set()
 
 
 def _group(words: list[str]) -> list[str]:
-    """The words up to a closing bracket, without `or`."""
-    found = []
+    """The words up to a closing bracket, cut at `or` and commas; `not` stays in front of its word."""
+    found: list[str] = []
     while words and words[0] not in ("}", ")"):
         word = words.pop(0)
-        found += [] if word == "or" else [word]
+        if word == "not" and words:
+            word = f"not {words.pop(0)}"
+        found += [] if word == "or" else word.split(",")
     _take(words, "`}`")
     return found
 
@@ -170,44 +201,80 @@ def _side(rule: Rule, words: list[str], side: int, known: Known) -> None:
 
 def _option(rule: Rule, words: list[str], known: Known) -> None:
     name = words.pop(0)
-    if name == "not" and words and words[0] in ("dst-port", "src-port"):
-        rule.excluded.append((3 if words.pop(0) == "dst-port" else 2, ports(_take(words, "a port"))))
+    if name == "not":
+        _opposite(rule, words, known)
     elif name in ("dst-port", "src-port"):
         rule.ports[name == "dst-port"] = ports(_take(words, "a port"))
+    elif name in ("dst-ip", "src-ip"):
+        if rule.sides[name == "dst-ip"] != ["any"]:
+            raise Cannot(f"`{name}` beside an address of the same side isn't here: write one")
+        rule.sides[name == "dst-ip"] = _addresses(rule, words, known)
+    elif name == "proto":
+        _protocol(rule, words)
     elif name in ("in", "out"):
         _direction(rule, words, name, known)
     elif name in ("via", "recv", "xmit"):
         _interface(rule, {"via": "", "recv": "in", "xmit": "out"}[name], _take(words, "an interface"), known)
     elif name == "setup":
         if rule.action == "deny":
-            raise Cannot("`deny .. setup`: packets here have no flags, and without `setup` the whole connection is denied: deny its"
-                         " addresses and ports")
+            raise Cannot("`deny .. setup`: without flags the whole connection is denied: deny its addresses and ports")
         rule.costs.append("`setup` left out: the rule matches all packets of the connection")
-    elif name == "keep-state" or name == "limit":
-        if name == "limit":
-            _take(words, "whose number is limited")
-            _take(words, "a number")
-            rule.costs.append("`limit` left out: any number of connections")
-        elif words and words[0].startswith(":"):
-            words.pop(0)
-        rule.both = True
-        rule.costs.append("a second rule for the way back: it also lets in what nobody asked for")
+    elif name in ("keep-state", "limit"):
+        _state(rule, words, name)
+    elif name in ("icmptypes", "icmp6types"):
+        raise Unmatchable(f"`{name}`: packets here are tcp or udp, so the rule matches nothing: --drop-unmatchable leaves it out")
     elif name in _LACKING:
         raise Cannot(f"`{name}`: {_LACKING[name]}: leave the rule out, or say by addresses and ports what it is for")
     else:
         raise Cannot(f"`{name}` isn't here")
 
 
+def _opposite(rule: Rule, words: list[str], known: Known) -> None:
+    """What stands behind `not`."""
+    name = _take(words, "an option")
+    if name in ("dst-port", "src-port"):
+        rule.excluded.append((3 if name == "dst-port" else 2, ports(_take(words, "a port"))))
+    elif name in ("dst-ip", "src-ip"):
+        rule.excluded.append((int(name == "dst-ip"), _addresses(rule, words, known)))
+    elif name == "proto":
+        _protocol(rule, ["not", *[words.pop(0) for _ in words[:1]]])
+    elif name in ("in", "out"):
+        _direction(rule, [], "out" if name == "in" else "in", known)
+    elif name not in _NEVER:
+        raise Cannot(f"`not {name}` isn't here")
+
+
+def _state(rule: Rule, words: list[str], name: str) -> None:
+    if name == "limit":
+        _take(words, "whose number is limited")
+        _take(words, "a number")
+        rule.costs.append("`limit` left out: any number of connections")
+    elif words and words[0].startswith(":"):
+        words.pop(0)
+    rule.both = True
+    rule.costs.append("a second rule for the way back: it also lets in what nobody asked for")
+
+
 def _direction(rule: Rule, words: list[str], name: str, known: Known) -> None:
     if words and words[0] in ("via", "recv", "xmit"):
         words.pop(0)
         _interface(rule, name, _take(words, "an interface"), known)
+        return
+    side = 0 if name == "out" else 1
+    if known.me and not known.behind and rule.sides[side] == ["any"]:
+        # Without interfaces it is a host, whose packets leave it with its address and come to it.
+        rule.sides[side] = [known.me]
+        rule.costs.append(f"`{name}` by the address of --me: a packet passes the rules once here")
     else:
-        # Between any addresses the packets of both directions match.
-        both = "any" in rule.sides[0] and "any" in rule.sides[1]
-        does = "go through this pipe" if rule.action.startswith("pipe") else "match"
-        rule.costs.append(f"`{name}` left out: a packet passes the rules once here, on a router twice"
-                          + (f"; packets the other way now {does} too: narrow source or destination" if both else ""))
+        rule.costs.append(f"`{name}` left out: a packet passes the rules once here, on a router twice" + _other_way(rule))
+
+
+def _other_way(rule: Rule) -> str:
+    """What it costs to leave a direction out."""
+    if not all("any" in side for side in rule.sides):
+        return ""
+    does = "go through this pipe" if rule.action.startswith("pipe") else "match"
+    return f"; packets the other way now {does} too: narrow source or destination"
 
 
 def _interface(rule: Rule, direction: str, name: str, known: Known) -> None:
@@ -216,64 +283,18 @@ def _interface(rule: Rule, direction: str, name: str, known: Known) -> None:
         return
     if name not in known.behind:
         raise Cannot(f"`{name}`: say which addresses are behind this interface: --if {name}=10.0.1.0/24, or --if {name}=any")
+    behind = known.behind[name]
+    if behind == "any":
+        rule.costs.append(f"`{f'{direction} .. ' if direction else 'via '}{name}` left out, since any address is behind {name}"
+                          + (_other_way(rule) if direction else ""))
+        return
     if not direction:
-        rule.either = known.behind[name]
+        rule.either = behind
         rule.costs.append(f"`via {name}` by addresses, a rule for each direction")
         return
-    side = 0 if direction == "in" else 1
-    parts = [narrowed(one, known.behind[name]) for one in rule.sides[side]]
+    side = int(direction == "out")
+    parts = [narrowed(one, behind) for one in rule.sides[side]]
     rule.sides[side] = [one for one, _ in parts]
     what = ("source", "destination")[side]
     rule.costs.append(f"`{direction} .. {name}` by its {what} address: a packet passes the rules once here, on a router twice"
                       + ("" if all(inside for _, inside in parts) else f"; no {what} of it is behind {name}"))
-
-
-def _words(number: int, action: str, protocol: str, ends: Sequence[str]) -> str:
-    source, target = (" ".join(filter(None, (ends[side], ends[2 + side]))) for side in (0, 1))
-    return f"add {number} {action} {protocol} from {source} to {target}"
-
-
-def _spread(rule: Rule, number: int, action: str, places: Sequence[Sequence[str]]) -> list[str]:
-    """A rule for each protocol, address and port."""
-    made = []
-    for protocol, *ends in itertools.product(rule.protocols, *places):
-        made.append(_words(number, action, protocol, ends))
-        if rule.both:
-            made.append(_words(number, action, protocol, (ends[1], ends[0], ends[3], ends[2])))
-    return made
-
-
-def commands_of(rule: Rule, number: int, known: Known) -> list[str]:
-    """The `add` commands of a rule, all with its number."""
-    wanted = [[rule.sides[0], rule.sides[1], rule.ports[0], rule.ports[1]]]
-    if rule.either:
-        wanted = [[[narrowed(one, rule.either)[0] for one in wanted[0][side]] if side == turn else wanted[0][side] for side in range(4)]
-                  for turn in (0, 1)]
-    if rule.excluded and (rule.both or rule.table):
-        raise Cannot("`not` beside `keep-state` or a table isn't here: write the rules that are meant")
-    made: list[str] = []
-    for places in wanted:
-        for place, excluded in rule.excluded:
-            made += _spread(rule, number, f"skipto {number + 1}",
-                            [excluded if one == place else places[one] for one in range(4)])
-        made += _valued(rule, number, places, known)
-    if len(made) > _MOST:
-        raise Cannot(f"it takes {len(made)} rules, and an experiment has {_MOST}: write prefixes and ranges")
-    return made
-
-
-def _valued(rule: Rule, number: int, places: Sequence[Sequence[str]], known: Known) -> list[str]:
-    """The rules themselves; with `tablearg` each entry goes to the pipe of its value."""
-    if rule.action != "pipe tablearg":
-        return _spread(rule, number, rule.action, places)
-    if not rule.table:
-        raise Cannot("`pipe tablearg`: no table stands in the rule")
-    entries = known.tables[rule.table]
-    side = next(side for side in (0, 1) if set(places[side]) >= set(entries))
-    made: list[str] = []
-    for entry in places[side]:
-        value = entries.get(entry, "")
-        if not value.isdigit() or not int(value):
-            raise Cannot(f"`pipe tablearg`: the entry {entry} of table {rule.table} has no pipe's number")
-        made += _spread(rule, number, f"pipe {int(value)}", [[entry] if one == side else places[one] for one in range(4)])
-    return made

@@ -1,48 +1,12 @@
-"""The lines that ipfw(8) gets: of a script, run where it can do nothing, of a file for `ipfw FILE`, or of what `ipfw list` and
-`ipfw pipe show` print.
-
-A script is somebody's code. It is run by `sh`, for a few seconds, with a PATH of some text tools and of stand-ins that only
-write down their words, in an empty folder of memory, as nobody where root calls, in namespaces of its own: without network, and with
-every file system read-only.
-"""
-import os
+"""The lines that ipfw(8) gets: of a script, which is read and never run, of a file for `ipfw FILE`, or of what `ipfw list` and
+`ipfw pipe show` print."""
+import itertools
 import re
-import shlex
-import shutil
-import signal
-import subprocess
-import tempfile
-from contextlib import suppress
-from pathlib import Path
 from typing import NamedTuple
 
-from dnlab.errors import Faulty, Lacking
-from dnlab.processes import ending
+from dnlab.errors import Faulty, Refused
+from dnlab.io import shell_words
 
-SECONDS = 10
-# What a script may call besides: text tools alone.
-_TOOLS = ("awk", "basename", "cat", "cut", "dirname", "echo", "expr", "false", "grep", "head", "printf", "sed", "seq", "sh", "sort",
-          "tail", "test", "[", "tr", "true", "uniq", "wc")
-# Stand-ins whose words are kept, and those that do nothing.
-_KEPT = ("ipfw", "sysctl", "sleep")
-_SILENT = ("kldload", "kldstat", "kldunload", "ifconfig", "route", "service", "sysrc", "logger")
-_STAND_IN = """#!/bin/sh
-for word in {name} "$@"; do printf '%s\\037' "$word" >&9; done
-printf '\\036' >&9
-"""
-_PLACES = re.compile(rf"(?<![\w./-])/(?:usr/)?(?:local/)?s?bin/(?={'|'.join((*_KEPT, *_SILENT))}\b)")
-_START = """exec 9>&1 1>&2
-while read -r _ place _; do mount -o remount,bind,ro "$place" 2>/dev/null; done < /proc/self/mounts
-mount -t tmpfs -o size=1m none "$1/room" && cd "$1/room" || exit 125
-ulimit -t {seconds} -f 2048
-exec env -i PATH="$1/bin" HOME="$1/room" LC_ALL=C sh "$1/script"
-"""
-_TRUSTED = """exec 9>&1 1>&2
-cd "$1/room" || exit 125
-ulimit -t {seconds} -f 2048
-exec env -i PATH="$1/bin" HOME="$1/room" LC_ALL=C sh "$1/script"
-"""
-_APART = ["unshare", "--map-root-user", "--net", "--mount", "--pid", "--fork", "--kill-child"]
 _COMMANDS = {"add", "delete", "pipe", "queue", "sched", "table", "set", "flush", "zero", "resetlog", "list", "show", "enable",
              "disable", "nat"}
 
@@ -54,6 +18,10 @@ class Line(NamedTuple):
     def text(self) -> str:
         """As it is told, without the program's name where that is ipfw."""
         return " ".join(self.words[1:] if self.words[0] == "ipfw" else self.words)
+
+    def bare(self) -> list[str]:
+        """Returns the words behind the program's name and its options."""
+        return list(itertools.dropwhile(lambda word: word.startswith("-"), self.words[1:]))
 
 
 def _line(text: str) -> Line:
@@ -76,13 +44,17 @@ def is_rules_file(text: str) -> bool:
     return bool(lines) and "$" not in text and all(word in _COMMANDS or word.startswith("-") for word in lines)
 
 
-def lines_of(text: str, name: str, trusted: bool = False) -> list[Line]:
-    """The lines of a script, of a file for `ipfw FILE`, or of a listing. `Faulty` where a script doesn't end well."""
+def lines_of(text: str, name: str) -> list[Line]:
+    """Returns the lines of a script, of a file for `ipfw FILE`, or of a listing; raises `Faulty` with the line of a script that isn't
+    understood."""
     if is_listing(text):
         return _listed(text)
     if is_rules_file(text):
         return [_line(line) for line in text.splitlines() if line.strip() and not line.lstrip().startswith("#")]
-    return _run(text, name, trusted)
+    try:
+        return [Line(words) for words in shell_words.words_of(text)]
+    except Refused as fault:
+        raise Faulty(f"{name}: {fault} (a script is read, not run)") from None
 
 
 def _listed(text: str) -> list[Line]:
@@ -125,74 +97,3 @@ def _mask(line: str) -> list[str]:
         return ["mask"]
     named = zip(("proto", "src-ip", "src-port", "dst-ip", "dst-port"), found.groups())
     return ["mask", *(word for name, bits in named if int(bits, 16) for word in (name, bits))]
-
-
-def _stand(folder: Path, text: str) -> None:
-    """What a script finds: its PATH, an empty folder, and itself."""
-    folder.chmod(0o755)
-    (folder / "bin").mkdir(mode=0o755)
-    (folder / "room").mkdir(mode=0o777)
-    (folder / "room").chmod(0o777)
-    for name in _TOOLS:
-        found = shutil.which(name, path="/usr/bin:/bin")
-        if found:
-            (folder / "bin" / name).symlink_to(found)
-    for name in (*_KEPT, *_SILENT):
-        place = folder / "bin" / name
-        place.write_text(_STAND_IN.format(name=name) if name in _KEPT else "#!/bin/sh\n")
-        place.chmod(0o755)
-    # A stand-in that is called by its whole path is called by its name.
-    (folder / "script").write_text(_PLACES.sub("", text))
-
-
-def _run(text: str, name: str, trusted: bool) -> list[Line]:
-    """Runs a script, and gives what the stand-ins were called with."""
-    with ending.held():
-        folder = Path(tempfile.mkdtemp(prefix="dnlab-ipfw-"))
-
-    def leave() -> None:
-        shutil.rmtree(folder, ignore_errors=True)
-
-    ending.add(leave)
-    try:
-        _stand(folder, text)
-        begin = (_TRUSTED if trusted else _START).format(seconds=SECONDS)
-        words = [*([] if trusted else _APART), "sh", "-c", begin, "sh", str(folder)]
-        nobody = {"user": 65534, "group": 65534, "extra_groups": []} if os.getuid() == 0 else {}
-        status, said, told = _ended(words, nobody)
-    finally:
-        leave()
-        ending.remove(leave)
-    if not trusted and (status == 125 or "unshare:" in told):
-        raise Lacking(f"{name}: no script is run here, since this machine gives it no namespaces of its own"
-                      f" ({told.strip()[:200] or 'unshare'}): give the output of `ipfw list` and `ipfw pipe show`, or say --trust"
-                      " where you know the script")
-    if status:
-        raise Faulty(f"{name}: the script ended with status {status}: {told.strip()[:300] or 'it said nothing'} (it is run with text"
-                     f" tools alone: {shlex.join(_TOOLS)})")
-    return [Line(tuple(word for part in line.split("\037")[:-1] for word in part.split())) for line in said.split("\036")[:-1]]
-
-
-def _ended(words: list[str], nobody: "dict[str, object]") -> tuple[int, str, str]:
-    """Runs words with a limit of time; status, standard output and standard error."""
-    try:
-        going = subprocess.Popen(words, stdin=subprocess.DEVNULL, stdout=subprocess.PIPE, stderr=subprocess.PIPE, text=True,
-                                 errors="replace", start_new_session=True, **nobody)  # type: ignore[call-overload]
-    except FileNotFoundError as fault:
-        raise Lacking(f"{fault.filename} is missing (Debian: util-linux)") from None
-
-    def stop() -> None:
-        with suppress(ProcessLookupError):
-            os.killpg(going.pid, signal.SIGKILL)
-
-    ending.add(stop)
-    try:
-        said, told = going.communicate(timeout=SECONDS)
-    except subprocess.TimeoutExpired:
-        raise Faulty(f"the script didn't end within {SECONDS} s") from None
-    finally:
-        # What it left in the background goes with it.
-        stop()
-        going.wait()
-        ending.remove(stop)
-    return going.returncode, said, told

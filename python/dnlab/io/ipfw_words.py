@@ -19,6 +19,10 @@ class Cannot(Exception):
     """Words of ipfw that no scenario says: the word, and the way out."""
 
 
+class Unmatchable(Cannot):
+    """Words that match no packet of tcp or udp."""
+
+
 class How(NamedTuple):
     """What words became, and what of their meaning that costs ('' where nothing)."""
     words: str
@@ -33,7 +37,9 @@ def rate(word: str) -> How:
     """
     found = re.fullmatch(r"([0-9]+(?:\.[0-9]+)?|\.[0-9]+)([KkMmGg]?)([A-Za-z/]*)", word)
     if not found:
-        raise Cannot(f"`bw {word}`: a rate by an interface or a clock isn't here: write it as 10Mbit/s")
+        is_number = re.match(r"[0-9.]", word)
+        raise Cannot(f"`bw {word}`: " + ("it isn't read as a rate: digits with a point, then the unit, as 1.5Mbit/s" if is_number else
+                                         "a rate by an interface or a clock isn't here: write it as 10Mbit/s"))
     is_bytes = found[3].startswith("by") or (found[3].startswith("B") and not found[3].startswith("Bi"))
     bits = Decimal(found[1]) * SCALES[found[2].upper()] * (8 if is_bytes else 1)
     if bits > _MOST_BITS:
@@ -46,13 +52,25 @@ def rate(word: str) -> How:
 
 
 def delay(word: str) -> How:
-    """A `delay` in ms."""
-    found = re.fullmatch(r"0*([0-9]+)(ms)?", word)
-    if not found:
-        raise Cannot(f"`delay {word}`: delays are whole milliseconds: write 20ms")
-    if int(found[1]) > 60000:
+    """A `delay` in ms. ipfw reads the digits in front, so a time in seconds is another one there.
+
+    >>> delay("20ms").words, delay("0.5s").words, delay("2s").cost
+    ('20ms', '500ms', '`delay 2s` is taken as 2000ms: ipfw itself reads 2 ms')
+    """
+    found = re.fullmatch(r"([0-9]{1,9})?(\.[0-9]{1,9})?(s|ms|us)?", word)
+    if not found or not (found[1] or found[2]):
+        raise Cannot(f"`delay {word}` isn't a time in milliseconds, as 20ms")
+    time = Decimal((found[1] or "0") + (found[2] or "")) * {"s": Decimal(1000), "us": Decimal("0.001")}.get(found[3], Decimal(1))
+    whole = int(time)
+    if time != whole:
+        raise Cannot(f"`delay {word}`: delays are whole milliseconds: write {whole}ms or {whole + 1}ms")
+    if whole > 60000:
         raise Cannot(f"`delay {word}`: 60000 ms is the most")
-    return How(word if re.fullmatch(r"(0|[1-9][0-9]*)(ms)?", word) else found[1])
+    if re.fullmatch(r"(0|[1-9][0-9]*)(ms)?", word):
+        return How(word)
+    digits = int(found[1] or "0")
+    return How(f"{whole}ms" if found[3] else str(whole),
+               "" if whole == digits else f"`delay {word}` is taken as {whole}ms: ipfw itself reads {digits} ms")
 
 
 def loss(word: str) -> How:
