@@ -19,10 +19,10 @@ extern "C" {
 #endif
 
 enum dnlab_status {
-  DNLAB_DONE = 0,   /* what was asked for is the first `length` bytes of the room */
+  DNLAB_DONE = 0,   /* the answer is the first `length` bytes of the room; the other bytes are as they were */
   DNLAB_FAULT = 1,  /* the text is no scenario: `line` and `cause` */
   DNLAB_CLOSED = 2, /* there is no session */
-  DNLAB_MEMORY = 3, /* memory was refused */
+  DNLAB_MEMORY = 3, /* an allocation was refused */
   DNLAB_ROOM = 5    /* the room is too small: it takes `length` bytes; what stands in it is no answer */
 };
 enum dnlab_cause {

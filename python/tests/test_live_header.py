@@ -23,6 +23,7 @@ static void tell(live *l) {
 static void wrong(live *l, int status) { printf("%d %s\n", status, live_error(l)); }
 int main(int argc, char **argv) {
   uint64_t due = 0;
+  unsigned long trips;
   live *l = live_open(argv[1]);
   if (argc < 4 || !l) return 9;
   l->transcript = fopen(argv[2], "w");
@@ -42,6 +43,8 @@ int main(int argc, char **argv) {
   printf("due %llu\n", (unsigned long long)due);
   if (live_until(l, 100000000)) return 5;
   tell(l);
+  trips = l->round_trips;
+  if (live_next(l, &due) || due != UINT64_MAX || l->round_trips != trips) return 3;
   wrong(l, live_until(l, 5));
   if (live_end(l)) return 4;
   wrong(l, live_send(l, there, 40, "late"));

@@ -53,9 +53,3 @@ def dated(folder: pathlib.Path, date: int) -> None:
         if not path.is_symlink():
             path.chmod(0o755 if path.is_dir() or path.stat().st_mode & 0o100 else 0o644)
         os.utime(path, (date, date), follow_symlinks=False)
-
-
-def deb(folder: pathlib.Path, to: pathlib.Path, date: int) -> None:
-    """A Debian package of a folder that has DEBIAN/control."""
-    dated(folder, date)
-    run(["dpkg-deb", "--root-owner-group", "-Zxz", "--build", str(folder), str(to)], date)

@@ -1,100 +1,60 @@
-"""A Debian package of what is installed below a prefix."""
-import email.utils
+"""Debian's packages, built by dpkg-buildpackage from debian/ and from what the proof left."""
 import pathlib
+import re
 import shutil
-from typing import NamedTuple
+import subprocess
 
 import archives
+from archives import Lacking
 
-CONTROL = """Package: dnlab
-Version: {version}
-Section: net
-Priority: optional
-Architecture: amd64
-Maintainer: The authors of dnlab <dnlab@invalid.example>
-Homepage: {homepage}
-Depends: {depends}python3 (>= 3.11), python3-numpy
-Recommends: python3-pandas, python3-matplotlib, python3-scipy, python3-jinja2, python3-plotly, python3-dpkt,
- python3-tqdm
-Suggests: parallel
-Installed-Size: {size}
-Description: link emulator in simulated time, proved
- Runs network experiments in simulated time: the rules and pipes of ipfw(8)
- and dummynet, CoDel, and closed-loop TCP senders. A text goes in, each
- experiment's trace comes out, in whole nanoseconds; the same input gives the
- same bytes. Tools in Python sum up, draw, compare and sweep.
-"""
-COPYRIGHT = """Format: https://www.debian.org/doc/packaging-manuals/copyright-format/1.0/
-Upstream-Name: dnlab
-
-Files: *
-Copyright: the authors of dnlab
-License: MIT or Apache-2.0
-
-License: MIT
-{mit}
-
-License: Apache-2.0
- On Debian systems the whole text is in /usr/share/common-licenses/Apache-2.0.
-"""
-# The program's bytes are those that were proved and linked, with its symbols or without.
-OVERRIDES = """# The bytes are those that were proved: they aren't stripped.
-dnlab: unstripped-binary-or-object
-# Where it is linked so, it runs on any Linux.
-dnlab: statically-linked-binary
-# It came first as a package of its own, and closes no wish.
-dnlab: initial-upload-closes-no-bugs
-"""
+# What the packages are built from: the sources that git knows, without those that no package has.
+LEFT_OUT = ("crates/", "examples/", "cookbook/", "tools/gate/", "tools/attack/", "tools/beside/", "tools/definitions/", "tools/second/")
 
 
-class Named(NamedTuple):
-    """What a package says of itself: its version, its address on the web, and the moment of its commit (s)."""
-    number: str
-    homepage: str
-    date: int
+def _sources(root: pathlib.Path, to: pathlib.Path) -> None:
+    """Copies the files that git knows."""
+    listed = archives.run(["git", "-C", str(root), "ls-files", "-z"], 0)
+    for name in listed.split("\0"):
+        if name and not name.startswith(LEFT_OUT) and (root / name).is_file():
+            (to / name).parent.mkdir(parents=True, exist_ok=True)
+            shutil.copy(root / name, to / name)
 
 
-def _folded(text: str) -> str:
-    """A text as a field of several lines has it."""
-    return "\n".join(f" {line}" if line.strip() else " ." for line in text.strip().splitlines())
+def built_using() -> str:
+    """Returns the source packages whose files are linked in, with versions, as the field Built-Using has them."""
+    found = []
+    for package in "libc6-dev", "libgcc-12-dev":
+        done = subprocess.run(["dpkg-query", "-W", "-f", "${source:Package} (= ${source:Version})", package], stdin=subprocess.DEVNULL,
+                              capture_output=True, text=True, check=False)
+        found += [done.stdout] if done.returncode == 0 and done.stdout else []
+    return ", ".join(found)
 
 
-def _papers(docs: pathlib.Path, number: str, date: int) -> None:
-    """What Debian wants in the folder of docs: copyright, a changelog, long texts by gzip."""
-    mit = (docs / "LICENSE-MIT").read_text(encoding="utf-8")
-    (docs / "copyright").write_text(COPYRIGHT.format(mit=_folded(mit)), encoding="utf-8")
-    moment = email.utils.formatdate(date)
-    entry = f"dnlab ({number}) unstable; urgency=medium\n\n  * See CHANGELOG.md.\n\n -- The authors of dnlab <dnlab@invalid.example>  {moment}\n"
-    (docs / "changelog.gz").write_bytes(archives.zipped(entry.encode()))
-    for name in "LICENSE-MIT", "LICENSE-APACHE":
-        (docs / name).unlink()
+def version_in(root: pathlib.Path) -> str:
+    """Returns the version of debian/changelog."""
+    found = re.match(r"dnlab \(([^)]+)\)", (root / "debian" / "changelog").read_text(encoding="utf-8"))
+    if found is None:
+        raise Lacking("debian/changelog does not begin with `dnlab (VERSION)`")
+    return found[1]
 
 
-def package(installed: pathlib.Path, room: pathlib.Path, to: pathlib.Path, named: Named, needs: str) -> None:
-    """Makes the package of what stands below a prefix; `needs` is what the program needs, `nothing` or `glibc 2.34`."""
-    usr = room / "usr"
-    shutil.copytree(installed, usr)
-    for page in sorted((usr / "share" / "man").rglob("*.1")):
-        page.with_name(f"{page.name}.gz").write_bytes(archives.zipped(page.read_bytes()))
-        page.unlink()
-    site = usr / "share" / "zsh" / "site-functions"
-    if site.is_dir():
-        # Debian's zsh looks there.
-        site.rename(usr / "share" / "zsh" / "vendor-completions")
-    _papers(usr / "share" / "doc" / "dnlab", named.number, named.date)
-    overrides = usr / "share" / "lintian" / "overrides"
-    overrides.mkdir(parents=True)
-    (overrides / "dnlab").write_text(OVERRIDES, encoding="utf-8")
-    for tool in (usr / "bin").iterdir():
-        text = tool.read_bytes()
-        if text.startswith(b"#!/usr/bin/env python3\n"):
-            # Debian's own Python has the packages that are named here.
-            tool.write_bytes(text.replace(b"#!/usr/bin/env python3\n", b"#!/usr/bin/python3\n", 1))
-    size = sum(it.stat().st_size for it in usr.rglob("*") if it.is_file()) // 1024
-    depends = "" if needs == "nothing" else f"libc6 (>= {needs.split()[1]}), "
-    (room / "DEBIAN").mkdir()
-    if (usr / "lib" / "libdnlab.so.1").exists():
-        (room / "DEBIAN" / "triggers").write_text("activate-noawait ldconfig\n", encoding="utf-8")
-    control = CONTROL.format(version=named.number, homepage=named.homepage, depends=depends, size=size)
-    (room / "DEBIAN" / "control").write_text(control, encoding="utf-8")
-    archives.deb(room, to, named.date)
+def packages(root: pathlib.Path, prebuilt: pathlib.Path, room: pathlib.Path, to: pathlib.Path, date: int) -> None:
+    """Builds the packages in `room` and puts the .deb files into `to`.
+
+    prebuilt  a prefix with the program, the library and BUILD.txt and the bill of materials, which debian/rules puts in place
+    date      of the commit, in seconds since 1970
+    """
+    sources = room / "dnlab"
+    sources.mkdir(parents=True)
+    _sources(root, sources)
+    shutil.copytree(prebuilt, sources / "prebuilt", symlinks=True)
+    (sources / "prebuilt" / "built-using").write_text(built_using(), encoding="utf-8")
+    archives.dated(sources, date)
+    archives.run(["dpkg-checkbuilddeps"], date, sources)
+    archives.run(["dpkg-buildpackage", "--build=binary", "--no-sign", "--no-pre-clean"], date, sources)
+    found = sorted(room.glob("*.deb"))
+    if not found:
+        raise Lacking("dpkg-buildpackage left no package")
+    for it in found:
+        if "-dbgsym_" not in it.name:
+            shutil.copy(it, to)

@@ -1,21 +1,37 @@
 """The Python package for pip: a wheel that carries the program, and a package of the sources, which doesn't."""
 import pathlib
+import re
 import shutil
 
 import archives
+from archives import Lacking
 
-# The oldest system of the wheel's tag: that of the program's C library, where it needs one.
-PLATFORM = "manylinux_2_34_x86_64"
 # Debian's own Python, for whose packages these are named.
 PYTHON = "/usr/bin/python3"
 
 
-def packages(root: pathlib.Path, program: pathlib.Path, library: str, room: pathlib.Path, to: pathlib.Path, date: int) -> None:
-    """Puts the wheel and the source package into a folder; the library's shared object goes along, where one is named."""
-    shutil.copytree(root / "python", room, ignore=shutil.ignore_patterns("__pycache__", ".*", "tests", "examples", "build", "*.egg-info", "bin"))
+def check_tag(wheel: pathlib.Path, needs: str) -> None:
+    """Raises `Lacking` if the program needs a newer C library than the wheel's tag says; `needs` is as `glibc 2.34`, or `nothing`."""
+    tag = re.search(r"manylinux_(\d+)_(\d+)_x86_64", wheel.name)
+    if tag is None:
+        raise Lacking(f"{wheel.name} has no tag for Linux on x86-64")
+    needed = tuple(map(int, re.findall(r"\d+", needs)))
+    if needed > (int(tag[1]), int(tag[2])):
+        raise Lacking(f"the program needs {needs}, and the tag of {wheel.name} promises less (python/setup.py)")
+
+
+def packages(root: pathlib.Path, program: pathlib.Path, library: pathlib.Path, papers: pathlib.Path, room: pathlib.Path, to: pathlib.Path,
+             needs: str, date: int) -> None:
+    """Puts the wheel and the source package into the folder `to`.
+
+    program, library  are carried by the wheel
+    papers            a folder with BUILD.txt and the bill of materials, which are carried too
+    needs             the C library that the program needs
+    date              of the commit, in seconds since 1970
+    """
+    shutil.copytree(root / "python", room, ignore=shutil.ignore_patterns("__pycache__", ".*", "examples", "build", "*.egg-info", "bin"))
     for name in "LICENSE-MIT", "LICENSE-APACHE":
         shutil.copy(root / name, room)
-    shutil.copytree(root / "python" / "tests", room / "tests", ignore=shutil.ignore_patterns("__pycache__"))
     archives.dated(room, date)
     archives.run([PYTHON, "-m", "build", "--no-isolation", "--sdist", "--outdir", str(room / "sources"), "."], date, room)
     sdist, = (room / "sources").glob("*.tar.gz")
@@ -23,13 +39,16 @@ def packages(root: pathlib.Path, program: pathlib.Path, library: str, room: path
     shutil.unpack_archive(sdist, unpacked)
     top, = unpacked.iterdir()
     shutil.rmtree(top / "dnlab.egg-info", ignore_errors=True)
-    # By setuptools a tar has the names and moments of whoever packs it.
+    # setuptools puts the names and times of the caller into its archive.
     archives.tar_gz(top, to / sdist.name, date)
-    (top / "dnlab" / "bin").mkdir()
-    shutil.copy(program, top / "dnlab" / "bin" / "dnlab")
-    if library:
-        # By its own name: python/dnlab/library/places.py looks for it there.
-        shutil.copy(library, top / "dnlab" / "bin" / "libdnlab.so.1")
+    carried = top / "dnlab" / "bin"
+    carried.mkdir()
+    shutil.copy(program, carried / "dnlab")
+    # python/dnlab/library/places.py looks for it under this name.
+    shutil.copy(library, carried / "libdnlab.so.1")
+    for paper in papers.iterdir():
+        shutil.copy(paper, carried)
     archives.dated(top, date)
-    words = [f"-C--build-option=--plat-name={PLATFORM}", "--outdir", str(to), "."]
-    archives.run([PYTHON, "-m", "build", "--no-isolation", "--wheel", *words], date, top)
+    archives.run([PYTHON, "-m", "build", "--no-isolation", "--wheel", "--outdir", str(to), "."], date, top)
+    wheel, = to.glob("*.whl")
+    check_tag(wheel, needs)

@@ -1,0 +1,22 @@
+# find_package(dnlab CONFIG): the targets dnlab::dnlab (shared) and dnlab::static. The library is two folders above this
+# file, and the headers are beside its folder, or beside the one above it where libraries have a folder for each machine.
+get_filename_component(_dnlab_lib "${CMAKE_CURRENT_LIST_DIR}/../.." ABSOLUTE)
+find_path(_dnlab_include dnlab.h HINTS "${_dnlab_lib}/../include" "${_dnlab_lib}/../../include" NO_DEFAULT_PATH)
+foreach(_dnlab_kind IN ITEMS dnlab static)
+  if(_dnlab_kind STREQUAL "static")
+    set(_dnlab_file "${_dnlab_lib}/libdnlab.a")
+    set(_dnlab_type STATIC)
+  else()
+    set(_dnlab_file "${_dnlab_lib}/libdnlab.so")
+    set(_dnlab_type SHARED)
+  endif()
+  if(NOT _dnlab_include OR NOT EXISTS "${_dnlab_file}")
+    set(dnlab_FOUND FALSE)
+    set(dnlab_NOT_FOUND_MESSAGE "${_dnlab_file} or dnlab.h is missing")
+  elseif(NOT TARGET dnlab::${_dnlab_kind})
+    add_library(dnlab::${_dnlab_kind} ${_dnlab_type} IMPORTED)
+    set_target_properties(dnlab::${_dnlab_kind} PROPERTIES IMPORTED_LOCATION "${_dnlab_file}"
+      INTERFACE_INCLUDE_DIRECTORIES "${_dnlab_include}")
+  endif()
+endforeach()
+unset(_dnlab_include CACHE)

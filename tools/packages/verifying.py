@@ -1,0 +1,67 @@
+"""Compares the files of a release with the proof in a checkout."""
+import pathlib
+import subprocess
+import sys
+import tarfile
+import zipfile
+from collections.abc import Sequence
+
+import linking
+from archives import Lacking
+from components import sha256
+
+
+def _unpacked(file: pathlib.Path, room: pathlib.Path) -> None:
+    """Unpacks a Debian package, a wheel or an archive into a folder."""
+    if file.name.endswith(".deb"):
+        done = subprocess.run(["dpkg-deb", "-x", str(file), str(room)], stdin=subprocess.DEVNULL, capture_output=True, text=True, check=False)
+        if done.returncode:
+            raise Lacking(f"{file}: {done.stderr.strip()[-400:]}")
+    elif file.name.endswith(".whl"):
+        with zipfile.ZipFile(file) as packed:
+            packed.extractall(room)
+    else:
+        with tarfile.open(file) as packed:
+            for member in packed.getmembers():
+                content = packed.extractfile(member) if member.isfile() and ".." not in member.name else None
+                if content is not None:
+                    path = room / member.name.lstrip("/")
+                    path.parent.mkdir(parents=True, exist_ok=True)
+                    path.write_bytes(content.read())
+
+
+def _expected(root: pathlib.Path, room: pathlib.Path) -> dict[str, list[str]]:
+    """Returns the checksums that each kind of file may have, by its name; libraries and the static program are made again for it."""
+    done = subprocess.run([root / "tools" / "library", str(room / "library")], stdin=subprocess.DEVNULL, capture_output=True, text=True, check=False)
+    if done.returncode:
+        raise Lacking(f"the library can't be made again: {done.stderr.strip()[-400:]}")
+    linking.link_static(room / "static")
+    library = room / "library" / "lib"
+    return {"dnlab": [sha256(linking.OUT / "dnlab"), sha256(room / "static")], "dnlab.o": [sha256(linking.OBJECT)],
+            "libdnlab.a": [sha256(library / "libdnlab.a")], "libdnlab.so.1": [sha256(library / "libdnlab.so.1")]}
+
+
+def _is_of_proof(path: pathlib.Path) -> bool:
+    """Whether a file with a name of the proof is a program or a library, and no folder or completion."""
+    return path.is_file() and not path.is_symlink() and path.read_bytes()[:4] in (b"\x7fELF", b"!<ar")
+
+
+def verify(root: pathlib.Path, files: Sequence[pathlib.Path], room: pathlib.Path) -> int:
+    """Prints a line for each program, object and library in some files; returns 0 if all are those of the proof, else 1."""
+    if not (linking.OUT / "dnlab").is_file():
+        raise Lacking("there is no proof in this checkout: run ./dnlab prove")
+    linking.proved_sums()
+    expected, status = _expected(root, room), 0
+    for number, file in enumerate(files):
+        folder = room / str(number)
+        folder.mkdir()
+        _unpacked(file, folder)
+        found = [it for it in sorted(folder.rglob("*")) if it.name in expected and _is_of_proof(it)]
+        for path in found:
+            is_same = sha256(path) in expected[path.name]
+            print(f"{file.name}: {path.relative_to(folder)}: {'the proved one' if is_same else 'NOT the proved one'}")
+            status = status or int(not is_same)
+        if not found:
+            print(f"release: {file}: it has no program, object or library", file=sys.stderr)
+            status = 1
+    return status
